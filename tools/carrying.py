@@ -5,7 +5,7 @@ calls are made in the new manager. They come before all calls of the second roun
 """
 from histories import Call, Wrong, read_rounds, read_value, status
 from history_search import find
-from rollover_rules import Births, Full
+from rollover_rules import Births, Full, described
 from rules import Element, Run, Worker
 
 
@@ -66,7 +66,8 @@ def made_by(births):
 def judge_next(before, lines, with_order=True):
     """Looks for a history of a round behind a rollover: returns how many points it has, or why there is none."""
     try:
-        births = Births(stand_of(before))
+        stand = stand_of(before)
+        births = Births(described(stand), stand.afresh())
         if births.all() != carried_in(before):
             raise Wrong("not all that is alive was carried over, or something else")
         calls, later = made_by(births)

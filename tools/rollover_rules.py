@@ -1,18 +1,36 @@
 """A rollover, written once more from docs/ROLLOVER.md alone: what is alive in one run goes on in another of the same limits.
 
+It is described first, and then born of its description alone: so a rollover and the `restore` of a dump (dump_rules.py) are the same.
 tools/rules.py has the runs. Nothing is shared with the program: elements are a dictionary, and a new manager is a new run.
 """
-import copy
 from dataclasses import dataclass
 
-from rules import Element, Run
+from rules import Element
 
 MOST_OUTPUTS = 4
-LAST_STAGE = 15
 
 
 class Full(Exception):
     """The new manager has no room for what is alive."""
+
+
+@dataclass(frozen=True)
+class Alive:
+    """An element that is alive, as an `alive` line describes it. One that is its own root has that twice."""
+    number: int
+    attempts: int
+    rounds: int
+    stage: int
+    body: tuple
+    root: int
+    root_stage: int
+    root_body: tuple
+
+
+def described(run):
+    """What is alive in a run, in the order of the ids."""
+    found = [(i, it, run.elements[it.root]) for i, it in sorted(run.elements.items()) if it.status in ("waiting", "parked")]
+    return [Alive(i, it.attempts, it.rounds, it.stage, tuple(it.body), it.root, root.stage, tuple(root.body)) for i, it, root in found]
 
 
 @dataclass
@@ -24,13 +42,10 @@ class Family:
 
 
 class Births:
-    """The elements that are alive, born anew."""
+    """What is alive, born in a new run, in which nothing has happened."""
 
-    def __init__(self, old):
-        self.old = old
-        self.new = Run(old.rows, old.units, old.limit, old.spare, copy.deepcopy(old.servers))
-        self.new.workers = copy.deepcopy(old.workers)
-        self.new.begin()
+    def __init__(self, alive, new):
+        self.alive, self.new = alive, new
         self.families, self.moved = {}, []
         # what was called in the new manager: by which pass, what, and with which ids and units
         self.calls = []
@@ -39,7 +54,7 @@ class Births:
 
     def home(self, number):
         """The pass whose part the row is of; one past the last for spare rows."""
-        return min(number // self.old.rows, len(self.new.passes))
+        return min(number // self.new.rows, len(self.new.passes))
 
     def maker(self, home, rows, units):
         """The pass that makes the next elements: in a part as long as there is one with room, and else in spare blocks."""
@@ -67,9 +82,9 @@ class Births:
         self.new.elements |= {first + place: it for place, it in enumerate(elements)}
         return first
 
-    def submit(self, like, home):
+    def submit(self, stage, body, home):
         by = self.maker(home, 1, 0)
-        first = self.bear(by, [Element(like.stage, None, like.body)])
+        first = self.bear(by, [Element(stage, None, [*body])])
         self.new.elements[first].root = first
         self.calls.append((by.number, "submit", first))
         return first
@@ -80,29 +95,27 @@ class Births:
         if by.begun == self.new.units:
             raise Full
         unit, carrier = by.begin(self.new.units), self.new.elements[family.carrier]
-        first = self.bear(by, [Element(stage, family.root, body, unit) for stage, body in likes])
+        first = self.bear(by, [Element(stage, family.root, [*body], unit) for stage, body in likes])
         carrier.status, carrier.unit, carrier.attempts = "consumed", unit, carrier.attempts + 1
         self.calls += [(by.number, "claim", family.carrier, unit, 1), (by.number, "commit", first, len(likes))]
         return first
 
     def next_of(self, rest):
         """The next elements are born: a root by itself, or neighbours of one pass and one family. Returns how many."""
-        number = rest[0]
-        root, home = self.old.elements[number].root, self.home(number)
-        family = self.families[root]
+        one = rest[0]
+        home, family = self.home(one.number), self.families[one.root]
         if family.root is None:
-            family.root = family.carrier = self.submit(self.old.elements[root], home)
-        if number == root:
-            self.moved.append((number, family.root))
+            family.root = family.carrier = self.submit(one.root_stage, one.root_body, home)
+        if one.number == one.root:
+            self.moved.append((one.number, family.root))
             return 1
         many = 1
-        while many < min(MOST_OUTPUTS, len(rest)) and self.old.elements[rest[many]].root == root and self.home(rest[many]) == home:
+        while many < min(MOST_OUTPUTS, len(rest)) and rest[many].root == one.root and self.home(rest[many].number) == home:
             many += 1
         more = family.left > many
         many -= more and many == MOST_OUTPUTS
-        likes = [(self.old.elements[it].stage, self.old.elements[it].body) for it in rest[:many]]
-        first = self.outputs(family, home, likes + [(1, [0] * 4)] * more)
-        self.moved += [(it, first + place) for place, it in enumerate(rest[:many])]
+        first = self.outputs(family, home, [(it.stage, it.body) for it in rest[:many]] + [(1, [0] * 4)] * more)
+        self.moved += [(it.number, first + place) for place, it in enumerate(rest[:many])]
         family.carrier, family.left = first + many, family.left - many
         return many
 
@@ -128,27 +141,26 @@ class Births:
         self.attempt(number, element, was.attempts)
 
     def all(self):
-        alive = [i for i, it in sorted(self.old.elements.items()) if it.status in ("waiting", "parked")]
-        for number in alive:
-            family = self.families.setdefault(self.old.elements[number].root, Family(None, None, 0))
-            family.left += 1
+        for it in self.alive:
+            self.families.setdefault(it.root, Family(None, None, 0)).left += 1
         done = 0
-        while done < len(alive):
-            done += self.next_of(alive[done:])
-        for number, new in self.moved:
-            self.replay(self.old.elements[number], new)
+        while done < len(self.alive):
+            done += self.next_of(self.alive[done:])
+        for was, (_, new) in zip(self.alive, self.moved):
+            self.replay(was, new)
         return self.moved
+
+
+def pairs(moved):
+    return " ".join([str(len(moved)), *(f"{old}:{new}" for old, new in moved)])
 
 
 def roll_over(run):
     """Returns the line, and the run that goes on."""
-    if any(it.unit is not None for it in [*run.servers, *run.workers]):
+    if run.is_busy():
         return "refused 11 Busy", run
-    births = Births(run)
+    births = Births(described(run), run.afresh())
     try:
-        moved = births.all()
+        return f"rolled over {pairs(births.all())}", births.new
     except Full:
         return "refused 7 Full", run
-    for server in births.new.servers:
-        server.place = 0
-    return " ".join([f"rolled over {len(moved)}", *(f"{old}:{new}" for old, new in moved)]), births.new

@@ -2,9 +2,9 @@
 by one thread and one list of elements.
 
 No words, no marks, and no units of work but their numbers. tools/random_scripts and tools/random_sessions hold the programs against
-this. A rollover is in rollover_rules.py.
+this. A rollover is in rollover_rules.py, and what a dump is and leads to in dump_rules.py.
 """
-from dataclasses import dataclass, field
+from dataclasses import dataclass, field, replace
 
 TOP = 2**64
 
@@ -65,6 +65,7 @@ class Server:
     dropped: bool = False
     # where its next claim in turn begins: after what it took last by one
     place: int = 0
+    kind: str = "eager"
 
     def effect(self, body):
         """Returns the register after the act, or why the element is declined."""
@@ -108,6 +109,19 @@ class Run:
     def begin(self):
         """Gives each pass its rows."""
         self.passes = [Pass(at, at * self.rows, self.rows) for at in range(1 + len(self.servers) + len(self.workers))]
+
+    def is_busy(self):
+        """Whether a unit of work is open, of a desk or of a worker."""
+        return any(it.unit is not None for it in [*self.servers, *self.workers])
+
+    def afresh(self):
+        """A run with the same limits, servers and workers, in which nothing has happened."""
+        new = Run(self.rows, self.units, self.limit, self.spare, [replace(it, unit=None, item=0, pending=None, place=0) for it in self.servers])
+        for it in new.servers:
+            it.registers = [*it.registers]
+        new.workers = [Worker(it.name, it.stage) for it in self.workers]
+        new.begin()
+        return new
 
     def has_room(self, by, count):
         """Whether there are `count` rows for the pass, if need be in the next spare block."""

@@ -59,7 +59,8 @@ class Row:
 
 def session_told(session, answers):
     """Returns a session as a script and its report: without the lines that had no answer or were refused, but with those of its head."""
-    lines, told = session.splitlines(), answers.splitlines()
+    # (the lines that a dump tells belong to the answer before them)
+    lines, told = session.splitlines(), [it for it in answers.splitlines() if not it.startswith("> ")]
     behind = told[len(lines):]
     told += [""] * (len(lines) - len(told))
     both = [(line, said) for line, said in zip(lines, told) if not said.startswith("refused line ")]
@@ -70,8 +71,10 @@ class Story:
     def __init__(self, script, report):
         self.title, self.servers, self.rows, self.elements = "", [], [], {}
         self.open, self.attempts = {}, 3
+        # what a session's head says is alive: its words by its id there
+        self.alive = {}
         commands = self.read_script(script)
-        lines = report.splitlines()
+        lines = [it for it in report.splitlines() if not it.startswith("> ")]
         if lines and lines[0].startswith("refused line "):
             raise Untold(f"the script was refused: {lines[0]}")
         if len(lines) < len(commands):
@@ -86,6 +89,7 @@ class Story:
 
     def read_script(self, script):
         commands, gap, before, workers = [], False, [], []
+        is_session = any(it.split()[:1] and it.split()[0] in ("worker", "alive", "restore", "dump") for it in script.splitlines())
         for line in script.splitlines():
             words = line.split()
             if not words or line.startswith("#"):
@@ -96,9 +100,11 @@ class Story:
                 self.servers.append(Server(words[1], words[2], int(words[3]), words[5], words[6:]))
             elif words[0] == "worker":
                 workers.append(Server(words[1], "worker", int(words[2]), "a worker", []))
+            elif words[0] == "alive":
+                self.alive[int(words[1])] = words[2:]
             elif words[0] == "limit":
                 self.attempts = int(words[1])
-            elif words[0] not in SETTINGS and words[0] != "start" and (words[0] != "account" or workers):
+            elif words[0] not in SETTINGS and words[0] != "start" and (words[0] != "account" or is_session):
                 commands.append((" ".join(words), gap))
                 gap = False
         self.title = " ".join(before)
@@ -117,6 +123,8 @@ class Story:
             more = f", and behind them {' and '.join(command[4:])}" if len(command) > 4 else ""
             text = f"submitted to stage {command[1]} with key {command[2]} and amount {command[3]}{more}"
             self.elements[number] = Element(number, number, int(command[1]), 0, row, text)
+        elif verb == "restore" and line[0] == "restored":
+            self.restore(row, dict(map(int, it.split(":")) for it in line[2:]))
         elif verb == "kill" and line[0] == "killed":
             self.kill(row, int(command[1]))
         elif verb == "cancel" and line[0] == "cancelled":
@@ -145,6 +153,13 @@ class Story:
         what = answer[0]
         element = self.elements.get(int(answer[1])) if len(answer) > 1 else self.open.get(lane)
         if what == "work":
+            # (what a drain has made isn't known)
+            if element is None:
+                return
+            # (a worker is told the root)
+            if len(answer) > 7:
+                for it in [it for it in self.elements.values() if it.root == element.root]:
+                    it.root = int(answer[7])
             self.open[lane] = element
             element.holds.append(Hold(lane, answer[3], row))
         elif what in ("done", "refused", "lost", "full", "aborted", "already", "dropped") and element:
@@ -171,6 +186,16 @@ class Story:
             stage = int(output.split(":")[0])
             text = f"an output of {self.servers[lane - 1].name}, " + ("a reply" if stage == 15 else f"for stage {stage}")
             self.elements[first + at] = Element(first + at, element.root, stage, lane, row, text)
+
+    def restore(self, row, moved):
+        """What the head says is alive is there, under new ids. The new id of a root isn't told, unless it is alive: it is negative here."""
+        for old, new in moved.items():
+            attempts, _rounds, output, *root = self.alive[old]
+            stage = int(output.split(":")[0])
+            text = f"restored, which was element {old} where it was dumped, " + ("a reply" if stage == 15 else f"for stage {stage}")
+            of = int(root[0]) if root else old
+            it = self.elements[new] = Element(new, moved.get(of, -1 - of), stage, 0, row, text, past=-int(attempts))
+            self.wait_again(row, it)
 
     def wait_again(self, row, element):
         if element.how == "waiting" and len(element.holds) - element.past >= self.attempts:

@@ -14,16 +14,23 @@ A call returns a dataclass, or raises the refusal by its name. Several commands 
 A manager's rows and units are used once. `rollover` carries what is alive into a new one. A session with `on_full="rollover"` does so by
 itself, and the ids that it tells last: they are the same before and after.
 
+`dump` returns all that there is as lines, with which a new session goes on:
+
+    dumped = session.dump()
+    with Session.restored(dumped) as another:
+        new = another.moved[old]
+
 docs/LIVE.md says what each line of a session does. It needs Python 3.10 and its standard library alone.
 """
 from __future__ import annotations
 
+import copy
 import os
 import re
 import select
 import subprocess
 from collections.abc import Callable, Iterable, Sequence
-from dataclasses import dataclass, replace
+from dataclasses import dataclass, field, replace
 from types import TracebackType
 from typing import Generic, Literal, TypeVar
 
@@ -64,7 +71,7 @@ class TooLong(Refusal):
 
 
 class Order(Refusal):
-    """A line of the head came behind it, or a setting behind a server."""
+    """A line of the head came behind it, or a setting behind a server; or what the head says is alive wasn't restored at once."""
 
 
 class BadStage(Refusal):
@@ -112,11 +119,11 @@ class NoUnit(Refusal):
 
 
 class NoMemory(Refusal):
-    """The program had no memory for a rollover."""
+    """The program had no memory for a rollover, a dump or a restore."""
 
 
 class Unequal(Refusal):
-    """A rollover would have been wrong. No test came to that."""
+    """What a head says is alive contradicts itself, or the settings; or a rollover would have been wrong, to which no test came."""
 
 
 class NoneOpen(Refusal):
@@ -250,6 +257,14 @@ class RolledOver:
     """What is alive, by its id in the old manager, and its id in the new one."""
 
     moved: dict[int, int]
+
+
+@dataclass(frozen=True)
+class Dumped:
+    """All that there is, as the lines of a session that goes on from there; and the ids that last, where they do in this session."""
+
+    lines: tuple[str, ...]
+    ids: Ids | None = field(default=None, compare=False, repr=False)
 
 
 @dataclass(frozen=True)
@@ -466,13 +481,30 @@ def drain_next() -> Command[None]:
     return Command("drain next", lambda said: None)
 
 
+def pairs(listed: list[str]) -> dict[int, int]:
+    return dict((int(old), int(new)) for old, new in (it.split(":") for it in listed))
+
+
 def rolled(answer: str) -> RolledOver:
-    _rolled, _over, _many, *listed = answer.split(" ")
-    return RolledOver(dict((int(old), int(new)) for old, new in (it.split(":") for it in listed)))
+    return RolledOver(pairs(answer.split(" ")[3:]))
 
 
 def rollover() -> Command[RolledOver]:
     return Command("rollover", rolled)
+
+
+def restore() -> Command[dict[int, int]]:
+    """The first command behind a head that says what is alive: each id there, and what it is from now on."""
+    return Command("restore", lambda said: pairs(said.split(" ")[2:]))
+
+
+def dumped(answer: str) -> Dumped:
+    _dumped, *lines = answer.split("\n")
+    return Dumped(tuple(it.removeprefix("> ") for it in lines))
+
+
+def dump() -> Command[Dumped]:
+    return Command("dump", dumped)
 
 
 # ---- ids that last
@@ -535,6 +567,34 @@ class Ids:
 # ---- sessions
 
 
+class Answers:
+    """What the program has written, by answers. That of a dump has as many lines more as its first one counts."""
+
+    def __init__(self) -> None:
+        self.rest = b""
+        self.come: list[list[str]] = []
+        self.due = 0
+
+    def add(self, some: bytes) -> None:
+        *lines, self.rest = (self.rest + some).split(b"\n")
+        for line in (it.decode("ascii") for it in lines):
+            if self.due:
+                self.come[-1].append(line)
+                self.due -= 1
+            else:
+                self.come.append([line])
+                counted = re.fullmatch(r"dumped (\d+)", line)
+                self.due = int(counted[1]) if counted else 0
+
+    def whole(self) -> int:
+        return len(self.come) - (self.due > 0)
+
+    def take(self, many: int) -> list[str]:
+        """Returns the first answers, in which a line end stands between the lines of one."""
+        taken, self.come = self.come[:many], self.come[many:]
+        return ["\n".join(it) for it in taken]
+
+
 class Later(Generic[T]):
     """The answer of a command of a batch, which is there once the batch has ended."""
 
@@ -557,6 +617,14 @@ class Later(Generic[T]):
             self.answer.append(session.read_answer(self.command, answer))
         except Refusal as refusal:
             self.refusal = refusal
+
+
+def is_empty(line: str) -> bool:
+    return line.startswith("#") or not line.strip()
+
+
+def is_of_head(line: str) -> bool:
+    return is_empty(line) or line.split()[0] in ("rows", "units", "limit", "spare", "server", "start", "worker", "alive")
 
 
 def answered(command: Command[T], answer: str) -> T:
@@ -590,7 +658,8 @@ class Batch:
 
 
 class Session:
-    """A session, in a `with` block. `head` are the lines of its head; `log`, where it is given, takes each line that is sent.
+    """A session, in a `with` block. `head` are the lines of its head. Commands may follow, as in a dump or a log: where what the head says
+    is alive is restored, `moved` has the new id of each. `log`, where it is given, takes each line that is sent.
 
     With `on_full="rollover"` a call that finds no rows or no units left (`Full`, `NoUnit`) has the session roll over, and is made once
     more. A commit's unit is over then: its `Full` is raised after the rollover, and the element waits or is parked. Where a unit is
@@ -612,10 +681,26 @@ class Session:
         self.head = list(head)
         self.log = log
         self.ids = Ids() if on_full else None
+        # what was restored, by its id in the head: its id from then on
+        self.moved: dict[int, int] = {}
         # how many there were
         self.rollovers = 0
-        self.rest = b""
+        self.answers = Answers()
         self.finals: dict[str, tuple[int, ...]] = {}
+
+    @classmethod
+    def restored(
+        cls,
+        dumped: Dumped,
+        program: Sequence[str] | None = None,
+        log: Callable[[str], object] | None = None,
+        on_full: Literal["rollover"] | None = None,
+    ) -> Session:
+        """Returns a session that goes on from a dump. Where ids last in both sessions they are the same in both."""
+        session = cls(dumped.lines, program, log, on_full)
+        if on_full and dumped.ids:
+            session.ids = copy.deepcopy(dumped.ids)
+        return session
 
     def __enter__(self) -> Session:
         pipes = subprocess.PIPE
@@ -624,15 +709,24 @@ class Session:
         self.input, self.output = self.process.stdin.fileno(), self.process.stdout.fileno()
         os.set_blocking(self.input, False)
         try:
-            # A line of the head has no answer unless it is refused, so a first command tells that none was.
-            answer = self.exchange([*self.head, "count"], answers=1)[0]
-            refused = re.fullmatch(r"refused line (\d+): \d+ (\w+)", answer)
-            if refused:
-                raise REFUSALS[refused[2]](self.head[int(refused[1]) - 1])
+            self.begin()
         except BaseException:
             self.close()
             raise
         return self
+
+    def begin(self) -> None:
+        """Sends the head, with what follows it. A line of it has no answer unless it is refused, so a first command tells that none was."""
+        lines = list(self.head)
+        first = next((at for at, it in enumerate(lines) if not is_of_head(it)), len(lines))
+        if first == len(lines):
+            lines.append("restore" if any(it.split()[:1] == ["alive"] for it in lines) else "count")
+        answer = self.exchange(lines, answers=sum(not is_empty(it) for it in lines[first:]))[0]
+        refused = re.fullmatch(r"refused line (\d+): \d+ (\w+)", answer)
+        if refused:
+            raise REFUSALS[refused[2]](lines[int(refused[1]) - 1])
+        if lines[first].split() == ["restore"]:
+            self.moved = self.carried(answered(restore(), answer))
 
     def __exit__(self, kind: type[BaseException] | None, fault: BaseException | None, trace: TracebackType | None) -> None:
         self.close()
@@ -643,12 +737,12 @@ class Session:
         if self.process.stdin.closed:
             return
         self.process.stdin.close()
-        said = self.rest + self.process.stdout.read()
+        self.answers.add(self.process.stdout.read())
         self.process.stderr.read()
         self.process.wait()
         self.process.stdout.close()
         self.process.stderr.close()
-        for line in said.decode("ascii").splitlines():
+        for line in self.answers.take(self.answers.whole()):
             if line.startswith("final "):
                 _final, name, *values = line.split()
                 self.finals[name] = tuple(int(it) for it in values)
@@ -660,7 +754,7 @@ class Session:
             if self.log:
                 self.log(line)
         wanted = len(lines) if answers is None else answers
-        while left or self.rest.count(b"\n") < wanted:
+        while left or self.answers.whole() < wanted:
             can_read, can_write, _ = select.select([self.output], [self.input] if left else [], [])
             try:
                 if can_write:
@@ -671,9 +765,8 @@ class Session:
             if some == b"":
                 assert self.process.stderr
                 raise SessionEnded(self.process.stderr.read().decode("ascii", "replace"))
-            self.rest += some or b""
-        *told, self.rest = self.rest.split(b"\n", wanted)
-        return [it.decode("ascii") for it in told]
+            self.answers.add(some or b"")
+        return self.answers.take(wanted)
 
     def do(self, command: Command[T]) -> T:
         """Sends one command. Returns its answer, or raises the refusal."""
@@ -704,15 +797,23 @@ class Session:
 
     def read_answer(self, command: Command[T], answer: str) -> T:
         value = answered(command, answer)
-        self.rollovers += isinstance(value, RolledOver)
+        if isinstance(value, RolledOver):
+            self.rollovers += 1
+            return RolledOver(self.carried(value.moved))  # type: ignore[return-value]
         if self.ids is None:
             return value
-        if isinstance(value, RolledOver):
-            kept = [self.ids.told(old) for old in value.moved]
-            now = [looked(it) for it in self.exchange([f"read {new}" for new in value.moved.values()])]
-            self.ids.roll_over(value.moved, {it.element: it.root for it in now})
-            return RolledOver({it: it for it in kept})  # type: ignore[return-value]
+        if isinstance(value, Dumped):
+            return replace(value, ids=copy.deepcopy(self.ids))  # type: ignore[return-value]
         return self.ids.of(value)
+
+    def carried(self, moved: dict[int, int]) -> dict[int, int]:
+        """Takes what was carried over or restored. Returns it by the ids that the caller knows: where they last they are the same."""
+        if self.ids is None:
+            return moved
+        kept = [self.ids.told(old) for old in moved]
+        now = [looked(it) for it in self.exchange([f"read {new}" for new in moved.values()])]
+        self.ids.roll_over(moved, {it.element: it.root for it in now})
+        return {it: it for it in kept}
 
     def batch(self) -> Batch:
         return Batch(self)
@@ -788,3 +889,6 @@ class Session:
 
     def rollover(self) -> RolledOver:
         return self.do(rollover())
+
+    def dump(self) -> Dumped:
+        return self.do(dump())

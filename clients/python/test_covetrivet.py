@@ -3,7 +3,7 @@ import contextlib
 import unittest
 
 import covetrivet
-from covetrivet import Account, Counts, Done, Draft, Look, Member, Released, Reply, RolledOver, Session, Work, claim, submit
+from covetrivet import Account, Counts, Done, Draft, Dumped, Look, Member, Released, Reply, RolledOver, Session, Work, claim, submit
 
 HEAD = ["rows 8", "units 8", "limit 2", "server till eager 2 1 add", "start till 0 100", "worker packer 1"]
 
@@ -173,6 +173,113 @@ class Rollovers(unittest.TestCase):
             session.submit(1, 2)
             with self.assertRaises(covetrivet.Full):
                 session.submit(1, 3)
+
+
+class Dumps(unittest.TestCase):
+    LINES = (
+        "rows 8", "units 8", "limit 2", "spare 0", "server till eager 2 1 add", "start till 0 100", "worker packer 1",
+        "alive 1 0 0 1:6:0:0:0", "alive 16 0 0 2:0:10:0:0 0 1:5:0:0:0", "alive 17 0 0 15:5:6:0:0 0 1:5:0:0:0", "restore",
+    )  # fmt: skip
+
+    def test_a_dump(self):
+        with Session(HEAD) as session:
+            session.submit(1, 5)
+            session.submit(1, 6)
+            session.claim("packer")
+            with self.assertRaises(covetrivet.Busy):
+                session.dump()
+            session.commit("packer", Draft(2, 0, 10), Draft(15, 5, 6))
+            dumped = session.dump()
+            self.assertEqual(dumped, Dumped(self.LINES))
+            self.assertEqual(session.count(), Counts(3, 0, 1, 0, 0))
+        with Session.restored(dumped) as session:
+            self.assertEqual(session.moved, {1: 0, 16: 17, 17: 18})
+            self.assertEqual(session.reply(16), (Reply(18, (5, 6, 0, 0)),))
+            self.assertEqual(session.turn("till"), Done(17, 8, range(0)))
+            self.assertEqual(session.account(), Account(4, 2, 0, 2, 0, 0))
+        self.assertEqual(session.finals, {"till": (110,)})
+
+    def test_a_dropped_desk(self):
+        with Session(HEAD) as session:
+            session.drop("till")
+            dumped = session.dump()
+        self.assertEqual(dumped.lines[-2:], ("restore", "drop till"))
+        with Session.restored(dumped) as session:
+            self.assertEqual(session.moved, {})
+            with self.assertRaises(covetrivet.Ended):
+                session.turn("till")
+            session.submit(1, 5)
+        self.assertEqual(session.finals, {"till": (100,)})
+
+    def test_dumps_in_a_batch(self):
+        with Session(HEAD) as session:
+            with session.batch() as batch:
+                asked = [batch.add(it) for it in (submit(1, 6), covetrivet.dump(), claim("packer"), covetrivet.dump(), covetrivet.count())]
+            self.assertEqual(asked[1].value.lines[-2:], ("alive 0 0 0 1:6:0:0:0", "restore"))
+            with self.assertRaises(covetrivet.Busy):
+                _ = asked[3].value
+            self.assertEqual(asked[4].value, Counts(0, 1, 0, 0, 0))
+            session.abort("packer")
+            with session.batch() as batch:
+                asked = [batch.add(covetrivet.dump()) for _ in range(2000)]
+            self.assertEqual({it.value.lines[-2] for it in asked}, {"alive 0 1 0 1:6:0:0:0"})
+
+    def test_ids_last(self):
+        with Session(["rows 8", "units 8", "worker w 1"], on_full="rollover") as session:
+            session.submit(1, 1)
+            session.claim("w")
+            (reply,) = session.commit("w", Draft(15, 7)).outputs
+            early = session.submit(1, 2).element
+            session.rollover()
+            late = session.submit(1, 3).element
+            dumped = session.dump()
+        with Session.restored(dumped, on_full="rollover") as session:
+            self.assertEqual(session.moved, {it: it for it in (early, late, reply)})
+            self.assertEqual([it.element for it in session.collect(0)], [reply])
+            self.assertEqual([session.claim("w").element, session.commit("w").element, session.claim("w").element], [early, early, late])
+            session.commit("w")
+            self.assertNotIn(session.submit(1, 4).element, (0, early, late, reply))
+        # Where the lines alone are kept, the ids in them last.
+        with Session(dumped.lines, on_full="rollover") as session:
+            self.assertEqual([*session.moved], [int(it.split()[1]) for it in dumped.lines if it.startswith("alive")])
+            session.rollover()
+            self.assertEqual({session.read(it).status for it in session.moved}, {"waiting 0"})
+
+    def test_a_short_log(self):
+        log = []
+        with Session(HEAD, log=lambda line: log.append(line)) as session:
+            for customer in range(4):
+                session.submit(1, customer)
+            session.cancel(1)
+            # The session goes on as a new one would to which the dump is sent.
+            dumped = session.dump()
+            session.rollover()
+            log[:] = dumped.lines
+            answers = [session.claim("packer"), session.commit("packer", Draft(2, 0, 5)), session.turn("till")]
+        self.assertEqual(log[-4:], ["restore", "claim packer", "commit packer 2:0:5:0:0", "turn till"])
+        with Session(log[:-3]) as again:
+            self.assertEqual(again.moved, {0: 0, 2: 1, 3: 2})
+            self.assertEqual([again.claim("packer"), again.commit("packer", Draft(2, 0, 5)), again.turn("till")], answers)
+        self.assertEqual(again.finals, session.finals)
+        with Session(log) as again:
+            self.assertEqual(again.claim("packer"), Work(1, 17, 1, 1, (2, 0, 0, 0)))
+
+    def test_a_log_that_begins_with_no_dump(self):
+        with Session([*HEAD, "", "# a shop", "submit 1 5 6", "", "# its packer", "claim packer", "nonsense"]) as session:
+            self.assertEqual(session.moved, {})
+            self.assertEqual(session.commit("packer"), Done(0, 16, range(0)))
+
+    def test_what_is_refused(self):
+        refused = {
+            covetrivet.Unequal: ["alive 0 4 0 1:5:6"],
+            covetrivet.Full: ["rows 4", "worker packer 1", *(f"alive {it} 0 0 2:5:6 0 1:5:6" for it in (4, 5, 6, 7))],
+            covetrivet.BadNumber: ["alive 0 8 0 1:5:6"],
+            covetrivet.Syntax: ["alive 0 0 0 1:5:6", "restore now"],
+            covetrivet.Order: ["alive 0 0 0 1:5:6", "count", "restore"],
+        }
+        for kind, head in refused.items():
+            with self.subTest(kind.__name__), self.assertRaises(kind), Session(head):
+                pass
 
 
 class Heads(unittest.TestCase):
