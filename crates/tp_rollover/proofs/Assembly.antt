@@ -1,5 +1,5 @@
 -- The parts of a rollover put together.
-use Rattle.std.proofs.Common.{◌≡◌, ℕ, suc, ◌+◌, ◌<◌, ◌≤◌, None, All, List, [], ◌∷◌, ◌++◌, length, refl, sym, ◌∙◌, ap, subst, inr, ⊎_elim, append_assoc, arith}
+use Rattle.std.proofs.Common.{◌≡◌, ℕ, suc, ◌+◌, ◌<◌, ◌≤◌, None, Result, Ok, Err, IfOk, All, List, [], ◌∷◌, ◌++◌, length, refl, sym, ◌∙◌, ap, subst, inr, ⊎_elim, append_assoc, arith}
 use Rattle.std.specs.List.{AllZip}
 use Rattle.std.proofs.lemmas.List.{append_cancel_left}
 use Rattle.std.proofs.lemmas.List.Elements.{All-cons}
@@ -47,7 +47,7 @@ stay_trans (p ∷ ps) (q ∷ qs) [] a b = absurd b
 stay_trans (p ∷ ps) (q ∷ qs) (r ∷ rs) a b = (stays_trans p q r a.0 b.0, stay_trans ps qs rs a.1 b.1)
 
 -- passes that have gathered are together
-all_in : {A : Type 0} (P : A → Type 0) (xs : List A) (x : A) → All P xs → In x xs → P x
+pub all_in : {A : Type 0} (P : A → Type 0) (xs : List A) (x : A) → All P xs → In x xs → P x
 all_in P [] x all q = elim q [ ]
 all_in P (y ∷ xs) x all here = all 0 x (omega arith)
 all_in P (y ∷ xs) x all (there q) = all_in P xs x (λ k d less. all (suc k) d (omega (arith, less))) q
@@ -273,3 +273,8 @@ never m m' c ok2 ok3 nk2 olds0 olds5 olds6 olds7 news4 moved limit r stops g all
     let t = gathered m c ok2 ok3 olds6 olds7 g all given own in
     let carry = all_carried m.limits m'.limits ok2.seen nk2.seen r.survivors moved limit r.found r.again in
     never_stops m.limits ok2 ok3 olds5 olds6 olds7 ok2.seen ok3.seen nk2.seen moved r.old_together t.1 t.0 carry r.again.once.0 stops
+
+-- one clause of a call that was answered comes of another
+pub if_ok : {A E : Type 0} (r : Result A E) (P Q : A → Type 0) → ((x : A) → P x → Q x) → IfOk r P → IfOk r Q
+if_ok (Ok x) P Q then is = then x is
+if_ok (Err e) P Q then is = is

@@ -12,9 +12,18 @@ pub mod Assembly
 pub mod Managing
 pub mod Tallies
 pub mod Steps
-pub mod Bearing
 pub mod Sums
 pub mod Replaying
 mod Worked
 pub mod Carrying
 pub mod Restored
+pub mod Calling
+pub mod BirthsPlaces
+pub mod BirthsGroups
+pub mod ReplaysAll
+pub mod BirthsSteps
+pub mod Agreeing
+pub mod MadeAnew
+pub mod BirthsAll
+pub mod Running
+pub mod BirthsRuns

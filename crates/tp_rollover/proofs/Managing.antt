@@ -1,16 +1,24 @@
 -- All passes of a manager.
-use Rattle.std.proofs.Common.{◌≡◌, ℕ, ◌+◌, ◌≤◌, All, List, [], ◌∷◌, ◌++◌, sym, ◌∙◌, ap, subst, arith, length, ⊎_elim}
+use Rattle.std.proofs.Common.{◌≡◌, ℕ, ◌+◌, ◌*◌, ◌≤◌, All, Option, Some, Err, List, [], ◌∷◌, ◌++◌, sym, ◌∙◌, ap, subst, arith, length, ⊎_elim}
 use Rattle.std.proofs.lemmas.List.{length-append, with_items_is}
 use Rattle.std.specs.Vec.{with_items}
 use Rattle.tp_model.specs.declared.types.Limits.{Limits}
 use Rattle.tp_model.specs.Steps.{AreLimits}
 use Rattle.tp_manager.specs.Accounts.{AreAll, AreNumberedFrom}
-use Rattle.tp_manager.specs.Shown.{IsKeptBy, IsOf, KeeperShown, PassShown}
+use Rattle.tp_plain.specs.OneThread.{start}
+use Rattle.tp_manager.specs.Shown.{IsKeptBy, IsOf, KeeperShown, ManagerShown, PassShown}
+use Rattle.tp_alone.specs.Thread.{IsFresh, thread_of}
+use Rattle.tp_rollover.specs.Anew.{made_anew}
+use Rattle.tp_rollover.specs.Carries.{AreFresh, Carries, IsMade}
 use Rattle.tp_rollover.specs.Faults.{AreFree, HasShort, IsDue, IsRestoreDue}
-use Rattle.tp_rollover.specs.Managed.{IsManaged, IsRefusedFor, IsUnrestored, WasShort}
+use Rattle.tp_rollover.specs.Lone.{lone}
+use Rattle.tp_rollover.specs.Managed.{IsManaged, IsNewPass, IsRefusedFor, IsUnrestored, WasShort}
 use Rattle.tp_rollover.specs.declared.managed.Managed.{Managed}
+use Rattle.tp_rollover.specs.declared.moved.Moved.{Moved}
 use Rattle.tp_rollover.specs.declared.moved.RollFault.{RollFault}
 use Rattle.tp_rollover.specs.declared.moved.RollFault.TheVariants.{BadLimits, Busy, Full, NoMemory, NoPass, Unequal}
+use Rattle.tp_rollover.specs.declared.survivors.Survivor.{Survivor}
+use Rattle.tp_rollover.proofs.Assembly.{all_in}
 
 -- one pass more, with the next number
 from_more : (c : ℕ) (ps : List PassShown) (p : PassShown) → p.number ≡ c + length ps → AreNumberedFrom c ps → AreNumberedFrom c (ps ++ p ∷ [])
@@ -44,6 +52,33 @@ unrestored_for l k news news' Busy limits some short due = absurd due
 unrestored_for l k news news' Full limits some short due = short due
 unrestored_for l k news news' Unequal limits some short due = limits
 
+-- passes that are new are fresh
+fresh_new : (m : ManagerShown) (p : PassShown) → IsNewPass p → IsOf m p → IsFresh m.limits p
+fresh_new m p new own = record {
+  mine = new.mine;
+  open_unit = new.open_unit;
+  next = new.next ∙ ap (λ (l : Limits). p.number * l.rows) own.1;
+  left = new.left ∙ ap (λ (l : Limits). l.rows) own.1;
+  blocks = new.blocks;
+  turn = new.turn;
+}
+
+pub all_fresh : (m : ManagerShown) (ps qs : List PassShown) → ps ≡ qs → All IsNewPass qs → All (IsOf m) qs → AreFresh m.limits ps
+all_fresh m ps qs same new own = subst (AreFresh m.limits) (sym same) (λ p q. fresh_new m p (all_in IsNewPass qs p new q) (all_in (IsOf m) qs p own q))
+
+-- a fault comes of what is the same
+pub fault_same : {A B C : Type 0} (fault : RollFault) (value : A → C) (value' : B → C) (computed computed' : Option C) → computed' ≡ computed → IsMade (Err fault) value computed → IsMade (Err fault) value' computed'
+fault_same NoMemory value value' computed computed' same made = tt
+fault_same BadLimits value value' computed computed' same made = tt
+fault_same NoPass value value' computed computed' same made = tt
+fault_same Busy value value' computed computed' same made = tt
+fault_same Full value value' computed computed' same made = same ∙ made
+fault_same Unequal value value' computed computed' same made = tt
+
+-- what is made in a manager with the same limits, by as many passes
+pub made_same : (l k : Limits) (p q : ℕ) (survivors : List Survivor) → k ≡ l → q ≡ p → made_anew l p survivors (start l) ≡ made_anew k q survivors (start k)
+made_same l k p q survivors same long = ap (λ n. made_anew l n survivors (start l)) (sym long) ∙ ap (λ z. made_anew z q survivors (start z)) (sym same)
+
 -- the same manager, with as many passes, after calls by them
 module _ (m : Managed) (keeper : KeeperShown) (qs : List PassShown) (h : IsManaged m) (kept : IsKeptBy m.manager keeper) (given : keeper.given ≡ m.keeper.given) (own : All (IsOf m.manager) qs)
     (all : AreAll keeper qs) where
@@ -73,3 +108,19 @@ module _ (m : Managed) (keeper : KeeperShown) (qs : List PassShown) (h : IsManag
         limits = same;
         short = subst (λ (k : Limits). HasShort k (with_items m.passes qs).items) same (subst (HasShort m.manager.limits) (sym again_is) short);
       }
+
+  -- and what was carried over into it
+  pub carries_again : (l : Limits) (p : ℕ) (olds : List PassShown) (moved : List Moved) → m.manager.limits ≡ l → p ≡ l.parts → Carries l olds p (start m.manager.limits) moved (lone m.manager keeper qs)
+      → Carries l olds l.parts (start l) moved (thread_of l (with_items m.passes qs).items keeper.seen)
+  carries_again l p olds moved same long carries =
+      let t = subst (λ n. Carries l olds n (start m.manager.limits) moved (lone m.manager keeper qs)) long carries in
+      let u = subst (λ z. Carries l olds l.parts (start z) moved (thread_of z qs keeper.seen)) same t in
+      subst (λ ps. Carries l olds l.parts (start l) moved (thread_of l ps keeper.seen)) (sym again_is) u
+
+  -- or was made alive in it
+  pub made_again : (l : Limits) (p : ℕ) (survivors : List Survivor) (moved : List Moved) → m.manager.limits ≡ l → p ≡ l.parts → made_anew m.manager.limits p survivors (start m.manager.limits) ≡ Some (moved, lone m.manager keeper qs)
+      → made_anew l l.parts survivors (start l) ≡ Some (moved, thread_of l (with_items m.passes qs).items keeper.seen)
+  made_again l p survivors moved same long made =
+      let t = subst (λ n. made_anew m.manager.limits n survivors (start m.manager.limits) ≡ Some (moved, lone m.manager keeper qs)) long made in
+      let u = subst (λ z. made_anew z l.parts survivors (start z) ≡ Some (moved, thread_of z qs keeper.seen)) same t in
+      subst (λ ps. made_anew l l.parts survivors (start l) ≡ Some (moved, thread_of l ps keeper.seen)) (sym again_is) u

@@ -1,13 +1,13 @@
 -- Steps of one pass among others, and of many calls.
-use Rattle.std.proofs.Common.{◌≡◌, ℕ, zero, suc, Option, None, Some, ◌++◌, length-append, ◌+◌, ◌*◌, ◌<◌, ◌≤◌, List, [], ◌∷◌, length, slice_set, get_or, refl, ap, subst, arith, length-drop}
-use Rattle.std.proofs.Math.Nat.{add-mul, mul-le-mul_right, suc-mul}
+use Rattle.std.proofs.Common.{◌≡◌, ℕ, zero, suc, Option, None, Some, ◌++◌, length-append, ◌+◌, ◌*◌, ◌<◌, ◌≤◌, List, [], ◌∷◌, length, slice_set, get_or, refl, ◌∙◌, ap, subst, arith, length-drop}
+use Rattle.std.proofs.Math.Nat.{add-mul, mul-le-mul_right}
 use Rattle.tp_model.specs.declared.types.Limits.{Limits}
 use Rattle.tp_model.specs.declared.types.TheConstants.{MAX_ROUNDS}
-use Rattle.tp_model.specs.Steps.{rows_of}
+use Rattle.tp_model.specs.Steps.{rows_of, tries}
 use Rattle.tp_manager.specs.Accounts.{steps_together}
 use Rattle.tp_manager.specs.Bounds.{read_steps, requeue_steps}
-use Rattle.tp_manager.specs.Shown.{PassShown}
-use Rattle.tp_rollover.specs.Bounds.{PassMakes, PassesMake, attempt_steps, bear_steps, most_replay_steps, replay_steps, search_steps, steps_made}
+use Rattle.tp_manager.specs.Shown.{KeeperShown, PassShown}
+use Rattle.tp_rollover.specs.Bounds.{AllMake, PassMakes, PassesMake, attempt_steps, gathered, most_replay_steps, replay_steps, search_steps, steps_made}
 use Rattle.tp_rollover.specs.Finding.{listed}
 
 -- one of them makes them
@@ -42,42 +42,73 @@ some_times i n some = let e = mul-le-mul_right n some in omega (arith, e)
 pub next_of : (i n c : ℕ) → i < n → i * c + c ≤ n * c
 next_of i n c less = let e = once_more i c in let most = no_more (i + 1) n c (omega (arith, less)) in omega (arith, e, most)
 
--- what comes once is less than what comes with each
-shared : (n a b : ℕ) → a + suc n * b ≤ suc n * (a + b)
-shared zero a b = let e = suc-mul 0 b in let f = suc-mul 0 (a + b) in omega (arith, e, f)
-shared (suc n) a b = let e = suc-mul (suc n) b in let f = suc-mul (suc n) (a + b) in let rest = shared n a b in omega (arith, e, f, rest)
-
-share : (n a b : ℕ) → 1 ≤ n → a + n * b ≤ n * (a + b)
-share zero a b some = absurd (omega (arith, some))
-share (suc n) a b some = shared n a b
-
--- elements of a family that are born together take no more than each by itself
-pub born_together : (l : Limits) (n : ℕ) → 1 ≤ n → bear_steps l n ≤ n * bear_steps l 1
-born_together l n some =
-    let a = l.spare + l.spare + 21 in
-    let whole = subst (λ z. a + n * 6 ≤ n * z) (let e : a + 6 ≡ bear_steps l 1 = omega arith in e) (share n a 6 some) in
-    omega (arith, whole)
-
 -- a search has come so far
 pub searched : (l : Limits) (count row a b : ℕ) → row ≤ rows_of l → (count ≡ 0 → row ≡ 0) → b ≤ a + row * read_steps l → b ≤ a + search_steps l count
 searched l zero row a b within none made = let start = subst (λ z. b ≤ a + z * read_steps l) (none refl) made in omega (arith, start)
 searched l (suc count) row a b within none made = let most = no_more row (rows_of l) (read_steps l) within in omega (arith, most, made)
 
+-- so many of the one for each of the other
+grows : (i n limit a b : ℕ) → i < n → (i * limit * a + i * b) + (limit * a + b) ≤ n * limit * a + n * b
+grows i n limit a b less =
+    let e = add-mul (i * limit) limit a in
+    let f = no_more (i * limit + limit) (n * limit) a (next_of i n limit less) in
+    let g = next_of i n b less in
+    omega (arith, e, f, g)
+
+stays_less : (i n limit a b : ℕ) → i ≤ n → i * limit * a + i * b ≤ n * limit * a + n * b
+stays_less i n limit a b less =
+    let f = no_more (i * limit) (n * limit) a (no_more i n limit less) in
+    let g = no_more i n b less in
+    omega (arith, f, g)
+
 -- rounds of all attempts
-pub rounds_next : (i n limit : ℕ) → i < n → replay_steps (i * limit) i + (limit * attempt_steps + requeue_steps) ≤ replay_steps (n * limit) n
-rounds_next i n limit less = let e = next_of i n limit less in omega (arith, e, less)
+pub rounds_next : (l : Limits) (q i n : ℕ) → i < n → replay_steps l q (i * l.attempts) i + (l.attempts * attempt_steps l q + gathered l q requeue_steps) ≤ replay_steps l q (n * l.attempts) n
+rounds_next l q i n less = grows i n l.attempts (attempt_steps l q) (gathered l q requeue_steps) less
 
-pub rounds_done : (i n limit : ℕ) → i ≤ n → replay_steps (i * limit) i ≤ replay_steps (n * limit) n
-rounds_done i n limit less = let e = no_more i n limit less in omega (arith, e, less)
+pub rounds_done : (l : Limits) (q i n : ℕ) → i ≤ n → replay_steps l q (i * l.attempts) i ≤ replay_steps l q (n * l.attempts) n
+rounds_done l q i n less = stays_less i n l.attempts (attempt_steps l q) (gathered l q requeue_steps) less
 
--- so an element is replayed by as many as it can have had
-pub replayed : (further times limit : ℕ) (ps qs rs : List PassShown) → further ≤ MAX_ROUNDS → PassesMake (replay_steps (further * limit) further) ps qs → PassesMake (times * attempt_steps) qs rs
-    → times ≤ limit → PassesMake (most_replay_steps limit) ps rs
-replayed further times limit ps qs rs few first second within = let e = no_more further 3 limit few in omega (arith, e, few, first, second, within)
+-- one more round, as far as it has come
+module _ (l : Limits) (q i n a : ℕ) (k k1 k2 k3 : KeeperShown) (ps ps1 ps2 ps3 : List PassShown) (less : i < n) (same : a ≡ l.attempts) (given : k1.given ≡ q)
+    (made : AllMake (replay_steps l q (i * l.attempts) i) k ps k1 ps1) (attempts : AllMake (a * attempt_steps l k1.given) k1 ps1 k2 ps2) where
+  all_tried : AllMake (l.attempts * attempt_steps l q) k1 ps1 k2 ps2
+  all_tried = subst (λ z. AllMake (l.attempts * attempt_steps l z) k1 ps1 k2 ps2) given (subst (λ z. AllMake (z * attempt_steps l k1.given) k1 ps1 k2 ps2) same attempts)
+
+  pub tried_within : AllMake (replay_steps l q (n * l.attempts) n) k ps k2 ps2
+  tried_within = let e = rounds_next l q i n less in let f = all_tried in omega (arith, e, f, made)
+
+  pub round_within : k2.given ≡ k1.given → AllMake (gathered l k2.given requeue_steps) k2 ps2 k3 ps3 → AllMake (replay_steps l q (n * l.attempts) n) k ps k3 ps3
+  round_within still again =
+      let e = rounds_next l q i n less in
+      let f = all_tried in
+      let g = subst (λ z. AllMake (gathered l z requeue_steps) k2 ps2 k3 ps3) (still ∙ given) again in
+      omega (arith, e, f, g, made)
 
 -- all rounds are made before the attempts of the last
-pub rounds_within : (further limit : ℕ) (ps qs : List PassShown) → further ≤ MAX_ROUNDS → PassesMake (replay_steps (further * limit) further) ps qs → PassesMake (most_replay_steps limit) ps qs
-rounds_within further limit ps qs few first = let e = no_more further 3 limit few in omega (arith, e, few, first)
+enough : (further times limit a b : ℕ) → further ≤ 3 → times ≤ limit → (further * limit * a + further * b) + times * a ≤ 4 * limit * a + 3 * b
+enough further times limit a b few within =
+    let e = stays_less further 3 limit a b few in
+    let f = no_more times limit a within in
+    let g = add-mul (3 * limit) limit a in
+    let h : 4 * limit * a ≡ (3 * limit + limit) * a = ap (λ n. n * a) (let same : 4 * limit ≡ 3 * limit + limit = omega arith in same) in
+    omega (arith, e, f, g, h)
+
+pub most_is : (l : Limits) (q : ℕ) → most_replay_steps l q ≡ 4 * l.attempts * attempt_steps l q + 3 * gathered l q requeue_steps
+most_is l q = ap (λ n. n * attempt_steps l q + 3 * gathered l q requeue_steps) (let same : tries l.attempts ≡ 4 * l.attempts = omega arith in same)
+
+pub rounds_within : (l : Limits) (q further : ℕ) (k k' : KeeperShown) (ps qs : List PassShown) → further ≤ MAX_ROUNDS → AllMake (replay_steps l q (further * l.attempts) further) k ps k' qs → AllMake (most_replay_steps l q) k ps k' qs
+rounds_within l q further k k' ps qs few first =
+    let e = enough further 0 l.attempts (attempt_steps l q) (gathered l q requeue_steps) few (omega arith) in
+    let f = most_is l q in
+    omega (arith, e, f, first)
+
+-- so an element is replayed by as many as it can have had
+pub replayed : (l : Limits) (q further times : ℕ) (k k' k'' : KeeperShown) (ps qs rs : List PassShown) → further ≤ MAX_ROUNDS → AllMake (replay_steps l q (further * l.attempts) further) k ps k' qs → AllMake (times * attempt_steps l q) k' qs k'' rs
+    → times ≤ l.attempts → AllMake (most_replay_steps l q) k ps k'' rs
+replayed l q further times k k' k'' ps qs rs few first second within =
+    let e = enough further times l.attempts (attempt_steps l q) (gathered l q requeue_steps) few within in
+    let f = most_is l q in
+    omega (arith, e, f, first, second)
 
 -- one more was put behind those that were found
 pub one_kept : (xs ys : List ℕ) (found : Option ℕ) (count : ℕ) → ys ≡ xs ++ listed found → length xs < count → length ys ≤ count

@@ -39,43 +39,57 @@ module _ (l : Limits) (p n : ℕ) (keeper keeper1 : KeeperShown) (olds olds1 : L
     pub survey_gathered : (keeper2 : KeeperShown) (olds3 : List PassShown) → AllMake (gather_steps l p) keeper1 olds2 keeper2 olds3 → AllMake (survey_steps l p n) keeper olds keeper2 olds3
     survey_gathered keeper2 olds3 gathered = omega (arith, counted, found, gathered)
 
--- and what makes n elements stand again
-module _ (k : Limits) (q n : ℕ) (keeper : KeeperShown) (news news1 : List PassShown) (born : PassesMake (n * bear_steps k 1) news news1) where
-  each_renewed : n * renew_steps k ≡ n * bear_steps k 1 + n * most_replay_steps k.attempts
-  each_renewed = mul-add n (bear_steps k 1) (most_replay_steps k.attempts)
+-- and what makes n elements stand again, by q passes
+module _ (k : Limits) (q n : ℕ) (k0 k1 k2 : KeeperShown) (ps0 ps1 ps2 : List PassShown) (began : AllMake (gather_steps k q) k0 ps0 k1 ps1) (given : k1.given ≡ q) (born : AllMake (n * bear_steps k k1.given 1) k1 ps1 k2 ps2) where
+  each_renewed : n * renew_steps k q ≡ n * bear_steps k q 1 + n * most_replay_steps k q
+  each_renewed = mul-add n (bear_steps k q 1) (most_replay_steps k q)
 
-  pub again_born : AllMake (most_new_steps k q n) keeper news keeper news1
-  again_born = let e = each_renewed in omega (arith, e, born)
+  all_born : AllMake (n * bear_steps k q 1) k1 ps1 k2 ps2
+  all_born = subst (λ z. AllMake (n * bear_steps k z 1) k1 ps1 k2 ps2) given born
 
-  module _ (news2 : List PassShown) (replayed : PassesMake (n * most_replay_steps k.attempts) news1 news2) where
-    pub again_replayed : AllMake (most_new_steps k q n) keeper news keeper news2
-    again_replayed = let e = each_renewed in omega (arith, e, born, replayed)
+  pub again_born : AllMake (most_new_steps k q n) k0 ps0 k2 ps2
+  again_born = let e = each_renewed in let f = all_born in omega (arith, e, f, began)
 
-    module _ (keeper1 : KeeperShown) (news3 : List PassShown) (counted : AllMake (account_steps k q) keeper news2 keeper1 news3) where
-      pub again_counted : AllMake (most_new_steps k q n) keeper news keeper1 news3
-      again_counted = let e = each_renewed in omega (arith, e, born, replayed, counted)
+  module _ (k3 : KeeperShown) (ps3 : List PassShown) (given2 : k2.given ≡ k1.given) (replayed : AllMake (n * most_replay_steps k k2.given) k2 ps2 k3 ps3) where
+    all_replayed : AllMake (n * most_replay_steps k q) k2 ps2 k3 ps3
+    all_replayed = subst (λ z. AllMake (n * most_replay_steps k z) k2 ps2 k3 ps3) (given2 ∙ given) replayed
 
-      module _ (news4 : List PassShown) (held : PassesMake (n * compare_steps k) news3 news4) where
-        pub again_held : AllMake (most_new_steps k q n) keeper news keeper1 news4
-        again_held = let e = each_renewed in omega (arith, e, born, replayed, counted, held)
+    pub again_replayed : AllMake (most_new_steps k q n) k0 ps0 k3 ps3
+    again_replayed = let e = each_renewed in let f = all_born in let g = all_replayed in omega (arith, e, f, g, began)
 
-        pub again_gathered : (keeper2 : KeeperShown) (news5 : List PassShown) → AllMake (gather_steps k q) keeper1 news4 keeper2 news5 → AllMake (most_new_steps k q n) keeper news keeper2 news5
-        again_gathered keeper2 news5 gathered = let e = each_renewed in omega (arith, e, born, replayed, counted, held, gathered)
+    module _ (k4 : KeeperShown) (ps4 : List PassShown) (given3 : k3.given ≡ k2.given) (counted : AllMake (account_steps k k3.given) k3 ps3 k4 ps4) where
+      all_counted : AllMake (account_steps k q) k3 ps3 k4 ps4
+      all_counted = subst (λ z. AllMake (account_steps k z) k3 ps3 k4 ps4) (given3 ∙ (given2 ∙ given)) counted
 
--- by what they have had
-pub again_by : (k : Limits) (q : ℕ) (g : List Event) (survivors : List Survivor) (moved : List Moved) (keeper keeper1 keeper2 : KeeperShown) (news news1 news2 news3 news4 news5 : List PassShown) → AllStandAgain k.attempts g survivors moved
-    → PassesMake (length survivors * bear_steps k 1) news news1 → PassesMake (replays_for k.attempts survivors) news1 news2 → AllMake (account_steps k q) keeper news2 keeper1 news3
-    → PassesMake (length survivors * compare_steps k) news3 news4 → AllMake (gather_steps k q) keeper1 news4 keeper2 news5 → AllMake (new_steps k q g moved) keeper news keeper2 news5
-again_by k q g survivors moved keeper keeper1 keeper2 news news1 news2 news3 news4 news5 all born replayed counted held gathered =
-    let e = same_replays k.attempts g survivors moved all in
-    let long : length survivors ≡ length moved = sym (zip_as_many (StandsAgain k.attempts g) survivors moved all) in
-    let born' = subst (λ n. PassesMake (n * bear_steps k 1) news news1) long born in
-    let held' = subst (λ n. PassesMake (n * compare_steps k) news3 news4) long held in
-    omega (arith, e, born', replayed, counted, held', gathered)
+      pub again_counted : AllMake (most_new_steps k q n) k0 ps0 k4 ps4
+      again_counted = let e = each_renewed in let f = all_born in let g = all_replayed in let h = all_counted in omega (arith, e, f, g, h, began)
+
+      module _ (ps5 : List PassShown) (held : PassesMake (n * compare_steps k) ps4 ps5) where
+        pub again_held : AllMake (most_new_steps k q n) k0 ps0 k4 ps5
+        again_held = let e = each_renewed in let f = all_born in let g = all_replayed in let h = all_counted in omega (arith, e, f, g, h, began, held)
+
+        module _ (k5 : KeeperShown) (ps6 : List PassShown) (given4 : k4.given ≡ k3.given) (gathered : AllMake (gather_steps k k4.given) k4 ps5 k5 ps6) where
+          all_gathered : AllMake (gather_steps k q) k4 ps5 k5 ps6
+          all_gathered = subst (λ z. AllMake (gather_steps k z) k4 ps5 k5 ps6) (given4 ∙ (given3 ∙ (given2 ∙ given))) gathered
+
+          pub again_gathered : AllMake (most_new_steps k q n) k0 ps0 k5 ps6
+          again_gathered = let e = each_renewed in let f = all_born in let g = all_replayed in let h = all_counted in let i = all_gathered in omega (arith, e, f, g, h, i, began, held)
+
+          -- by what they have had
+          pub again_by : (survivors : List Survivor) (moved : List Moved) → n ≡ length survivors → AllStandAgain k.attempts k5.seen survivors moved → AllMake (replays_for k k2.given survivors) k2 ps2 k3 ps3 → AllMake (new_steps k q k5.seen moved) k0 ps0 k5 ps6
+          again_by survivors moved many all had =
+              let f = same_replays k q k5.seen survivors moved all in
+              let long : n ≡ length moved = many ∙ sym (zip_as_many (StandsAgain k.attempts k5.seen) survivors moved all) in
+              let born' = subst (λ z. AllMake (z * bear_steps k q 1) k1 ps1 k2 ps2) long all_born in
+              let had' = subst (λ z. AllMake (replays_for k z survivors) k2 ps2 k3 ps3) (given2 ∙ given) had in
+              let held' = subst (λ z. PassesMake (z * compare_steps k) ps4 ps5) long held in
+              let h = all_counted in
+              let i = all_gathered in
+              omega (arith, f, born', had', h, i, began, held')
 
 -- for no more than were counted
 pub most_for : (k : Limits) (q a n : ℕ) (keeper keeper' : KeeperShown) (news news' : List PassShown) → a ≤ n → AllMake (most_new_steps k q a) keeper news keeper' news' → AllMake (most_new_steps k q n) keeper news keeper' news'
-most_for k q a n keeper keeper' news news' few made = let e = no_more a n (renew_steps k) few in let f = no_more a n (compare_steps k) few in omega (arith, e, f, made)
+most_for k q a n keeper keeper' news news' few made = let e = no_more a n (renew_steps k q) few in let f = no_more a n (compare_steps k) few in omega (arith, e, f, made)
 
 pub most_none : (k : Limits) (q n : ℕ) (keeper : KeeperShown) (news : List PassShown) → AllMake (most_new_steps k q n) keeper news keeper news
 most_none k q n keeper news = omega arith

@@ -70,42 +70,50 @@ search_steps l (suc n) = rows_of l * read_steps l
 abbrev pub describe_steps : Limits → ℕ
 describe_steps l = read_steps l + read_steps l + rounds_steps
 
+-- a call of so many steps, after which q passes gather
+abbrev pub gathered : Limits → ℕ → ℕ → ℕ
+gathered l q n = n + gather_steps l q
+
+-- a carrier is claimed, and committed with n drafts
+abbrev pub commit_on_steps : Limits → ℕ → ℕ → ℕ
+commit_on_steps l q n = gathered l q claim_id_steps + gathered l q (commit_steps l n)
+
 -- n elements of a family are born together: a copy of the root is submitted, claimed, and committed with them
 -- and one that carries the family on
-abbrev pub bear_steps : Limits → ℕ → ℕ
-bear_steps l n = submit_steps l + (claim_id_steps + commit_steps l (n + 1))
+abbrev pub bear_steps : Limits → ℕ → ℕ → ℕ
+bear_steps l q n = gathered l q (submit_steps l) + commit_on_steps l q (n + 1)
 
 -- an attempt that is given up
-abbrev pub attempt_steps : ℕ
-attempt_steps = claim_id_steps + abort_steps
+abbrev pub attempt_steps : Limits → ℕ → ℕ
+attempt_steps l q = gathered l q claim_id_steps + gathered l q abort_steps
 
 -- so many attempts and further rounds
-abbrev pub replay_steps : ℕ → ℕ → ℕ
-replay_steps attempts further = attempts * attempt_steps + further * requeue_steps
+abbrev pub replay_steps : Limits → ℕ → ℕ → ℕ → ℕ
+replay_steps l q attempts further = attempts * attempt_steps l q + further * gathered l q requeue_steps
 
 -- what these have had after this history, by their ids in the new manager
-abbrev pub replays_of : ℕ → List Event → List Moved → ℕ
-replays_of limit g moved = replay_steps (all_tries limit g moved) (all_rounds g moved)
+abbrev pub replays_of : Limits → ℕ → List Event → List Moved → ℕ
+replays_of l q g moved = replay_steps l q (all_tries l.attempts g moved) (all_rounds g moved)
 
--- what was described of one, with this attempt limit, and of all of them
-abbrev pub replay_of : ℕ → Survivor → ℕ
-replay_of limit s = replay_steps (attempts_had s.status + s.rounds * limit) s.rounds
+-- what was described of one, and of all of them
+abbrev pub replay_of : Limits → ℕ → Survivor → ℕ
+replay_of l q s = replay_steps l q (attempts_had s.status + s.rounds * l.attempts) s.rounds
 
-abbrev pub replays_for : ℕ → List Survivor → ℕ
-replays_for limit [] = 0
-replays_for limit (s ∷ ss) = replay_of limit s + replays_for limit ss
+abbrev pub replays_for : Limits → ℕ → List Survivor → ℕ
+replays_for l q [] = 0
+replays_for l q (s ∷ ss) = replay_of l q s + replays_for l q ss
 
--- all that an element can have had, with this attempt limit
-abbrev pub most_replay_steps : ℕ → ℕ
-most_replay_steps limit = replay_steps (tries limit) MAX_ROUNDS
+-- all that an element can have had
+abbrev pub most_replay_steps : Limits → ℕ → ℕ
+most_replay_steps l q = replay_steps l q (tries l.attempts) MAX_ROUNDS
 
 -- a new element is compared with what was described: it is read, how many rounds it had, and its root
 abbrev pub compare_steps : Limits → ℕ
 compare_steps l = read_steps l + rounds_steps + read_steps l
 
--- what the new passes make for each, with all that it can have had
-abbrev pub renew_steps : Limits → ℕ
-renew_steps l = bear_steps l 1 + most_replay_steps l.attempts
+-- what the q new passes make for each, with all that it can have had
+abbrev pub renew_steps : Limits → ℕ → ℕ
+renew_steps l q = bear_steps l q 1 + most_replay_steps l q
 
 -- the p old passes find n elements alive: an account, the search, each is described, and they gather
 abbrev pub survey_steps : Limits → ℕ → ℕ → ℕ
@@ -115,17 +123,18 @@ survey_steps l p n = account_steps l p + (search_steps l n + n * describe_steps 
 abbrev pub old_steps : Limits → ℕ → ℕ → ℕ
 old_steps l p n = survey_steps l p n + (n * kill_steps l + gather_steps l p)
 
--- the q new passes, once n elements are there: an account, each is compared, and they gather
+-- the q new passes gather before n elements are born; once these are there: an account, each is compared,
+-- and they gather
 abbrev pub check_steps : Limits → ℕ → ℕ → ℕ
-check_steps l q n = account_steps l q + n * compare_steps l + gather_steps l q
+check_steps l q n = gather_steps l q + (account_steps l q + n * compare_steps l + gather_steps l q)
 
 -- and at most for n elements in all: these are born and replayed, and those
 abbrev pub most_new_steps : Limits → ℕ → ℕ → ℕ
-most_new_steps l q n = n * renew_steps l + check_steps l q n
+most_new_steps l q n = n * renew_steps l q + check_steps l q n
 
 -- with the attempts and rounds that they have had after this history
 abbrev pub new_steps : Limits → ℕ → List Event → List Moved → ℕ
-new_steps l q g moved = (length moved * bear_steps l 1 + replays_of l.attempts g moved)
+new_steps l q g moved = (length moved * bear_steps l q 1 + replays_of l q g moved)
     + check_steps l q (length moved)
 
 -- a manager that is made for n elements gives its passes out before, by a step each
@@ -135,10 +144,12 @@ most_successor_steps l n = l.parts + most_new_steps l l.parts n
 abbrev pub successor_steps : Limits → List Event → List Moved → ℕ
 successor_steps l g moved = l.parts + new_steps l l.parts g moved
 
--- in round numbers, with A attempts in a round and S spare blocks: what the old passes make for each element,
--- and what the new ones do
-pub record PerElement (l : Limits) : Type 0 where
+-- in round numbers, with A attempts in a round and S spare blocks, for each element: what the old passes
+-- make, and what q new ones do, which gather after each call, or each run of requests by one pass
+pub record PerElement (l : Limits) (q : ℕ) : Type 0 where
   pub old : describe_steps l + kill_steps l ≡ 24 * l.attempts + 24
-  pub new : bear_steps l 1 + compare_steps l ≡ 16 * l.attempts + 2 * l.spare + 44
-  pub replay : (attempts further : ℕ) → replay_steps attempts further ≡ 11 * attempts + 5 * further
-  pub most : renew_steps l + compare_steps l ≡ 60 * l.attempts + 2 * l.spare + 59
+  pub new : bear_steps l q 1 + compare_steps l ≡ 16 * l.attempts + 2 * l.spare + 44 + 3 * gather_steps l q
+  pub replay : (attempts further : ℕ) → replay_steps l q attempts further
+      ≡ (11 + 2 * gather_steps l q) * attempts + (5 + gather_steps l q) * further
+  pub most : renew_steps l q + compare_steps l
+      ≡ 60 * l.attempts + 2 * l.spare + 59 + (8 * l.attempts + 6) * gather_steps l q

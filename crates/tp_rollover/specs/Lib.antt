@@ -14,3 +14,7 @@ pub mod Bounds
 pub mod Births
 pub mod Alike
 pub mod Survivors
+pub mod Lone
+pub mod Anew
+pub mod Carries
+pub mod Runs

@@ -6,8 +6,10 @@ use Rattle.tp_model.specs.Passes.{IsPassView}
 use Rattle.tp_model.specs.Steps.{AreLimits}
 use Rattle.tp_manager.specs.Accounts.{AreAll}
 use Rattle.tp_manager.specs.Shown.{IsKeptBy, IsOf, KeeperShown, PassShown, low_of, turn_of, view_in}
-use Rattle.tp_alone.specs.Thread.{Stays}
+use Rattle.tp_plain.specs.OneThread.{start}
+use Rattle.tp_alone.specs.Thread.{Stays, thread_of}
 use Rattle.tp_rollover.specs.Answers.{Rolls}
+use Rattle.tp_rollover.specs.Carries.{Carries}
 use Rattle.tp_rollover.specs.Faults.{AreFree, HasShort}
 use Rattle.tp_rollover.specs.declared.managed.Managed.{Managed}
 use Rattle.tp_rollover.specs.declared.moved.Moved.{Moved}
@@ -37,8 +39,8 @@ pub record IsManaged (m : Managed) : Type 0 where
   pub parts : length m.passes.items ≡ m.manager.limits.parts
 
 -- It has gone on in another manager, of the same limits. No unit was open, and none is. From what the old
--- passes had done before the rollover went to what the new ones have seen. The old manager's keeper and
--- passes showed these at the last.
+-- passes had done before the rollover went to what the new ones have seen, and what was alive was made anew
+-- as it is computed. The old manager's keeper and passes showed these at the last.
 pub record GoesOn (old new : Managed) (moved : List Moved) : Type 0 where
   pub keeper : KeeperShown
   pub passes : List PassShown
@@ -46,6 +48,8 @@ pub record GoesOn (old new : Managed) (moved : List Moved) : Type 0 where
   pub limits : new.manager.limits ≡ old.manager.limits
   pub rolls : Rolls old.manager.limits new.manager.limits keeper new.keeper old.passes.items passes
       new.passes.items moved
+  pub carries : let l = old.manager.limits in
+      Carries l old.passes.items l.parts (start l) moved (thread_of l new.passes.items new.keeper.seen)
   pub idle : AreFree old.passes.items
   pub free : AreFree new.passes.items
 

@@ -1,19 +1,26 @@
-//! What was described is born in a manager. Nothing is promised here but how many steps that takes, and that
-//! the passes stay those of their manager: what was born is checked afterwards.
-ghost use Rattle.std.specs.Prelude.{◌≡◌, ◌+◌, ◌*◌, ◌≤◌, All, IfOk, OnOk, length};
-ghost use Rattle.tp_manager.specs.Bounds.{claim_id_steps, commit_steps, submit_steps};
+//! What was described is born in a manager, in whose passes' order, by groups.
+ghost use Rattle.std.specs.Prelude.{◌≡◌, ◌+◌, ◌-◌, ◌*◌, ◌<◌, ◌≤◌, ◌++◌, All, IfOk, IfSome, OnOk, length, map};
+ghost use Rattle.std.specs.Prelude.{List, Some, nat_lt, replicate, take, true};
+ghost use Rattle.tp_model.specs.declared.event.Event.{Event};
+ghost use Rattle.tp_plain.specs.OneThread.{pass_at};
+ghost use Rattle.tp_manager.specs.Bounds.{submit_steps};
 ghost use Rattle.tp_manager.specs.Shown.{IsOf};
-ghost use Rattle.tp_rollover.specs.Bounds.{PassesMake, bear_steps};
+ghost use Rattle.tp_alone.specs.Thread.{thread_of};
+ghost use Rattle.tp_rollover.specs.Anew.{all_born, born_next, carrier_by, draft_of, drafts_of, families_of};
+ghost use Rattle.tp_rollover.specs.Anew.{filler, group_size, highest_root, home_of, named_in, neighbours_in};
+ghost use Rattle.tp_rollover.specs.Anew.{next_born, submitted_next};
+ghost use Rattle.tp_rollover.specs.Bounds.{AllMake, bear_steps, commit_on_steps, gathered};
 ghost use Rattle.tp_rollover.specs.Births.{born_of};
-ghost use Rattle.tp_rollover.specs.Passes.{numbers};
+ghost use Rattle.tp_rollover.specs.Lone.{Agrees, AreLone, bearing, lone, placing};
+ghost use Rattle.tp_rollover.specs.Runs.{BearsOn, GoesOn, newly};
 
-use crate::calls::{bear_by, submit_by};
+use crate::calls::{bear_by, submit_by, submit_run};
 use crate::moved::Moved;
-use crate::places::Cursor;
+use crate::places::{Cursor, begin};
 use crate::stops::Stop;
 use crate::survivors::Survivor;
 use std::alloc::Global;
-use tp_manager::{Manager, Pass};
+use tp_manager::{Keeper, Manager, Pass};
 use tp_model::types::{Draft, Limits};
 
 /// What stands of a family in the new manager.
@@ -22,7 +29,7 @@ struct Family {
     /// Its root there, and the element of which its next ones are born, once there is one.
     carrier: Option<(u32, u32)>,
     /// How many of its elements are to be born.
-    left: u32,
+    left: usize,
 }
 
 /// Elements that were born together: their root, the id of the first, and how many they are.
@@ -34,24 +41,32 @@ struct Group {
 }
 
 /// The pass in whose part the row lies, or as many as there are parts for a spare one.
-fn home_of(limits: Limits, id: u32) -> usize {
+fn home_of(limits: Limits, id: u32) -> usize
+    ensures { result ≡ home_of limits id }
+{
     let home = id / u32::from(limits.rows).max(1);
     home.min(u32::from(limits.parts)) as usize
 }
 
-/// A place for the family of each root up to the highest of these, with how many of its elements are alive. So
-/// many elements the manager has room for in which they are: `Unequal` where an id or a root is past that, or an
-/// element of a family is the root of another one.
-fn count_families(
-    alloc: Global,
-    capacity: u32,
-    survivors: &[Survivor],
-) -> Result<Vec<Family>, Stop> {
+/// The highest root of these.
+fn highest_root(survivors: &[Survivor]) -> u32
+    ensures { result ≡ highest_root survivors.now }
+{
     let mut highest: u32 = 0;
-    for one in survivors {
-        highest = highest.max(one.root);
+    for place in 0..survivors.len() {
+        highest = highest.max(survivors[place].root);
     }
-    let places = highest.saturating_add(1).min(capacity);
+    highest
+}
+
+/// A place for the family of each root up to the highest of these, with how many of its elements are alive.
+/// The manager in which they are says how many there can be: `Unequal` where an id or a root is past that.
+fn count_families(alloc: Global, of: &Manager, survivors: &[Survivor]) -> Result<Vec<Family>, Stop>
+    ensures counted { Agrees result (λ families. families.items)
+        (Some (families_of of.now.limits survivors.now)) }
+{
+    let capacity = of.capacity();
+    let places = highest_root(survivors).saturating_add(1).min(capacity);
     let none = Family {
         carrier: None,
         left: 0,
@@ -59,20 +74,36 @@ fn count_families(
     let Ok(mut families) = Vec::from_elem(alloc, none, places as usize) else {
         return Err(Stop::NoMemory);
     };
-    for one in survivors {
+    for place in 0..survivors.len() {
+        let one = survivors[place];
         let root = one.root as usize;
-        if root >= families.len() || one.id >= capacity {
+        if root >= families.len() {
             return Err(Stop::Unequal);
         }
-        families[root].left = families[root].left.saturating_add(1);
-    }
-    for one in survivors {
-        let id = one.id as usize;
-        if one.id != one.root && id < families.len() && families[id].left > 0 {
+        if one.id >= capacity {
             return Err(Stop::Unequal);
         }
+        let Some(left) = families[root].left.checked_add(1) else {
+            return Err(Stop::Unequal);
+        };
+        families[root] = Family {
+            carrier: None,
+            left,
+        };
     }
     Ok(families)
+}
+
+/// Whether no element of a family is the root of another one.
+fn are_apart(survivors: &[Survivor], families: &[Family]) -> bool {
+    for place in 0..survivors.len() {
+        let one = survivors[place];
+        let id = one.id as usize;
+        if one.id != one.root && id < families.len() && families[id].left > 0 {
+            return false;
+        }
+    }
+    true
 }
 
 /// How many of these, at most four, are neighbours of one pass and one family.
@@ -81,13 +112,17 @@ fn neighbours(limits: Limits, rest: &[Survivor]) -> usize
     ensures few { result ≤ 4 }
     ensures some { 1 ≤ result }
     ensures inside { result ≤ length rest.now }
+    ensures counted { result ≡ neighbours_in limits rest.now }
 {
     let first = rest[0];
     let home = home_of(limits, first.id);
     let end = rest.len().min(4);
     for place in 1..end {
         let next = rest[place];
-        if next.root != first.root || home_of(limits, next.id) != home {
+        if next.root != first.root {
+            return place;
+        }
+        if home_of(limits, next.id) != home {
             return place;
         }
     }
@@ -96,48 +131,77 @@ fn neighbours(limits: Limits, rest: &[Survivor]) -> usize
 
 /// How many of these are born next, where so many of the family are left; and whether a carrier is born with
 /// them, for more of it.
-fn next_group(limits: Limits, rest: &[Survivor], left: u32) -> (usize, bool)
+fn next_group(limits: Limits, rest: &[Survivor], left: usize) -> (usize, bool)
     requires some { 1 ≤ length rest.now }
     ensures few { result.0 ≤ 4 }
+    ensures room { result.1 ≡ true → result.0 ≤ 3 }
     ensures some { 1 ≤ result.0 }
     ensures inside { result.0 ≤ length rest.now }
+    ensures size { result.0 ≡ group_size limits rest.now left }
+    ensures more { result.1 ≡ nat_lt result.0 left }
 {
     let count = neighbours(limits, rest);
     if count == 4 && left > 4 {
         return (3, true);
     }
-    (count, left as usize > count)
+    (count, left > count)
+}
+
+/// A copy of this one's root is submitted, by the next pass from `home` on. Its id.
+fn submit_root(
+    one: Survivor,
+    manager: &Manager,
+    keeper: &mut Keeper,
+    passes: &mut [Pass],
+    cursor: &mut Cursor,
+    home: usize,
+) -> Result<u32, Stop>
+    requires lone { AreLone manager.now keeper.old passes.old }
+    ensures lone { AreLone manager.now keeper.new passes.new × (keeper.new.given ≡ keeper.old.given) }
+    ensures steps { let l = manager.now.limits in
+        AllMake (gathered l keeper.old.given (submit_steps l)) keeper.old passes.old keeper.new passes.new }
+    ensures gives { Agrees result (λ id. (id, placing manager.now keeper.new passes.new cursor.new))
+        (submitted_next (length passes.old) one.root_stage one.root_body home
+        (placing manager.now keeper.old passes.old cursor.old)) }
+{
+    let at = cursor.next(manager, passes, home, 1, 0)?;
+    submit_by(manager, keeper, passes, at, one.root_stage, one.root_body)
 }
 
 /// The root of a family in the new manager, and the element of which its next ones are born. Both are a copy
-/// of this one's root where there is none yet, born by the next pass from `home` on.
+/// of this one's root where there is none yet.
 fn carrier_of(
     one: Survivor,
-    family: Family,
+    carrier: Option<(u32, u32)>,
     manager: &Manager,
+    keeper: &mut Keeper,
     passes: &mut [Pass],
     cursor: &mut Cursor,
     home: usize,
 ) -> Result<(u32, u32), Stop>
-    requires own { All (IsOf manager.now) passes.old }
-    ensures own { All (IsOf manager.now) passes.new }
-    ensures numbers { numbers passes.new ≡ numbers passes.old }
-    ensures steps { PassesMake (submit_steps manager.now.limits) passes.old passes.new }
+    requires lone { AreLone manager.now keeper.old passes.old }
+    ensures lone { AreLone manager.now keeper.new passes.new × (keeper.new.given ≡ keeper.old.given) }
+    ensures steps { let l = manager.now.limits in
+        AllMake (gathered l keeper.old.given (submit_steps l)) keeper.old passes.old keeper.new passes.new }
+    ensures gives { Agrees result (λ has. (has, placing manager.now keeper.new passes.new cursor.new))
+        (carrier_by (length passes.old) one home carrier
+        (placing manager.now keeper.old passes.old cursor.old)) }
 {
-    if let Some(carrier) = family.carrier {
-        return Ok(carrier);
+    match carrier {
+        Some(carrier) => Ok(carrier),
+        None => {
+            let id = submit_root(one, manager, keeper, passes, cursor, home)?;
+            Ok((id, id))
+        }
     }
-    let Some(at) = cursor.next(manager, passes, home, 1, 0) else {
-        return Err(Stop::Full);
-    };
-    let id = submit_by(manager, passes, at, one.root_stage, one.root_body)?;
-    Ok((id, id))
 }
 
 /// Drafts of these, and for what is left of four fillers, of which one is a carrier: it waits until its
 /// family's next turn. `None` where a stage isn't one of those that outputs have.
 fn drafts_of(group: &[Survivor]) -> Option<[Draft; 4]>
     requires few { length group.now ≤ 4 }
+    ensures drafts { IfSome result (λ drafts.
+        drafts ≡ map draft_of group.now ++ replicate (4 - length group.now) filler) }
 {
     let filler = Draft::new(1, [0; 4])?;
     let mut drafts = [filler; 4];
@@ -154,30 +218,29 @@ fn bear_group(
     more: bool,
     carrier: u32,
     manager: &Manager,
+    keeper: &mut Keeper,
     passes: &mut [Pass],
     cursor: &mut Cursor,
     home: usize,
 ) -> Result<u32, Stop>
-    requires own { All (IsOf manager.now) passes.old }
+    requires lone { AreLone manager.now keeper.old passes.old }
     requires some { 1 ≤ length group.now }
     requires few { length group.now ≤ 4 }
-    ensures own { All (IsOf manager.now) passes.new }
-    ensures numbers { numbers passes.new ≡ numbers passes.old }
+    requires room { more ≡ true → length group.now ≤ 3 }
+    ensures lone { AreLone manager.now keeper.new passes.new × (keeper.new.given ≡ keeper.old.given) }
     ensures steps { let n = length group.now in
-        PassesMake (claim_id_steps + commit_steps manager.now.limits (n + 1)) passes.old passes.new }
+        AllMake (commit_on_steps manager.now.limits keeper.old.given (n + 1))
+        keeper.old passes.old keeper.new passes.new }
+    ensures gives { Agrees result (λ first. (first, placing manager.now keeper.new passes.new cursor.new))
+        (born_next (length passes.old) (drafts_of group.now more) carrier home
+        (placing manager.now keeper.old passes.old cursor.old)) }
 {
     let Some(drafts) = drafts_of(group) else {
         return Err(Stop::Unequal);
     };
-    let count = if more && group.len() < 4 {
-        group.len() + 1
-    } else {
-        group.len()
-    };
-    let Some(at) = cursor.next(manager, passes, home, count as u16, 1) else {
-        return Err(Stop::Full);
-    };
-    bear_by(manager, passes, at, carrier, &drafts[..count])
+    let count = if more { group.len() + 1 } else { group.len() };
+    let at = cursor.next(manager, passes, home, count as u16, 1)?;
+    bear_by(manager, keeper, passes, at, carrier, &drafts[..count])
 }
 
 /// The next of these are born: a root by itself, or neighbours of one family. The limits are those of the
@@ -186,26 +249,33 @@ fn bear_next(
     limits: Limits,
     rest: &[Survivor],
     manager: &Manager,
+    keeper: &mut Keeper,
     passes: &mut [Pass],
     families: &mut [Family],
     cursor: &mut Cursor,
 ) -> Result<Group, Stop>
-    requires own { All (IsOf manager.now) passes.old }
+    requires lone { AreLone manager.now keeper.old passes.old }
     requires some { 1 ≤ length rest.now }
-    ensures own { All (IsOf manager.now) passes.new }
-    ensures numbers { numbers passes.new ≡ numbers passes.old }
+    ensures lone { AreLone manager.now keeper.new passes.new × (keeper.new.given ≡ keeper.old.given) }
     ensures inside { IfOk result (λ group. (1 ≤ group.count) × (group.count ≤ length rest.now)) }
     ensures steps { let n = born_of rest.now result in
-        PassesMake (n * bear_steps manager.now.limits 1) passes.old passes.new }
+        AllMake (n * bear_steps manager.now.limits keeper.old.given 1)
+        keeper.old passes.old keeper.new passes.new }
+    ensures gives { Agrees result
+        (λ group. (group, bearing manager.now keeper.new passes.new cursor.new families.new))
+        (next_born limits (length passes.old) rest.now
+        (bearing manager.now keeper.old passes.old cursor.old families.old)) }
 {
-    let next = rest[0];
+    let Some((&next, _others)) = rest.split_first() else {
+        return Err(Stop::Unequal);
+    };
     let place = next.root as usize;
     if place >= families.len() {
         return Err(Stop::Unequal);
     }
     let family = families[place];
     let home = home_of(limits, next.id);
-    let (root, carrier) = carrier_of(next, family, manager, passes, cursor, home)?;
+    let (root, carrier) = carrier_of(next, family.carrier, manager, keeper, passes, cursor, home)?;
     if next.id == next.root {
         return Ok(Group {
             root,
@@ -215,10 +285,13 @@ fn bear_next(
     }
     let (count, more) = next_group(limits, rest, family.left);
     let group = &rest[..count];
-    let first = bear_group(group, more, carrier, manager, passes, cursor, home)?;
+    let first = bear_group(group, more, carrier, manager, keeper, passes, cursor, home)?;
+    let Some(next_carrier) = first.checked_add(count as u32) else {
+        return Err(Stop::Unequal);
+    };
     families[place] = Family {
-        carrier: Some((root, first.saturating_add(count as u32))),
-        left: family.left.saturating_sub(count as u32),
+        carrier: Some((root, next_carrier)),
+        left: family.left.saturating_sub(count),
     };
     Ok(Group { root, first, count })
 }
@@ -226,10 +299,16 @@ fn bear_next(
 /// Names the elements of a group that was born.
 fn name(moved: &mut Vec<Moved>, rest: &[Survivor], group: Group) -> Result<(), Stop>
     requires inside { group.count ≤ length rest.now }
-    ensures named { OnOk result (length moved.new.items ≡ length moved.old.items + group.count) }
+    ensures named { Agrees result (λ _. moved.new.items) (Some (moved.old.items ++ named_in group rest.now)) }
+    ensures many { OnOk result (length moved.new.items ≡ length moved.old.items + group.count) }
 {
-    let mut new = group.first;
     for place in 0..group.count {
+        let Ok(step) = u32::try_from(place) else {
+            return Err(Stop::Unequal);
+        };
+        let Some(new) = group.first.checked_add(step) else {
+            return Err(Stop::Unequal);
+        };
         let one = Moved {
             old: rest[place].id,
             new,
@@ -239,9 +318,87 @@ fn name(moved: &mut Vec<Moved>, rest: &[Survivor], group: Group) -> Result<(), S
         if moved.push(one).is_err() {
             return Err(Stop::NoMemory);
         }
-        new = new.saturating_add(1);
     }
     Ok(())
+}
+
+/// Whether this is a request of a family of which nothing is born yet, and goes on in the part of the pass
+/// that is in use.
+fn goes_on(limits: Limits, one: Survivor, passes: usize, at: usize, families: &[Family]) -> bool
+    ensures { result ≡ true → GoesOn limits passes at families.now one }
+{
+    if one.id != one.root {
+        return false;
+    }
+    let place = one.root as usize;
+    if place >= families.len() {
+        return false;
+    }
+    let family = families[place];
+    match family.carrier {
+        Some(_carrier) => false,
+        None => begin(passes, at, home_of(limits, one.id)) == at,
+    }
+}
+
+/// How many of these are requests that this pass submits next, one after another: as many as go on in its
+/// part, while rows of that are left.
+fn run_of(
+    limits: Limits,
+    rest: &[Survivor],
+    manager: &Manager,
+    passes: &[Pass],
+    at: usize,
+    families: &[Family],
+) -> usize
+    requires own { All (IsOf manager.now) passes.now }
+    requires at { at < length passes.now }
+    ensures inside { result ≤ length rest.now }
+    ensures rows { (h : List Event) → let s = thread_of manager.now.limits passes.now h in
+        result ≤ (pass_at s at).left }
+    ensures on { All (GoesOn limits (length passes.now) at families.now) (take result rest.now) }
+{
+    let room = manager.room(&passes[at]);
+    let end = rest.len().min(usize::from(room.rows));
+    for place in 0..end {
+        if !goes_on(limits, rest[place], passes.len(), at, families) {
+            return place;
+        }
+    }
+    end
+}
+
+/// The next of these are born and named: a run of requests by the pass whose part is in use, or else one
+/// group.
+fn bear_turn(
+    limits: Limits,
+    rest: &[Survivor],
+    manager: &Manager,
+    keeper: &mut Keeper,
+    passes: &mut [Pass],
+    families: &mut [Family],
+    cursor: &mut Cursor,
+    moved: &mut Vec<Moved>,
+) -> Result<(), Stop>
+    requires lone { AreLone manager.now keeper.old passes.old }
+    requires some { 1 ≤ length rest.now }
+    ensures lone { AreLone manager.now keeper.new passes.new × (keeper.new.given ≡ keeper.old.given) }
+    ensures steps { let n = newly rest.now moved.old.items moved.new.items result in
+        AllMake (n * bear_steps manager.now.limits keeper.old.given 1)
+        keeper.old passes.old keeper.new passes.new }
+    ensures on { BearsOn limits (length passes.old) rest.now moved.old.items moved.new.items
+        (bearing manager.now keeper.old passes.old cursor.old families.old)
+        (bearing manager.now keeper.new passes.new cursor.new families.new) result }
+{
+    let at = cursor.at;
+    if at < passes.len() {
+        let count = run_of(limits, rest, manager, passes, at, families);
+        if count > 0 {
+            return submit_run(manager, keeper, passes, at, &rest[..count], moved);
+        }
+    }
+    let group = bear_next(limits, rest, manager, keeper, passes, families, cursor)?;
+    name(moved, rest, group)
 }
 
 /// All these are born in a manager, in their order. What they are there. `of` is the manager in which they
@@ -251,14 +408,17 @@ pub(crate) fn bear_all(
     of: &Manager,
     survivors: &[Survivor],
     manager: &Manager,
+    keeper: &mut Keeper,
     passes: &mut [Pass],
 ) -> Result<Vec<Moved>, Stop>
-    requires own { All (IsOf manager.now) passes.old }
-    ensures own { All (IsOf manager.now) passes.new }
-    ensures numbers { numbers passes.new ≡ numbers passes.old }
+    requires lone { AreLone manager.now keeper.old passes.old }
+    ensures lone { AreLone manager.now keeper.new passes.new × (keeper.new.given ≡ keeper.old.given) }
     ensures few { IfOk result (λ moved. length moved.items ≤ length survivors.now) }
     ensures steps { let n = length survivors.now in
-        PassesMake (n * bear_steps manager.now.limits 1) passes.old passes.new }
+        AllMake (n * bear_steps manager.now.limits keeper.old.given 1)
+        keeper.old passes.old keeper.new passes.new }
+    ensures gives { Agrees result (λ moved. (moved.items, lone manager.now keeper.new passes.new))
+        (all_born of.now.limits (length passes.old) survivors.now (lone manager.now keeper.old passes.old)) }
 {
     if survivors.is_empty() {
         return Ok(Vec::new(alloc));
@@ -266,7 +426,10 @@ pub(crate) fn bear_all(
     let Ok(mut moved) = Vec::with_capacity(alloc, survivors.len()) else {
         return Err(Stop::NoMemory);
     };
-    let mut families = count_families(alloc, of.capacity(), survivors)?;
+    let mut families = count_families(alloc, of, survivors)?;
+    if !are_apart(survivors, &families) {
+        return Err(Stop::Unequal);
+    }
     let mut cursor = Cursor::start();
     for _turn in 0..survivors.len() {
         let from = moved.len();
@@ -274,15 +437,16 @@ pub(crate) fn bear_all(
             break;
         }
         let rest = &survivors[from..];
-        let group = bear_next(
+        bear_turn(
             of.limits(),
             rest,
             manager,
+            keeper,
             passes,
             &mut families,
             &mut cursor,
+            &mut moved,
         )?;
-        name(&mut moved, rest, group)?;
     }
     Ok(moved)
 }

@@ -1,17 +1,24 @@
-//! The calls on the new manager, each by the pass with an index. They promise nothing but that the passes
-//! stay those of the manager: what they have made is checked when all is born.
-ghost use Rattle.std.specs.Prelude.{◌≡◌, ◌+◌, ◌≤◌, ◌⊎◌, All, None, length};
-ghost use Rattle.tp_manager.specs.Bounds.{claim_id_steps, commit_steps, requeue_steps, submit_steps};
+//! The calls on the new manager, each by the pass with an index. After each of them, or each run of requests
+//! by one pass, all passes look together, so that what it answers and leaves is what the manager of one
+//! thread answers and is then.
+ghost use Rattle.std.specs.Prelude.{◌≡◌, ◌*◌, ◌<◌, ◌≤◌, Some, length};
+ghost use Rattle.tp_plain.specs.Computed.{abort_of, claim_id_of, commit_of};
+ghost use Rattle.tp_manager.specs.Bounds.{abort_steps, claim_id_steps, commit_steps, requeue_steps};
+ghost use Rattle.tp_manager.specs.Bounds.{submit_steps};
 ghost use Rattle.tp_manager.specs.Shown.{IsOf};
-ghost use Rattle.tp_rollover.specs.Bounds.{PassMakes, PassesMake, attempt_steps};
-ghost use Rattle.tp_rollover.specs.Passes.{numbers};
+ghost use Rattle.tp_rollover.specs.Anew.{attempted, born_by, first_given, given, requeued, submitted};
+ghost use Rattle.tp_rollover.specs.Bounds.{AllMake, PassMakes, attempt_steps, commit_on_steps, gathered};
+ghost use Rattle.tp_rollover.specs.Lone.{Agrees, AreLone, lone};
+ghost use Rattle.tp_rollover.specs.Runs.{Runs, roots_born};
 
+use crate::moved::Moved;
 use crate::stops::Stop;
-use tp_manager::{Manager, Pass};
-use tp_model::types::{Body, Draft, Outcome, Refusal};
+use crate::survivors::Survivor;
+use tp_manager::{Keeper, Manager, Pass};
+use tp_model::types::{Body, Draft, Outcome, Refusal, Work};
 
 /// What a claim or another call was refused for.
-fn fault_of(refusal: Refusal) -> Stop {
+fn stop_for(refusal: Refusal) -> Stop {
     match refusal {
         Refusal::NoUnit => Stop::Full,
         Refusal::Full => Stop::Full,
@@ -22,138 +29,231 @@ fn fault_of(refusal: Refusal) -> Stop {
 /// A new request. Its id.
 pub(crate) fn submit_by(
     manager: &Manager,
+    keeper: &mut Keeper,
     passes: &mut [Pass],
     at: usize,
     stage: u8,
     body: Body,
 ) -> Result<u32, Stop>
-    requires own { All (IsOf manager.now) passes.old }
-    ensures own { All (IsOf manager.now) passes.new }
-    ensures numbers { numbers passes.new ≡ numbers passes.old }
-    ensures steps { PassesMake (submit_steps manager.now.limits) passes.old passes.new }
+    requires lone { AreLone manager.now keeper.old passes.old }
+    requires at { at < length passes.old }
+    ensures lone { AreLone manager.now keeper.new passes.new × (keeper.new.given ≡ keeper.old.given) }
+    ensures steps { let l = manager.now.limits in
+        AllMake (gathered l keeper.old.given (submit_steps l))
+        keeper.old passes.old keeper.new passes.new }
+    ensures gives { Agrees result (λ id. (id, lone manager.now keeper.new passes.new))
+        (submitted at stage body (lone manager.now keeper.old passes.old)) }
 {
-    if at >= passes.len() {
-        return Err(Stop::Full);
+    let answer = manager.submit(&mut passes[at], stage, body);
+    keeper.gather(manager, passes);
+    match answer {
+        Ok(id) => Ok(id),
+        Err(refusal) => Err(stop_for(refusal)),
     }
-    submit_one(manager, &mut passes[at], stage, body)
 }
 
-fn submit_one(manager: &Manager, pass: &mut Pass, stage: u8, body: Body) -> Result<u32, Stop>
+/// Copies of these ones' roots are submitted, one after another, with no look together between them. Each is
+/// named as its own root.
+fn submit_each(
+    manager: &Manager,
+    pass: &mut Pass,
+    roots: &[Survivor],
+    moved: &mut Vec<Moved>,
+) -> Result<(), Stop>
     requires own { IsOf manager.now pass.old }
-    ensures own { IsOf manager.now pass.new }
-    ensures number { pass.new.number ≡ pass.old.number }
-    ensures steps { PassMakes (submit_steps manager.now.limits) pass.old pass.new }
+    ensures own { IsOf manager.now pass.new × (pass.new.number ≡ pass.old.number) }
+    ensures steps { PassMakes (length roots.now * submit_steps manager.now.limits) pass.old pass.new }
+    ensures runs { let l = manager.now.limits in
+        Runs l roots.now moved.old.items moved.new.items pass.old pass.new result }
 {
-    match manager.submit(pass, stage, body) {
-        Ok(id) => Ok(id),
-        Err(refusal) => Err(fault_of(refusal)),
+    for place in 0..roots.len() {
+        let one = roots[place];
+        let id = match manager.submit(pass, one.root_stage, one.root_body) {
+            Ok(id) => id,
+            Err(refusal) => return Err(stop_for(refusal)),
+        };
+        let named = Moved {
+            old: one.id,
+            new: id,
+            old_root: one.root,
+            new_root: id,
+        };
+        if moved.push(named).is_err() {
+            return Err(Stop::NoMemory);
+        }
+    }
+    Ok(())
+}
+
+/// A run of new requests by one pass, copies of these ones' roots. After all of them all passes look
+/// together.
+pub(crate) fn submit_run(
+    manager: &Manager,
+    keeper: &mut Keeper,
+    passes: &mut [Pass],
+    at: usize,
+    roots: &[Survivor],
+    moved: &mut Vec<Moved>,
+) -> Result<(), Stop>
+    requires lone { AreLone manager.now keeper.old passes.old }
+    requires at { at < length passes.old }
+    ensures lone { AreLone manager.now keeper.new passes.new × (keeper.new.given ≡ keeper.old.given) }
+    ensures steps { let l = manager.now.limits in
+        AllMake (gathered l keeper.old.given (length roots.now * submit_steps l))
+        keeper.old passes.old keeper.new passes.new }
+    ensures gives { Agrees result (λ _. (moved.new.items, lone manager.now keeper.new passes.new))
+        (roots_born at roots.now (moved.old.items, lone manager.now keeper.old passes.old)) }
+{
+    let result = submit_each(manager, &mut passes[at], roots, moved);
+    keeper.gather(manager, passes);
+    result
+}
+
+/// The element is claimed.
+fn claim_by(
+    manager: &Manager,
+    keeper: &mut Keeper,
+    passes: &mut [Pass],
+    at: usize,
+    id: u32,
+) -> Result<Work, Stop>
+    requires lone { AreLone manager.now keeper.old passes.old }
+    requires at { at < length passes.old }
+    ensures lone { AreLone manager.now keeper.new passes.new × (keeper.new.given ≡ keeper.old.given) }
+    ensures steps { let l = manager.now.limits in
+        AllMake (gathered l keeper.old.given claim_id_steps)
+        keeper.old passes.old keeper.new passes.new }
+    ensures gives { Agrees result (λ work. (work, lone manager.now keeper.new passes.new))
+        (given (claim_id_of (lone manager.now keeper.old passes.old) at id)) }
+{
+    if passes[at].has_open() {
+        return Err(Stop::Unequal);
+    }
+    let answer = manager.claim_id(&mut passes[at], id);
+    keeper.gather(manager, passes);
+    match answer {
+        Ok(work) => Ok(work),
+        Err(refusal) => Err(stop_for(refusal)),
+    }
+}
+
+/// The unit in hand is committed with these drafts. The id of the first.
+fn commit_by(
+    manager: &Manager,
+    keeper: &mut Keeper,
+    passes: &mut [Pass],
+    at: usize,
+    drafts: &[Draft],
+) -> Result<u32, Stop>
+    requires lone { AreLone manager.now keeper.old passes.old }
+    requires at { at < length passes.old }
+    requires few { length drafts.now ≤ 4 }
+    ensures lone { AreLone manager.now keeper.new passes.new × (keeper.new.given ≡ keeper.old.given) }
+    ensures steps { let l = manager.now.limits in
+        AllMake (gathered l keeper.old.given (commit_steps l (length drafts.now)))
+        keeper.old passes.old keeper.new passes.new }
+    ensures gives { Agrees result (λ first. (first, lone manager.now keeper.new passes.new))
+        (first_given (commit_of (lone manager.now keeper.old passes.old) at drafts.now)) }
+{
+    if !passes[at].has_open() {
+        return Err(Stop::Unequal);
+    }
+    let outcome = manager.commit(&mut passes[at], drafts);
+    keeper.gather(manager, passes);
+    match outcome {
+        Outcome::Committed { first, count: _ } => Ok(first),
+        Outcome::Lost => Err(Stop::Unequal),
+        Outcome::Full => Err(Stop::Full),
+    }
+}
+
+/// The unit in hand is given up.
+fn abort_by(
+    manager: &Manager,
+    keeper: &mut Keeper,
+    passes: &mut [Pass],
+    at: usize,
+) -> Result<(), Stop>
+    requires lone { AreLone manager.now keeper.old passes.old }
+    requires at { at < length passes.old }
+    ensures lone { AreLone manager.now keeper.new passes.new × (keeper.new.given ≡ keeper.old.given) }
+    ensures steps { let l = manager.now.limits in
+        AllMake (gathered l keeper.old.given abort_steps)
+        keeper.old passes.old keeper.new passes.new }
+    ensures gives { Agrees result (λ _. lone manager.now keeper.new passes.new)
+        (Some (abort_of (lone manager.now keeper.old passes.old) at).1) }
+{
+    if !passes[at].has_open() {
+        return Err(Stop::Unequal);
+    }
+    let _ = manager.abort(&mut passes[at]);
+    keeper.gather(manager, passes);
+    Ok(())
+}
+
+/// The element is given another round.
+pub(crate) fn requeue_by(
+    manager: &Manager,
+    keeper: &mut Keeper,
+    passes: &mut [Pass],
+    at: usize,
+    id: u32,
+) -> Result<(), Stop>
+    requires lone { AreLone manager.now keeper.old passes.old }
+    requires at { at < length passes.old }
+    ensures lone { AreLone manager.now keeper.new passes.new × (keeper.new.given ≡ keeper.old.given) }
+    ensures steps { let l = manager.now.limits in
+        AllMake (gathered l keeper.old.given requeue_steps)
+        keeper.old passes.old keeper.new passes.new }
+    ensures gives { Agrees result (λ _. lone manager.now keeper.new passes.new)
+        (requeued at id (lone manager.now keeper.old passes.old)) }
+{
+    let answer = manager.requeue(&mut passes[at], id);
+    keeper.gather(manager, passes);
+    match answer {
+        Ok(_round) => Ok(()),
+        Err(refusal) => Err(stop_for(refusal)),
     }
 }
 
 /// The carrier is claimed, and committed with these drafts. The id of the first.
 pub(crate) fn bear_by(
     manager: &Manager,
+    keeper: &mut Keeper,
     passes: &mut [Pass],
     at: usize,
     carrier: u32,
     drafts: &[Draft],
 ) -> Result<u32, Stop>
-    requires own { All (IsOf manager.now) passes.old }
+    requires lone { AreLone manager.now keeper.old passes.old }
+    requires at { at < length passes.old }
     requires few { length drafts.now ≤ 4 }
-    ensures own { All (IsOf manager.now) passes.new }
-    ensures numbers { numbers passes.new ≡ numbers passes.old }
-    ensures steps { PassesMake (claim_id_steps + commit_steps manager.now.limits (length drafts.now))
-        passes.old passes.new }
+    ensures lone { AreLone manager.now keeper.new passes.new × (keeper.new.given ≡ keeper.old.given) }
+    ensures steps { AllMake (commit_on_steps manager.now.limits keeper.old.given (length drafts.now))
+        keeper.old passes.old keeper.new passes.new }
+    ensures gives { Agrees result (λ first. (first, lone manager.now keeper.new passes.new))
+        (born_by at carrier drafts.now (lone manager.now keeper.old passes.old)) }
 {
-    if at >= passes.len() {
-        return Err(Stop::Full);
-    }
-    bear_one(manager, &mut passes[at], carrier, drafts)
-}
-
-fn bear_one(manager: &Manager, pass: &mut Pass, carrier: u32, drafts: &[Draft]) -> Result<u32, Stop>
-    requires own { IsOf manager.now pass.old }
-    requires few { length drafts.now ≤ 4 }
-    ensures own { IsOf manager.now pass.new }
-    ensures number { pass.new.number ≡ pass.old.number }
-    ensures steps { PassMakes (claim_id_steps + commit_steps manager.now.limits (length drafts.now))
-        pass.old pass.new }
-{
-    if pass.has_open() {
-        return Err(Stop::Unequal);
-    }
-    match manager.claim_id(pass, carrier) {
-        Ok(_) => match manager.commit(pass, drafts) {
-            Outcome::Committed { first, count: _ } => Ok(first),
-            Outcome::Lost => Err(Stop::Unequal),
-            Outcome::Full => Err(Stop::Full),
-        },
-        Err(refusal) => Err(fault_of(refusal)),
-    }
+    claim_by(manager, keeper, passes, at, carrier)?;
+    commit_by(manager, keeper, passes, at, drafts)
 }
 
 /// The element is claimed, and given up.
 pub(crate) fn attempt_by(
     manager: &Manager,
+    keeper: &mut Keeper,
     passes: &mut [Pass],
     at: usize,
     id: u32,
 ) -> Result<(), Stop>
-    requires own { All (IsOf manager.now) passes.old }
-    ensures own { All (IsOf manager.now) passes.new }
-    ensures numbers { numbers passes.new ≡ numbers passes.old }
-    ensures steps { PassesMake attempt_steps passes.old passes.new }
+    requires lone { AreLone manager.now keeper.old passes.old }
+    requires at { at < length passes.old }
+    ensures lone { AreLone manager.now keeper.new passes.new × (keeper.new.given ≡ keeper.old.given) }
+    ensures steps { AllMake (attempt_steps manager.now.limits keeper.old.given)
+        keeper.old passes.old keeper.new passes.new }
+    ensures gives { Agrees result (λ _. lone manager.now keeper.new passes.new)
+        (attempted at id (lone manager.now keeper.old passes.old)) }
 {
-    if at >= passes.len() {
-        return Err(Stop::Full);
-    }
-    attempt_one(manager, &mut passes[at], id)
-}
-
-fn attempt_one(manager: &Manager, pass: &mut Pass, id: u32) -> Result<(), Stop>
-    requires own { IsOf manager.now pass.old }
-    ensures own { IsOf manager.now pass.new }
-    ensures number { pass.new.number ≡ pass.old.number }
-    ensures steps { PassMakes attempt_steps pass.old pass.new }
-{
-    if pass.has_open() {
-        return Err(Stop::Unequal);
-    }
-    match manager.claim_id(pass, id) {
-        Ok(_) => {
-            let _ = manager.abort(pass);
-            Ok(())
-        }
-        Err(refusal) => Err(fault_of(refusal)),
-    }
-}
-
-/// The element is given another round.
-pub(crate) fn requeue_by(
-    manager: &Manager,
-    passes: &mut [Pass],
-    at: usize,
-    id: u32,
-) -> Result<(), Stop>
-    requires own { All (IsOf manager.now) passes.old }
-    ensures own { All (IsOf manager.now) passes.new }
-    ensures numbers { numbers passes.new ≡ numbers passes.old }
-    ensures steps { PassesMake requeue_steps passes.old passes.new }
-{
-    if at >= passes.len() {
-        return Err(Stop::Full);
-    }
-    requeue_one(manager, &mut passes[at], id)
-}
-
-fn requeue_one(manager: &Manager, pass: &mut Pass, id: u32) -> Result<(), Stop>
-    requires own { IsOf manager.now pass.old }
-    ensures own { IsOf manager.now pass.new }
-    ensures number { pass.new.number ≡ pass.old.number }
-    ensures steps { PassMakes requeue_steps pass.old pass.new }
-{
-    match manager.requeue(pass, id) {
-        Ok(_) => Ok(()),
-        Err(refusal) => Err(fault_of(refusal)),
-    }
+    claim_by(manager, keeper, passes, at, id)?;
+    abort_by(manager, keeper, passes, at)
 }

@@ -1,5 +1,6 @@
 //! The laws over the pair of managers. These functions do nothing: their contracts are the laws.
 
+ghost use Rattle.std.specs.Prelude.{ℕ};
 ghost use Rattle.tp_model.specs.declared.types.Limits.{Limits};
 ghost use Rattle.tp_rollover.specs.Bounds.{PerElement};
 ghost use Rattle.tp_rollover.specs.Laws.{CancelledStays, ConsumedInOne, OldIsOver, RolloverAddsUp};
@@ -42,5 +43,5 @@ pub fn worked_pair()
 
 /// How many steps a rollover makes for each element, in round numbers.
 pub fn steps_of_one()
-    ensures { (l : Limits) → PerElement l }
+    ensures { (l : Limits) (q : ℕ) → PerElement l q }
 {}

@@ -5,11 +5,14 @@ ghost use Rattle.tp_model.specs.Steps.{AreLimits};
 ghost use Rattle.tp_manager.specs.Accounts.{AreAll};
 ghost use Rattle.tp_manager.specs.Shown.{IsKeptBy, IsOf};
 ghost use Rattle.tp_manager.specs.declared.manager.MakeFault.TheVariants as faults;
-ghost use Rattle.tp_alone.specs.Thread.{AreTogether, Stays};
+ghost use Rattle.tp_plain.specs.OneThread.{start};
+ghost use Rattle.tp_alone.specs.Thread.{AreTogether, Stays, thread_of};
 ghost use Rattle.tp_rollover.specs.declared.moved.RollFault.TheVariants as refusals;
+ghost use Rattle.tp_rollover.specs.Anew.{made_anew};
 ghost use Rattle.tp_rollover.specs.Answers.{IsHistoryOf, Rolls};
 ghost use Rattle.tp_rollover.specs.Bounds.{AllMake, alive_after, made_by_all, most_successor_steps};
 ghost use Rattle.tp_rollover.specs.Bounds.{old_steps, survey_steps, successor_steps};
+ghost use Rattle.tp_rollover.specs.Carries.{Carries, IsMade};
 ghost use Rattle.tp_rollover.specs.Faults.{AreFree};
 ghost use Rattle.tp_rollover.specs.Managed.{GoesOn, IsManaged, IsNewPass, IsRefusedFor, IsUnrestored};
 ghost use Rattle.tp_rollover.specs.Managed.{IsUnsurveyed, StaysManaged};
@@ -83,6 +86,9 @@ pub fn succeed(
     ensures limits { IfOk result (λ next. next.managed.manager.limits ≡ old.now.limits) }
     ensures rolls { IfOk result (λ next. Rolls old.now.limits next.managed.manager.limits old_keeper.new
         next.managed.keeper old_passes.old old_passes.new next.managed.passes.items next.moved.items) }
+    ensures carries { IfOk result (λ next. let l = old.now.limits in
+        Carries l old_passes.old l.parts (start l) next.moved.items
+        (thread_of l next.managed.passes.items next.managed.keeper.seen)) }
     ensures idle { IfOk result (λ next. AreFree old_passes.old) }
     ensures free { IfOk result (λ next. AreFree next.managed.passes.items) }
     ensures stays { IfErr result (λ fault. AllZip Stays old_passes.old old_passes.new) }
@@ -210,6 +216,9 @@ impl Managed {
         ensures limits { IfOk result (λ next. next.managed.manager.limits ≡ limits) }
         ensures restored { IfOk result (λ next. Restores limits next.managed.keeper
             next.managed.passes.items survivors.now next.moved.items) }
+        ensures computed { IsMade result
+            (λ next. (next.moved.items, thread_of limits next.managed.passes.items next.managed.keeper.seen))
+            (made_anew limits limits.parts survivors.now (start limits)) }
         ensures free { IfOk result (λ next. AreFree next.managed.passes.items) }
         ensures fault { IfErr result (IsUnrestored limits) }
         ensures bad { (result ≡ Err refusals.BadLimits) ↔ (¬ AreLimits limits) }

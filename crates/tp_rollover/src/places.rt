@@ -1,7 +1,13 @@
 //! Which pass of the new manager makes the next elements.
-ghost use Rattle.std.specs.Prelude.{All};
+ghost use Rattle.std.specs.Prelude.{◌≡◌, ◌-◌, ◌<◌, All, IfOk, IfSome, List, length};
+ghost use Rattle.tp_model.specs.declared.event.Event.{Event};
 ghost use Rattle.tp_manager.specs.Shown.{IsOf};
+ghost use Rattle.tp_alone.specs.Thread.{thread_of};
+ghost use Rattle.tp_rollover.specs.Anew.{drawer, first_from, has_left, last_below, next_pass, start_at};
+ghost use Rattle.tp_rollover.specs.Anew.{would_draw};
+ghost use Rattle.tp_rollover.specs.Lone.{Agrees};
 
+use crate::stops::Stop;
 use tp_manager::{Manager, Pass};
 
 /// How far the passes of the new manager are used. Ids ascend: the parts are used one after another, and then
@@ -14,14 +20,95 @@ pub(crate) struct Cursor {
     pub block: Option<usize>,
 }
 
+/// The first pass from this one on that has so many rows and units of work left.
+pub(crate) fn first_with(
+    manager: &Manager,
+    passes: &[Pass],
+    from: usize,
+    rows: u16,
+    units: u16,
+) -> Option<usize>
+    requires own { All (IsOf manager.now) passes.now }
+    ensures inside { IfSome result (λ at. at < length passes.now) }
+    ensures first { (h : List Event) → result
+        ≡ first_from (has_left (thread_of manager.now.limits passes.now h) rows units) from
+        (length passes.now - from) }
+{
+    for at in from..passes.len() {
+        let room = manager.room(&passes[at]);
+        if room.rows >= rows && room.units >= units {
+            return Some(at);
+        }
+    }
+    None
+}
+
+/// The last pass that has the units, and too few rows, so that it draws a spare block.
+fn last_drawing(manager: &Manager, passes: &[Pass], rows: u16, units: u16) -> Option<usize>
+    requires own { All (IsOf manager.now) passes.now }
+    ensures inside { IfSome result (λ at. at < length passes.now) }
+    ensures last { (h : List Event) → result
+        ≡ last_below (would_draw (thread_of manager.now.limits passes.now h) rows units) (length passes.now) }
+{
+    for back in 0..passes.len() {
+        let at = passes.len() - 1 - back;
+        let room = manager.room(&passes[at]);
+        if room.rows < rows && room.units >= units {
+            return Some(at);
+        }
+    }
+    None
+}
+
+/// The pass that goes on in spare blocks: the one that did, as long as it has the units, or else one that has
+/// too few rows and so draws.
+fn drawing(
+    manager: &Manager,
+    passes: &[Pass],
+    block: Option<usize>,
+    rows: u16,
+    units: u16,
+) -> Option<usize>
+    requires own { All (IsOf manager.now) passes.now }
+    ensures inside { IfSome result (λ at. at < length passes.now) }
+    ensures drawer { (h : List Event) → result
+        ≡ drawer (length passes.now) (thread_of manager.now.limits passes.now h) rows units block }
+{
+    let Some(at) = block else {
+        return last_drawing(manager, passes, rows, units);
+    };
+    if at >= passes.len() {
+        return last_drawing(manager, passes, rows, units);
+    }
+    if manager.room(&passes[at]).units < units {
+        return last_drawing(manager, passes, rows, units);
+    }
+    Some(at)
+}
+
+/// Where the search for a pass begins: at `home` where the parts below that are all that is used.
+pub(crate) fn begin(passes: usize, at: usize, home: usize) -> usize
+    ensures { result ≡ start_at passes at home }
+{
+    if at >= home {
+        return at;
+    }
+    if home >= passes {
+        return at;
+    }
+    home
+}
+
 impl Cursor {
-    pub(crate) fn start() -> Cursor {
+    pub(crate) fn start() -> Cursor
+        ensures { result ≡ record { at = 0; block = None } }
+    {
         Cursor { at: 0, block: None }
     }
 
-    /// The pass that makes so many elements next, with a unit of work or without. It is `home` where the
-    /// parts below that are all that is used, and the part of `home` has the rows; else a later part, or
-    /// spare blocks.
+    /// The pass that makes so many elements next, with so many units of work. It is `home` where the parts
+    /// below that are all that is used, and the part of `home` has the rows; else a later part, or spare
+    /// blocks.
     pub(crate) fn next(
         &mut self,
         manager: &Manager,
@@ -29,47 +116,27 @@ impl Cursor {
         home: usize,
         rows: u16,
         units: u16,
-    ) -> Option<usize>
+    ) -> Result<usize, Stop>
         requires own { All (IsOf manager.now) passes.now }
+        ensures inside { IfOk result (λ at. at < length passes.now) }
+        ensures gives { (h : List Event) → Agrees result (λ at. (at, self.new))
+            (next_pass (length passes.now) (thread_of manager.now.limits passes.now h) home rows units
+            self.old) }
     {
-        if self.at < home && home < passes.len() {
-            self.at = home;
-        }
-        for at in self.at..passes.len() {
-            let room = manager.room(&passes[at]);
-            if room.rows >= rows && room.units >= units {
+        let from = begin(passes.len(), self.at, home);
+        match first_with(manager, passes, from, rows, units) {
+            Some(at) => {
                 self.at = at;
-                return Some(at);
+                Ok(at)
             }
-        }
-        self.at = passes.len();
-        self.in_blocks(manager, passes, rows, units)
-    }
-
-    /// The pass that goes on in spare blocks: the one that did, or else one that has too few rows and so
-    /// draws.
-    fn in_blocks(
-        &mut self,
-        manager: &Manager,
-        passes: &[Pass],
-        rows: u16,
-        units: u16,
-    ) -> Option<usize>
-        requires own { All (IsOf manager.now) passes.now }
-    {
-        if let Some(at) = self.block {
-            if at < passes.len() && manager.room(&passes[at]).units >= units {
-                return Some(at);
-            }
-        }
-        for back in 0..passes.len() {
-            let at = passes.len() - 1 - back;
-            let room = manager.room(&passes[at]);
-            if room.rows < rows && room.units >= units {
+            None => {
+                let Some(at) = drawing(manager, passes, self.block, rows, units) else {
+                    return Err(Stop::Full);
+                };
+                self.at = passes.len();
                 self.block = Some(at);
-                return Some(at);
+                Ok(at)
             }
         }
-        None
     }
 }

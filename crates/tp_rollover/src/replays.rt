@@ -1,45 +1,40 @@
 //! Elements that are born anew are given the attempts and rounds that were described.
-ghost use Rattle.std.specs.Prelude.{◌≡◌, ◌*◌, ◌≤◌, All, IfSome, OnOk, length};
-ghost use Rattle.tp_manager.specs.Shown.{IsOf};
-ghost use Rattle.tp_rollover.specs.Bounds.{PassesMake, attempt_steps, attempts_had, most_replay_steps};
+ghost use Rattle.std.specs.Prelude.{◌≡◌, ◌*◌, IfSome, OnOk, length};
+ghost use Rattle.tp_rollover.specs.Anew.{all_replayed, renewed, replayed, tried};
+ghost use Rattle.tp_rollover.specs.Bounds.{AllMake, attempt_steps, attempts_had, most_replay_steps};
 ghost use Rattle.tp_rollover.specs.Bounds.{replay_of, replay_steps, replays_for};
-ghost use Rattle.tp_rollover.specs.Passes.{numbers};
+ghost use Rattle.tp_rollover.specs.Lone.{Agrees, AreLone, lone};
 
 use crate::calls::{attempt_by, requeue_by};
 use crate::moved::Moved;
+use crate::places::first_with;
 use crate::stops::Stop;
 use crate::survivors::Survivor;
-use tp_manager::{Manager, Pass};
+use tp_manager::{Keeper, Manager, Pass};
 use tp_model::types::{MAX_ROUNDS, Status};
-
-/// The first pass from this one on that has a unit of work left, or how many passes there are.
-fn with_unit(manager: &Manager, passes: &[Pass], from: usize) -> usize
-    requires own { All (IsOf manager.now) passes.now }
-{
-    for at in from..passes.len() {
-        if manager.room(&passes[at]).units > 0 {
-            return at;
-        }
-    }
-    passes.len()
-}
 
 /// The element is claimed and given up so many times, by the passes from `from` on, which goes on.
 fn attempts(
     manager: &Manager,
+    keeper: &mut Keeper,
     passes: &mut [Pass],
     from: &mut usize,
     id: u32,
     times: u8,
 ) -> Result<(), Stop>
-    requires own { All (IsOf manager.now) passes.old }
-    ensures own { All (IsOf manager.now) passes.new }
-    ensures numbers { numbers passes.new ≡ numbers passes.old }
-    ensures steps { PassesMake (times * attempt_steps) passes.old passes.new }
+    requires lone { AreLone manager.now keeper.old passes.old }
+    ensures lone { AreLone manager.now keeper.new passes.new × (keeper.new.given ≡ keeper.old.given) }
+    ensures steps { AllMake (times * attempt_steps manager.now.limits keeper.old.given)
+        keeper.old passes.old keeper.new passes.new }
+    ensures gives { Agrees result (λ _. (from.new, lone manager.now keeper.new passes.new))
+        (tried (length passes.old) id times (from.old, lone manager.now keeper.old passes.old)) }
 {
     for _time in 0..times {
-        *from = with_unit(manager, passes, *from);
-        attempt_by(manager, passes, *from, id)?;
+        let Some(at) = first_with(manager, passes, *from, 0, 1) else {
+            return Err(Stop::Full);
+        };
+        *from = at;
+        attempt_by(manager, keeper, passes, at, id)?;
     }
     Ok(())
 }
@@ -47,20 +42,27 @@ fn attempts(
 /// The element is given so many further rounds of all attempts.
 fn rounds(
     manager: &Manager,
+    keeper: &mut Keeper,
     passes: &mut [Pass],
     from: &mut usize,
     id: u32,
     times: u8,
 ) -> Result<(), Stop>
-    requires own { All (IsOf manager.now) passes.old }
-    ensures own { All (IsOf manager.now) passes.new }
-    ensures numbers { numbers passes.new ≡ numbers passes.old }
-    ensures steps { let all = times * manager.now.limits.attempts in
-        PassesMake (replay_steps all times) passes.old passes.new }
+    requires lone { AreLone manager.now keeper.old passes.old }
+    ensures lone { AreLone manager.now keeper.new passes.new × (keeper.new.given ≡ keeper.old.given) }
+    ensures steps { let l = manager.now.limits in
+        AllMake (replay_steps l keeper.old.given (times * l.attempts) times)
+        keeper.old passes.old keeper.new passes.new }
+    ensures gives { Agrees result (λ _. (from.new, lone manager.now keeper.new passes.new))
+        (renewed (length passes.old) id manager.now.limits.attempts times
+        (from.old, lone manager.now keeper.old passes.old)) }
 {
     for _round in 0..times {
-        attempts(manager, passes, from, id, manager.limits().attempts)?;
-        requeue_by(manager, passes, 0, id)?;
+        attempts(manager, keeper, passes, from, id, manager.limits().attempts)?;
+        if passes.len() == 0 {
+            return Err(Stop::Unequal);
+        }
+        requeue_by(manager, keeper, passes, 0, id)?;
     }
     Ok(())
 }
@@ -84,17 +86,21 @@ fn attempts_of(status: Status) -> Option<u8>
 /// The new element is given what was described. `Unequal` where that is more than an element can have had.
 fn replay(
     manager: &Manager,
+    keeper: &mut Keeper,
     passes: &mut [Pass],
     from: &mut usize,
     one: Survivor,
     id: u32,
 ) -> Result<(), Stop>
-    requires own { All (IsOf manager.now) passes.old }
-    ensures own { All (IsOf manager.now) passes.new }
-    ensures numbers { numbers passes.new ≡ numbers passes.old }
-    ensures steps { PassesMake (most_replay_steps manager.now.limits.attempts) passes.old passes.new }
-    ensures told { OnOk result
-        (PassesMake (replay_of manager.now.limits.attempts one) passes.old passes.new) }
+    requires lone { AreLone manager.now keeper.old passes.old }
+    ensures lone { AreLone manager.now keeper.new passes.new × (keeper.new.given ≡ keeper.old.given) }
+    ensures steps { AllMake (most_replay_steps manager.now.limits keeper.old.given)
+        keeper.old passes.old keeper.new passes.new }
+    ensures told { OnOk result (AllMake (replay_of manager.now.limits keeper.old.given one)
+        keeper.old passes.old keeper.new passes.new) }
+    ensures gives { Agrees result (λ _. (from.new, lone manager.now keeper.new passes.new))
+        (replayed (length passes.old) manager.now.limits.attempts one id
+        (from.old, lone manager.now keeper.old passes.old)) }
 {
     let Some(times) = attempts_of(one.status) else {
         return Err(Stop::Unequal);
@@ -102,24 +108,28 @@ fn replay(
     if times > manager.limits().attempts || one.rounds > MAX_ROUNDS {
         return Err(Stop::Unequal);
     }
-    rounds(manager, passes, from, id, one.rounds)?;
-    attempts(manager, passes, from, id, times)
+    rounds(manager, keeper, passes, from, id, one.rounds)?;
+    attempts(manager, keeper, passes, from, id, times)
 }
 
 /// Each new element is given what was described.
 pub(crate) fn replay_all(
     manager: &Manager,
+    keeper: &mut Keeper,
     passes: &mut [Pass],
     survivors: &[Survivor],
     moved: &[Moved],
 ) -> Result<(), Stop>
-    requires own { All (IsOf manager.now) passes.old }
-    ensures own { All (IsOf manager.now) passes.new }
-    ensures numbers { numbers passes.new ≡ numbers passes.old }
+    requires lone { AreLone manager.now keeper.old passes.old }
+    ensures lone { AreLone manager.now keeper.new passes.new × (keeper.new.given ≡ keeper.old.given) }
     ensures steps { let n = length survivors.now in
-        PassesMake (n * most_replay_steps manager.now.limits.attempts) passes.old passes.new }
-    ensures told { OnOk result (PassesMake (replays_for manager.now.limits.attempts survivors.now)
-        passes.old passes.new) }
+        AllMake (n * most_replay_steps manager.now.limits keeper.old.given)
+        keeper.old passes.old keeper.new passes.new }
+    ensures told { OnOk result (AllMake (replays_for manager.now.limits keeper.old.given survivors.now)
+        keeper.old passes.old keeper.new passes.new) }
+    ensures gives { Agrees result (λ _. lone manager.now keeper.new passes.new)
+        (all_replayed (length passes.old) manager.now.limits.attempts survivors.now moved.now
+        (0, lone manager.now keeper.old passes.old)) }
 {
     let mut from = 0;
     for place in 0..survivors.len() {
@@ -128,6 +138,7 @@ pub(crate) fn replay_all(
         }
         replay(
             manager,
+            keeper,
             passes,
             &mut from,
             survivors[place],

@@ -3,14 +3,19 @@ ghost use Rattle.std.specs.Prelude.{◌≡◌, ◌↔◌, ◌*◌, ◌≤◌, []
 ghost use Rattle.std.specs.List.{AllZip};
 ghost use Rattle.tp_manager.specs.Accounts.{AreAll};
 ghost use Rattle.tp_manager.specs.Shown.{IsKeptBy, IsOf};
+ghost use Rattle.tp_plain.specs.OneThread.{start};
 ghost use Rattle.tp_alone.specs.Thread.{Stays};
 ghost use Rattle.tp_rollover.specs.Alike.{StandAlike};
+ghost use Rattle.tp_rollover.specs.Anew.{made_anew};
 ghost use Rattle.tp_rollover.specs.Bounds.{AllMake, PassMakes, PassesMake, compare_steps, most_new_steps};
 ghost use Rattle.tp_rollover.specs.Bounds.{new_steps};
+ghost use Rattle.tp_rollover.specs.Carries.{AreFresh, IsMade};
 ghost use Rattle.tp_rollover.specs.Faults.{AreFree, IsRestoreDue};
+ghost use Rattle.tp_rollover.specs.Lone.{Agrees, lone};
 ghost use Rattle.tp_rollover.specs.Survivors.{Restores};
 ghost use Rattle.tp_rollover.specs.Told.{HoldsAsSeen, ToldFirst};
 ghost use Rattle.tp_rollover.specs.declared.moved.RollFault.TheVariants as faults;
+ghost use Rattle.tp_rollover.specs.declared.stops.Stop.TheVariants as stops;
 
 use crate::births::bear_all;
 use crate::checking::{all_stand_again, ascend, counts_only};
@@ -38,6 +43,7 @@ fn hold_by(
     ensures steps { PassMakes (length survivors.now * compare_steps manager.now.limits) pass.old pass.new }
     ensures told { OnOk result (HoldsAsSeen pass.old pass.new
         (λ g. StandAlike manager.now.limits.attempts g survivors.now moved.now)) }
+    ensures full { ¬ (result ≡ Err stops.Full) }
 {
     if !ascend(moved) {
         return Err(Stop::Unequal);
@@ -71,6 +77,7 @@ fn hold(
     ensures told { OnOk result (ToldFirst passes.old passes.new
         (λ g. StandAlike manager.now.limits.attempts g survivors.now moved.now)) }
     ensures some { OnOk result (1 ≤ length passes.old) }
+    ensures full { ¬ (result ≡ Err stops.Full) }
 {
     let Some((first, _rest)) = passes.split_first_mut() else {
         return Err(Stop::Unequal);
@@ -95,14 +102,18 @@ pub(crate) fn stand_again(
     ensures all { AreAll keeper.new passes.new }
     ensures restored { IfOk result (λ moved.
         Restores manager.now.limits keeper.new passes.new survivors.now moved.items) }
+    ensures computed { AreFresh manager.now.limits passes.old
+        → Agrees result (λ moved. (moved.items, lone manager.now keeper.new passes.new))
+        (made_anew of.now.limits (length passes.old) survivors.now (start manager.now.limits)) }
     ensures steps { AllMake (most_new_steps manager.now.limits keeper.old.given (length survivors.now))
         keeper.old passes.old keeper.new passes.new }
     ensures replayed { IfOk result (λ moved.
         AllMake (new_steps manager.now.limits keeper.old.given keeper.new.seen moved.items)
         keeper.old passes.old keeper.new passes.new) }
 {
-    let moved = bear_all(alloc, of, survivors, manager, passes)?;
-    replay_all(manager, passes, survivors, &moved)?;
+    keeper.gather(manager, passes);
+    let moved = bear_all(alloc, of, survivors, manager, keeper, passes)?;
+    replay_all(manager, keeper, passes, survivors, &moved)?;
     let account = keeper.account(manager, passes);
     if !counts_only(&account, &moved) {
         return Err(Stop::Unequal);
@@ -133,6 +144,9 @@ pub fn restore(
     ensures all { AreAll keeper.new passes.new }
     ensures restored { IfOk result (λ moved.
         Restores manager.now.limits keeper.new passes.new survivors.now moved.items) }
+    ensures computed { AreFresh manager.now.limits passes.old → IsMade result
+        (λ moved. (moved.items, lone manager.now keeper.new passes.new))
+        (made_anew manager.now.limits (length passes.old) survivors.now (start manager.now.limits)) }
     ensures free { OnOk result (AreFree passes.new) }
     ensures due { IfErr result (IsRestoreDue manager.now.limits passes.old passes.new) }
     ensures no_pass { (result ≡ Err faults.NoPass) ↔ (passes.old ≡ []) }

@@ -4,10 +4,13 @@ ghost use Rattle.std.specs.List.{AllZip};
 ghost use Rattle.tp_manager.specs.Accounts.{AreAll};
 ghost use Rattle.tp_manager.specs.Bounds.{kill_steps};
 ghost use Rattle.tp_manager.specs.Shown.{IsKeptBy, IsOf};
+ghost use Rattle.tp_plain.specs.OneThread.{start};
 ghost use Rattle.tp_alone.specs.Thread.{Stays};
 ghost use Rattle.tp_rollover.specs.Answers.{IsReadyToKill, Rolls};
 ghost use Rattle.tp_rollover.specs.Bounds.{AllMake, PassesMake, alive_after, most_new_steps, new_steps};
 ghost use Rattle.tp_rollover.specs.Bounds.{old_steps, survey_steps};
+ghost use Rattle.tp_rollover.specs.Carries.{AreFresh, Carries};
+ghost use Rattle.tp_rollover.specs.Lone.{lone};
 ghost use Rattle.tp_rollover.specs.declared.moved.RollFault.TheVariants as faults;
 ghost use Rattle.tp_rollover.specs.Faults.{AreFree, IsDue, LacksPass};
 ghost use Rattle.tp_rollover.specs.Passes.{numbers};
@@ -78,6 +81,9 @@ fn prepare(
     ensures replayed { IfOk result (λ moved.
         AllMake (new_steps new.now.limits new_keeper.old.given new_keeper.new.seen moved.items)
         new_keeper.old new_passes.old new_keeper.new new_passes.new) }
+    ensures computed { AreFresh new.now.limits new_passes.old → IfOk result (λ moved.
+        Carries old.now.limits old_passes.old (length new_passes.old) (start new.now.limits) moved.items
+        (lone new.now new_keeper.new new_passes.new)) }
     ensures ready { IfOk result (λ moved.
         IsReadyToKill old.now.limits new.now.limits old_keeper.new new_keeper.new
         old_passes.old old_passes.new new_passes.new moved.items) }
@@ -110,6 +116,9 @@ pub fn roll_over(
     ensures all { AreAll old_keeper.new old_passes.new × AreAll new_keeper.new new_passes.new }
     ensures moved { IfOk result (λ moved. Rolls old.now.limits new.now.limits old_keeper.new new_keeper.new
         old_passes.old old_passes.new new_passes.new moved.items) }
+    ensures computed { AreFresh new.now.limits new_passes.old → IfOk result (λ moved.
+        Carries old.now.limits old_passes.old (length new_passes.old) (start new.now.limits) moved.items
+        (lone new.now new_keeper.new new_passes.new)) }
     ensures free { IfOk result (λ moved. AreFree new_passes.new) }
     ensures refused { IfErr result (λ fault. AllZip Stays old_passes.old old_passes.new) }
     ensures due { IfErr result (λ fault. IsDue old.now.limits new.now.limits old_passes.old new_passes.old

@@ -2,6 +2,8 @@
 ghost use Rattle.std.specs.Prelude.{◌≡◌, All, true};
 ghost use Rattle.tp_manager.specs.Shown.{IsOf};
 ghost use Rattle.tp_rollover.specs.Faults.{HasShort, IsLate, IsShort};
+ghost use Rattle.tp_rollover.specs.declared.moved.RollFault.TheVariants as faults;
+ghost use Rattle.tp_rollover.specs.declared.stops.Stop.TheVariants as stops;
 
 use crate::moved::RollFault;
 use tp_manager::{Manager, Pass};
@@ -40,10 +42,11 @@ fn has_short(manager: &Manager, passes: &[Pass]) -> bool
     false
 }
 
-/// The fault that is told, with what these passes of the new manager have left.
+/// The fault that is told, with what these passes of the new manager have left. Full only where the stop was.
 pub(crate) fn fault_after(stop: Stop, manager: &Manager, passes: &[Pass]) -> RollFault
     requires own { All (IsOf manager.now) passes.now }
     ensures late { IsLate manager.now.limits passes.now result }
+    ensures full { result ≡ faults.Full → stop ≡ stops.Full }
 {
     match stop {
         Stop::NoMemory => RollFault::NoMemory,

@@ -1,40 +1,84 @@
-use Rattle.std.proofs.Common.{◌≡◌, ◌+◌, ◌*◌, ◌≤◌, ◌∙◌, length, arith, subst, sym}
-use Rattle.tp_rollover.proofs.Bearing.{born_of_all, born_on, left_of, not_past}
-use Rattle.tp_rollover.specs.Bounds.{PassesMake, bear_steps}
+use Rattle.std.proofs.Common.{◌≡◌, ◌-◌, ◌*◌, ◌≤◌, ◌++◌, ◌∙◌, Ok, Err, Result, drop, length, refl, subst, sym, take, arith}
+use Rattle.tp_rollover.specs.Bounds.{AllMake, bear_steps}
+use Rattle.tp_rollover.specs.Lone.{bearing, placing}
+use Rattle.tp_rollover.specs.Runs.{GoesFurther}
+use Rattle.tp_rollover.specs.declared.stops.Stop.{Stop}
+use Rattle.tp_rollover.proofs.BirthsAll.{all_there, left_of, not_past, one_on, put_back, same_turn, stops_here}
+use Rattle.tp_rollover.proofs.BirthsSteps.{born_of_all, born_on}
+use Rattle.tp_rollover.proofs.births.bear_all.Goals.{else-loop-turn-test, then-loop-turn-test+then-from-survivors}
 use Rattle.tp_rollover.proofs.births.bear_all.Goals as goal
 
-pub returns-in_err-group-clause-steps : goal.returns-in_err-group-clause-steps
-returns-in_err-group-clause-steps c =
+pub returns-in_err-bear_turn-clause-steps : goal.returns-in_err-bear_turn-clause-steps
+returns-in_err-bear_turn-clause-steps c =
     let i = c.loop-turn.invariant in
-    let k = c.args.manager.now.limits in
+    let l = c.args.manager.now.limits in
+    let q = c.args.keeper.now.given in
     let n = length (left_of c.args.survivors.now c.len-from.result) in
     let m = length c.loop-turn.moved.items in
     let few = not_past c.args.survivors.now c.len-from.result m n (c.len-from.ensures ∙ c.loop-turn.moved.ok.0) c.if-from-survivors.false (omega arith) in
-    born_of_all k m n c.args.passes.now c.loop-turn.passes c.bear_next.new.passes (length c.args.survivors.now) few
-    (born_on k m n c.args.passes.now c.loop-turn.passes c.bear_next.new.passes i.made c.in_err-group.ensures.steps)
+    born_of_all l q m n c.args.keeper.now c.loop-turn.keeper c.bear_turn.new.keeper c.args.passes.now c.loop-turn.passes c.bear_turn.new.passes (length c.args.survivors.now) few
+    (born_on l q m n c.args.keeper.now c.loop-turn.keeper c.bear_turn.new.keeper c.args.passes.now c.loop-turn.passes c.bear_turn.new.passes i.alone.1 i.made c.in_err-bear_turn.ensures.steps)
 
-pub returns-in_err-name-clause-steps : goal.returns-in_err-name-clause-steps
-returns-in_err-name-clause-steps c =
+pub returns-in_err-bear_turn-clause-gives : goal.returns-in_err-bear_turn-clause-gives
+returns-in_err-bear_turn-clause-gives c =
     let i = c.loop-turn.invariant in
-    let k = c.args.manager.now.limits in
-    let n = c.in_ok-group.group.count in
-    let m = length c.loop-turn.moved.items in
-    let few = not_past c.args.survivors.now c.len-from.result m n (c.len-from.ensures ∙ c.loop-turn.moved.ok.0) c.if-from-survivors.false c.in_ok-group.ensures.inside.1 in
-    born_of_all k m n c.args.passes.now c.loop-turn.passes c.bear_next.new.passes (length c.args.survivors.now) few
-    (born_on k m n c.args.passes.now c.loop-turn.passes c.bear_next.new.passes i.made c.in_ok-group.ensures.steps)
+    let l = c.args.of.now.limits in
+    let p = length c.args.passes.now in
+    let rest = left_of c.args.survivors.now c.len-from.result in
+    let at = placing c.args.manager.now c.loop-turn.keeper c.loop-turn.passes c.loop-turn.cursor in
+    let at' = placing c.args.manager.now c.bear_turn.new.keeper c.bear_turn.new.passes c.bear_turn.new.cursor in
+    let fs = c.loop-turn.families.items in
+    let moved = c.loop-turn.moved.items in
+    let moved' = c.bear_turn.new.moved.items in
+    let why : Result (Unit {0}) Stop = Err c.in_err-bear_turn.field-0.0 in
+    let on = same_turn c.limits.result l (length c.loop-turn.passes) p rest moved moved' at at' c.deref_mut.result.now fs c.bear_turn.new.families c.bear_turn.new.families why c.limits.ensures c.loop-turn.auto.passes c.deref_mut.ensures.value refl c.in_err-bear_turn.ensures.on in
+    stops_here l p c.args.survivors.now c.len-from.result moved (record { placing = at; families = fs }) _ i.so_far (c.len-from.ensures ∙ c.loop-turn.moved.ok.0) c.if-from-survivors.false (Unit {0}) c.from_residual-in_err-bear_turn.result c.in_err-bear_turn.field-0.0 _ moved'
+    (record { placing = at'; families = c.bear_turn.new.families }) c.from_residual-in_err-bear_turn.ensures.1 on
 
 pub loop-turn-preserved : goal.loop-turn-preserved
 loop-turn-preserved c =
     let i = c.loop-turn.invariant in
-    let k = c.args.manager.now.limits in
-    let n = c.in_ok-group.group.count in
-    let m = length c.loop-turn.moved.items in
-    let few = not_past c.args.survivors.now c.len-from.result m n (c.len-from.ensures ∙ c.loop-turn.moved.ok.0) c.if-from-survivors.false c.in_ok-group.ensures.inside.1 in
-    let long : length c.name.new.moved.items ≡ m + n = c.in_ok-name.ensures.named in
-    let made = born_on k m n c.args.passes.now c.loop-turn.passes c.bear_next.new.passes i.made c.in_ok-group.ensures.steps in
+    let l = c.args.manager.now.limits in
+    let q = c.args.keeper.now.given in
+    let of = c.args.of.now.limits in
+    let p = length c.args.passes.now in
+    let rest = left_of c.args.survivors.now c.len-from.result in
+    let at = placing c.args.manager.now c.loop-turn.keeper c.loop-turn.passes c.loop-turn.cursor in
+    let at' = placing c.args.manager.now c.bear_turn.new.keeper c.bear_turn.new.passes c.bear_turn.new.cursor in
+    let fs = c.loop-turn.families.items in
+    let all = take c.loop-turn.families.len (c.bear_turn.new.families ++ drop (length c.bear_turn.new.families) fs) in
+    let back = put_back c.loop-turn.families.len fs c.bear_turn.new.families c.deref_mut.result.now c.deref_mut.ensures.value c.loop-turn.families.ok.0 c.bear_turn.auto.families in
+    let moved = c.loop-turn.moved.items in
+    let moved' = c.bear_turn.new.moved.items in
+    let done : Result (Unit {0}) Stop = Ok tt in
+    let on : GoesFurther of p rest moved moved' (record { placing = at; families = fs }) (record { placing = at'; families = all }) =
+    same_turn c.limits.result of (length c.loop-turn.passes) p rest moved moved' at at' c.deref_mut.result.now fs c.bear_turn.new.families all done c.limits.ensures c.loop-turn.auto.passes c.deref_mut.ensures.value (sym back) c.in_ok-bear_turn.ensures.on in
+    let m = length moved in
+    let n = on.count in
+    let some = on.some in
+    let many = on.many in
+    let few = not_past c.args.survivors.now c.len-from.result m n (c.len-from.ensures ∙ c.loop-turn.moved.ok.0) c.if-from-survivors.false on.inside in
+    let turn = subst (λ z. AllMake (z * bear_steps l c.loop-turn.keeper.given 1) c.loop-turn.keeper c.loop-turn.passes c.bear_turn.new.keeper c.bear_turn.new.passes) (let e : length moved' - m ≡ n = omega (arith, many) in e) c.in_ok-bear_turn.ensures.steps in
+    let made = born_on l q m n c.args.keeper.now c.loop-turn.keeper c.bear_turn.new.keeper c.args.passes.now c.loop-turn.passes c.bear_turn.new.passes i.alone.1 i.made turn in
     record {
-      own = c.bear_next.ensures.own;
-      numbered = c.bear_next.ensures.numbers ∙ i.numbered;
-      few = subst (λ z. z ≤ length c.args.survivors.now) (sym long) few;
-      made = subst (λ z. PassesMake (z * bear_steps k 1) c.args.passes.now c.bear_next.new.passes) (sym long) made;
+      alone = (c.bear_turn.ensures.lone.0, c.bear_turn.ensures.lone.1 ∙ i.alone.1);
+      few = subst (λ z. z ≤ length c.args.survivors.now) (sym many) few;
+      turns = (let e = i.turns in omega (arith, e, many, some));
+      made = subst (λ z. AllMake (z * bear_steps l q 1) c.args.keeper.now c.args.passes.now c.bear_turn.new.keeper c.bear_turn.new.passes) (sym many) made;
+      so_far = one_on of p c.args.survivors.now c.len-from.result moved (record { placing = at; families = fs }) _ i.so_far (c.len-from.ensures ∙ c.loop-turn.moved.ok.0) c.if-from-survivors.false moved' (record { placing = at'; families = all }) on;
     }
+
+pub returns-clause-gives : goal.returns-clause-gives
+returns-clause-gives c =
+    let i = c.loop-turn.invariant in
+    let l = c.args.of.now.limits in
+    let p = length c.args.passes.now in
+    let b = bearing c.args.manager.now c.loop-turn.keeper c.loop-turn.passes c.loop-turn.cursor c.loop-turn.families.items in
+    elim c.loop-turn-test.branch [
+      | else-loop-turn-test w ↦
+          let past = w.loop-turn-test.false in
+          let e = i.turns in
+          all_there l p c.args.survivors.now (length c.loop-turn.moved.items) c.loop-turn.moved.items b _ i.so_far refl (omega (arith, past, e))
+      | then-loop-turn-test+then-from-survivors w ↦
+          all_there l p c.args.survivors.now w.len-from.result c.loop-turn.moved.items b _ i.so_far (w.len-from.ensures ∙ c.loop-turn.moved.ok.0) w.if-from-survivors.true
+    ]

@@ -1,13 +1,15 @@
-use Rattle.std.proofs.Common.{◌≡◌, ◌*◌, ◌≤◌, All, length}
-use Rattle.tp_manager.specs.Shown.{IsOf}
-use Rattle.tp_rollover.specs.Passes.{numbers}
-use Rattle.tp_rollover.specs.Bounds.{PassesMake, bear_steps}
+use Rattle.std.proofs.Common.{◌≡◌, ◌*◌, ◌≤◌, length}
+use Rattle.tp_rollover.specs.Anew.{all_born}
+use Rattle.tp_rollover.specs.Bounds.{AllMake, bear_steps}
+use Rattle.tp_rollover.specs.Lone.{AreLone, bearing, lone}
+use Rattle.tp_rollover.proofs.BirthsAll.{IsSoFar}
 use Rattle.tp_rollover.proofs.births.bear_all.Given as goal
 
 abbrev pub invariant-loop-turn : goal.invariant-loop-turn
 invariant-loop-turn l = record {
-  own : All (IsOf l.manager) l.passes;
-  numbered : numbers l.passes ≡ numbers l.initial.passes;
+  alone : AreLone l.manager l.keeper l.passes × (l.keeper.given ≡ l.initial.keeper.given);
   few : length l.moved.items ≤ length l.survivors;
-  made : PassesMake (length l.moved.items * bear_steps l.manager.limits 1) l.initial.passes l.passes;
+  turns : l._turn ≤ length l.moved.items;
+  made : AllMake (length l.moved.items * bear_steps l.manager.limits l.initial.keeper.given 1) l.initial.keeper l.initial.passes l.keeper l.passes;
+  so_far : IsSoFar l.of.limits (length l.initial.passes) l.survivors l.moved.items (bearing l.manager l.keeper l.passes l.cursor l.families.items) (all_born l.of.limits (length l.initial.passes) l.survivors (lone l.manager l.initial.keeper l.initial.passes));
 }

@@ -1,15 +1,37 @@
-use Rattle.tp_rollover.proofs.Bearing.{group_born, group_stopped}
+use Rattle.tp_rollover.proofs.BirthsSteps.{all_made, group_made, group_stopped}
 use Rattle.tp_rollover.proofs.births.bear_next.Goals as goal
 
 pub returns-in_err-first-clause-steps : goal.returns-in_err-first-clause-steps
 returns-in_err-first-clause-steps c =
     let n = c.next_group-count.ensures in
-    let k = c.args.manager.now.limits in
+    let l = c.args.manager.now.limits in
+    let q = c.args.keeper.now.given in
+    let rest = c.args.rest.now in
     let count = c.next_group-count.result.0 in
-    group_stopped k c.args.rest.now count c.args.passes.now c.carrier_of.new.passes c.bear_group.new.passes n.some n.inside _ c.from_residual-in_err-first.ensures.0
-    (group_born k c.args.rest.now count c.args.passes.now c.carrier_of.new.passes c.bear_group.new.passes n.some n.inside c.carrier_of.ensures.steps c.bear_group.ensures.steps)
+    let after = c.carrier_of.new in
+    let k = c.bear_group.new in
+    group_stopped l q rest count c.args.keeper.now after.keeper k.keeper c.args.passes.now after.passes k.passes n.some n.inside _ c.from_residual-in_err-first.ensures.0
+    (group_made l q rest count c.args.keeper.now after.keeper k.keeper c.args.passes.now after.passes k.passes n.some n.inside c.carrier_of.ensures.lone.1 c.carrier_of.ensures.steps c.bear_group.ensures.steps)
+
+pub returns-in_default-checked_add-clause-steps : goal.returns-in_default-checked_add-clause-steps
+returns-in_default-checked_add-clause-steps c =
+    let n = c.next_group-count.ensures in
+    let l = c.args.manager.now.limits in
+    let q = c.args.keeper.now.given in
+    let rest = c.args.rest.now in
+    let count = c.next_group-count.result.0 in
+    let after = c.carrier_of.new in
+    let k = c.bear_group.new in
+    all_made l q rest count c.args.keeper.now after.keeper k.keeper c.args.passes.now after.passes k.passes n.some n.inside
+    (group_made l q rest count c.args.keeper.now after.keeper k.keeper c.args.passes.now after.passes k.passes n.some n.inside c.carrier_of.ensures.lone.1 c.carrier_of.ensures.steps c.bear_group.ensures.steps)
 
 pub returns-clause-steps : goal.returns-clause-steps
 returns-clause-steps c =
     let n = c.next_group-count.ensures in
-    group_born c.args.manager.now.limits c.args.rest.now c.next_group-count.result.0 c.args.passes.now c.carrier_of.new.passes c.bear_group.new.passes n.some n.inside c.carrier_of.ensures.steps c.bear_group.ensures.steps
+    let l = c.args.manager.now.limits in
+    let q = c.args.keeper.now.given in
+    let rest = c.args.rest.now in
+    let count = c.next_group-count.result.0 in
+    let after = c.carrier_of.new in
+    let k = c.bear_group.new in
+    group_made l q rest count c.args.keeper.now after.keeper k.keeper c.args.passes.now after.passes k.passes n.some n.inside c.carrier_of.ensures.lone.1 c.carrier_of.ensures.steps c.bear_group.ensures.steps

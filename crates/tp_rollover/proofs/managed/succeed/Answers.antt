@@ -1,7 +1,7 @@
 use Rattle.std.proofs.Common.{◌∙◌, ap, arith, length, refl}
 use Rattle.tp_model.specs.declared.types.Limits.{Limits}
 use Rattle.tp_rollover.proofs.Heads.{stay_same}
-use Rattle.tp_rollover.proofs.Managing.{free_again, managed_again, refused_for, was_short}
+use Rattle.tp_rollover.proofs.Managing.{all_fresh, carries_again, free_again, managed_again, refused_for, was_short}
 use Rattle.tp_rollover.proofs.managed.succeed.Goals as goal
 
 pub returns-then-has_open-clause-stays : goal.returns-then-has_open-clause-stays
@@ -31,3 +31,13 @@ returns-in-Err-clause-fault c =
     (omega (arith, c.requires.parts, c.requires.limits.parts.0)) (omega (arith, long, c.requires.limits.parts.0)) (c.if-has_open.ensures.free refl)
     (was_short new c.roll_over.new.new_keeper c.roll_over.new.new_passes c.in-Ok.ensures.managed e.new_keeper.0 e.new_keeper.1 e.own.1 e.all.1 c.args.old.now.limits same)
     c.in-Err.ensures.due
+
+pub returns-in-Ok-roll_over-clause-carries : goal.returns-in-Ok-roll_over-clause-carries
+returns-in-Ok-roll_over-clause-carries c =
+    let e = c.roll_over.ensures in
+    let new = c.in-Ok.new in
+    let same = c.in-Ok.ensures.limits ∙ c.limits.ensures in
+    let long = ap length c.deref_mut.ensures.value ∙ (c.in-Ok.ensures.managed.parts ∙ ap (λ (l : Limits). l.parts) same) in
+    let fresh = all_fresh new.manager c.deref_mut.result.now new.passes.items c.deref_mut.ensures.value c.in-Ok.ensures.new c.in-Ok.ensures.managed.own in
+    carries_again new c.roll_over.new.new_keeper c.roll_over.new.new_passes c.in-Ok.ensures.managed e.new_keeper.0 e.new_keeper.1 e.own.1 e.all.1
+    c.args.old.now.limits (length c.deref_mut.result.now) c.args.old_passes.now c.in-Ok-roll_over.moved.items same long (c.in-Ok-roll_over.ensures.computed fresh)

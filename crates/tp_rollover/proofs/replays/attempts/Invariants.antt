@@ -1,12 +1,14 @@
-use Rattle.std.proofs.Common.{◌≡◌, ◌*◌, All}
-use Rattle.tp_manager.specs.Shown.{IsOf}
-use Rattle.tp_rollover.specs.Passes.{numbers}
-use Rattle.tp_rollover.specs.Bounds.{PassesMake, attempt_steps}
+use Rattle.std.proofs.Common.{◌≡◌, ◌-◌, ◌*◌, length}
+use Rattle.tp_rollover.specs.Anew.{tried}
+use Rattle.tp_rollover.specs.Bounds.{AllMake, attempt_steps}
+use Rattle.tp_rollover.specs.Lone.{AreLone, lone}
 use Rattle.tp_rollover.proofs.replays.attempts.Given as goal
 
 abbrev pub invariant-loop-time : goal.invariant-loop-time
 invariant-loop-time l = record {
-  own : All (IsOf l.manager) l.passes;
-  numbered : numbers l.passes ≡ numbers l.initial.passes;
-  made : PassesMake (l._time * attempt_steps) l.initial.passes l.passes;
+  are_lone : AreLone l.manager l.keeper l.passes;
+  given : l.keeper.given ≡ l.initial.keeper.given;
+  made : AllMake (l._time * attempt_steps l.manager.limits l.initial.keeper.given) l.initial.keeper l.initial.passes l.keeper l.passes;
+  goes_on : tried (length l.initial.passes) l.id l.times (l.initial.from, lone l.manager l.initial.keeper l.initial.passes)
+      ≡ tried (length l.initial.passes) l.id (l.times - l._time) (l.from, lone l.manager l.keeper l.passes);
 }

@@ -1,0 +1,29 @@
+use Rattle.std.proofs.Common.{◌≡◌, ℕ, ◌+◌, ◌++◌, [], ◌∷◌, get_or, length, take, ap, sym, ◌∙◌, append_assoc, length-append, arith, rules}
+use Rattle.tp_rollover.specs.declared.moved.Moved.{Moved}
+use Rattle.std.proofs.lemmas.List.{length-take-le}
+use Rattle.tp_rollover.specs.Anew.{named}
+use Rattle.tp_rollover.proofs.BirthsGroups.{blank, named_long, named_more}
+use Rattle.tp_rollover.proofs.births.name.Goals as goal
+
+pub loop-place-preserved : goal.loop-place-preserved
+loop-place-preserved c =
+    let g = c.args.group in
+    let i = c.loop-place.place in
+    let before = c.args.moved.now.items in
+    let one : ℕ → Moved = λ n. record { old = (get_or c.args.rest.now i blank).id; new = n; old_root = (get_or c.args.rest.now i blank).root; new_root = g.root } in
+    let new : c.in-Some.new ≡ g.first + i = c.in-Some.ensures.1 ∙ ap (λ n. g.first + n) c.in-Ok.ensures.1 in
+    let pushed : c.push.new.self.items ≡ c.loop-place.moved.items ++ one c.in-Some.new ∷ [] = search rules in
+    pushed
+    ∙ (ap (λ n. c.loop-place.moved.items ++ one n ∷ []) new
+    ∙ (ap (λ ms. ms ++ one (g.first + i) ∷ []) c.loop-place.invariant
+    ∙ (append_assoc before (named g.root g.first (take i c.args.rest.now)) (one (g.first + i) ∷ [])
+    ∙ ap (λ ms. before ++ ms) (sym (named_more g.root g.first c.args.rest.now i blank (omega arith))))))
+
+pub returns-clause-many : goal.returns-clause-many
+returns-clause-many c =
+    let g = c.args.group in
+    let e = c.loop-place.invariant in
+    let long = length-append c.args.moved.now.items (named g.root g.first (take c.loop-place.place c.args.rest.now)) in
+    let names = named_long g.root g.first (take c.loop-place.place c.args.rest.now) in
+    let few = length-take-le c.loop-place.place c.args.rest.now (omega arith) in
+    ap length e ∙ omega (arith, long, names, few)

@@ -1,0 +1,36 @@
+-- What a rollover carries over, and what a restoration makes, computed: the new ids, and the new manager.
+use Rattle.std.specs.Prelude.{◌≡◌, ℕ, List, Option, Some, None, Result, Ok, Err}
+use Rattle.std.specs.List.{AllZip}
+use Rattle.tp_model.specs.declared.types.Limits.{Limits}
+use Rattle.tp_model.specs.History.{In}
+use Rattle.tp_plain.specs.OneThread.{State}
+use Rattle.tp_manager.specs.Shown.{KeeperShown, PassShown}
+use Rattle.tp_alone.specs.Thread.{AreTogether, IsFresh, Stays}
+use Rattle.tp_rollover.specs.Anew.{made_anew}
+use Rattle.tp_rollover.specs.Survivors.{AreSurvivors}
+use Rattle.tp_rollover.specs.declared.moved.Moved.{Moved}
+use Rattle.tp_rollover.specs.declared.moved.RollFault.{RollFault}
+use Rattle.tp_rollover.specs.declared.moved.RollFault.TheVariants.{Full}
+use Rattle.tp_rollover.specs.declared.survivors.Survivor.{Survivor}
+
+-- none of these passes has done anything but look
+abbrev pub AreFresh : Limits → List PassShown → Type 0
+AreFresh l passes = (p : PassShown) → In p passes → IsFresh l p
+
+-- what was done is what is computed, and it was refused as full only where that is
+abbrev pub IsMade : {A B : Type 0} → Result A RollFault → (A → B) → Option B → Type 0
+IsMade (Ok x) value computed = computed ≡ Some (value x)
+IsMade (Err Full) value computed = computed ≡ None
+IsMade (Err other) value computed = Unit {0}
+
+-- The passes of a manager with limits l did nothing but look, and looked together. What was alive then was
+-- made anew in a manager that was this before and is that then, by p passes.
+pub record Carries (l : Limits) (olds : List PassShown) (p : ℕ) (before : State) (moved : List Moved)
+    (after : State) : Type 0 where
+  pub keeper : KeeperShown
+  pub looked : List PassShown
+  pub together : AreTogether l keeper looked keeper.seen
+  pub stay : AllZip Stays olds looked
+  pub survivors : List Survivor
+  pub found : AreSurvivors l keeper.seen survivors
+  pub made : made_anew l p survivors before ≡ Some (moved, after)
