@@ -13,7 +13,7 @@ use Rattle.tp_model.proofs.Bridges.{element_of-id, in_none, is_born}
 use Rattle.tp_model.proofs.Later.{births_inside}
 use Rattle.tp_rollover.specs.Survivors.{AreSurvivors, Ascending, IsSurvivor}
 use Rattle.tp_rollover.specs.declared.survivors.Survivor.{Survivor}
-use Rattle.tp_exact.specs.Dumps.{if_alive, is_alive, with_root}
+use Rattle.tp_exact.specs.Alive.{if_alive, is_alive, with_root}
 
 alive_is : (x : Status) → IsKillable x → is_alive x ≡ true
 alive_is (status.Waiting n) killable = refl

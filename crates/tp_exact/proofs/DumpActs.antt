@@ -14,8 +14,9 @@ use Rattle.tp_alone.specs.Thread.{AreTogether, Stays, thread_of}
 use Rattle.tp_alone.proofs.Idle.{alone_idle}
 use Rattle.tp_session.specs.Dump.{dump_lines, dump_text}
 use Rattle.tp_session.specs.Live.{FoundAlive, Live, LiveGathers, LiveLooks, TellsDump, lines_of}
-use Rattle.tp_exact.specs.Dumps.{DumpComputed, ExactDump, alive_of, dump_of}
-use Rattle.tp_exact.specs.PlainSession.{SessionState, is_open}
+use Rattle.tp_exact.specs.Alive.{alive_of}
+use Rattle.tp_exact.specs.Dumps.{DumpComputed, ExactDump}
+use Rattle.tp_exact.specs.PlainSession.{SessionState, dump_of, is_open}
 use Rattle.tp_exact.specs.Sessions.{StandsLive}
 use Rattle.tp_exact.specs.Stands.{IsFor, Stands}
 use Rattle.tp_exact.proofs.Commands.{served_all, still_all}
@@ -85,7 +86,7 @@ module _ (head : Head) (old : Live) (s : SessionState) (is : StandsLive (head_vi
 
   module _ (new : Live) (text : List ℕ) (done : Live) (gathers : LiveGathers done new) where
     -- the passes have looked, and then all have gathered
-    leaves : done.stand.manager ≡ old.stand.manager → AllZip Stays (passes_in old.stand.scene) (passes_in done.stand.scene) → AllZip OnlyPass old.stand.scene.places done.stand.scene.places → done.works ≡ old.works → StandsLive h new s
+    pub leaves : done.stand.manager ≡ old.stand.manager → AllZip Stays (passes_in old.stand.scene) (passes_in done.stand.scene) → AllZip OnlyPass old.stand.scene.places done.stand.scene.places → done.works ≡ old.works → StandsLive h new s
     leaves manager stay places works =
         let g : Gathered done.stand.manager done.stand.keeper new.stand.keeper done.stand.scene new.stand.scene = gathers.gathered in
         let after = subst (λ (m : ManagerShown). AreTogether m.limits new.stand.keeper (passes_in new.stand.scene) new.stand.keeper.seen) manager (together done.stand.manager done.stand.keeper new.stand.keeper done.stand.scene new.stand.scene g) in

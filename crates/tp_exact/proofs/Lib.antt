@@ -29,6 +29,8 @@ pub mod Checked
 pub mod WorkerActs
 pub mod SessionHeads
 pub mod SessionLines
+pub mod Anews
+pub mod SessionActs
 pub mod Sessions
 pub mod HeadsChecked
 pub mod Programs

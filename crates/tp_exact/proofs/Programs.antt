@@ -2,6 +2,7 @@
 use Rattle.std.proofs.Common.{◌≡◌, ◌∙◌, ℕ, ◌+◌, ◌||◌, Bool, true, false, List, [], ◌∷◌, length, Option, Some, None, Result, Ok, Err, refl, sym, ap, subst, inl, inr}
 use Rattle.std.specs.Prelude.{is_some}
 use Rattle.std.proofs.lemmas.Bool.{cases_lt}
+use Rattle.std.proofs.lemmas.List.Elements.{All-nil}
 use Rattle.tp_report.specs.declared.fault.Exit.{Exit}
 use Rattle.tp_report.specs.declared.fault.Exit.TheVariants as exits
 use Rattle.tp_report.specs.declared.fault.Fault.{Fault}
@@ -18,38 +19,42 @@ use Rattle.tp_script.proofs.WorkersLemmas.{checked_is, checked_past}
 use Rattle.tp_session.specs.Heard.{but_empty_last, heard}
 use Rattle.tp_session.specs.Scripts.{ChecksAndConverses, RanBy}
 use Rattle.tp_session.proofs.CommandLemmas.{command_keeps}
-use Rattle.tp_exact.specs.PlainSession.{HeadRead, read_head, read_line}
+use Rattle.tp_exact.specs.PlainSession.{HeadRead, Refusals, read_head, read_line}
 use Rattle.tp_exact.specs.Programs.{ExactProgram, IsCoveredBy, NeverRefuses, WritesAs, answers_of_checked, exit_by, has_refusal_in, refuses, written_by}
 use Rattle.tp_exact.specs.Script.{exit_of}
-use Rattle.tp_exact.specs.Sessions.{IsComputed}
+use Rattle.tp_exact.specs.Sessions.{AreUnforeseen, IsUnforeseen}
 use Rattle.tp_exact.proofs.Runs.{exact_run}
 use Rattle.tp_exact.proofs.Sessions.{exact_session, exact_session_front}
 
 -- ---- what is written
 
 module _ (bytes : List ℕ) (before after : Option (List ℕ)) where
-  workers_write : (outcome : Result Exit Fault) (said : Result (Unit {0}) Refused) → IsComputed bytes → ChecksAndConverses outcome said bytes before after
-      → WritesAs outcome (exit_of said) (answers_of_checked said bytes) before after
-  workers_write (Ok exits.Done) (Ok whole) never ran = (refl, exact_session bytes before after never ran)
-  workers_write (Ok exits.Done) (Err refused) never ran = absurd ran
-  workers_write (Ok exits.Refused) (Ok whole) never ran = absurd ran
-  workers_write (Ok exits.Refused) (Err refused) never ran = (refl, ran)
-  workers_write (Err faults.Read) (Ok whole) never ran = ran
-  workers_write (Err faults.Read) (Err refused) never ran = ran
-  workers_write (Err faults.NoMemory) (Ok whole) never ran = exact_session_front bytes before after never ran
-  workers_write (Err faults.NoMemory) (Err refused) never ran = ran
-  workers_write (Err faults.Write) (Ok whole) never ran = exact_session_front bytes before after never ran
-  workers_write (Err faults.Write) (Err refused) never ran = ran
+  -- so it is for some refusals that the lines don't tell
+  abbrev Writes : Result Exit Fault → Exit → (Refusals → List ℕ) → Type 0
+  Writes outcome exit text = (refusals : Refusals) × AreUnforeseen refusals × WritesAs outcome exit (text refusals) before after
 
-  report_writes : (outcome : Result Exit Fault) → IsCoveredBy false bytes → RanBy false outcome bytes before after → WritesAs outcome (exit_by false bytes) (written_by false bytes) before after
+  session_writes : (outcome : Result Exit Fault) (said : Result (Unit {0}) Refused) → ChecksAndConverses outcome said bytes before after
+      → Writes outcome (exit_of said) (λ refusals. answers_of_checked refusals said bytes)
+  session_writes (Ok exits.Done) (Ok whole) ran = let t = exact_session bytes before after ran in (t.0, t.1, (refl, t.2))
+  session_writes (Ok exits.Done) (Err refused) ran = absurd ran
+  session_writes (Ok exits.Refused) (Ok whole) ran = absurd ran
+  session_writes (Ok exits.Refused) (Err refused) ran = ([], All-nil IsUnforeseen, (refl, ran))
+  session_writes (Err faults.Read) (Ok whole) ran = ([], All-nil IsUnforeseen, ran)
+  session_writes (Err faults.Read) (Err refused) ran = ([], All-nil IsUnforeseen, ran)
+  session_writes (Err faults.NoMemory) (Ok whole) ran = exact_session_front bytes before after ran
+  session_writes (Err faults.NoMemory) (Err refused) ran = ([], All-nil IsUnforeseen, ran)
+  session_writes (Err faults.Write) (Ok whole) ran = exact_session_front bytes before after ran
+  session_writes (Err faults.Write) (Err refused) ran = ([], All-nil IsUnforeseen, ran)
+
+  report_writes : (outcome : Result Exit Fault) → IsCoveredBy false bytes → RanBy false outcome bytes before after → WritesAs outcome (exit_by false bytes) (written_by [] false bytes) before after
   report_writes (Ok exit) raceless ran = exact_run (Ok exit) bytes before after raceless ran
   report_writes (Err faults.Read) raceless ran = exact_run (Err faults.Read) bytes before after raceless ran
   report_writes (Err faults.NoMemory) raceless ran = exact_run (Err faults.NoMemory) bytes before after raceless ran
   report_writes (Err faults.Write) raceless ran = exact_run (Err faults.Write) bytes before after raceless ran
 
-  writes : (workers : Bool) (outcome : Result Exit Fault) → IsCoveredBy workers bytes → RanBy workers outcome bytes before after → WritesAs outcome (exit_by workers bytes) (written_by workers bytes) before after
-  writes true outcome never ran = workers_write outcome (checked bytes) never ran
-  writes false outcome raceless ran = report_writes outcome raceless ran
+  writes : (session : Bool) (outcome : Result Exit Fault) → IsCoveredBy session bytes → RanBy session outcome bytes before after → Writes outcome (exit_by session bytes) (λ refusals. written_by refusals session bytes)
+  writes true outcome covered ran = session_writes outcome (checked bytes) ran
+  writes false outcome covered ran = ([], All-nil IsUnforeseen, report_writes outcome covered ran)
 
 pub exact_program : ExactProgram
 exact_program outcome bytes before after covered ran = writes bytes before after (is_session bytes) outcome covered ran

@@ -1,5 +1,5 @@
--- A line of a session, between two gatherings.
-use Rattle.std.proofs.Common.{◌≡◌, ℕ, zero, ◌+◌, suc, ◌||◌, Bool, true, false, List, [], ◌∷◌, ◌++◌, length, map, Option, None, Some, Ok, Err, refl, sym, ◌∙◌, ap, subst, arith}
+-- A line of a session that can't be refused for want of memory, between two gatherings.
+use Rattle.std.proofs.Common.{◌≡◌, ℕ, zero, ◌+◌, suc, ◌||◌, Bool, true, false, List, [], ◌∷◌, ◌++◌, length, map, Option, None, Some, refl, sym, ◌∙◌, ap, subst, arith}
 use Rattle.std.specs.Prelude.{if◌then◌else◌, is_some, slice_get, slice_index_or, slice_set, string_bytes, take, drop}
 use Rattle.std.specs.List.{AllZip, list_any}
 use Rattle.tp_model.specs.Steps.{rows_of}
@@ -11,7 +11,7 @@ use Rattle.tp_plain.specs.declared.pass_state.PassState.{PassState}
 use Rattle.tp_manager.specs.Shown.{KeeperShown, ManagerShown, PassShown}
 use Rattle.tp_report.specs.Answer.{account_text, answer_text, line}
 use Rattle.tp_report.specs.declared.answer.Answer.TheVariants as answer
-use Rattle.tp_script.specs.Passes.{is_race, is_rollover}
+use Rattle.tp_script.specs.Passes.{is_race}
 use Rattle.tp_script.specs.Script.{script_view}
 use Rattle.tp_script.specs.Session.{HeadView, head_view, worker_view}
 use Rattle.tp_script.specs.declared.head.Act.TheVariants as acts
@@ -27,11 +27,11 @@ use Rattle.tp_alone.specs.Thread.{AreTogether, Stays, not_given, state_of, threa
 use Rattle.tp_session.specs.Answers.{worker_line}
 use Rattle.tp_session.specs.Live as lives
 use Rattle.tp_session.specs.Hands.{Hand}
-use Rattle.tp_session.specs.Live.{AccountTold, CommandTold, Live, TellsAccount, TellsBy, WorkerTold}
+use Rattle.tp_session.specs.Live.{AccountTold, CommandTold, Live, TellsAccount, WorkerTold}
 use Rattle.tp_exact.specs.Acts.{Acts}
-use Rattle.tp_exact.specs.PlainSession.{SessionState, account_line, act_step, is_open, worker_step}
+use Rattle.tp_exact.specs.PlainSession.{SessionState, account_line, act_step, command_by, is_open, worker_step}
 use Rattle.tp_exact.specs.PlainWorkers.{WorkerAnswered, worker_does}
-use Rattle.tp_exact.specs.Sessions.{ExactLine, StandsLive}
+use Rattle.tp_exact.specs.Sessions.{IsStep, StandsLive}
 use Rattle.tp_exact.specs.Stands.{IsFor, IsServedBy, OnlyLooks, Stands}
 use Rattle.tp_exact.proofs.Commands.{scene_passes, served_all, still_all}
 use Rattle.tp_exact.proofs.Counted.{counts_are}
@@ -98,11 +98,11 @@ module _ (head : Head) (old new : Live) (text : List ℕ) (s : SessionState) (is
   was = thread_of l (passes_in scene) old.stand.keeper.seen
 
   abbrev Leads : List ℕ × SessionState → Type 0
-  Leads step = (text ≡ step.0) × StandsLive h new step.1
+  Leads step = IsStep h new text step
 
   -- ---- a command of scripts
 
-  by_command : (c : Command) → is_race c ≡ false → CommandTold (script_view head.script) c old text new → Leads (act_step h (acts.Command c) s)
+  pub by_command : (c : Command) → is_race c ≡ false → CommandTold (script_view head.script) c old text new → Leads (command_by false h None c s)
   by_command c raceless t =
       let one = exact_command c raceless old.stand.manager (script_view head.script) 0 old.stand.keeper new.stand.keeper scene new.stand.scene text s.report is.stands t.performs in (
         one.0,
@@ -200,7 +200,7 @@ module _ (head : Head) (old new : Live) (text : List ℕ) (s : SessionState) (is
         ap (λ m. worker_does act t.it.stage c m before.work) (sym is.stands.manager) ∙ ap (λ w. worker_does act t.it.stage c s.report.manager w) (sym hand_is) in
         subst So same (exact_worker act l t.it.stage old.stand.keeper new.stand.keeper (passes_in scene) (passes_in new.stand.scene) old.stand.keeper.seen new.stand.keeper.seen c before after t.answer acts_so t.did.does)
 
-    by_worker : Leads (act_step h (acts.Worker at act) s)
+    pub by_worker : Leads (act_step h None (acts.Worker at act) s)
     by_worker =
         let named : slice_get h.workers at ≡ Some (worker_view t.it) = got_map worker_view head.workers.items at t.it t.named in
         subst (λ o. Leads (worker_step o act at c s)) (sym named) (
@@ -258,18 +258,5 @@ module _ (head : Head) (old new : Live) (text : List ℕ) (s : SessionState) (is
           leaves r.1,
         )
 
-    by_account : Leads (act_step h acts.Account s)
+    pub by_account : Leads (act_step h None acts.Account s)
     by_account = go (is_open s) refl (subst (λ b. TellsAccount old.stand.manager b scene.client text t.counts.client) open_is t.counts.tells)
-
--- ---- a line
-
-pub exact_line : ExactLine
-exact_line head n (Ok None) old new text s within is t = (t.0, subst (λ z. StandsLive (head_view head) z s) (sym t.1) is)
-exact_line head n (Err fault) old new text s within is t = (t.0, subst (λ z. StandsLive (head_view head) z s) (sym t.1) is)
-exact_line head n (Ok (Some (acts.Worker at act))) old new text s within is t = by_worker head old new text s is at act t
-exact_line head n (Ok (Some acts.Account)) old new text s within is t = by_account head old new text s is t
-exact_line head n (Ok (Some acts.Dump)) old new text s within is t = absurd cc
-exact_line head n (Ok (Some acts.Restore)) old new text s within is t = absurd cc
-exact_line head n (Ok (Some (acts.Command c))) old new text s within is t =
-    let neither = either_false (is_race c) (is_rollover c) within in
-    by_command head old new text s is c neither.0 (subst (λ b. TellsBy b (script_view head.script) c old text new) neither.1 t)

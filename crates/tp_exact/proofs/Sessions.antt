@@ -1,7 +1,7 @@
--- A whole session without a rollover, a dump or a restore.
-use Rattle.std.proofs.Common.{◌≡◌, ℕ, ◌+◌, ◌*◌, ◌||◌, false, List, [], ◌∷◌, ◌++◌, All, length, map, Option, None, Some, Result, Ok, Err, inl, inr, refl, sym, ◌∙◌, ap, subst, append_assoc, arith}
+-- A whole session.
+use Rattle.std.proofs.Common.{◌≡◌, ℕ, ◌+◌, ◌*◌, false, List, [], ◌∷◌, ◌++◌, All, length, map, Option, None, Some, Result, Ok, Err, inl, inr, refl, sym, ◌∙◌, ap, subst, append_assoc, arith}
 use Rattle.std.specs.Io.KnownBytes.{Appends}
-use Rattle.std.proofs.lemmas.List.Elements.{All-head, All-nil, All-tail}
+use Rattle.std.proofs.lemmas.List.Elements.{All-cons, All-head, All-nil, All-tail}
 use Rattle.tp_model.specs.History.{In, here, there}
 use Rattle.tp_model.specs.Passes.{IsPassView}
 use Rattle.tp_model.specs.declared.types.Limits.{Limits}
@@ -12,13 +12,14 @@ use Rattle.tp_plain.specs.OneThread.{start}
 use Rattle.tp_workers.specs.Free.{IsFreePass}
 use Rattle.tp_manager.specs.Shown.{PassShown, view_in}
 use Rattle.tp_script.specs.Session.{HeadView, body_at, head_view, no_head}
-use Rattle.tp_script.specs.Passes.{is_race, is_rollover}
+use Rattle.tp_script.specs.Passes.{is_race}
 use Rattle.tp_script.specs.declared.fault.LineFault.{LineFault}
 use Rattle.tp_script.specs.declared.head.Act.{Act}
 use Rattle.tp_script.specs.declared.head.Act.TheVariants as acts
 use Rattle.tp_script.specs.declared.head.Head.{Head}
 use Rattle.tp_script.specs.declared.script.Command.{Command}
 use Rattle.tp_rollover.specs.Managed.{IsNewPass}
+use Rattle.tp_rollover.specs.declared.moved.RollFault.{RollFault}
 use Rattle.tp_perform.specs.Ending.{final_lines}
 use Rattle.tp_perform.specs.Scenes.{Scene, passes_in}
 use Rattle.tp_reference.specs.PlainReport.{finals_below}
@@ -30,9 +31,9 @@ use Rattle.tp_session.specs.Conversed.{CommandLines, IsCommand, LiveBegins, Live
 use Rattle.tp_session.specs.Heard.{HearsFront, heard}
 use Rattle.tp_session.specs.Live.{Live}
 use Rattle.tp_session.specs.Told.{BodyLines, HeadLines, HeadTold, LinesFrom}
-use Rattle.tp_exact.specs.PlainSession.{HeadRead, SessionState, act_step, begin, line_step, lines_from, lines_step, read_head, session_by, session_of}
+use Rattle.tp_exact.specs.PlainSession.{HeadRead, Refusals, SessionState, act_step, begin, command_by, first_refusal, line_step, lines_from, lines_step, other_refusals, read_head, session_by, session_of}
 use Rattle.tp_exact.specs.Script.{IsChecked}
-use Rattle.tp_exact.specs.Sessions.{ExactSession, ExactSessionFront, IsComputed, StandsLive, asks_uncomputed, has_uncomputed_in, is_beyond}
+use Rattle.tp_exact.specs.Sessions.{AreUnforeseen, ComputedOfBytes, ExactSession, ExactSessionFront, IsStep, IsUnforeseen, StandsLive, asks_race, asks_refusable, has_refusable_in, is_refusable}
 use Rattle.tp_exact.proofs.Begins.{desks_first, served_first}
 use Rattle.tp_exact.proofs.Finals.{lines_so}
 use Rattle.tp_exact.proofs.Fronts.{front_longer}
@@ -40,43 +41,47 @@ use Rattle.tp_exact.proofs.Scenes.{all_at}
 use Rattle.tp_exact.proofs.Scripts.{registers_left}
 use Rattle.tp_exact.proofs.HeadsChecked.{command_raceless, head_good, line_raceless}
 use Rattle.tp_exact.proofs.SessionHeads.{head_alone, head_is, head_more, read_as}
-use Rattle.tp_exact.proofs.SessionLines.{either_false, exact_line}
+use Rattle.tp_exact.proofs.SessionActs.{exact_line}
+use Rattle.tp_exact.proofs.SessionLines.{either_false}
 
 -- ---- the lines after the head
 
--- what asks for no race is computed, unless it is excluded
-not_beyond : (said : Result (Option Act) LineFault) → ((c : Command) → said ≡ Ok (Some (acts.Command c)) → is_race c ≡ false) → asks_uncomputed said ≡ false → is_beyond said ≡ false
-not_beyond (Ok None) raceless none = refl
-not_beyond (Err fault) raceless none = refl
-not_beyond (Ok (Some (acts.Worker worker act))) raceless none = refl
-not_beyond (Ok (Some acts.Account)) raceless none = refl
-not_beyond (Ok (Some acts.Dump)) raceless none = none
-not_beyond (Ok (Some acts.Restore)) raceless none = none
-not_beyond (Ok (Some (acts.Command c))) raceless none = ap (λ b. b || is_rollover c) (raceless c refl) ∙ none
+-- what asks for no race
+no_race : (said : Result (Option Act) LineFault) → ((c : Command) → said ≡ Ok (Some (acts.Command c)) → is_race c ≡ false) → asks_race said ≡ false
+no_race (Ok None) raceless = refl
+no_race (Err fault) raceless = refl
+no_race (Ok (Some (acts.Worker worker act))) raceless = refl
+no_race (Ok (Some acts.Account)) raceless = refl
+no_race (Ok (Some acts.Dump)) raceless = refl
+no_race (Ok (Some acts.Restore)) raceless = refl
+no_race (Ok (Some (acts.Command c))) raceless = raceless c refl
 
 act_same : (x y : Act) → ◌≡◌ {A = Result (Option Act) LineFault} (Ok (Some x)) (Ok (Some y)) → x ≡ y
 act_same x y e = cc
 
-pub lines_are : (head : Head) (past : ℕ) (lines : List (List ℕ)) (old last : Live) (text : List ℕ) (s : SessionState) → has_uncomputed_in (head_view head) lines ≡ false → StandsLive (head_view head) old s → BodyLines head past lines old text last
-    → let r = lines_step (head_view head) past lines s in (text ≡ r.0) × StandsLive (head_view head) last r.1
-lines_are head past [] old last text s within is (none, same) = (none, subst (λ z. StandsLive (head_view head) z s) (sym same) is)
-lines_are head past (line ∷ others) old last text s within is (first, rest, between, one, more, whole) =
+-- for some refusals that the lines don't tell, the text is that of these steps
+abbrev AreSteps : HeadView → Live → List ℕ → (Refusals → List ℕ × SessionState) → Type 0
+AreSteps h last text steps = (refusals : Refusals) × AreUnforeseen refusals × IsStep h last text (steps refusals)
+
+pub lines_are : (head : Head) (past : ℕ) (lines : List (List ℕ)) (old last : Live) (text : List ℕ) (s : SessionState) → StandsLive (head_view head) old s → BodyLines head past lines old text last
+    → AreSteps (head_view head) last text (λ refusals. lines_step (head_view head) past refusals lines s)
+lines_are head past [] old last text s is (none, same) = ([], All-nil IsUnforeseen, (none, subst (λ z. StandsLive (head_view head) z s) (sym same) is))
+lines_are head past (line ∷ others) old last text s is (first, rest, between, one, more, whole) =
     let h : HeadView = head_view head in
-    let parts = either_false (asks_uncomputed (body_at line h)) (has_uncomputed_in h others) within in
-    let a = exact_line head (past + 1) (body_at line h) old between first s (not_beyond (body_at line h) (line_raceless line h) parts.0) is one in
-    let step : List ℕ × SessionState = line_step h (past + 1) (body_at line h) s in
-    let b = lines_are head (past + 1) others between last rest step.1 parts.1 a.1 more in
-    (whole ∙ (ap (λ t. t ++ rest) a.0 ∙ ap (λ t. step.0 ++ t) b.0), b.1)
+    let a = exact_line head (past + 1) (body_at line h) old between first s (no_race (body_at line h) (line_raceless line h)) is one in
+    let step : List ℕ × SessionState = line_step h (past + 1) a.0 (body_at line h) s in
+    let b = lines_are head (past + 1) others between last rest step.1 a.2.1 more in
+    (a.0 ∷ b.0, All-cons IsUnforeseen a.0 b.0 a.1 b.1, (whole ∙ (ap (λ t. t ++ rest) a.2.0 ∙ ap (λ t. step.0 ++ t) b.2.0), b.2.1))
 
 -- the first command, and the lines after it
-from_command : (head : Head) (past : ℕ) (line : List ℕ) (act : Act) (lines : List (List ℕ)) (old last : Live) (text : List ℕ) (s : SessionState) → IsCommand line act (head_view head) → asks_uncomputed (Ok (Some act)) ≡ false → has_uncomputed_in (head_view head) lines ≡ false
-    → StandsLive (head_view head) old s → LinesFrom (Some act) head past lines old text last → let r = lines_from (Some act) (head_view head) past lines s in (text ≡ r.0) × StandsLive (head_view head) last r.1
-from_command head past line act lines old last text s command first_within within is (first, rest, between, one, more, whole) =
+from_command : (head : Head) (past : ℕ) (line : List ℕ) (act : Act) (lines : List (List ℕ)) (old last : Live) (text : List ℕ) (s : SessionState) → IsCommand line act (head_view head)
+    → StandsLive (head_view head) old s → LinesFrom (Some act) head past lines old text last → AreSteps (head_view head) last text (λ refusals. lines_from (Some act) (head_view head) past refusals lines s)
+from_command head past line act lines old last text s command is (first, rest, between, one, more, whole) =
     let h : HeadView = head_view head in
-    let a = exact_line head (past + 1) (Ok (Some act)) old between first s (not_beyond (Ok (Some act)) raceless first_within) is one in
-    let step : List ℕ × SessionState = act_step h act s in
-    let b = lines_are head (past + 1) lines between last rest step.1 within a.1 more in
-    (whole ∙ (ap (λ t. t ++ rest) a.0 ∙ ap (λ t. step.0 ++ t) b.0), b.1)
+    let a = exact_line head (past + 1) (Ok (Some act)) old between first s (no_race (Ok (Some act)) raceless) is one in
+    let step : List ℕ × SessionState = act_step h a.0 act s in
+    let b = lines_are head (past + 1) lines between last rest step.1 a.2.1 more in
+    (a.0 ∷ b.0, All-cons IsUnforeseen a.0 b.0 a.1 b.1, (whole ∙ (ap (λ t. t ++ rest) a.2.0 ∙ ap (λ t. step.0 ++ t) b.2.0), b.2.1))
   where
     raceless : (c : Command) → ◌≡◌ {A = Result (Option Act) LineFault} (Ok (Some act)) (Ok (Some (acts.Command c))) → is_race c ≡ false
     raceless c same = command_raceless line (head_view head) c (command ∙ ap (λ (a : Act). Ok (head_view head, Some a)) (act_same act (acts.Command c) same))
@@ -169,109 +174,145 @@ finals_are h last registers s is ends =
 
 -- ---- a whole session
 
--- what is known of what was read of the head, of the first command, and of the lines after it
-record IsCoveredRead (read : HeadRead) : Type 0 where
-  pub servers : All IsChecked read.head.script.servers
-  pub command : asks_uncomputed (Ok read.command) ≡ false
-  pub lines : has_uncomputed_in read.head read.behind ≡ false
+-- the servers of what was read of the head have no fault
+abbrev IsCoveredRead : HeadRead → Type 0
+IsCoveredRead read = All IsChecked read.head.script.servers
 
-covers : (bytes : List ℕ) → IsComputed bytes → IsCoveredRead (read_head 0 (heard bytes) no_head)
-covers bytes computed = record { servers = head_good 0 (heard bytes) no_head (All-nil IsChecked); command = computed.0; lines = computed.1 }
+covers : (bytes : List ℕ) → IsCoveredRead (read_head 0 (heard bytes) no_head)
+covers bytes = head_good 0 (heard bytes) no_head (All-nil IsChecked)
 
-module _ (bytes : List ℕ) (Told : List ℕ → Type 0) (computed : IsComputed bytes) (t : Session bytes Told) where
+-- so it is told for some refusals that the lines don't tell
+abbrev TellsSome : List ℕ → (List ℕ → Type 0) → Type 0
+TellsSome bytes Told = (refusals : Refusals) × AreUnforeseen refusals × Told (session_of refusals bytes)
+
+module _ (bytes : List ℕ) (Told : List ℕ → Type 0) (t : Session bytes Told) where
   abbrev whole_head : HeadView
   whole_head = head_view t.head
 
   -- this was read, and the answers behind the head are the computed ones
-  told_so : (command : Option Act) (lines : List (List ℕ)) → read_head 0 (heard bytes) no_head ≡ read_as t.head_text whole_head (length t.taken) command lines
-      → (t.text ≡ (lines_from command whole_head (length t.taken) lines (begin whole_head)).0) → StandsLive whole_head t.last (lines_from command whole_head (length t.taken) lines (begin whole_head)).1 → Told (session_of bytes)
-  told_so command lines read text_is is =
-      let all : List ℕ × SessionState = lines_from command whole_head (length t.taken) lines (begin whole_head) in
-      subst Told (ap (λ x. t.head_text ++ (x ++ finals_of whole_head t.registers)) text_is ∙ (ap (λ x. t.head_text ++ (all.0 ++ x)) (finals_are whole_head t.last t.registers all.1 is t.ends) ∙ sym (ap session_by read))) t.told
+  told_so : (refusals : Refusals) (command : Option Act) (lines : List (List ℕ)) → read_head 0 (heard bytes) no_head ≡ read_as t.head_text whole_head (length t.taken) command lines
+      → IsStep whole_head t.last t.text (lines_from command whole_head (length t.taken) refusals lines (begin whole_head)) → Told (session_of refusals bytes)
+  told_so refusals command lines read is =
+      let all : List ℕ × SessionState = lines_from command whole_head (length t.taken) refusals lines (begin whole_head) in
+      subst Told (ap (λ x. t.head_text ++ (x ++ finals_of whole_head t.registers)) is.0 ∙ (ap (λ x. t.head_text ++ (all.0 ++ x)) (finals_are whole_head t.last t.registers all.1 is.1 t.ends) ∙ sym (ap (session_by refusals) read))) t.told
 
-  covered_so : (command : Option Act) (lines : List (List ℕ)) → read_head 0 (heard bytes) no_head ≡ read_as t.head_text whole_head (length t.taken) command lines → IsCoveredRead (read_as t.head_text whole_head (length t.taken) command lines)
-  covered_so command lines read = subst IsCoveredRead read (covers bytes computed)
+  covered_so : (command : Option Act) (lines : List (List ℕ)) → read_head 0 (heard bytes) no_head ≡ read_as t.head_text whole_head (length t.taken) command lines → All IsChecked whole_head.script.servers
+  covered_so command lines read = subst IsCoveredRead read (covers bytes)
 
-  by_body : (behind : List (List ℕ)) → heard bytes ≡ t.taken ++ behind → CommandLines t.head (length t.taken) behind t.first t.text t.last → Told (session_of bytes)
+  by_body : (behind : List (List ℕ)) → heard bytes ≡ t.taken ++ behind → CommandLines t.head (length t.taken) behind t.first t.text t.last → TellsSome bytes Told
   by_body [] are (none, same) =
       let read = ap (λ lines. read_head 0 lines no_head) are ∙ head_alone t.taken no_head whole_head t.head_text t.heads in
-      let within = covered_so None [] read in
-      told_so None [] read none (subst (λ z. StandsLive whole_head z (begin whole_head)) (sym same) (begins_live t.head t.first t.begins within.servers))
+      ([], All-nil IsUnforeseen, told_so [] None [] read (none, subst (λ z. StandsLive whole_head z (begin whole_head)) (sym same) (begins_live t.head t.first t.begins (covered_so None [] read))))
   by_body (line ∷ others) are (act, command, body) =
       let read = ap (λ lines. read_head 0 lines no_head) are ∙ head_is t.taken line others act no_head whole_head t.head_text t.heads command in
-      let within = covered_so (Some act) others read in
-      let from = from_command t.head (length t.taken) line act others t.first t.last t.text (begin whole_head) command within.command within.lines (begins_live t.head t.first t.begins within.servers) body in
-      told_so (Some act) others read from.0 from.1
+      let from = from_command t.head (length t.taken) line act others t.first t.last t.text (begin whole_head) command (begins_live t.head t.first t.begins (covered_so (Some act) others read)) body in
+      (from.0, from.1, told_so from.0 (Some act) others read from.2)
 
-  pub whole_is : Told (session_of bytes)
+  pub whole_is : TellsSome bytes Told
   whole_is = by_body t.behind t.lines_are t.body
 
 pub exact_session : ExactSession
-exact_session bytes before after computed t = whole_is bytes (Appends before after) computed t
+exact_session bytes before after t = whole_is bytes (Appends before after) t
 
 -- ---- after a fault
 
 -- fewer lines are told a prefix of all
-fewer : (h : HeadView) (past : ℕ) (lines others : List (List ℕ)) (s : SessionState) → (rest : List ℕ) × ((lines_step h past (lines ++ others) s).0 ≡ (lines_step h past lines s).0 ++ rest)
-fewer h past [] others s = ((lines_step h past others s).0, refl)
-fewer h past (line ∷ lines) others s =
-    let step : List ℕ × SessionState = line_step h (past + 1) (body_at line h) s in
-    let more = fewer h (past + 1) lines others step.1 in
-    (more.0, ap (λ t. step.0 ++ t) more.1 ∙ sym (append_assoc step.0 (lines_step h (past + 1) lines step.1).0 more.0))
+fewer : (h : HeadView) (past : ℕ) (refusals : Refusals) (lines others : List (List ℕ)) (s : SessionState)
+    → (rest : List ℕ) × ((lines_step h past refusals (lines ++ others) s).0 ≡ (lines_step h past refusals lines s).0 ++ rest)
+fewer h past refusals [] others s = ((lines_step h past refusals others s).0, refl)
+fewer h past refusals (line ∷ lines) others s =
+    let step : List ℕ × SessionState = line_step h (past + 1) (first_refusal refusals) (body_at line h) s in
+    let more = fewer h (past + 1) (other_refusals refusals) lines others step.1 in
+    (more.0, ap (λ t. step.0 ++ t) more.1 ∙ sym (append_assoc step.0 (lines_step h (past + 1) (other_refusals refusals) lines step.1).0 more.0))
 
-fewer_from : (h : HeadView) (past : ℕ) (act : Act) (lines others : List (List ℕ)) (s : SessionState) → (rest : List ℕ) × ((lines_from (Some act) h past (lines ++ others) s).0 ≡ (lines_from (Some act) h past lines s).0 ++ rest)
-fewer_from h past act lines others s =
-    let step : List ℕ × SessionState = act_step h act s in
-    let more = fewer h (past + 1) lines others step.1 in
-    (more.0, ap (λ t. step.0 ++ t) more.1 ∙ sym (append_assoc step.0 (lines_step h (past + 1) lines step.1).0 more.0))
+fewer_from : (h : HeadView) (past : ℕ) (refusals : Refusals) (act : Act) (lines others : List (List ℕ)) (s : SessionState)
+    → (rest : List ℕ) × ((lines_from (Some act) h past refusals (lines ++ others) s).0 ≡ (lines_from (Some act) h past refusals lines s).0 ++ rest)
+fewer_from h past refusals act lines others s =
+    let step : List ℕ × SessionState = act_step h (first_refusal refusals) act s in
+    let more = fewer h (past + 1) (other_refusals refusals) lines others step.1 in
+    (more.0, ap (λ t. step.0 ++ t) more.1 ∙ sym (append_assoc step.0 (lines_step h (past + 1) (other_refusals refusals) lines step.1).0 more.0))
 
-none_among : (h : HeadView) (lines others : List (List ℕ)) → has_uncomputed_in h (lines ++ others) ≡ false → has_uncomputed_in h lines ≡ false
-none_among h [] others none = refl
-none_among h (line ∷ lines) others none =
-    let parts = either_false (asks_uncomputed (body_at line h)) (has_uncomputed_in h (lines ++ others)) none in
-    ap (λ b. b || has_uncomputed_in h lines) parts.0 ∙ none_among h lines others parts.1
-
-module _ (bytes : List ℕ) (before after : Option (List ℕ)) (computed : IsComputed bytes) where
+module _ (bytes : List ℕ) (before after : Option (List ℕ)) where
   -- the head is read up to a line, and what it was told is the beginning
-  by_head : (taken rest : List (List ℕ)) (h : HeadView) (text : List ℕ) → heard bytes ≡ taken ++ rest → HeadLines 0 taken no_head text h → AppendsFront before after text → AppendsFront before after (session_of bytes)
+  by_head : (taken rest : List (List ℕ)) (h : HeadView) (text : List ℕ) → heard bytes ≡ taken ++ rest → HeadLines 0 taken no_head text h → AppendsFront before after text → TellsSome bytes (AppendsFront before after)
   by_head taken rest h text are lines told =
       let read = ap (λ lines. read_head 0 lines no_head) are ∙ head_more 0 taken rest no_head h text lines in
       let others : HeadRead = read_head (0 + length taken) rest h in
-      let body : List ℕ = (lines_from others.command others.head others.past others.behind (begin others.head)).0 in
-      let finals : List ℕ = finals_below others.head.script.servers (lines_from others.command others.head others.past others.behind (begin others.head)).1.report.desks (length others.head.script.servers) in
-      subst (AppendsFront before after) (sym (ap session_by read ∙ append_assoc text others.text (body ++ finals))) (front_longer before after text (others.text ++ (body ++ finals)) told)
+      let all : List ℕ × SessionState = lines_from others.command others.head others.past [] others.behind (begin others.head) in
+      let finals : List ℕ = finals_below others.head.script.servers all.1.report.desks (length others.head.script.servers) in
+      ([], All-nil IsUnforeseen, subst (AppendsFront before after) (sym (ap (session_by []) read ∙ append_assoc text others.text (all.0 ++ finals))) (front_longer before after text (others.text ++ (all.0 ++ finals)) told))
 
-  head_front : (head : HeadView) → HeadTold (HearsFront (Some bytes)) no_head head (AppendsFront before after) → AppendsFront before after (session_of bytes)
+  head_front : (head : HeadView) → HeadTold (HearsFront (Some bytes)) no_head head (AppendsFront before after) → TellsSome bytes (AppendsFront before after)
   head_front head t = by_head t.taken t.heard.0 head t.text t.heard.1 t.lines t.told
 
   module _ (t : SessionPart bytes (AppendsFront before after)) where
     abbrev part_head : HeadView
     part_head = head_view t.head
 
-    by_part : (behind : List (List ℕ)) → heard bytes ≡ t.taken ++ (behind ++ t.others) → CommandLines t.head (length t.taken) behind t.first t.text t.last → AppendsFront before after (session_of bytes)
+    by_part : (behind : List (List ℕ)) → heard bytes ≡ t.taken ++ (behind ++ t.others) → CommandLines t.head (length t.taken) behind t.first t.text t.last → TellsSome bytes (AppendsFront before after)
     by_part [] are (none, same) =
         by_head t.taken t.others part_head t.head_text are t.heads (subst (AppendsFront before after) (ap (λ x. t.head_text ++ x) none ∙ append-nil t.head_text) t.told)
     by_part (line ∷ lines) are (act, command, body) =
         let read = ap (λ all. read_head 0 all no_head) are ∙ head_is t.taken line (lines ++ t.others) act no_head part_head t.head_text t.heads command in
-        let within : IsCoveredRead (read_as t.head_text part_head (length t.taken) (Some act) (lines ++ t.others)) = subst IsCoveredRead read (covers bytes computed) in
-        let told = from_command t.head (length t.taken) line act lines t.first t.last t.text (begin part_head) command within.command (none_among part_head lines t.others within.lines) (begins_live t.head t.first t.begins within.servers) body in
-        let few = fewer_from part_head (length t.taken) act lines t.others (begin part_head) in
-        let all : List ℕ × SessionState = lines_from (Some act) part_head (length t.taken) (lines ++ t.others) (begin part_head) in
+        let servers : All IsChecked part_head.script.servers = subst IsCoveredRead read (covers bytes) in
+        let told = from_command t.head (length t.taken) line act lines t.first t.last t.text (begin part_head) command (begins_live t.head t.first t.begins servers) body in
+        let few = fewer_from part_head (length t.taken) told.0 act lines t.others (begin part_head) in
+        let all : List ℕ × SessionState = lines_from (Some act) part_head (length t.taken) told.0 (lines ++ t.others) (begin part_head) in
         let finals : List ℕ = finals_below part_head.script.servers all.1.report.desks (length part_head.script.servers) in
-        let first : List ℕ = (lines_from (Some act) part_head (length t.taken) lines (begin part_head)).0 in
-        let is : session_of bytes ≡ (t.head_text ++ first) ++ (few.0 ++ finals) =
-        ap session_by read ∙ (ap (λ x. t.head_text ++ (x ++ finals)) few.1 ∙ (ap (λ x. t.head_text ++ x) (append_assoc first few.0 finals) ∙ sym (append_assoc t.head_text first (few.0 ++ finals)))) in
-        subst (AppendsFront before after) (sym is) (front_longer before after (t.head_text ++ first) (few.0 ++ finals) (subst (λ x. AppendsFront before after (t.head_text ++ x)) told.0 t.told))
+        let first : List ℕ = (lines_from (Some act) part_head (length t.taken) told.0 lines (begin part_head)).0 in
+        let is : session_of told.0 bytes ≡ (t.head_text ++ first) ++ (few.0 ++ finals) =
+        ap (session_by told.0) read ∙ (ap (λ x. t.head_text ++ (x ++ finals)) few.1 ∙ (ap (λ x. t.head_text ++ x) (append_assoc first few.0 finals) ∙ sym (append_assoc t.head_text first (few.0 ++ finals)))) in
+        (told.0, told.1, subst (AppendsFront before after) (sym is) (front_longer before after (t.head_text ++ first) (few.0 ++ finals) (subst (λ x. AppendsFront before after (t.head_text ++ x)) told.2.0 t.told)))
 
-  part_front : SessionPart bytes (AppendsFront before after) → AppendsFront before after (session_of bytes)
+  part_front : SessionPart bytes (AppendsFront before after) → TellsSome bytes (AppendsFront before after)
   part_front t = by_part t t.behind t.lines_are t.body
 
 pub exact_session_front : ExactSessionFront
-exact_session_front bytes before after computed t =
+exact_session_front bytes before after t =
     elim t [
-      | inl f ↦ head_front bytes before after computed f.0 f.1
+      | inl f ↦ head_front bytes before after f.0 f.1
       | inr f ↦ elim f [
-        | inl p ↦ part_front bytes before after computed p
-        | inr p ↦ whole_is bytes (AppendsFront before after) computed p
+        | inl p ↦ part_front bytes before after p
+        | inr p ↦ whole_is bytes (AppendsFront before after) p
       ]
     ]
+
+-- ---- where nothing can be refused so
+
+act_unasked : (h : HeadView) (why : Option RollFault) (act : Act) (s : SessionState) → is_refusable act ≡ false → act_step h why act s ≡ act_step h None act s
+act_unasked h why (acts.Worker at act) s none = refl
+act_unasked h why acts.Account s none = refl
+act_unasked h why acts.Dump s none = absurd cc
+act_unasked h why acts.Restore s none = absurd cc
+act_unasked h why (acts.Command c) s none = ap (λ b. command_by b h why c s) none ∙ sym (ap (λ b. command_by b h None c s) none)
+
+line_unasked : (h : HeadView) (n : ℕ) (why : Option RollFault) (said : Result (Option Act) LineFault) (s : SessionState) → asks_refusable said ≡ false → line_step h n why said s ≡ line_step h n None said s
+line_unasked h n why (Ok None) s none = refl
+line_unasked h n why (Err fault) s none = refl
+line_unasked h n why (Ok (Some act)) s none = act_unasked h why act s none
+
+-- an answer, and then others
+abbrev then_told : (SessionState → List ℕ × SessionState) → List ℕ × SessionState → List ℕ × SessionState
+then_told rest first = (first.0 ++ (rest first.1).0, (rest first.1).1)
+
+lines_unasked : (h : HeadView) (past : ℕ) (refusals : Refusals) (lines : List (List ℕ)) (s : SessionState) → has_refusable_in h lines ≡ false → lines_step h past refusals lines s ≡ lines_step h past [] lines s
+lines_unasked h past refusals [] s none = refl
+lines_unasked h past refusals (line ∷ others) s none =
+    let parts = either_false (asks_refusable (body_at line h)) (has_refusable_in h others) none in
+    let step : List ℕ × SessionState = line_step h (past + 1) None (body_at line h) s in
+    ap (then_told (λ z. lines_step h (past + 1) (other_refusals refusals) others z)) (line_unasked h (past + 1) (first_refusal refusals) (body_at line h) s parts.0)
+    ∙ ap (λ (rest : List ℕ × SessionState). (step.0 ++ rest.0, rest.1)) (lines_unasked h (past + 1) (other_refusals refusals) others step.1 parts.1)
+
+from_unasked : (command : Option Act) (h : HeadView) (past : ℕ) (refusals : Refusals) (lines : List (List ℕ)) (s : SessionState) → asks_refusable (Ok command) ≡ false → has_refusable_in h lines ≡ false
+    → lines_from command h past refusals lines s ≡ lines_from command h past [] lines s
+from_unasked None h past refusals lines s first none = lines_unasked h past refusals lines s none
+from_unasked (Some act) h past refusals lines s first none =
+    let step : List ℕ × SessionState = act_step h None act s in
+    ap (then_told (λ z. lines_step h (past + 1) (other_refusals refusals) lines z)) (act_unasked h (first_refusal refusals) act s first)
+    ∙ ap (λ (rest : List ℕ × SessionState). (step.0 ++ rest.0, rest.1)) (lines_unasked h (past + 1) (other_refusals refusals) lines step.1 none)
+
+pub computed_of_bytes : ComputedOfBytes
+computed_of_bytes bytes refusals unasked =
+    let read : HeadRead = read_head 0 (heard bytes) no_head in
+    ap (λ (body : List ℕ × SessionState). read.text ++ (body.0 ++ finals_below read.head.script.servers body.1.report.desks (length read.head.script.servers)))
+    (from_unasked read.command read.head read.past refusals read.behind (begin read.head) unasked.0 unasked.1)

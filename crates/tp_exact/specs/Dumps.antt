@@ -1,15 +1,7 @@
 -- What a dump of a live session tells where nobody else acts: the computed lines. And what a restore of these
 -- lines is.
-use Rattle.std.specs.Prelude.{◌≡◌, ◌⊎◌, ◌||◌, ◌++◌, ℕ, Bool, true, false, if◌then◌else◌, List, [], ◌∷◌, map}
-use Rattle.std.specs.Prelude.{Option, Some, None}
-use Rattle.std.specs.List.{flat_map, range_with_len}
-use Rattle.tp_model.specs.Counts.{is_parked, is_waiting}
-use Rattle.tp_model.specs.History.{element_of, rounds, status_of}
-use Rattle.tp_model.specs.Steps.{AreLimits, rows_of}
-use Rattle.tp_model.specs.declared.event.Event.{Event}
-use Rattle.tp_model.specs.declared.types.Element.{Element}
-use Rattle.tp_model.specs.declared.types.Status.{Status}
-use Rattle.tp_plain.specs.OneThread.{State}
+use Rattle.std.specs.Prelude.{◌≡◌, ◌⊎◌, ◌++◌, ℕ, Bool, true, false, List, map}
+use Rattle.tp_model.specs.Steps.{AreLimits}
 use Rattle.tp_rollover.specs.Rolls.{RollsOver, kills}
 use Rattle.tp_rollover.specs.declared.moved.Moved.{Moved}
 use Rattle.tp_rollover.specs.declared.survivors.Survivor.{Survivor}
@@ -20,44 +12,10 @@ use Rattle.tp_script.specs.declared.head.AliveLine.{AliveLine}
 use Rattle.tp_script.specs.declared.head.Head.{Head}
 use Rattle.tp_perform.specs.Restore.{Restored}
 use Rattle.tp_perform.specs.Scenes.{Stand}
-use Rattle.tp_session.specs.Dump.{attempts_of, dump_lines, dump_text}
+use Rattle.tp_session.specs.Dump.{attempts_of, dump_text}
 use Rattle.tp_session.specs.Live.{DumpTold, FoundAlive, Live, Unsurveyed, survivors_of}
-use Rattle.tp_exact.specs.PlainSession.{SessionState, is_open}
+use Rattle.tp_exact.specs.PlainSession.{SessionState, dump_of, is_open}
 use Rattle.tp_exact.specs.Sessions.{StandsLive}
-
--- an element with this status is alive
-abbrev pub is_alive : Status → Bool
-is_alive status = is_waiting status || is_parked status
-
--- an element with this id and this root, as it stands
-abbrev pub with_root : ℕ → List Event → ℕ → Element → Option Element → List Survivor
-with_root limit h id item None = []
-with_root limit h id item (Some root) = record {
-  id = id;
-  root = item.root;
-  stage = item.stage;
-  body = item.body;
-  status = status_of limit h id;
-  rounds = rounds h id;
-  root_stage = root.stage;
-  root_body = root.body;
-} ∷ []
-
--- the element with this id, if there is one and it is alive
-abbrev pub if_alive : ℕ → List Event → ℕ → Option Element → List Survivor
-if_alive limit h id None = []
-if_alive limit h id (Some item) =
-    if is_alive (status_of limit h id) then with_root limit h id item (element_of h item.root) else []
-
--- all that is alive, by ascending ids
-abbrev pub alive_of : State → List Survivor
-alive_of m = flat_map (λ id. if_alive m.limits.attempts m.history id (element_of m.history id))
-    (range_with_len 0 (rows_of m.limits))
-
--- the lines that lead to this state
-abbrev pub dump_of : HeadView → SessionState → List (List ℕ)
-dump_of h s = dump_lines h (map (λ d. d.registers) s.report.desks) (map (λ d. d.is_dropped) s.report.desks)
-    (alive_of s.report.manager)
 
 -- With a unit of work open the answer is that it is. Else it is the computed lines, unless what is alive
 -- wasn't found, as for want of memory.

@@ -6,6 +6,7 @@ pub mod Finals
 pub mod Desks
 pub mod Script
 pub mod PlainWorkers
+pub mod Alive
 pub mod PlainSession
 pub mod Sessions
 pub mod Programs

@@ -1,21 +1,34 @@
 -- A live session where nobody else acts: what its lines are answered, computed.
-use Rattle.std.specs.Prelude.{ℕ, ◌+◌, Bool, ◌||◌, if◌then◌else◌, is_some, List, [], ◌∷◌, ◌++◌, Option, Some, None}
-use Rattle.std.specs.Prelude.{Result, Ok, Err, drop, length, map, take, slice_get, slice_set, slice_index_or}
+use Rattle.std.specs.Prelude.{ℕ, ◌+◌, Bool, true, false, ◌||◌, if◌then◌else◌, is_some, List, [], ◌∷◌, ◌++◌}
+use Rattle.std.specs.Prelude.{Option, Some, None, Result, Ok, Err, drop, length, map, take}
+use Rattle.std.specs.Prelude.{slice_get, slice_set, slice_index_or}
 use Rattle.std.specs.List.{list_any}
 use Rattle.tp_model.specs.declared.types.Work.{Work}
-use Rattle.tp_plain.specs.OneThread.{start}
-use Rattle.tp_report.specs.Answer.{account_text, answer_text, line}
+use Rattle.tp_plain.specs.OneThread.{State, start}
+use Rattle.tp_rollover.specs.Anew.{made_anew}
+use Rattle.tp_rollover.specs.declared.moved.Moved.{Moved}
+use Rattle.tp_rollover.specs.declared.moved.RollFault.{RollFault}
+use Rattle.tp_rollover.specs.declared.moved.RollFault.TheVariants as faults
+use Rattle.tp_rollover.specs.declared.survivors.Survivor.{Survivor}
+use Rattle.tp_report.specs.Answer.{account_text, answer_text, line, rolled_text}
 use Rattle.tp_report.specs.declared.answer.Answer.TheVariants as answer
+use Rattle.tp_report.specs.declared.answer.Renamed.{Renamed}
+use Rattle.tp_script.specs.Passes.{is_rollover}
 use Rattle.tp_script.specs.Session.{HeadView, WorkerView, body_at, head_at, no_head}
 use Rattle.tp_script.specs.declared.fault.LineFault.{LineFault}
 use Rattle.tp_script.specs.declared.head.Act.{Act}
 use Rattle.tp_script.specs.declared.head.Act.TheVariants as acts
 use Rattle.tp_script.specs.declared.head.WorkerAct.{WorkerAct}
+use Rattle.tp_script.specs.declared.script.Command.{Command}
+use Rattle.tp_perform.specs.Rollover.{renamed, roll_refused_text}
 use Rattle.tp_reference.specs.PlainClient.{counts_of}
 use Rattle.tp_reference.specs.PlainReport.{ReportState, command_step, finals_below, new_desk}
-use Rattle.tp_session.specs.Answers.{refused_line, worker_line}
+use Rattle.tp_session.specs.Answers.{refused_line, restored_text, worker_line}
 use Rattle.tp_session.specs.Conversed.{limits_of}
+use Rattle.tp_session.specs.Dump.{dump_lines, dump_text}
 use Rattle.tp_session.specs.Heard.{heard}
+use Rattle.tp_session.specs.Live.{survivors_of}
+use Rattle.tp_exact.specs.Alive.{alive_of}
 use Rattle.tp_exact.specs.PlainWorkers.{worker_does}
 
 -- the manager and the desks, as in a script's run, and what each worker has in hand
@@ -23,7 +36,7 @@ pub record SessionState : Type 0 where
   pub report : ReportState
   pub works : List (Option Work)
 
--- ---- one line
+-- ---- workers and accounts
 
 -- what the worker at a place is told, whose pass is c
 abbrev pub worker_step : Option WorkerView → WorkerAct → ℕ → ℕ → SessionState → List ℕ × SessionState
@@ -46,35 +59,88 @@ is_open s = list_any is_some s.works
 abbrev pub account_line : SessionState → List ℕ
 account_line s = line (if is_open s then answer_text answer.Busy else account_text (counts_of s.report.manager))
 
--- what is asked for; a rollover, a dump and a restore aren't computed here
-abbrev pub act_step : HeadView → Act → SessionState → List ℕ × SessionState
-act_step h (acts.Command c) s = let step = command_step h.script.servers c s.report in
+-- ---- rollovers, dumps and restores
+
+-- Why each line behind the head was refused, the first command's first, where the lines alone don't say so: a
+-- rollover, a dump or a restore may find no memory, or descriptions that contradict each other. `None`: it
+-- wasn't. Where the list is too short, it wasn't either.
+abbrev pub Refusals : Type 0
+Refusals = List (Option RollFault)
+
+-- that of the first line, and those of the lines behind it
+abbrev pub first_refusal : Refusals → Option RollFault
+first_refusal [] = None
+first_refusal (why ∷ others) = why
+
+abbrev pub other_refusals : Refusals → Refusals
+other_refusals [] = []
+other_refusals (why ∷ others) = others
+
+-- With a unit of work open the answer is that it is, and else the refusal, if it was one: nothing has changed
+-- then. Else this is done.
+abbrev pub unless_refused : Bool → Option RollFault → SessionState → List ℕ × SessionState
+    → List ℕ × SessionState
+unless_refused true why s done = (line (answer_text answer.Busy), s)
+unless_refused false (Some why) s done = (line (roll_refused_text why), s)
+unless_refused false None s done = done
+
+-- Another manager takes the place of this one, and the line tells what each element is called there. The desks
+-- keep their registers; they and the workers have nothing in hand. Where that manager would be full, nothing
+-- has changed.
+abbrev pub anew_as : (List Renamed → List ℕ) → SessionState → Option (List Moved × State)
+    → List ℕ × SessionState
+anew_as told s (Some (moved, manager)) =
+    (line (told (map renamed moved)), record s { report = record s.report { manager = manager } })
+anew_as told s None = (line (roll_refused_text faults.Full), s)
+
+-- these elements are made anew in a manager with the same limits
+abbrev pub anew : (List Renamed → List ℕ) → List Survivor → SessionState → List ℕ × SessionState
+anew told survivors s = let l = s.report.manager.limits in
+    anew_as told s (made_anew l l.parts survivors (start l))
+
+-- the lines that lead to this state
+abbrev pub dump_of : HeadView → SessionState → List (List ℕ)
+dump_of h s = dump_lines h (map (λ d. d.registers) s.report.desks) (map (λ d. d.is_dropped) s.report.desks)
+    (alive_of s.report.manager)
+
+-- ---- each line
+
+-- a command: a rollover, or one of those that scripts have without one
+abbrev pub command_by : Bool → HeadView → Option RollFault → Command → SessionState → List ℕ × SessionState
+command_by true h why c s = unless_refused (is_open s) why s (anew rolled_text (alive_of s.report.manager) s)
+command_by false h why c s = let step = command_step h.script.servers c s.report in
     (step.0, record s { report = step.1 })
-act_step h (acts.Worker at act) s =
+
+-- what is asked for, and why it was refused, if it was
+abbrev pub act_step : HeadView → Option RollFault → Act → SessionState → List ℕ × SessionState
+act_step h why (acts.Command c) s = command_by (is_rollover c) h why c s
+act_step h why (acts.Worker at act) s =
     worker_step (slice_get h.workers at) act at (1 + length h.script.servers + at) s
-act_step h acts.Account s = (account_line s, s)
-act_step h acts.Dump s = ([], s)
-act_step h acts.Restore s = ([], s)
+act_step h why acts.Account s = (account_line s, s)
+act_step h why acts.Dump s = unless_refused (is_open s) why s (dump_text (dump_of h s), s)
+act_step h why acts.Restore s = unless_refused (is_open s) why s (anew restored_text (survivors_of h) s)
 
 -- a line after the head, which is the n-th of all lines
-abbrev pub line_step : HeadView → ℕ → Result (Option Act) LineFault → SessionState → List ℕ × SessionState
-line_step h n (Ok None) s = ([], s)
-line_step h n (Ok (Some act)) s = act_step h act s
-line_step h n (Err fault) s = (refused_line n fault, s)
+abbrev pub line_step : HeadView → ℕ → Option RollFault → Result (Option Act) LineFault → SessionState
+    → List ℕ × SessionState
+line_step h n why (Ok None) s = ([], s)
+line_step h n why (Ok (Some act)) s = act_step h why act s
+line_step h n why (Err fault) s = (refused_line n fault, s)
 
 -- such lines one after another, after this many others
-abbrev pub lines_step : HeadView → ℕ → List (List ℕ) → SessionState → List ℕ × SessionState
-lines_step h past [] s = ([], s)
-lines_step h past (line ∷ others) s =
-    let first = line_step h (past + 1) (body_at line h) s in
-    let rest = lines_step h (past + 1) others first.1 in (first.0 ++ rest.0, rest.1)
+abbrev pub lines_step : HeadView → ℕ → Refusals → List (List ℕ) → SessionState → List ℕ × SessionState
+lines_step h past refusals [] s = ([], s)
+lines_step h past refusals (line ∷ others) s =
+    let first = line_step h (past + 1) (first_refusal refusals) (body_at line h) s in
+    let rest = lines_step h (past + 1) (other_refusals refusals) others first.1 in (first.0 ++ rest.0, rest.1)
 
 -- what the first command asks for, if there is one, and then such lines, after this many others
-abbrev pub lines_from : Option Act → HeadView → ℕ → List (List ℕ) → SessionState → List ℕ × SessionState
-lines_from None h past lines s = lines_step h past lines s
-lines_from (Some act) h past lines s =
-    let first = act_step h act s in
-    let rest = lines_step h (past + 1) lines first.1 in (first.0 ++ rest.0, rest.1)
+abbrev pub lines_from : Option Act → HeadView → ℕ → Refusals → List (List ℕ) → SessionState
+    → List ℕ × SessionState
+lines_from None h past refusals lines s = lines_step h past refusals lines s
+lines_from (Some act) h past refusals lines s =
+    let first = act_step h (first_refusal refusals) act s in
+    let rest = lines_step h (past + 1) (other_refusals refusals) lines first.1 in (first.0 ++ rest.0, rest.1)
 
 -- ---- the head
 
@@ -115,11 +181,12 @@ begin h = record {
 
 -- of what was read of the head: what it was told, the answers to the first command and to the lines after it,
 -- and the final lines
-abbrev pub session_by : HeadRead → List ℕ
-session_by read = let body = lines_from read.command read.head read.past read.behind (begin read.head) in
+abbrev pub session_by : Refusals → HeadRead → List ℕ
+session_by refusals read =
+    let body = lines_from read.command read.head read.past refusals read.behind (begin read.head) in
     read.text ++ (body.0 ++ finals_below read.head.script.servers body.1.report.desks
     (length read.head.script.servers))
 
--- of all lines of the bytes
-abbrev pub session_of : List ℕ → List ℕ
-session_of bytes = session_by (read_head 0 (heard bytes) no_head)
+-- of all lines of the bytes, where those behind the head were refused so
+abbrev pub session_of : Refusals → List ℕ → List ℕ
+session_of refusals bytes = session_by refusals (read_head 0 (heard bytes) no_head)

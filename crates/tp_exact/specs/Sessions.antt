@@ -1,10 +1,12 @@
 -- What a live session is answered: the computed answers.
-use Rattle.std.specs.Prelude.{◌≡◌, ◌||◌, ℕ, Bool, true, false, List, Option, Some, Result, Ok}
+use Rattle.std.specs.Prelude.{◌≡◌, ℕ, All, Bool, true, false, List, [], Option, Some, None, Result, Ok}
 use Rattle.std.specs.List.{list_any}
 use Rattle.std.specs.Io.KnownBytes.{Appends}
 use Rattle.tp_model.specs.declared.types.Limits.{Limits}
 use Rattle.tp_model.specs.declared.event.Event.{Event}
 use Rattle.tp_manager.specs.Shown.{KeeperShown, PassShown}
+use Rattle.tp_rollover.specs.declared.moved.RollFault.{RollFault}
+use Rattle.tp_rollover.specs.declared.moved.RollFault.TheVariants as faults
 use Rattle.tp_report.specs.Written.{AppendsFront}
 use Rattle.tp_script.specs.Passes.{is_race, is_rollover}
 use Rattle.tp_script.specs.Session.{HeadView, body_at, head_view, no_head}
@@ -21,7 +23,7 @@ use Rattle.tp_session.specs.Live.{Live}
 use Rattle.tp_session.specs.Told.{LineTold}
 use Rattle.tp_session.specs.declared.hand.WorkerAnswer.{WorkerAnswer}
 use Rattle.tp_exact.specs.Acts.{Acts}
-use Rattle.tp_exact.specs.PlainSession.{SessionState, line_step, read_head, session_of}
+use Rattle.tp_exact.specs.PlainSession.{Refusals, SessionState, line_step, read_head, session_of}
 use Rattle.tp_exact.specs.PlainWorkers.{worker_does}
 use Rattle.tp_exact.specs.Stands.{Stands}
 
@@ -41,53 +43,75 @@ pub record StandsLive (h : HeadView) (live : Live) (s : SessionState) : Type 0 w
       live.stand.scene s.report
   pub works : s.works ≡ live.works
 
--- What is asked for isn't computed of the lines alone: a rollover or a restore, which make what is alive anew
--- in another manager, or a dump, which can be refused for want of memory. What a dump tells else, `Dumps` says.
-abbrev pub is_uncomputed : Act → Bool
-is_uncomputed (acts.Command c) = is_rollover c
-is_uncomputed acts.Dump = true
-is_uncomputed acts.Restore = true
-is_uncomputed other = false
+-- A line may be refused so where the lines alone don't say it: `None`, it wasn't; else there was no memory,
+-- the new manager was full, or what stood there wasn't what was described.
+abbrev pub IsUnforeseen : Option RollFault → Type 0
+IsUnforeseen None = Unit {0}
+IsUnforeseen (Some faults.NoMemory) = Unit {0}
+IsUnforeseen (Some faults.Full) = Unit {0}
+IsUnforeseen (Some faults.Unequal) = Unit {0}
+IsUnforeseen (Some other) = ⊥
 
--- a line asks for that, or for what takes more than one thread
-abbrev pub is_beyond : Result (Option Act) LineFault → Bool
-is_beyond (Ok (Some (acts.Command c))) = is_race c || is_rollover c
-is_beyond (Ok (Some act)) = is_uncomputed act
-is_beyond other = false
+abbrev pub AreUnforeseen : Refusals → Type 0
+AreUnforeseen refusals = All IsUnforeseen refusals
+
+-- a line asks for what takes more than one thread; no session has such a line
+abbrev pub asks_race : Result (Option Act) LineFault → Bool
+asks_race (Ok (Some (acts.Command c))) = is_race c
+asks_race other = false
+
+-- the text is this step's, and what is there stands for the computed state after it
+abbrev pub IsStep : HeadView → Live → List ℕ → List ℕ × SessionState → Type 0
+IsStep h new text step = (text ≡ step.0) × StandsLive h new step.1
 
 -- from what stands for a computed state a line leads to what stands for the computed state after it, and its
--- answer is the computed one
+-- answer is the computed one; where it is refused as no line says, it is the line of that refusal
 abbrev pub ExactLine : Type 0
 ExactLine =
     (head : Head) (n : ℕ) (said : Result (Option Act) LineFault) (old new : Live) (text : List ℕ)
     (s : SessionState)
-    → is_beyond said ≡ false → StandsLive (head_view head) old s → LineTold head n said old text new
-    → let step = line_step (head_view head) n said s in
-    (text ≡ step.0) × StandsLive (head_view head) new step.1
+    → asks_race said ≡ false → StandsLive (head_view head) old s → LineTold head n said old text new
+    → (why : Option RollFault) × IsUnforeseen why
+    × IsStep (head_view head) new text (line_step (head_view head) n why said s)
 
--- a line asks for what isn't computed
-abbrev pub asks_uncomputed : Result (Option Act) LineFault → Bool
-asks_uncomputed (Ok (Some act)) = is_uncomputed act
-asks_uncomputed other = false
-
--- whether one of these lines does
-abbrev pub has_uncomputed_in : HeadView → List (List ℕ) → Bool
-has_uncomputed_in h lines = list_any (λ line. asks_uncomputed (body_at line h)) lines
-
--- the sessions that this is about: neither the first command nor a line after it asks for a rollover, a dump
--- or a restore
-abbrev pub IsComputed : List ℕ → Type 0
-IsComputed bytes = let read = read_head 0 (heard bytes) no_head in
-    (asks_uncomputed (Ok read.command) ≡ false) × (has_uncomputed_in read.head read.behind ≡ false)
-
--- what is written of such a session is the computed answers, and nothing else
+-- What is written of a session is the computed answers, and nothing else. They are computed of its bytes, and
+-- of which rollovers, dumps and restores were refused where the lines alone don't say so.
 abbrev pub ExactSession : Type 0
 ExactSession =
     (bytes : List ℕ) (before after : Option (List ℕ))
-    → IsComputed bytes → Conversed bytes before after → Appends before after (session_of bytes)
+    → Conversed bytes before after
+    → (refusals : Refusals) × AreUnforeseen refusals × Appends before after (session_of refusals bytes)
 
 -- and after a fault a prefix of them
 abbrev pub ExactSessionFront : Type 0
 ExactSessionFront =
     (bytes : List ℕ) (before after : Option (List ℕ))
-    → IsComputed bytes → ConversedFront bytes before after → AppendsFront before after (session_of bytes)
+    → ConversedFront bytes before after
+    → (refusals : Refusals) × AreUnforeseen refusals × AppendsFront before after (session_of refusals bytes)
+
+-- what is asked for may be refused so
+abbrev pub is_refusable : Act → Bool
+is_refusable (acts.Command c) = is_rollover c
+is_refusable acts.Dump = true
+is_refusable acts.Restore = true
+is_refusable other = false
+
+-- a line asks for such
+abbrev pub asks_refusable : Result (Option Act) LineFault → Bool
+asks_refusable (Ok (Some act)) = is_refusable act
+asks_refusable other = false
+
+-- whether one of these lines does
+abbrev pub has_refusable_in : HeadView → List (List ℕ) → Bool
+has_refusable_in h lines = list_any (λ line. asks_refusable (body_at line h)) lines
+
+-- neither the first command nor a line after it asks for a rollover, a dump or a restore
+abbrev pub IsUnrefusable : List ℕ → Type 0
+IsUnrefusable bytes = let read = read_head 0 (heard bytes) no_head in
+    (asks_refusable (Ok read.command) ≡ false) × (has_refusable_in read.head read.behind ≡ false)
+
+-- the answers to such a session are computed of its bytes alone
+abbrev pub ComputedOfBytes : Type 0
+ComputedOfBytes =
+    (bytes : List ℕ) (refusals : Refusals)
+    → IsUnrefusable bytes → session_of refusals bytes ≡ session_of [] bytes

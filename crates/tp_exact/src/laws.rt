@@ -8,7 +8,8 @@ ghost use Rattle.tp_exact.specs.Dumps.{ExactDump, RestoredDump};
 ghost use Rattle.tp_exact.specs.Finals.{ExactAccount, ExactFinals};
 ghost use Rattle.tp_exact.specs.Programs.{ExactProgram, NeverRefuses};
 ghost use Rattle.tp_exact.specs.Script.{ExactFront, ExactRun, ExactScript};
-ghost use Rattle.tp_exact.specs.Sessions.{ExactLine, ExactSession, ExactSessionFront, ExactWorker};
+ghost use Rattle.tp_exact.specs.Sessions.{ComputedOfBytes, ExactLine, ExactSession, ExactSessionFront};
+ghost use Rattle.tp_exact.specs.Sessions.{ExactWorker};
 
 /// The line of a client's command where nobody else acts, and what the command leaves.
 pub fn exact_client()
@@ -52,7 +53,8 @@ pub fn exact_worker()
     ensures { ExactWorker }
 {}
 
-/// A line of a live session, between two gatherings: its answer, and what it leaves.
+/// A line of a live session, between two gatherings: its answer, and what it leaves. A rollover, a dump or a
+/// restore may also have been refused.
 pub fn exact_line()
     ensures { ExactLine }
 {}
@@ -79,16 +81,18 @@ pub fn found_lines_read()
     ensures { FoundLinesRead }
 {}
 
-/// The answers to a whole live session without a rollover, a dump or a restore: they are the computed ones,
-/// and after a fault a prefix of them.
+/// The answers to a whole live session: they are the computed ones, and after a fault a prefix of them. They
+/// are computed of its bytes, and of which rollovers, dumps and restores were refused where the lines alone
+/// don't say so; without such lines of its bytes alone.
 pub fn exact_session()
     ensures whole { ExactSession }
     ensures front { ExactSessionFront }
+    ensures unasked { ComputedOfBytes }
 {}
 
-/// What `tp_session::run` leaves of the bytes of a script, by its clause `ran`. Of a session without a
-/// rollover, a dump or a restore it is the answers to its lines, and of another script without a race or a
-/// rollover the report; of a refused one the line of the refusal; and after a fault a prefix of that.
+/// What `tp_session::run` leaves of the bytes of a script, by its clause `ran`. Of a session it is the answers
+/// to its lines, and of another script without a race or a rollover the report; of a refused one the line of
+/// the refusal; and after a fault a prefix of that.
 pub fn exact_program()
     ensures whole { ExactProgram }
     ensures checked { NeverRefuses }

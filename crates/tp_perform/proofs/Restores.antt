@@ -1,5 +1,5 @@
 -- What a restore leaves between two commands.
-use Rattle.std.proofs.Common.{◌≡◌, ◌∙◌, ◌≤◌, ◌+◌, ℕ, List, All, None, Option, sym, ap, subst, arith, length, map}
+use Rattle.std.proofs.Common.{◌≡◌, ◌∙◌, ◌≤◌, ◌+◌, ℕ, List, All, None, Some, Option, sym, ap, subst, arith, length, map}
 use Rattle.std.specs.List.{AllZip}
 use Rattle.std.specs.declared.alloc.Global.{Global}
 use Rattle.std.specs.declared.dyn_box.DynBox.{DynBox}
@@ -8,7 +8,10 @@ use Rattle.tp_model.specs.declared.types.Limits.{Limits}
 use Rattle.tp_model.specs.Steps.{AreLimits}
 use Rattle.tp_server.specs.Behaviour.{Behaviour}
 use Rattle.tp_server.specs.Pending.{Pending}
-use Rattle.tp_manager.specs.Shown.{IsOf, PassShown}
+use Rattle.tp_manager.specs.Shown.{IsOf, KeeperShown, PassShown}
+use Rattle.tp_plain.specs.OneThread.{start}
+use Rattle.tp_alone.specs.Thread.{thread_of}
+use Rattle.tp_rollover.specs.Anew.{made_anew}
 use Rattle.tp_rollover.specs.Faults.{AreFree}
 use Rattle.tp_rollover.specs.Managed.{IsManaged, IsRefusedFor, IsUnrestored, WasShort}
 use Rattle.tp_rollover.specs.Survivors.{Restores}
@@ -37,6 +40,10 @@ refused_as l k passes faults.Busy limits same free due = absurd due
 refused_as l k passes faults.Full limits same free due = (free, subst WasShort same due)
 refused_as l k passes faults.Unequal limits same free due = free
 
+-- what was made of descriptions is what is computed
+abbrev pub IsAnew : Limits → List Survivor → List Moved → List PassShown → KeeperShown → Type 0
+IsAnew l survivors moved passes keeper = made_anew l l.parts survivors (start l) ≡ Some (moved, thread_of l passes keeper.seen)
+
 module _ {X : Type 0} {F : X → Type 0} (behaviour : DynBox X Global F → Behaviour) (registers : DynBox X Global F → List ℕ) (pending : DynBox X Global F → Option Pending)
     (old new : Managed) (ss : List (DynBox X Global F)) (os ns : List (Place X F)) (managed : IsManaged old) (managed' : IsManaged new) (limits : new.manager.limits ≡ old.manager.limits)
     (idle : AreFree old.passes.items) (free : AreFree new.passes.items) (ready : AreReady behaviour registers pending old.manager old.passes.items ss os) (enough : 1 + length ss ≤ length old.passes.items)
@@ -55,8 +62,9 @@ module _ {X : Type 0} {F : X → Type 0} (behaviour : DynBox X Global F → Beha
   worker_free ps none = All-take (λ (p : PassShown). p.open_unit ≡ None) (length ss) _ (All-drop (λ (p : PassShown). p.open_unit ≡ None) 1 ps none)
 
   pub restored : (survivors : List Survivor) (moved : List Moved) → Restores new.manager.limits new.keeper new.passes.items survivors moved
+      → IsAnew new.manager.limits survivors moved new.passes.items new.keeper
       → (a : Scene) × (b : Scene) × IsScene behaviour registers pending old.passes.items ss os a × Restored survivors (stand old a) moved (stand new b) × IsScene behaviour registers pending new.passes.items ss ns b
-  restored survivors moved again =
+  restored survivors moved again made =
       let a = scene_there behaviour registers pending old.passes.items ss os (omega (arith, enough)) in
       let b = scene_there behaviour registers pending new.passes.items ss ns (omega (arith, enough, as_long)) in
       let olds : passes_in a.0 ≡ old.passes.items = all_in behaviour registers pending old.manager old.passes.items ss os a.0 ready a.1 in
@@ -68,6 +76,7 @@ module _ {X : Type 0} {F : X → Type 0} (behaviour : DynBox X Global F → Beha
         record {
           limits = limits;
           restores = subst (λ zs. Restores new.manager.limits new.keeper zs survivors moved) (sym news) again;
+          anew = subst (λ zs. IsAnew new.manager.limits survivors moved zs new.keeper) (sym news) made;
           idle = subst AreFree (sym olds) idle;
           free = subst AreFree (sym news) free;
           own = subst (All (IsOf new.manager)) (sym news) managed'.own;

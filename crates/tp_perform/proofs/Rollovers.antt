@@ -16,8 +16,10 @@ use Rattle.tp_manager.specs.Bounds.{gather_steps}
 use Rattle.tp_manager.specs.Shown.{IsOf, KeeperShown, ManagerShown, PassShown}
 use Rattle.tp_desk.specs.declared.aside.Aside.{Aside}
 use Rattle.tp_desk.specs.InHand.{InHand}
-use Rattle.tp_alone.specs.Thread.{Stays}
+use Rattle.tp_plain.specs.OneThread.{start}
+use Rattle.tp_alone.specs.Thread.{Stays, thread_of}
 use Rattle.tp_rollover.specs.Answers.{Rolls}
+use Rattle.tp_rollover.specs.Carries.{Carries}
 use Rattle.tp_rollover.specs.Faults.{AreFree}
 use Rattle.tp_rollover.specs.Managed.{GoesOn, IsManaged, IsRefusedFor, StaysManaged}
 use Rattle.tp_rollover.proofs.Heads.{stay_same}
@@ -209,6 +211,9 @@ module _ {X : Type 0} {F : X → Type 0} (behaviour : DynBox X Global F → Beha
             limits = on.limits;
             rolls = subst (λ zs. Rolls old.manager.limits new.manager.limits on.keeper new.keeper zs on.passes (passes_in b.0) moved) (sym olds)
                 (subst (λ zs. Rolls old.manager.limits new.manager.limits on.keeper new.keeper old.passes.items on.passes zs moved) (sym news) on.rolls);
+            carries = let l = old.manager.limits in
+                subst (λ zs. Carries l zs l.parts (start l) moved (thread_of l (passes_in b.0) new.keeper.seen)) (sym olds)
+                (subst (λ zs. Carries l old.passes.items l.parts (start l) moved (thread_of l zs new.keeper.seen)) (sym news) on.carries);
             idle = subst AreFree (sym olds) on.idle;
             free = subst AreFree (sym news) on.free;
             own = subst (All (IsOf new.manager)) (sym news) managed'.own;

@@ -1,7 +1,10 @@
 -- What a restore does between two commands.
-use Rattle.std.specs.Prelude.{◌≡◌, List, All, length}
+use Rattle.std.specs.Prelude.{◌≡◌, List, All, Some, length}
 use Rattle.std.specs.List.{AllZip}
 use Rattle.tp_manager.specs.Shown.{IsOf}
+use Rattle.tp_plain.specs.OneThread.{start}
+use Rattle.tp_alone.specs.Thread.{thread_of}
+use Rattle.tp_rollover.specs.Anew.{made_anew}
 use Rattle.tp_rollover.specs.Faults.{AreFree}
 use Rattle.tp_rollover.specs.Survivors.{Restores}
 use Rattle.tp_rollover.specs.declared.moved.Moved.{Moved}
@@ -10,11 +13,15 @@ use Rattle.tp_perform.specs.Rollover.{BeginsAgain}
 use Rattle.tp_perform.specs.Scenes.{Stand, passes_in}
 
 -- No unit was open. What was described stands again in another manager with the same limits, and nothing else
--- is alive there. Its passes are together; there are as many of them, and none has a unit open. The desks begin
+-- is alive there. What each element is called there and what that manager is then is computed of what was
+-- described. Its passes are together; there are as many of them, and none has a unit open. The desks begin
 -- anew with the registers that they have.
 pub record Restored (survivors : List Survivor) (old : Stand) (moved : List Moved) (new : Stand) : Type 0 where
   pub limits : new.manager.limits ≡ old.manager.limits
   pub restores : Restores new.manager.limits new.keeper (passes_in new.scene) survivors moved
+  pub anew : let l = new.manager.limits in
+      made_anew l l.parts survivors (start l)
+      ≡ Some (moved, thread_of l (passes_in new.scene) new.keeper.seen)
   pub idle : AreFree (passes_in old.scene)
   pub free : AreFree (passes_in new.scene)
   pub own : All (IsOf new.manager) (passes_in new.scene)

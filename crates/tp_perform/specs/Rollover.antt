@@ -3,8 +3,10 @@ use Rattle.std.specs.Prelude.{◌≡◌, ◌⊎◌, ℕ, List, All, None, Some, 
 use Rattle.std.specs.List.{AllZip}
 use Rattle.tp_manager.specs.Shown.{IsOf, KeeperShown, PassShown}
 use Rattle.tp_model.specs.declared.types.Refusal.TheVariants as refusals
-use Rattle.tp_alone.specs.Thread.{Stays}
+use Rattle.tp_plain.specs.OneThread.{start}
+use Rattle.tp_alone.specs.Thread.{Stays, thread_of}
 use Rattle.tp_rollover.specs.Answers.{Rolls}
+use Rattle.tp_rollover.specs.Carries.{Carries}
 use Rattle.tp_rollover.specs.Faults.{AreFree}
 use Rattle.tp_rollover.specs.Managed.{IsRefusedFor}
 use Rattle.tp_rollover.specs.declared.managed.Managed.{Managed}
@@ -35,8 +37,9 @@ pub record BeginsAgain (old new : PlaceShown) : Type 0 where
   pub kept : new.is_dropped ≡ old.is_dropped
 
 -- No unit was open. What was alive goes on in another manager with the same limits, whose passes are
--- together; there are as many of them, and none has a unit open. The old manager's keeper and passes showed
--- these at the last. The line tells the elements that were carried over.
+-- together; there are as many of them, and none has a unit open. What each element is called there and what
+-- that manager is then is computed of what was alive. The old manager's keeper and passes showed these at the
+-- last. The line tells the elements that were carried over.
 pub record RolledOver (old : Stand) (text : List ℕ) (new : Stand) : Type 0 where
   pub moved : List Moved
   pub keeper : KeeperShown
@@ -45,6 +48,9 @@ pub record RolledOver (old : Stand) (text : List ℕ) (new : Stand) : Type 0 whe
   pub limits : new.manager.limits ≡ old.manager.limits
   pub rolls : Rolls old.manager.limits new.manager.limits keeper new.keeper (passes_in old.scene) passes
       (passes_in new.scene) moved
+  pub carries : let l = old.manager.limits in
+      Carries l (passes_in old.scene) l.parts (start l) moved
+      (thread_of l (passes_in new.scene) new.keeper.seen)
   pub idle : AreFree (passes_in old.scene)
   pub free : AreFree (passes_in new.scene)
   pub own : All (IsOf new.manager) (passes_in new.scene)

@@ -1,6 +1,9 @@
 //! The act `restore`: what was described stands again in a new manager, and the desks begin anew in it.
-ghost use Rattle.std.specs.Prelude.{◌≡◌, ◌+◌, ◌≤◌, IfErr, IfOk, OnErr, OnOk, length};
+ghost use Rattle.std.specs.Prelude.{◌≡◌, ◌+◌, ◌≤◌, IfErr, IfOk, OnErr, OnOk, Some, length};
+ghost use Rattle.tp_plain.specs.OneThread.{start};
+ghost use Rattle.tp_alone.specs.Thread.{thread_of};
 ghost use Rattle.tp_report.specs.Answer.{line};
+ghost use Rattle.tp_rollover.specs.Anew.{made_anew};
 ghost use Rattle.tp_rollover.specs.Faults.{AreFree};
 ghost use Rattle.tp_rollover.specs.Managed.{IsManaged, IsRefusedFor};
 ghost use Rattle.tp_rollover.specs.Survivors.{Restores};
@@ -29,6 +32,9 @@ fn take_up(
     ensures free { OnOk result (AreFree managed.new.passes.items) }
     ensures restored { IfOk result (λ moved. Restores managed.new.manager.limits managed.new.keeper
         managed.new.passes.items survivors.now moved.items) }
+    ensures anew { IfOk result (λ moved. let l = managed.new.manager.limits in
+        made_anew l l.parts survivors.now (start l)
+        ≡ Some (moved.items, thread_of l managed.new.passes.items managed.new.keeper.seen)) }
     ensures same { OnErr result (managed.new ≡ managed.old) }
     ensures fault { IfErr result (IsRefusedFor managed.old.manager.limits managed.old.passes.items) }
 {

@@ -29,7 +29,7 @@ use Rattle.tp_session.specs.Live.{ClientCounts, CommandTold, IsHeld, Leads, Live
 use Rattle.tp_session.specs.declared.hand.WorkerAnswer.{WorkerAnswer}
 use Rattle.tp_session.specs.declared.held.Held.{Held}
 use Rattle.tp_session.proofs.LiveLemmas.{is_live, live_of, live_there}
-use Rattle.tp_session.proofs.OpenLemmas.{live_open}
+use Rattle.tp_session.proofs.OpenLemmas.{live_open, live_units}
 use Rattle.tp_session.proofs.PassLemmas.{client_first, held_first, held_set, racers_are, ready_first, ready_set, numbered_set, scene_first, scene_set, worker_there}
 
 -- what is written back as a slice is what was lent
@@ -97,14 +97,14 @@ module _ {X : Type 0} {F : X → Type 0} (behaviour : DynBox X Global F → Beha
 
   -- ---- a rollover
 
-  pub rollover_leads : (old new : Held X F) (text : List ℕ) → new.works.items ≡ old.works.items
+  pub rollover_leads : (head : Head) (old new : Held X F) (text : List ℕ) → IsHeld behaviour registers pending head old → new.works.items ≡ old.works.items
       → (a : Scene) × (b : Scene) × IsAt old a × RollsOn (stand old.managed a) text (stand new.managed b) × IsAt new b
       → Leads behaviour registers pending (λ x y. RolloverTold x text y) old new
-  rollover_leads old new text works t = record {
+  rollover_leads head old new text held works t = record {
     before = live_of behaviour registers pending old t.0;
     after = live_of behaviour registers pending new t.1;
     was = is_live behaviour registers pending old t.0 t.2;
-    leads = record { rolls = t.3; works = works };
+    leads = record { holds = live_units behaviour registers pending head old (live_of behaviour registers pending old t.0) held (is_live behaviour registers pending old t.0 t.2); rolls = t.3; works = works };
     is = is_live behaviour registers pending new t.1 t.4;
   }
 

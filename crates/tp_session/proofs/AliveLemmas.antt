@@ -25,10 +25,10 @@ use Rattle.tp_perform.proofs.Gatherings.{Looks, all_in, only_passes, ready_on, s
 use Rattle.tp_perform.proofs.Rollovers.{own_of, stayed}
 use Rattle.tp_perform.proofs.Slices.{scene_there}
 use Rattle.tp_session.specs.Dump.{dump_lines, dump_text}
-use Rattle.tp_session.specs.Live.{FoundAlive, IsHeld, IsLive, Leads, Live, LiveLooks, Surveyed, TellsDump, Unsurveyed, is_open, lines_of}
+use Rattle.tp_session.specs.Live.{FoundAlive, HoldsUnits, IsHeld, IsLive, Leads, Live, LiveLooks, Surveyed, TellsDump, Unsurveyed, is_open, lines_of}
 use Rattle.tp_session.specs.declared.held.Held.{Held}
 use Rattle.tp_session.proofs.LiveLemmas.{is_live, live_of}
-use Rattle.tp_session.proofs.OpenLemmas.{live_open}
+use Rattle.tp_session.proofs.OpenLemmas.{live_open, live_units}
 
 -- of what came out well more is so
 pub all_ok : {T E : Type 0} (r : Result T E) (P : T → Type 0) (Q S : Type 0) → IfOk r P → OnOk r Q → OnOk r S → IfOk r (λ x. P x × Q × S)
@@ -39,14 +39,14 @@ module _ {X : Type 0} {F : X → Type 0} (behaviour : DynBox X Global F → Beha
   -- ---- what was done to what stands
 
   -- the workers have what they had
-  pub stand_leads : (R : Stand → Stand → Type 0) (old new : Held X F) → new.works.items ≡ old.works.items
+  pub stand_leads : (head : Head) (R : Stand → Stand → Type 0) (old new : Held X F) → IsHeld behaviour registers pending head old → new.works.items ≡ old.works.items
       → (a : Scene) × (b : Scene) × IsScene behaviour registers pending old.managed.passes.items old.servers.items old.places.items a × R (stand old.managed a) (stand new.managed b) × IsScene behaviour registers pending new.managed.passes.items new.servers.items new.places.items b
-      → Leads behaviour registers pending (λ x y. R x.stand y.stand × (y.works ≡ x.works)) old new
-  stand_leads R old new works t = record {
+      → Leads behaviour registers pending (λ x y. HoldsUnits x × R x.stand y.stand × (y.works ≡ x.works)) old new
+  stand_leads head R old new held works t = record {
     before = live_of behaviour registers pending old t.0;
     after = live_of behaviour registers pending new t.1;
     was = is_live behaviour registers pending old t.0 t.2;
-    leads = (t.3, works);
+    leads = (live_units behaviour registers pending head old (live_of behaviour registers pending old t.0) held (is_live behaviour registers pending old t.0 t.2), t.3, works);
     is = is_live behaviour registers pending new t.1 t.4;
   }
 

@@ -22,6 +22,7 @@ use Rattle.tp_session.specs.declared.held.Held.{Held}
 use Rattle.tp_session.proofs.AttendLemmas.{BodySoFar, body_begun, body_next}
 use Rattle.tp_session.proofs.HeardLemmas.{Hears-none, hears_some}
 use Rattle.tp_session.proofs.LiveLemmas.{is_live, live_of, live_there, one_live}
+use Rattle.tp_session.proofs.OpenLemmas.{live_units}
 
 module _ {X : Type 0} {F : X → Type 0} (behaviour : DynBox X Global F → Behaviour) (registers : DynBox X Global F → List ℕ) (pending : DynBox X Global F → Option Pending) where
   abbrev Box : Type 0
@@ -53,14 +54,14 @@ module _ {X : Type 0} {F : X → Type 0} (behaviour : DynBox X Global F → Beha
   }
 
   -- a rollover, whatever became of its line
-  pub rollover_reaches : (old new : Held X F) → AreReady behaviour registers pending new.managed.manager new.managed.passes.items new.servers.items new.places.items → new.works.items ≡ old.works.items
+  pub rollover_reaches : (head : Head) (old new : Held X F) → IsHeld behaviour registers pending head old → AreReady behaviour registers pending new.managed.manager new.managed.passes.items new.servers.items new.places.items → new.works.items ≡ old.works.items
       → (a : Scene) × (b : Scene) × (text : List ℕ) × IsScene behaviour registers pending old.managed.passes.items old.servers.items old.places.items a × RollsOn (stand old.managed a) text (stand new.managed b) × IsScene behaviour registers pending new.managed.passes.items new.servers.items new.places.items b
       → Reaches behaviour registers pending (λ x y. (text : List ℕ) × RolloverTold x text y) old new
-  rollover_reaches old new ready works t = record {
+  rollover_reaches head old new held ready works t = record {
     before = live_of behaviour registers pending old t.0;
     after = live_of behaviour registers pending new t.1;
     was = is_live behaviour registers pending old t.0 t.3;
-    done = (t.2, record { rolls = t.4; works = works });
+    done = (t.2, record { holds = live_units behaviour registers pending head old (live_of behaviour registers pending old t.0) held (is_live behaviour registers pending old t.0 t.3); rolls = t.4; works = works });
     began = scene_began behaviour registers pending new.managed.manager new.managed.passes.items new.servers.items new.places.items t.1 ready t.5;
   }
 

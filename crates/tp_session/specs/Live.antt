@@ -1,6 +1,6 @@
 -- What the lines of a session are told.
-use Rattle.std.specs.Prelude.{◌≡◌, ◌+◌, ◌||◌, ◌==◌, ◌⊎◌, if◌then◌else◌, ℕ, Bool, true, false, List, Option, Some}
-use Rattle.std.specs.Prelude.{is_some, length, map}
+use Rattle.std.specs.Prelude.{◌≡◌, ◌+◌, ◌||◌, ◌==◌, ◌⊎◌, if◌then◌else◌, ℕ, Bool, true, false, List, Option}
+use Rattle.std.specs.Prelude.{None, Some, is_some, length, map}
 use Rattle.std.specs.Prelude.{slice_get, slice_set, string_bytes}
 use Rattle.std.specs.List.{list_any}
 use Rattle.std.specs.declared.alloc.Global.{Global}
@@ -52,6 +52,11 @@ pub record Live : Type 0 where
 abbrev pub is_open : Live → Bool
 is_open l = list_any is_some l.works || list_any (λ p. is_some p.desk.work) l.stand.scene.places
 
+-- the client's pass has no unit open, and each worker's has the one that the worker has in hand
+pub record HoldsUnits (l : Live) : Type 0 where
+  pub client : l.stand.scene.client.open_unit ≡ None
+  pub workers : map (λ p. p.open_unit) l.stand.scene.racers ≡ map unit_of l.works
+
 -- all passes have gathered, and nothing else was done
 pub record LiveGathers (old new : Live) : Type 0 where
   pub manager : new.stand.manager ≡ old.stand.manager
@@ -67,6 +72,7 @@ pub record CommandTold (s : ScriptView) (c : Command) (old : Live) (text : List 
 
 -- the line tells what has gone on in a new manager, and the workers have what they had
 pub record RolloverTold (old : Live) (text : List ℕ) (new : Live) : Type 0 where
+  pub holds : HoldsUnits old
   pub rolls : RollsOn old.stand text new.stand
   pub works : new.works ≡ old.works
 
@@ -150,6 +156,7 @@ RestoresOn survivors old text new =
 
 -- the line tells what stands again of what the head says is alive, and the workers have what they had
 pub record RestoreTold (h : HeadView) (old : Live) (text : List ℕ) (new : Live) : Type 0 where
+  pub holds : HoldsUnits old
   pub restores : RestoresOn (survivors_of h) old.stand text new.stand
   pub works : new.works ≡ old.works
 
@@ -193,6 +200,7 @@ TellsDump h false old text new = LiveLooks old new × (Surveyed h old text new �
 
 -- so it was, and then all gather
 pub record DumpTold (h : HeadView) (old : Live) (text : List ℕ) (new : Live) : Type 0 where
+  pub holds : HoldsUnits old
   pub done : Live
   pub tells : TellsDump h (is_open old) old text done
   pub gathers : LiveGathers done new

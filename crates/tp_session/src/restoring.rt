@@ -5,7 +5,8 @@ ghost use Rattle.tp_perform.specs.Restore.{Restored};
 ghost use Rattle.tp_perform.specs.Rollover.{RollRefused, roll_refused_text};
 ghost use Rattle.tp_script.specs.Session.{head_view};
 ghost use Rattle.tp_session.specs.Left.{OrSame, Reaches};
-ghost use Rattle.tp_session.specs.Live.{IsHeld, Leads, RestoreTold, status_at, survivor_of, survivors_of};
+ghost use Rattle.tp_session.specs.Live.{HoldsUnits, IsHeld, Leads, RestoreTold, status_at, survivor_of};
+ghost use Rattle.tp_session.specs.Live.{survivors_of};
 
 use crate::answers::restored_line;
 use crate::held::Held;
@@ -66,10 +67,11 @@ fn restore_held(
     requires held { IsHeld behaviour registers pending head.now held.old }
     ensures held { IsHeld behaviour registers pending head.now held.new }
     ensures restored { IfOk result (λ moved. Leads behaviour registers pending (λ old new.
-        Restored survivors.now old.stand moved.items new.stand × (new.works ≡ old.works)) held.old held.new) }
-    ensures refused { IfErr result (λ why. Leads behaviour registers pending (λ old new.
-        RollRefused old.stand (line (roll_refused_text why)) new.stand × (new.works ≡ old.works))
+        HoldsUnits old × Restored survivors.now old.stand moved.items new.stand × (new.works ≡ old.works))
         held.old held.new) }
+    ensures refused { IfErr result (λ why. Leads behaviour registers pending (λ old new.
+        HoldsUnits old × RollRefused old.stand (line (roll_refused_text why)) new.stand
+        × (new.works ≡ old.works)) held.old held.new) }
 {
     restore(
         alloc,

@@ -22,7 +22,7 @@ pub returns-in-Ok-clause-restored : goal.returns-in-Ok-clause-restored
 returns-in-Ok-clause-restored g c =
     restored (λ b. (goal.Server-dyn g (b.vtable, b.value)).behaviour b.value) (λ b. (goal.Server-dyn g (b.vtable, b.value)).registers b.value) (λ b. (goal.Server-dyn g (b.vtable, b.value)).pending b.value) c.args.managed.now c.take_up.new.managed c.args.servers.now c.args.places.now c.begin_all_again.new.places c.requires.managed c.in-Ok.ensures.managed c.in-Ok.ensures.limits c.in-Ok.ensures.idle c.in-Ok.ensures.free c.requires.ready c.requires.enough
     (rw c.deref.ensures.value at c.begin_all_again.ensures.lie) (rw c.deref.ensures.value at c.begin_all_again.ensures.began) c.begin_all_again.ensures.dropped
-    c.args.survivors.now c.in-Ok.moved.items c.in-Ok.ensures.restored
+    c.args.survivors.now c.in-Ok.moved.items c.in-Ok.ensures.restored c.in-Ok.ensures.anew
 
 pub returns-in-Err-clause-held : goal.returns-in-Err-clause-held
 returns-in-Err-clause-held g c =

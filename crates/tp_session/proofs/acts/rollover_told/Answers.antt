@@ -23,7 +23,7 @@ returns-clause-held g c =
 pub returns-clause-tells : goal.returns-clause-tells
 returns-clause-tells g c =
     let os = c.roll_over_line.auto.places ∙ ap length c.as_mut_slice.ensures.value in
-    IfOk-weaker c.roll_over_line.result _ _ (λ text t. rollover_leads (λ b. (goal.Server-dyn g (b.vtable, b.value)).behaviour b.value) (λ b. (goal.Server-dyn g (b.vtable, b.value)).registers b.value) (λ b. (goal.Server-dyn g (b.vtable, b.value)).pending b.value) c.args.held.now (record { managed = c.roll_over_line.new.managed; servers = c.args.held.now.servers; places = record { items = refill (length c.args.held.now.places.items) c.args.held.now.places.items c.roll_over_line.new.places }; works = c.args.held.now.works }) (string_bytes text) refl (
+    IfOk-weaker c.roll_over_line.result _ _ (λ text t. rollover_leads (λ b. (goal.Server-dyn g (b.vtable, b.value)).behaviour b.value) (λ b. (goal.Server-dyn g (b.vtable, b.value)).registers b.value) (λ b. (goal.Server-dyn g (b.vtable, b.value)).pending b.value) c.args.head.now c.args.held.now (record { managed = c.roll_over_line.new.managed; servers = c.args.held.now.servers; places = record { items = refill (length c.args.held.now.places.items) c.args.held.now.places.items c.roll_over_line.new.places }; works = c.args.held.now.works }) (string_bytes text) c.requires.held refl (
       t.0,
       t.1,
       (rw (c.as_slice.ensures.value, c.as_mut_slice.ensures.value) at t.2),
@@ -37,7 +37,7 @@ returns-clause-went g c =
     let os = c.roll_over_line.auto.places ∙ ap length c.as_mut_slice.ensures.value in
     let same = refilled (length c.args.held.now.places.items) c.args.held.now.places.items c.roll_over_line.new.places refl os in
     let t = e.rolled in
-    rollover_reaches (λ b. (goal.Server-dyn g (b.vtable, b.value)).behaviour b.value) (λ b. (goal.Server-dyn g (b.vtable, b.value)).registers b.value) (λ b. (goal.Server-dyn g (b.vtable, b.value)).pending b.value) c.args.held.now (record { managed = c.roll_over_line.new.managed; servers = c.args.held.now.servers; places = record { items = refill (length c.args.held.now.places.items) c.args.held.now.places.items c.roll_over_line.new.places }; works = c.args.held.now.works })
+    rollover_reaches (λ b. (goal.Server-dyn g (b.vtable, b.value)).behaviour b.value) (λ b. (goal.Server-dyn g (b.vtable, b.value)).registers b.value) (λ b. (goal.Server-dyn g (b.vtable, b.value)).pending b.value) c.args.head.now c.args.held.now (record { managed = c.roll_over_line.new.managed; servers = c.args.held.now.servers; places = record { items = refill (length c.args.held.now.places.items) c.args.held.now.places.items c.roll_over_line.new.places }; works = c.args.held.now.works }) c.requires.held
     (subst (λ x. AreReady (λ b. (goal.Server-dyn g (b.vtable, b.value)).behaviour b.value) (λ b. (goal.Server-dyn g (b.vtable, b.value)).registers b.value) (λ b. (goal.Server-dyn g (b.vtable, b.value)).pending b.value) c.roll_over_line.new.managed.manager c.roll_over_line.new.managed.passes.items c.args.held.now.servers.items x) (sym same) (rw c.as_slice.ensures.value at e.ready)) refl (
       t.0,
       t.1,

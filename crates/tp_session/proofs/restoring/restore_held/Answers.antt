@@ -25,7 +25,7 @@ returns-clause-held g c =
 pub returns-clause-restored : goal.returns-clause-restored
 returns-clause-restored g c =
     let os = c.restore.auto.places ∙ ap length c.as_mut_slice.ensures.value in
-    IfOk-weaker c.restore.result _ _ (λ out t. stand_leads (λ b. (goal.Server-dyn g (b.vtable, b.value)).behaviour b.value) (λ b. (goal.Server-dyn g (b.vtable, b.value)).registers b.value) (λ b. (goal.Server-dyn g (b.vtable, b.value)).pending b.value) (λ x y. Restored c.args.survivors.now x out.items y) c.args.held.now (record { managed = c.restore.new.managed; servers = c.args.held.now.servers; places = record { items = refill (length c.args.held.now.places.items) c.args.held.now.places.items c.restore.new.places }; works = c.args.held.now.works }) refl (
+    IfOk-weaker c.restore.result _ _ (λ out t. stand_leads (λ b. (goal.Server-dyn g (b.vtable, b.value)).behaviour b.value) (λ b. (goal.Server-dyn g (b.vtable, b.value)).registers b.value) (λ b. (goal.Server-dyn g (b.vtable, b.value)).pending b.value) c.args.head.now (λ x y. Restored c.args.survivors.now x out.items y) c.args.held.now (record { managed = c.restore.new.managed; servers = c.args.held.now.servers; places = record { items = refill (length c.args.held.now.places.items) c.args.held.now.places.items c.restore.new.places }; works = c.args.held.now.works }) c.requires.held refl (
       t.0,
       t.1,
       (rw (c.as_slice.ensures.value, c.as_mut_slice.ensures.value) at t.2),
@@ -36,7 +36,7 @@ returns-clause-restored g c =
 pub returns-clause-refused : goal.returns-clause-refused
 returns-clause-refused g c =
     let os = c.restore.auto.places ∙ ap length c.as_mut_slice.ensures.value in
-    IfErr-weaker c.restore.result _ _ (λ out t. stand_leads (λ b. (goal.Server-dyn g (b.vtable, b.value)).behaviour b.value) (λ b. (goal.Server-dyn g (b.vtable, b.value)).registers b.value) (λ b. (goal.Server-dyn g (b.vtable, b.value)).pending b.value) (λ x y. RollRefused x (line (roll_refused_text out)) y) c.args.held.now (record { managed = c.restore.new.managed; servers = c.args.held.now.servers; places = record { items = refill (length c.args.held.now.places.items) c.args.held.now.places.items c.restore.new.places }; works = c.args.held.now.works }) refl (
+    IfErr-weaker c.restore.result _ _ (λ out t. stand_leads (λ b. (goal.Server-dyn g (b.vtable, b.value)).behaviour b.value) (λ b. (goal.Server-dyn g (b.vtable, b.value)).registers b.value) (λ b. (goal.Server-dyn g (b.vtable, b.value)).pending b.value) c.args.head.now (λ x y. RollRefused x (line (roll_refused_text out)) y) c.args.held.now (record { managed = c.restore.new.managed; servers = c.args.held.now.servers; places = record { items = refill (length c.args.held.now.places.items) c.args.held.now.places.items c.restore.new.places }; works = c.args.held.now.works }) c.requires.held refl (
       t.0,
       t.1,
       (rw (c.as_slice.ensures.value, c.as_mut_slice.ensures.value) at t.2),

@@ -8,16 +8,16 @@ use Rattle.tp_session.proofs.restoring.stand_again.Goals as goal
 
 pub returns-in-Ok-clause-went : goal.returns-in-Ok-clause-went
 returns-in-Ok-clause-went g c =
-    reach_lead (λ b. (goal.Server-dyn g (b.vtable, b.value)).behaviour b.value) (λ b. (goal.Server-dyn g (b.vtable, b.value)).registers b.value) (λ b. (goal.Server-dyn g (b.vtable, b.value)).pending b.value) c.args.head.now c.args.held.now c.restore_held.new.held _ _ c.in-Ok.ensures.held (λ a b done. (_, record { restores = inl (c.in-Ok.moved.items, subst (λ s. Restored s a.stand c.in-Ok.moved.items b.stand) c.requires.described done.0, refl); works = done.1 })) c.in-Ok.ensures.restored
+    reach_lead (λ b. (goal.Server-dyn g (b.vtable, b.value)).behaviour b.value) (λ b. (goal.Server-dyn g (b.vtable, b.value)).registers b.value) (λ b. (goal.Server-dyn g (b.vtable, b.value)).pending b.value) c.args.head.now c.args.held.now c.restore_held.new.held _ _ c.in-Ok.ensures.held (λ a b done. (_, record { holds = done.0; restores = inl (c.in-Ok.moved.items, subst (λ s. Restored s a.stand c.in-Ok.moved.items b.stand) c.requires.described done.1, refl); works = done.2 })) c.in-Ok.ensures.restored
 
 pub returns-in-Err-clause-went : goal.returns-in-Err-clause-went
 returns-in-Err-clause-went g c =
-    reach_lead (λ b. (goal.Server-dyn g (b.vtable, b.value)).behaviour b.value) (λ b. (goal.Server-dyn g (b.vtable, b.value)).registers b.value) (λ b. (goal.Server-dyn g (b.vtable, b.value)).pending b.value) c.args.head.now c.args.held.now c.restore_held.new.held _ _ c.in-Err.ensures.held (λ a b done. (_, record { restores = inr done.0; works = done.1 })) c.in-Err.ensures.refused
+    reach_lead (λ b. (goal.Server-dyn g (b.vtable, b.value)).behaviour b.value) (λ b. (goal.Server-dyn g (b.vtable, b.value)).registers b.value) (λ b. (goal.Server-dyn g (b.vtable, b.value)).pending b.value) c.args.head.now c.args.held.now c.restore_held.new.held _ _ c.in-Err.ensures.held (λ a b done. (_, record { holds = done.0; restores = inr done.1; works = done.2 })) c.in-Err.ensures.refused
 
 pub returns-in-Ok-clause-tells : goal.returns-in-Ok-clause-tells
 returns-in-Ok-clause-tells g c =
-    IfOk-weaker c.restored_line.result _ _ (λ text is. leads_so (λ b. (goal.Server-dyn g (b.vtable, b.value)).behaviour b.value) (λ b. (goal.Server-dyn g (b.vtable, b.value)).registers b.value) (λ b. (goal.Server-dyn g (b.vtable, b.value)).pending b.value) _ _ c.args.held.now c.restore_held.new.held (λ a b done. record { restores = inl (c.in-Ok.moved.items, subst (λ s. Restored s a.stand c.in-Ok.moved.items b.stand) c.requires.described done.0, is); works = done.1 }) c.in-Ok.ensures.restored) (rw c.as_slice.ensures.value at c.restored_line.ensures)
+    IfOk-weaker c.restored_line.result _ _ (λ text is. leads_so (λ b. (goal.Server-dyn g (b.vtable, b.value)).behaviour b.value) (λ b. (goal.Server-dyn g (b.vtable, b.value)).registers b.value) (λ b. (goal.Server-dyn g (b.vtable, b.value)).pending b.value) _ _ c.args.held.now c.restore_held.new.held (λ a b done. record { holds = done.0; restores = inl (c.in-Ok.moved.items, subst (λ s. Restored s a.stand c.in-Ok.moved.items b.stand) c.requires.described done.1, is); works = done.2 }) c.in-Ok.ensures.restored) (rw c.as_slice.ensures.value at c.restored_line.ensures)
 
 pub returns-in-Err-clause-tells : goal.returns-in-Err-clause-tells
 returns-in-Err-clause-tells g c =
-    IfOk-weaker c.refused_line.result _ _ (λ text is. leads_so (λ b. (goal.Server-dyn g (b.vtable, b.value)).behaviour b.value) (λ b. (goal.Server-dyn g (b.vtable, b.value)).registers b.value) (λ b. (goal.Server-dyn g (b.vtable, b.value)).pending b.value) _ _ c.args.held.now c.restore_held.new.held (λ a b done. record { restores = inr (subst (λ t. RollRefused a.stand t b.stand) (sym is) done.0); works = done.1 }) c.in-Err.ensures.refused) c.refused_line.ensures.text
+    IfOk-weaker c.refused_line.result _ _ (λ text is. leads_so (λ b. (goal.Server-dyn g (b.vtable, b.value)).behaviour b.value) (λ b. (goal.Server-dyn g (b.vtable, b.value)).registers b.value) (λ b. (goal.Server-dyn g (b.vtable, b.value)).pending b.value) _ _ c.args.held.now c.restore_held.new.held (λ a b done. record { holds = done.0; restores = inr (subst (λ t. RollRefused a.stand t b.stand) (sym is) done.1); works = done.2 }) c.in-Err.ensures.refused) c.refused_line.ensures.text
