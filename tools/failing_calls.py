@@ -61,17 +61,17 @@ class Run:
     """One run of a program, in which `refuse(kind, number)` says of each call what is to come of it: None for what it asks for.
 
     The kinds are alloc (refused by anything else), thread (likewise), read and write (an error's number as `-n`, or the most
-    bytes that are moved). The calls of each kind are numbered from 1.
+    bytes that are moved). The calls of each kind are numbered from 1. The words are the program's arguments.
     """
 
-    def __init__(self, program, elf, script, refuse):
+    def __init__(self, program, elf, script, refuse, words=()):
         self.elf, self.refuse, self.counts, self.inside = elf, refuse, {}, {}
         with tempfile.TemporaryFile() as given, tempfile.TemporaryFile() as out, tempfile.TemporaryFile() as said:
             given.write(script)
             given.seek(0)
             # All functions of libraries are to be found when the program begins.
             how = {"stdin": given, "stdout": out, "stderr": said, "env": {"LD_BIND_NOW": "1"}}
-            child = subprocess.Popen([program], preexec_fn=lambda: LIBC.ptrace(TRACEME, 0, None, None), **how)
+            child = subprocess.Popen([program, *words], preexec_fn=lambda: LIBC.ptrace(TRACEME, 0, None, None), **how)
             self.main = child.pid
             signal.signal(signal.SIGALRM, lambda *_: child.kill())
             signal.alarm(LIMIT)

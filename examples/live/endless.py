@@ -1,16 +1,29 @@
 #!/usr/bin/env python3
-"""A queue without end: each order is taken, replied to and collected, and the session rolls over when a manager is used up.
+"""A queue without end: each order is taken, replied to and collected, and the session rolls over when a
+manager is used up.
 
 One order of a hundred waits for the end. It is carried over each time, and its id stays the same.
 """
-import os
-import sys
+from __future__ import annotations
 
-sys.path.insert(0, os.path.join(os.path.dirname(os.path.realpath(__file__)), "../../clients/python"))
+import sys
+from pathlib import Path
+
+# (the package need not be installed: it is the checkout's)
+sys.path.insert(0, str(Path(__file__).resolve().parents[2] / "clients/python"))
 from covetrivet import Draft, Session  # noqa: E402
 
 HEAD = ["rows 64", "units 64", "worker clerk 1", "worker late 2"]
 REPLIES = 15
+
+
+def pay(session: Session, customer: int) -> int:
+    """Has the clerk work on an order of this customer, and returns what the reply says was paid."""
+    order = session.submit(1, customer, 30).element
+    if work := session.claim("clerk"):
+        session.commit("clerk", Draft(REPLIES, *work.words))
+    (reply,) = session.collect(order)
+    return reply.words[1]
 
 
 def main() -> None:
@@ -19,16 +32,12 @@ def main() -> None:
         for customer in range(2_000):
             if customer % 100 == 0:
                 late.append(session.submit(2, customer, 30).element)
-                continue
-            order = session.submit(1, customer, 30).element
-            work = session.claim("clerk")
-            session.commit("clerk", Draft(REPLIES, *work.words))
-            (reply,) = session.collect(order)
-            paid += reply.words[1]
+            else:
+                paid += pay(session, customer)
         print("paid", paid, "and more than one rollover" if session.rollovers > 1 else "")
         print("waited:", all(session.read(it).status == "waiting 0" for it in late))
         while work := session.claim("late"):
-            assert work.element == late.pop(0)
+            late.remove(work.element)
             session.commit("late")
         print("left:", len(late))
 

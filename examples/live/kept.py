@@ -1,58 +1,57 @@
 #!/usr/bin/env python3
-"""A queue that is kept in a file: a log of what the session was sent, which a dump begins anew now and then.
+"""A queue that is kept in a file: a log of what the session was sent, which a dump makes short now and then.
 
 The first session is lost, and a second one goes on from the log.
 """
-import os
+from __future__ import annotations
+
 import sys
 import tempfile
+from pathlib import Path
 
-sys.path.insert(0, os.path.join(os.path.dirname(os.path.realpath(__file__)), "../../clients/python"))
-from covetrivet import Draft, Session  # noqa: E402
+# (the package need not be installed: it is the checkout's)
+sys.path.insert(0, str(Path(__file__).resolve().parents[2] / "clients/python"))
+from covetrivet import Draft, Session, SessionEnded, refusals  # noqa: E402
 
 HEAD = ["rows 64", "units 64", "worker clerk 1", "worker late 2"]
 REPLIES = 15
 
 
-class Log:
-    """A file with each line that a session is sent."""
+def opened(log: Path) -> Session:
+    """Returns the queue as it was left, or a new one."""
+    return Session.from_log(log) if log.exists() else Session(HEAD, log=log)
 
-    def __init__(self, path: str) -> None:
-        self.path = path
-        self.file = open(path, "a", buffering=1, encoding="ascii")
 
-    def __call__(self, line: str) -> None:
-        self.file.write(f"{line}\n")
-
-    def begin_anew(self, session: Session) -> None:
-        """Puts the lines of a dump in the place of the log. The session rolls over to where these lead."""
-        session.log = None
-        dumped = session.dump()
-        session.rollover()
-        with open(f"{self.path}.new", "w", encoding="ascii") as new:
-            new.writelines(f"{it}\n" for it in dumped.lines)
-        self.file.close()
-        os.replace(f"{self.path}.new", self.path)
-        self.file = open(self.path, "a", buffering=1, encoding="ascii")
-        session.log = self
+def work_off(session: Session, customers: range) -> None:
+    """Of each ten orders one is left for later. All others are replied to, and their replies collected."""
+    for customer in customers:
+        order = session.submit(2 if customer % 10 == 0 else 1, customer, 30).element
+        if work := session.claim("clerk"):
+            session.commit("clerk", Draft(REPLIES, *work.words))
+            session.collect(order)
+        if customer % 20 == 19:
+            session.shorten_log()
 
 
 def main() -> None:
     with tempfile.TemporaryDirectory() as folder:
-        path = f"{folder}/log"
-        with Session(HEAD, log=(log := Log(path))) as session:
-            for customer in range(205):
-                order = session.submit(2 if customer % 10 == 0 else 1, customer, 30).element
-                if work := session.claim("clerk"):
-                    session.commit("clerk", Draft(REPLIES, *work.words))
-                    session.collect(order)
-                if customer % 20 == 19:
-                    log.begin_anew(session)
-            session.process.kill()
-        with open(path, encoding="ascii") as kept:
-            lines = kept.read().splitlines()
-        print("lines of the log:", len(lines))
-        with Session(lines) as session:
+        log = Path(folder) / "orders.log"
+        try:
+            with opened(log) as session:
+                work_off(session, range(200))
+                # With work in hand the log can't be made short, and goes on as it is.
+                session.claim("late")
+                try:
+                    session.shorten_log()
+                except refusals.Busy:
+                    print("the late one has work in hand")
+                session.abort("late")
+                work_off(session, range(200, 205))
+                session.process.kill()
+        except SessionEnded as ended:
+            print("lost by signal", -ended.status)
+        print("lines of the log:", len(log.read_text(encoding="ascii").splitlines()))
+        with opened(log) as session:
             print("restored:", len(session.moved), "and then:", session.count())
             while work := session.claim("late"):
                 print(work.words[0], end=" ")

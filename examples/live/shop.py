@@ -1,14 +1,18 @@
 #!/usr/bin/env python3
 """A shop whose clerk, bank and packer work outside of the manager: three stages, one after another.
 
-One customer can't pay at first: the bank gives the order up twice, it is parked, and another round is given to it once there is money.
-One order is cancelled while the bank works on it: the bank's commit is lost, and no money is taken.
+One customer can't pay at first: the bank gives the order up twice, it is parked, and another round is given
+to it once there is money. One order is cancelled while the bank works on it: the bank's commit is lost, and
+no money is taken.
 """
-import os
-import sys
+from __future__ import annotations
 
-sys.path.insert(0, os.path.join(os.path.dirname(os.path.realpath(__file__)), "../../clients/python"))
-from covetrivet import Draft, Lost, Session, Work, submit  # noqa: E402
+import sys
+from pathlib import Path
+
+# (the package need not be installed: it is the checkout's)
+sys.path.insert(0, str(Path(__file__).resolve().parents[2] / "clients/python"))
+from covetrivet import Draft, Session, Work, refusals, submit  # noqa: E402
 
 HEAD = ["rows 16", "units 16", "limit 2", "worker clerk 1", "worker bank 2", "worker packer 3"]
 ORDERS = [(1, 30), (2, 70), (1, 50), (3, 20)]
@@ -23,14 +27,16 @@ def check(session: Session) -> None:
 
 
 def pay(session: Session, money: dict[int, int], work: Work) -> str:
-    """The bank takes the price from the customer's money, if there is enough; it pays only what was committed."""
+    """The bank takes the price from the customer's money, if there is enough; it pays only what was
+    committed.
+    """
     customer, price = work.words[:2]
     if money[customer] < price:
         session.abort("bank")
         return "declined"
     try:
         session.commit("bank", Draft(3, customer, price))
-    except Lost:
+    except refusals.Lost:
         return "lost"
     money[customer] -= price
     return "paid"
@@ -45,8 +51,9 @@ def main() -> None:
         print("orders", *orders)
         check(session)
 
-        work = session.claim("bank")
-        print("cancelled in flight:", session.cancel(work.root).killed, "killed; the bank:", pay(session, money, work))
+        if work := session.claim("bank"):
+            killed = session.cancel(work.root).killed
+            print("cancelled in flight:", killed, "killed; the bank:", pay(session, money, work))
         while work := session.claim("bank"):
             print("order", work.root, "attempt", work.attempt, pay(session, money, work))
 
@@ -60,7 +67,8 @@ def main() -> None:
         while work := session.claim("packer"):
             session.commit("packer", Draft(REPLIES, *work.words))
         for order in orders:
-            print("order", order, *(f"replied {it.words[0]}:{it.words[1]}" for it in session.collect(order)))
+            replies = session.collect(order)
+            print("order", order, *(f"replied {it.words[0]}:{it.words[1]}" for it in replies))
         print("money", money)
         print(session.account())
 

@@ -213,23 +213,6 @@ pub struct Account {
     pub stages: [Counts; STAGES],
 }
 
-impl Account {
-    ghost use Rattle.std.specs.Prelude.{◌≡◌};
-    ghost use Rattle.tp_model.specs.Accounts.{open_in};
-
-    /// How many elements of the stages 1 to 14 wait or are held: none where all work is done.
-    pub fn open(&self) -> u64
-        ensures { result ≡ open_in self.now }
-    {
-        let mut open = 0;
-        for stage in 0..usize::from(MAX_STAGE) {
-            let counts = &self.stages[stage];
-            open += counts.waiting as u64 + counts.held as u64;
-        }
-        open
-    }
-}
-
 /// Why a call was refused. A refused call changes nothing, but that a refused kill may have aborted units of
 /// work.
 #[derive(Clone, Copy, Debug, PartialEq, Eq)]

@@ -16,6 +16,6 @@ pub mod rollover;
 pub mod serve;
 
 pub use one_command::perform_next;
-pub use program::{run, run_to_end};
+pub use program::run;
 pub use restoring::restore;
 pub use rollover::roll_over_line;

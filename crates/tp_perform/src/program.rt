@@ -8,13 +8,13 @@ ghost use Rattle.tp_script.specs.Grammar.{script};
 ghost use Rattle.tp_script.specs.declared.source.TheConstants.{MAX_READS};
 ghost use Rattle.tp_report.specs.declared.fault.Exit.{Exit};
 ghost use Rattle.tp_report.specs.declared.fault.Fault.{Fault};
-ghost use Rattle.tp_report.specs.Faults.{TellsFault, exit_status, fault_of};
+ghost use Rattle.tp_report.specs.Faults.{fault_of};
 ghost use Rattle.tp_perform.specs.Whole.{Answered};
 
 use crate::serve::serve;
 use std::alloc::Global;
 use std::thread::Threads;
-use tp_report::{Exit, Fault, Sink, exit_status, fault_of, write_fault, write_refusal};
+use tp_report::{Exit, Fault, Sink, fault_of, write_refusal};
 use tp_script::{ReadFault, Source, read_script};
 
 /// Reads a script, performs it over the shared manager with a desk for each server, and writes its report: a
@@ -44,29 +44,4 @@ pub fn run<T: Threads + Sync, R: Source, W: Sink>(
         Err(ReadFault::NoMemory) => Err(Fault::NoMemory),
         Err(ReadFault::Read) => Err(Fault::Read),
     }
-}
-
-/// Runs a script as `run` does, writes the line of a fault to the second writer, and answers the exit status.
-pub fn run_to_end<T: Threads + Sync, R: Source, W: Sink, E: Sink>(
-    rt: &T,
-    alloc: Global,
-    reader: &mut R,
-    writer: &mut W,
-    faults: &mut E,
-) -> u8
-    requires { R.asked reader.old + MAX_READS < 2 ^ 64 }
-    ensures asked { R.asked reader.new ≤ R.asked reader.old + MAX_READS }
-    ensures ended { (outcome : Result Exit Fault)
-        × IfSome (R.rest reader.old)
-        (λ bytes. Answered outcome (script bytes)
-        (W.contents writer.old) (W.contents writer.new))
-        × (IsErrOf outcome Fault.Read
-        → IsTrue (R.has_failed reader.new))
-        × (IsErrOf outcome Fault.Write → IsTrue (W.has_failed writer.new))
-        × (result ≡ exit_status outcome)
-        × TellsFault outcome (E.has_failed faults.new) (E.contents faults.old) (E.contents faults.new) }
-{
-    let outcome = run(rt, alloc, reader, writer);
-    write_fault(outcome, faults);
-    exit_status(outcome)
 }

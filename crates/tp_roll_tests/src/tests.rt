@@ -2,11 +2,10 @@
 mod crews;
 mod plays;
 mod scenes;
-mod statuses;
 mod storms;
 mod surveys;
 
-use plays::Call::{Aborts, Cancels, Commits, Kills, Requeues, Shows, Stands, Submits, Takes};
+use plays::Call::{Aborts, Commits, Requeues, Shows, Stands, Submits, Takes};
 use plays::{Call, Stand};
 use scenes::{Side, needs_passes, rolls};
 use std::process::Abort;
@@ -91,42 +90,6 @@ fn within<'a>(limits: Limits, after: &'a [(usize, Call)]) -> Side<'a> {
     }
 }
 
-/// What was consumed and what was killed stays behind.
-#[test]
-fn nothing_alive(rt: HostRuntime) {
-    let before = [
-        (0, Submits(1, body(7), 0)),
-        (1, Takes(0)),
-        (1, bears(&rt, 0, &[])),
-        (0, Submits(1, body(8), 1)),
-        (0, Kills(1)),
-    ];
-    let after = [
-        (0, Shows(0, Status::Consumed { unit: 16 })),
-        (0, Shows(1, Status::Killed)),
-    ];
-    let new_after = [(0, Submits(1, body(9), 0))];
-    rolls(
-        &rt,
-        &[side(&before, &after), side(&[], &new_after)],
-        Ok(&[]),
-    );
-}
-
-/// Each goes on in the part of the pass of the same number.
-#[test]
-fn two_wait(rt: HostRuntime) {
-    let before = [(0, Submits(3, body(7), 0)), (1, Submits(4, body(8), 8))];
-    let after = [(0, Shows(0, Status::Killed)), (0, Shows(8, Status::Killed))];
-    let new_after = [(0, waits(0, 3, 0, 7)), (0, waits(8, 4, 8, 8))];
-    let wanted = [moved(0, 0, 0, 0), moved(8, 8, 8, 8)];
-    rolls(
-        &rt,
-        &[side(&before, &after), side(&[], &new_after)],
-        Ok(&wanted),
-    );
-}
-
 /// A family of six, one of them parked in its second round and one a reply, beside another request. The carriers, 0 and
 /// 4, are consumed by the first unit of either pass.
 #[test]
@@ -183,58 +146,6 @@ fn six_of_a_family(rt: HostRuntime) {
     );
 }
 
-/// Families that lie between one another: each turn of a family that has more to come leaves a carrier for it.
-#[test]
-fn between_one_another(rt: HostRuntime) {
-    let before = [
-        (0, Submits(1, body(10), 0)),
-        (0, Submits(1, body(20), 1)),
-        (0, Takes(0)),
-        (0, bears(&rt, 2, &[(1, 11), (3, 12)])),
-        (0, Takes(1)),
-        (0, bears(&rt, 4, &[(3, 21), (3, 22)])),
-        (0, Takes(2)),
-        (0, bears(&rt, 6, &[(3, 13), (15, 14)])),
-    ];
-    let new_after = [
-        (0, waits(1, 3, 0, 12)),
-        (0, waits(4, 3, 3, 21)),
-        (0, waits(5, 3, 3, 22)),
-        (0, waits(6, 3, 0, 13)),
-        (0, waits(7, 15, 0, 14)),
-    ];
-    let wanted = [
-        moved(3, 1, 0, 0),
-        moved(4, 4, 1, 3),
-        moved(5, 5, 1, 3),
-        moved(6, 6, 0, 0),
-        moved(7, 7, 0, 0),
-    ];
-    rolls(
-        &rt,
-        &[side(&before, &[]), side(&[], &new_after)],
-        Ok(&wanted),
-    );
-}
-
-/// Of a cancelled family the reply alone goes on.
-#[test]
-fn a_cancelled_family(rt: HostRuntime) {
-    let before = [
-        (0, Submits(1, body(10), 0)),
-        (0, Takes(0)),
-        (0, bears(&rt, 1, &[(2, 11), (15, 12)])),
-        (0, Cancels(0)),
-    ];
-    let new_after = [(0, waits(1, 15, 0, 12))];
-    let wanted = [moved(2, 1, 0, 0)];
-    rolls(
-        &rt,
-        &[side(&before, &[]), side(&[], &new_after)],
-        Ok(&wanted),
-    );
-}
-
 /// Two parts of two rows: four elements fill them, the third in the second part, and a fifth has no room.
 #[test]
 fn until_it_is_full(rt: HostRuntime) {
@@ -262,36 +173,6 @@ fn until_it_is_full(rt: HostRuntime) {
     rolls(
         &rt,
         &[side(&before, &after), within(small, &[])],
-        Err(RollFault::Full),
-    );
-}
-
-/// An element of three attempts, two of them before a requeue, takes three units in the new manager.
-#[test]
-fn too_few_units(rt: HostRuntime) {
-    let before = [
-        (0, Submits(1, body(10), 0)),
-        (0, Takes(0)),
-        (0, Aborts),
-        (0, Takes(0)),
-        (0, Aborts),
-        (0, Requeues(0, 1)),
-        (0, Takes(0)),
-        (0, Aborts),
-    ];
-    let stand = stands(0, 1, 0, 10, Status::Waiting { attempts: 1 }, 1);
-    let shown = [(0, stand)];
-    let wanted = [moved(0, 0, 0, 0)];
-    let three = Limits { units: 3, ..LIMITS };
-    rolls(
-        &rt,
-        &[side(&before, &[]), within(three, &shown)],
-        Ok(&wanted),
-    );
-    let one = Limits { units: 1, ..LIMITS };
-    rolls(
-        &rt,
-        &[side(&before, &shown), within(one, &[])],
         Err(RollFault::Full),
     );
 }

@@ -29,7 +29,7 @@ pub struct WorkerLine {
 
 /// An `alive` line: an element that waits or is parked, as `dump` tells of it. It is alive again once the
 /// session is restored.
-#[derive(Clone, Copy, Debug, PartialEq, Eq)]
+#[derive(Clone, Copy)]
 pub struct AliveLine {
     /// Its id before.
     pub id: u32,

@@ -6,7 +6,7 @@ use crate::line_words::is;
 use crate::script::DeskAct;
 
 /// What a line is, by its first word.
-#[derive(Clone, Copy, Debug, PartialEq, Eq)]
+#[derive(Clone, Copy)]
 pub enum Keyword {
     Rows,
     Units,
@@ -21,7 +21,7 @@ pub enum Keyword {
 }
 
 /// What a command is, by its first word.
-#[derive(Clone, Copy, Debug, PartialEq, Eq)]
+#[derive(Clone, Copy)]
 pub enum Verb {
     Submit,
     Kill,
@@ -93,7 +93,7 @@ impl Keyword {
 }
 
 /// What a line of a session is, by its first word, where sessions alone have the word.
-#[derive(Clone, Copy, Debug, PartialEq, Eq)]
+#[derive(Clone, Copy)]
 pub enum SessionWord {
     /// The line names a worker.
     Worker,

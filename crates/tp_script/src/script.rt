@@ -18,7 +18,7 @@ use tp_server::{Recipe, Registers};
 pub const MAX_SERVERS: usize = 8;
 
 /// The limits that a script sets.
-#[derive(Clone, Copy, Debug, PartialEq, Eq)]
+#[derive(Clone, Copy)]
 pub struct Settings {
     /// Rows of each pass, 1 to 256.
     pub rows: u16,
@@ -35,7 +35,7 @@ pub struct Settings {
 }
 
 /// How a server keeps prepared work: by changing its registers at once, or by keeping what it will write.
-#[derive(Clone, Copy, Debug, PartialEq, Eq)]
+#[derive(Clone, Copy)]
 pub enum Kind {
     /// It changes its registers as it prepares.
     Eager,
@@ -59,7 +59,7 @@ pub struct ScriptServer {
 }
 
 /// What the script's own client does.
-#[derive(Clone, Copy, Debug, PartialEq, Eq)]
+#[derive(Clone, Copy)]
 pub enum ClientAct {
     /// It submits an element.
     Submit { stage: u8, body: Body },
@@ -86,7 +86,7 @@ pub enum ClientAct {
 }
 
 /// What a server's desk does.
-#[derive(Clone, Copy, Debug, PartialEq, Eq)]
+#[derive(Clone, Copy, PartialEq, Eq)]
 pub enum DeskAct {
     /// It takes a turn.
     Turn,
@@ -107,7 +107,7 @@ pub enum DeskAct {
 }
 
 /// The servers take turns while clients submit and killers kill, each on a thread of its own.
-#[derive(Clone, Copy, Debug, PartialEq, Eq)]
+#[derive(Clone, Copy)]
 pub struct Race {
     /// How many clients there are, 0 to 31.
     pub clients: u8,
@@ -124,7 +124,7 @@ pub struct Race {
 }
 
 /// A command. A server is given by its place among the script's servers.
-#[derive(Clone, Copy, Debug, PartialEq, Eq)]
+#[derive(Clone, Copy)]
 pub enum Command {
     /// The client does this.
     Client(ClientAct),

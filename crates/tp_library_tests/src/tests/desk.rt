@@ -10,7 +10,6 @@ mod drops;
 mod given;
 mod lender;
 mod plays;
-mod router;
 mod turns;
 
 use crate::tests::fixture::two;

@@ -3,8 +3,6 @@
 mod accounts;
 mod asking;
 mod blocks;
-mod bodies;
-mod cancels;
 mod examples;
 mod kills;
 mod marks;

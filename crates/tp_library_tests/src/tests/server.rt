@@ -1,5 +1,4 @@
 //! Worked rows at both kinds of server, plain and boxed, and at the edges of a recipe.
-mod fold;
 mod plays;
 mod till;
 mod told;
@@ -179,17 +178,6 @@ fn take_edges(rt: &impl Abort, server: &mut (dyn Server + Send)) {
     play(rt, server, &calls);
 }
 
-/// Registers `[3, 5]`, Pass: nothing changes, and the register has to be there.
-fn pass_edges(rt: &impl Abort, server: &mut (dyn Server + Send)) {
-    let calls = [
-        Does(1, MAX, Ok(&[])),
-        Balance(1, Some(5)),
-        Does(2, 0, Err(Declined::NoRegister)),
-        Balance(0, Some(3)),
-    ];
-    play(rt, server, &calls);
-}
-
 #[test]
 fn edges(rt: HostRuntime) -> Result<(), Fail> {
     let add = recipe(2, Act::Add, &[]);
@@ -202,52 +190,6 @@ fn edges(rt: HostRuntime) -> Result<(), Fail> {
     take_edges(&rt, &mut takes_early);
     let mut takes_late = LazyServer::new(registers(&rt, &[3, 5]), take)?;
     take_edges(&rt, &mut takes_late);
-    Ok(())
-}
-
-#[test]
-fn pass_leaves_registers(rt: HostRuntime) -> Result<(), Fail> {
-    let pass = recipe(2, Act::Pass, &[]);
-    let mut early = EagerServer::new(registers(&rt, &[3, 5]), pass.clone()?)?;
-    pass_edges(&rt, &mut early);
-    let mut late = LazyServer::new(registers(&rt, &[3, 5]), pass)?;
-    pass_edges(&rt, &mut late);
-    Ok(())
-}
-
-/// Registers `[0, 20]`, Take, and four outputs with each way to a key and to an amount.
-fn four_outputs(rt: &impl Abort, server: &mut (dyn Server + Send)) {
-    let wanted = [
-        draft(rt, 2, 1, 8),
-        draft(rt, 15, 9, 12),
-        draft(rt, 3, 1, 100),
-        draft(rt, 1, 0, 12),
-    ];
-    let calls = [
-        Does(1, 8, Ok(&wanted)),
-        Balance(1, Some(12)),
-        Stage(1),
-        Counts(2),
-    ];
-    play(rt, server, &calls);
-}
-
-#[test]
-fn outputs_in_order(rt: HostRuntime) -> Result<(), Fail> {
-    let takes = recipe(
-        2,
-        Act::Take,
-        &[
-            output(2, KeyFrom::Same, AmountFrom::Same),
-            output(15, KeyFrom::Fixed(9), AmountFrom::After),
-            output(3, KeyFrom::Same, AmountFrom::Fixed(100)),
-            output(1, KeyFrom::Fixed(0), AmountFrom::After),
-        ],
-    );
-    let mut eager = EagerServer::new(registers(&rt, &[0, 20]), takes.clone()?)?;
-    four_outputs(&rt, &mut eager);
-    let mut lazy = LazyServer::new(registers(&rt, &[0, 20]), takes)?;
-    four_outputs(&rt, &mut lazy);
     Ok(())
 }
 
@@ -376,39 +318,5 @@ fn printed_names(rt: HostRuntime) -> Result<(), Fail> {
     ] {
         assert!(rt; format!(in rt.alloc(); "{why}")?.as_str() == name);
     }
-    Ok(())
-}
-
-#[test]
-fn unused_outputs(rt: HostRuntime) {
-    assert!(rt; Output::default() == output(15, KeyFrom::Same, AmountFrom::Same));
-}
-
-/// Registers `[0, 5]`, Add, output `15:same:after`: the effect says what is in the register then, and a key past the
-/// last has none.
-fn has_effect(rt: &impl Abort, recipe: &Recipe, registers: &Registers) {
-    assert!(rt; recipe.check() == Ok(()));
-    match recipe.effect(registers, &element(1, 7)) {
-        Ok(prepared) => {
-            assert!(rt; prepared.after == 12);
-            assert!(rt; prepared.drafts.as_slice() == [draft(rt, 15, 1, 12)].as_slice());
-        }
-        Err(_) => panic!(rt; "declined"),
-    }
-    assert!(rt;
-        matches!(
-            recipe.effect(registers, &element(2, 7)),
-            Err(Declined::NoRegister)
-        )
-    );
-}
-
-#[test]
-fn an_effect_changes_nothing(rt: HostRuntime) -> Result<(), Fail> {
-    let registers = registers(&rt, &[0, 5]);
-    has_effect(&rt, &recipe(2, Act::Add, &[reply_after()]), &registers);
-    let copy = registers.clone()?;
-    assert_eq!(rt; copy.as_slice(), [0, 5].as_slice());
-    assert_eq!(rt; registers.as_slice(), [0, 5].as_slice());
     Ok(())
 }

@@ -12,11 +12,9 @@ mod crew;
 mod full;
 mod order;
 mod overlap;
-mod own;
 mod race;
 mod storm;
 mod together;
-mod tree;
 mod turns;
 
 use crate::tests::fixture::{eager, lazy, output, recipe};

@@ -1,15 +1,13 @@
 //! Rollovers of crews between threads' shifts, and where memory lacks.
-ghost use Rattle.std.specs.Prelude.{◌≡◌, IfSome, None, length};
+ghost use Rattle.std.specs.Prelude.{◌≡◌, length};
 ghost use Rattle.tp_desk.specs.Steady.{shown};
 ghost use Rattle.tp_crew.specs.Crew.{IsSteadyCrew};
 
-use super::crews::{limits, rolls, server, stands};
+use super::crews::{limits, server};
 use std::process::Abort;
 use std::thread::Threads;
 use tp_crew::Crew;
 use tp_desk::Order;
-use tp_model::types::Status;
-use tp_rollover::RollFault;
 use tp_server::{Act, Server};
 use tp_workers::{ClientJob, NoGate, Plan};
 
@@ -85,55 +83,4 @@ fn between_shifts(rt: HostRuntime) {
     crew.drain(Order::InTurn);
     assert_eq!(rt; added(&rt, &crew), 36);
     drop(crew);
-}
-
-/// A crew of the caller's own pass alone, if there is memory for it.
-fn without_boxes<R: AllocGlobal>(rt: &R) -> Option<Crew>
-    ensures steady { IfSome result (λ crew. IsSteadyCrew (shown behaviour) (shown registers) (shown pending) crew) }
-{
-    let boxes: Vec<Box<dyn Server + Send>> = Vec::new(rt.alloc());
-    match Crew::new(rt.alloc(), limits(16), boxes, 0) {
-        Ok(crew) => Some(crew),
-        Err(_) => None,
-    }
-}
-
-/// Whether a rollover goes through. One that doesn't is refused for memory.
-fn has_rolled<R: Abort + AllocGlobal>(rt: &R, crew: &mut Crew) -> bool
-    requires { IsSteadyCrew (shown behaviour) (shown registers) (shown pending) crew.old }
-    ensures steady { IsSteadyCrew (shown behaviour) (shown registers) (shown pending) crew.new }
-{
-    match crew.roll_over(rt.alloc()) {
-        Ok(moved) => {
-            drop(moved);
-            true
-        }
-        Err(fault) => {
-            assert!(rt; fault == RollFault::NoMemory);
-            false
-        }
-    }
-}
-
-/// A rollover that is refused for memory leaves the element as it was, and one with memory carries it over.
-fn rolls_or_stays<R: Abort + AllocGlobal>(rt: &R, crew: &mut Crew)
-    requires { IsSteadyCrew (shown behaviour) (shown registers) (shown pending) crew.old }
-    ensures steady { IsSteadyCrew (shown behaviour) (shown registers) (shown pending) crew.new }
-{
-    if !has_rolled(rt, crew) {
-        stands(rt, crew, 0, Status::Waiting { attempts: 0 });
-        drop(rolls(rt, crew, 1));
-    }
-    stands(rt, crew, 0, Status::Waiting { attempts: 0 });
-}
-
-/// Whichever allocation fails, the crew goes on. With memory for all this tells little: `tools/allocations`
-/// has each one fail in turn.
-#[test]
-fn want_of_memory_changes_nothing(rt: HostRuntime) {
-    if let Some(mut crew) = without_boxes(&rt) {
-        assert_eq!(rt; crew.submit(3, [0, 7, 0, 0]), Ok(0));
-        rolls_or_stays(&rt, &mut crew);
-        drop(crew);
-    }
 }

@@ -3,14 +3,12 @@ ghost use Rattle.std.specs.Prelude.{◌≡◌, true, None, IsSome};
 ghost use Rattle.tp_manager.specs.Shown.{IsOf};
 ghost use Rattle.tp_desk.specs.Aside.{SteadyAside};
 
-use crate::tests::desk::calls::{
-    claims, commits, end, kills, prepares, shows, sit, stands, submits,
-};
+use crate::tests::desk::calls::{claims, commits, end, prepares, shows, sit, submits};
 use crate::tests::desk::{bench, clear};
-use crate::tests::fixture::{eager, lazy, recipe};
+use crate::tests::fixture::{eager, recipe};
 use tp_desk::{Aside, Desk};
 use tp_manager::{Manager, Pass};
-use tp_model::types::{Claimed, Outcome, Status, Work};
+use tp_model::types::{Claimed, Outcome, Work};
 use tp_server::{Act, Server};
 
 /// Claims, and answers the work with what was laid aside.
@@ -103,23 +101,6 @@ fn taken_up_again(rt: HostRuntime) {
 }
 
 #[test]
-fn killed_while_it_lay_aside(rt: HostRuntime) {
-    let server = lazy(&rt, recipe(1, Act::Add, &[]));
-    let mut at = bench(&rt, 4, 8, server);
-    assert!(rt; submits(&at.manager, &mut at.client, 6, 0));
-    let mut desk = sit(&at.manager, &mut at.worker, &mut at.server);
-    assert!(rt; claims(&mut desk).is_some());
-    assert!(rt; prepares(&mut desk));
-    let aside = desk.lay_aside();
-    assert!(rt; kills(&at.manager, &mut at.client, 0, 1));
-    let mut desk = Desk::resume(&at.manager, &mut at.worker, &mut at.server, aside);
-    assert!(rt; commits(&mut desk, Outcome::Lost));
-    assert!(rt; desk.balance(0) == Some(0) && !desk.is_prepared());
-    end(desk);
-    clear(at);
-}
-
-#[test]
 fn nothing_in_hand(rt: HostRuntime) {
     let server = eager(&rt, recipe(1, Act::Add, &[]));
     let mut at = bench(&rt, 4, 8, server);
@@ -128,25 +109,5 @@ fn nothing_in_hand(rt: HostRuntime) {
     let mut desk = Desk::resume(&at.manager, &mut at.worker, &mut at.server, aside);
     assert!(rt; desk.claim() == Claimed::Idle);
     end(desk);
-    clear(at);
-}
-
-#[test]
-fn forgotten(rt: HostRuntime) {
-    let server = eager(&rt, recipe(1, Act::Add, &[]));
-    let mut at = bench(&rt, 4, 8, server);
-    assert!(rt; submits(&at.manager, &mut at.client, 6, 0));
-    let mut desk = sit(&at.manager, &mut at.worker, &mut at.server);
-    let Some(work) = claims(&mut desk) else {
-        panic!(rt; "no work")
-    };
-    assert!(rt; prepares(&mut desk));
-    drop(desk.lay_aside());
-    assert!(rt; at.worker.has_open() && at.server.is_prepared());
-    let held = Status::Held {
-        unit: work.unit,
-        attempt: 1,
-    };
-    assert!(rt; stands(&at.manager, &mut at.client, 0, held));
     clear(at);
 }

@@ -1,11 +1,11 @@
 //! Claims of given elements at a desk.
 
 use super::plays::Asks::Submits;
-use super::plays::Does::{Aborts, ClaimsId, Commits, HasOpen, Prepares, Takes};
+use super::plays::Does::{ClaimsId, Commits, HasOpen, Prepares, Takes};
 use super::plays::Step::{Asked, Ended};
 use super::plays::plays;
 use crate::tests::fixture::{eager, recipe};
-use tp_model::types::{Ended as HowEnded, Outcome, Refusal};
+use tp_model::types::{Outcome, Refusal};
 use tp_server::{Act, AmountFrom, KeyFrom, Output};
 
 /// A reply with the register's new value.
@@ -32,18 +32,4 @@ fn the_one_that_is_asked_for(rt: HostRuntime) {
     ];
     let steps = [Asked(Submits(3, 0)), Asked(Submits(5, 1)), Ended(&calls)];
     plays(&rt, 4, 8, eager(&rt, recipe(1, Act::Add, &[REPLY])), &steps);
-}
-
-/// A refusal uses no unit, and a pass without units is refused first.
-#[test]
-fn without_units(rt: HostRuntime) {
-    let calls = [
-        ClaimsId(3, Err(Refusal::NotThere)),
-        ClaimsId(0, Ok((0, 1))),
-        Aborts(HowEnded::Aborted),
-        ClaimsId(0, Err(Refusal::NoUnit)),
-        ClaimsId(3, Err(Refusal::NoUnit)),
-    ];
-    let server = eager(&rt, recipe(1, Act::Add, &[]));
-    plays(&rt, 4, 1, server, &[Asked(Submits(3, 0)), Ended(&calls)]);
 }

@@ -1,15 +1,14 @@
 //! Turns and their parts, with each answer.
 
-use super::plays::Asks::{Kills, NextError, Reads, Submits};
+use super::plays::Asks::{NextError, Reads, Submits};
 use super::plays::Does::{
-    Aborts, Balance, Claims, Client, Commits, HasOpen, InHand, IsPrepared, Prepares, Stage, Takes,
-    TakesNext, Turns, TurnsNext,
+    Balance, Claims, Client, Commits, HasOpen, InHand, Prepares, Stage, Turns, TurnsNext,
 };
 use super::plays::Step::{Asked, Ended};
 use super::plays::plays;
 use crate::tests::fixture::{eager, lazy, recipe};
 use tp_desk::Turned;
-use tp_model::types::{Claimed, Element, Ended as HowEnded, Look, Outcome, Refusal, Status, Work};
+use tp_model::types::{Claimed, Element, Look, Outcome, Refusal, Status, Work};
 use tp_server::{Act, AmountFrom, Declined, KeyFrom, Output, Server};
 
 /// A reply with the register's new value.
@@ -57,50 +56,6 @@ fn outputs_appear_at_commit(rt: HostRuntime) {
     plays(&rt, 4, 8, server, &[Asked(Submits(3, 0)), Ended(&calls)]);
 }
 
-#[test]
-fn a_kill_beats_the_commit(rt: HostRuntime) {
-    let calls = [
-        Takes(0),
-        Prepares(Ok(())),
-        Client(Kills(0, 1)),
-        Commits(Outcome::Lost),
-        Balance(0, Some(0)),
-        IsPrepared(false),
-    ];
-    let server = eager(&rt, recipe(1, Act::Add, &[]));
-    plays(&rt, 4, 8, server, &[Asked(Submits(5, 0)), Ended(&calls)]);
-}
-
-#[test]
-fn declined_and_given_up(rt: HostRuntime) {
-    let refused = Turned::Refused {
-        element: 0,
-        why: Declined::Short,
-    };
-    let calls = [
-        Takes(0),
-        Prepares(Err(Declined::Short)),
-        HasOpen(false),
-        Takes(0),
-        Aborts(HowEnded::Aborted),
-        Turns(refused),
-        Turns(Turned::Idle),
-    ];
-    let steps = [
-        Asked(Submits(1, 0)),
-        Ended(&calls),
-        Asked(NextError(0, Some(0))),
-    ];
-    plays(&rt, 4, 8, lazy(&rt, recipe(1, Act::Take, &[])), &steps);
-}
-
-#[test]
-fn full_then_no_unit(rt: HostRuntime) {
-    let calls = [Turns(Turned::Full { element: 0 }), Turns(Turned::NoUnit)];
-    let server = eager(&rt, recipe(1, Act::Pass, &[REPLY, REPLY]));
-    plays(&rt, 1, 1, server, &[Asked(Submits(1, 0)), Ended(&calls)]);
-}
-
 /// A turn that consumed the element with this unit, and made nothing.
 fn done(element: u32, unit: u16) -> Turned {
     Turned::Done {
@@ -131,20 +86,6 @@ fn turns_go_round(rt: HostRuntime) {
         Asked(Submits(0, 1)),
         Ended(&calls),
         Asked(NextError(0, Some(0))),
-    ];
-    plays(&rt, 4, 8, lazy(&rt, recipe(1, Act::Take, &[])), &steps);
-}
-
-// The place of claims in turn is the pass's, so that a later desk of the pass goes on from it.
-#[test]
-fn a_later_desk_goes_on(rt: HostRuntime) {
-    let first = [TurnsNext(SHORT)];
-    let second = [TurnsNext(done(1, 9)), TurnsNext(SHORT)];
-    let steps = [
-        Asked(Submits(9, 0)),
-        Asked(Submits(0, 1)),
-        Ended(&first),
-        Ended(&second),
     ];
     plays(&rt, 4, 8, lazy(&rt, recipe(1, Act::Take, &[])), &steps);
 }

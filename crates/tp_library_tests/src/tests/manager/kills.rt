@@ -4,8 +4,8 @@ use super::plays::Call::{
     Aborts, Claims, Commits, Finds, HasOpen, Kills, NextError, Reply, Submits, Takes,
 };
 use super::plays::{CLIENT, SERVER, plays};
-use super::{NOTHING, SMALL, request, work};
-use tp_model::types::{Body, Claimed, Killed, Outcome, Refusal, Status};
+use super::{SMALL, request, work};
+use tp_model::types::{Body, Killed, Outcome, Status};
 
 const BODY: Body = [0, 9, 0, 0];
 
@@ -24,23 +24,6 @@ fn kill_held(rt: HostRuntime) {
         // Its last attempt was aborted, but it is killed, and so it isn't in the error queue.
         (CLIENT, NextError(0, None)),
         (SERVER, Finds(element, Status::Killed)),
-    ];
-    plays(&rt, SMALL, &calls);
-}
-
-#[test]
-fn kill_refused(rt: HostRuntime) {
-    let calls = [
-        (CLIENT, Submits(1, BODY, Ok(0))),
-        (CLIENT, Submits(2, BODY, Ok(1))),
-        (CLIENT, Kills(0, Ok(Killed { units_aborted: 0 }))),
-        (CLIENT, Kills(0, Err(Refusal::AlreadyKilled))),
-        (SERVER, Claims(1, Claimed::Idle)),
-        (SERVER, Takes(2, 1)),
-        (SERVER, Commits(&[], NOTHING)),
-        (CLIENT, Kills(1, Err(Refusal::Consumed { unit: 2 }))),
-        (CLIENT, Kills(2, Err(Refusal::NotThere))),
-        (CLIENT, Kills(8, Err(Refusal::NotThere))),
     ];
     plays(&rt, SMALL, &calls);
 }

@@ -6,28 +6,6 @@ use super::{NOTHING, SMALL, request, work};
 use tp_model::types::{Claimed, Killed, Limits, Outcome};
 
 #[test]
-fn claims_go_on(rt: HostRuntime) {
-    let limits = Limits { units: 8, ..SMALL };
-    let calls = [
-        (CLIENT, Submits(1, [0, 5, 0, 0], Ok(0))),
-        (CLIENT, Submits(2, [0, 6, 0, 0], Ok(1))),
-        (CLIENT, Submits(1, [0, 7, 0, 0], Ok(2))),
-        (SERVER, Takes(1, 0)),
-        (SERVER, Commits(&[], NOTHING)),
-        // Row 0 is finished, and row 1 isn't: it waits in another stage.
-        (SERVER, Takes(1, 2)),
-        (SERVER, Commits(&[], NOTHING)),
-        (SERVER, Claims(1, Claimed::Idle)),
-        (SERVER, Takes(2, 1)),
-        (SERVER, Commits(&[], NOTHING)),
-        (SERVER, Claims(1, Claimed::Idle)),
-        (CLIENT, Submits(1, [0, 8, 0, 0], Ok(3))),
-        (SERVER, Takes(1, 3)),
-    ];
-    plays(&rt, limits, &calls);
-}
-
-#[test]
 fn mark_rises(rt: HostRuntime) {
     let limits = Limits { units: 8, ..SMALL };
     let calls = [
@@ -106,38 +84,6 @@ fn mark_passes_dead_drafts(rt: HostRuntime) {
         (CLIENT, Reply(0, 0, None)),
         (CLIENT, Reply(1, 0, Some(6))),
         (CLIENT, Low(15, 1, 0)),
-    ];
-    plays(&rt, limits, &calls);
-}
-
-#[test]
-fn stages_have_marks_of_their_own(rt: HostRuntime) {
-    let limits = Limits { units: 8, ..SMALL };
-    let replied = Outcome::Committed { first: 4, count: 1 };
-    let calls = [
-        (CLIENT, Submits(1, [0, 5, 0, 0], Ok(0))),
-        (CLIENT, Submits(2, [0, 6, 0, 0], Ok(1))),
-        (CLIENT, Submits(2, [0, 7, 0, 0], Ok(2))),
-        (SERVER, Claims(3, Claimed::Idle)),
-        (SERVER, Low(3, 0, 3)),
-        (SERVER, Low(1, 0, 0)),
-        (SERVER, Takes(1, 0)),
-        (SERVER, Commits(&[(15, [0, 0, 0, 0])], replied)),
-        (SERVER, Claims(1, Claimed::Idle)),
-        (SERVER, Low(1, 0, 3)),
-        (SERVER, Low(1, 1, 1)),
-        (SERVER, Takes(2, 1)),
-        (SERVER, Low(2, 0, 1)),
-        (CLIENT, NextError(0, None)),
-        (CLIENT, Low(0, 0, 1)),
-        (CLIENT, Low(0, 1, 1)),
-        // A reply is found through its family, and no mark is raised.
-        (CLIENT, Reply(0, 0, Some(4))),
-        (CLIENT, Low(15, 0, 0)),
-        (CLIENT, Low(15, 1, 0)),
-        // There is no such stage, and no such part.
-        (CLIENT, Low(16, 0, 0)),
-        (CLIENT, Low(15, 32, 0)),
     ];
     plays(&rt, limits, &calls);
 }

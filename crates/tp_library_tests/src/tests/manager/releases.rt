@@ -1,9 +1,6 @@
 //! Elements that are released from the units that hold them, and replies that are collected.
 
-use super::plays::Call::{
-    Aborts, Collects, CollectsNext, Commits, Finds, Kills, Releases, Reply, Requeues, Stands,
-    Submits, Takes,
-};
+use super::plays::Call::{Collects, Commits, Finds, Releases, Reply, Stands, Submits, Takes};
 use super::plays::{CLIENT, SERVER, plays};
 use super::{NEW, SMALL, output};
 use tp_model::types::{Killed, Outcome, Refusal, Released, Status};
@@ -34,27 +31,6 @@ fn what_is_held(rt: HostRuntime) {
     plays(&rt, SMALL, &calls);
 }
 
-#[test]
-fn what_is_not_held(rt: HostRuntime) {
-    let calls = [
-        (CLIENT, Releases(0, Err(Refusal::NotThere))),
-        (CLIENT, Releases(8, Err(Refusal::NotThere))),
-        (CLIENT, Submits(1, [0, 9, 0, 0], Ok(0))),
-        (CLIENT, Releases(0, Err(Refusal::NotHeld))),
-        (SERVER, Takes(1, 0)),
-        (SERVER, Aborts),
-        (CLIENT, Releases(0, Err(Refusal::NotHeld))),
-        (SERVER, Takes(1, 0)),
-        (SERVER, Aborts),
-        (CLIENT, Releases(0, Err(Refusal::NotHeld))),
-        (CLIENT, Requeues(0, Ok(1))),
-        (CLIENT, Releases(0, Err(Refusal::NotHeld))),
-        (CLIENT, Kills(0, Ok(Killed { units_aborted: 0 }))),
-        (CLIENT, Releases(0, Err(Refusal::NotHeld))),
-    ];
-    plays(&rt, SMALL, &calls);
-}
-
 /// Element 0 is consumed by unit 2, which answers with the reply 4.
 #[test]
 fn a_reply_once(rt: HostRuntime) {
@@ -78,32 +54,6 @@ fn a_reply_once(rt: HostRuntime) {
         (CLIENT, Finds(reply, Status::Killed)),
         (CLIENT, Reply(0, 0, None)),
         (CLIENT, Collects(5, Err(Refusal::BadStage))),
-    ];
-    plays(&rt, SMALL, &calls);
-}
-
-/// Unit 2 makes the replies 4, 5 and 6 of request 0. One is killed, and the others are collected in order.
-#[test]
-fn replies_one_after_another(rt: HostRuntime) {
-    let reply = (15, [0, 1, 2, 3]);
-    let calls = [
-        (CLIENT, CollectsNext(0, None)),
-        (CLIENT, CollectsNext(4_000_000_000, None)),
-        (CLIENT, Submits(1, [0, 9, 0, 0], Ok(0))),
-        (CLIENT, CollectsNext(0, None)),
-        (SERVER, Takes(1, 0)),
-        (
-            SERVER,
-            Commits(&[reply; 3], Outcome::Committed { first: 4, count: 3 }),
-        ),
-        // An output is no request.
-        (CLIENT, CollectsNext(4, None)),
-        (CLIENT, Kills(5, Ok(Killed { units_aborted: 0 }))),
-        (CLIENT, CollectsNext(0, Some(4))),
-        (SERVER, CollectsNext(0, Some(6))),
-        (CLIENT, CollectsNext(0, None)),
-        (CLIENT, Stands(4, Status::Killed)),
-        (CLIENT, Stands(6, Status::Killed)),
     ];
     plays(&rt, SMALL, &calls);
 }

@@ -2,15 +2,13 @@
 ghost use Rattle.std.specs.Prelude.{◌<◌, ◌≤◌, All};
 ghost use Rattle.tp_manager.specs.Shown.{IsOf};
 
-use super::plays::Call::{
-    Aborts, Claims, Commits, Finds, HasOpen, Kills, NextError, Requeues, Rounds, Submits, Takes,
-};
+use super::plays::Call::{Aborts, Claims, Finds, Kills, NextError, Requeues, Rounds, Submits};
 use super::plays::{CLIENT, SERVER, play, plays};
-use super::{NEW, NOTHING, request, work};
+use super::{NEW, request, work};
 use crate::tests::fixture::two;
 use std::process::Abort;
 use tp_manager::{Manager, Pass};
-use tp_model::types::{Body, Claimed, Killed, Limits, Refusal, Status};
+use tp_model::types::{Body, Killed, Limits, Refusal, Status};
 
 /// Two passes with four rows and sixteen units each, and two attempts in each round.
 const ROUNDS: Limits = Limits {
@@ -89,51 +87,4 @@ fn three_rounds(rt: HostRuntime) {
         (CLIENT, Rounds(0, Ok(3))),
     ];
     play(&rt, &manager, &mut passes, &calls);
-}
-
-#[test]
-fn nothing_to_requeue(rt: HostRuntime) {
-    let calls = [
-        (CLIENT, Requeues(0, Err(Refusal::NotThere))),
-        (CLIENT, Requeues(8, Err(Refusal::NotThere))),
-        (CLIENT, Rounds(0, Err(Refusal::NotThere))),
-        (CLIENT, Rounds(8, Err(Refusal::NotThere))),
-        (CLIENT, Submits(1, BODY, Ok(0))),
-        (CLIENT, Requeues(0, Err(Refusal::NotParked))),
-        (SERVER, Takes(1, 0)),
-        (SERVER, Commits(&[], NOTHING)),
-        (CLIENT, Requeues(0, Err(Refusal::NotParked))),
-        (
-            CLIENT,
-            Finds(request(0, 1, BODY), Status::Consumed { unit: 16 }),
-        ),
-    ];
-    plays(&rt, ROUNDS, &calls);
-}
-
-/// A pass may have a unit of work open while it gives another element a round, and keeps it open. What is killed before
-/// it is taken again stays killed.
-#[test]
-fn requeue_with_an_open_unit(rt: HostRuntime) {
-    let element = request(0, 1, BODY);
-    let calls = [
-        (CLIENT, Submits(1, BODY, Ok(0))),
-        (CLIENT, Submits(2, [0, 7, 0, 0], Ok(1))),
-        (CLIENT, Requeues(0, Err(Refusal::NotParked))),
-        (SERVER, Claims(1, work(16, 1, element))),
-        (CLIENT, Requeues(0, Err(Refusal::NotParked))),
-        (SERVER, Aborts),
-        (CLIENT, Requeues(0, Err(Refusal::NotParked))),
-        (SERVER, Claims(1, work(17, 2, element))),
-        (CLIENT, Requeues(0, Err(Refusal::NotParked))),
-        (SERVER, Aborts),
-        (SERVER, Takes(2, 1)),
-        (SERVER, Requeues(0, Ok(1))),
-        (SERVER, HasOpen(true)),
-        (SERVER, Commits(&[], NOTHING)),
-        (CLIENT, Kills(0, Ok(Killed { units_aborted: 0 }))),
-        (SERVER, Finds(element, Status::Killed)),
-        (SERVER, Claims(1, Claimed::Idle)),
-    ];
-    plays(&rt, ROUNDS, &calls);
 }

@@ -1,6 +1,5 @@
 //! Passes on threads of their own that draw the spare blocks.
 ghost use denote.Param.Send.{IsSync};
-ghost use Rattle.std.specs.Prelude.{◌≡◌};
 ghost use Rattle.tp_manager.specs.Shown.{IsOf};
 
 use crate::tests::fixture::{kept, two_more};

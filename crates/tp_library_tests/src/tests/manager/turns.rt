@@ -41,29 +41,3 @@ fn each_has_its_turn(rt: HostRuntime) {
     ];
     plays(&rt, limits, &calls);
 }
-
-// The claim in the other stage, which goes past element 1, leaves where the first stage goes on.
-#[test]
-fn each_stage_has_its_turn(rt: HostRuntime) {
-    let limits = Limits {
-        units: 16,
-        attempts: 4,
-        ..SMALL
-    };
-    let calls = [
-        (CLIENT, Submits(1, [0, 5, 0, 0], Ok(0))),
-        (CLIENT, Submits(1, [0, 6, 0, 0], Ok(1))),
-        (CLIENT, Submits(2, [0, 7, 0, 0], Ok(2))),
-        (SERVER, TakesNext(1, 0)),
-        (SERVER, Aborts),
-        (SERVER, TakesNext(2, 2)),
-        (SERVER, Aborts),
-        (SERVER, TakesNext(1, 1)),
-        (SERVER, Aborts),
-        (SERVER, TakesNext(2, 2)),
-        (SERVER, Aborts),
-        (SERVER, TakesNext(1, 0)),
-        (SERVER, Aborts),
-    ];
-    plays(&rt, limits, &calls);
-}

@@ -1,7 +1,6 @@
 //! Requests that are cancelled while a desk works on them, at each point of its turn.
 ghost use denote.Param.Send.{IsSync};
 ghost use Rattle.std.specs.Prelude.{◌≡◌, ◌*◌, ◌<◌, ◌^◌, None, All, length};
-ghost use Rattle.tp_manager.specs.Shown.{IsOf};
 ghost use Rattle.tp_workers.specs.Free.{IsFreePass};
 
 use crate::tests::fixture::{eager, output, recipe};

@@ -2,7 +2,7 @@
 ghost use Rattle.std.specs.Prelude.{◌≡◌, None};
 ghost use Rattle.tp_workers.specs.Free.{IsFreePass};
 
-use crate::tests::fixture::{eager, lazy, output, recipe};
+use crate::tests::fixture::{eager, output, recipe};
 use crate::tests::workers::counts::submits_three;
 use crate::tests::workers::{manager, pass};
 use std::thread::Threads;
@@ -65,24 +65,6 @@ fn full_then_no_unit(rt: HostRuntime) {
     };
     assert_eq!(rt; counts, wanted);
     drop(clients);
-    drop(keeper);
-    drop(manager);
-}
-
-#[test]
-fn refused_then_no_unit(rt: HostRuntime) {
-    let (manager, mut keeper) = manager(&rt, LIMITS);
-    let mut client = pass(&rt, &mut keeper, &manager);
-    assert!(rt; manager.submit(&mut client, 1, [0, 1, 0, 0]) == Ok(0));
-    let server = lazy(&rt, recipe(1, Act::Take, &[]));
-    let counts = two_turns(&rt, &manager, pass(&rt, &mut keeper, &manager), server);
-    let wanted = Shift {
-        refused: 1,
-        nounit: 1,
-        ..Shift::default()
-    };
-    assert_eq!(rt; counts, wanted);
-    drop(client);
     drop(keeper);
     drop(manager);
 }

@@ -1,8 +1,6 @@
 //! Two callers submit while two others claim and commit: whoever claims takes the elements of each caller in the
 //! order in which that one made them.
 ghost use denote.Param.Send.{IsSync};
-ghost use Rattle.std.specs.Prelude.{◌≡◌, None};
-ghost use Rattle.tp_manager.specs.Shown.{IsOf};
 ghost use Rattle.tp_workers.specs.Free.{IsFreePass};
 
 use crate::tests::workers::{manager, pass};

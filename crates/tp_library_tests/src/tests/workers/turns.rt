@@ -1,8 +1,6 @@
 //! Desks that claim in turn, on the caller's own thread, beside such that take the least id. All counts that
 //! aren't named are 0.
-ghost use Rattle.std.specs.Prelude.{◌≡◌, None};
 ghost use Rattle.tp_manager.specs.Shown.{IsOf};
-ghost use Rattle.tp_workers.specs.Free.{IsFreePass};
 
 use crate::tests::fixture::{lazy, recipe};
 use crate::tests::workers::{manager, pass};
@@ -56,20 +54,6 @@ fn a_worker_in_turn(rt: HostRuntime) {
         Plan::in_turn(3),
         counts,
         Status::Waiting { attempts: 1 },
-    );
-}
-
-#[test]
-fn a_worker_by_least_ids(rt: HostRuntime) {
-    let counts = Shift {
-        refused: 3,
-        ..Shift::default()
-    };
-    worked(
-        &rt,
-        Plan::least_first(3),
-        counts,
-        Status::Parked { attempts: 3 },
     );
 }
 

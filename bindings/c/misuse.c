@@ -1,0 +1,216 @@
+/* misuse.c: what a caller in C can get wrong has a code, and changes nothing. */
+#include "check.h"
+#include <string.h>
+
+static void handles(void) {
+  covetrivet_limits limits = { 2, 4, 8, 1, 3 }, found;
+  covetrivet_manager manager = COVETRIVET_CLOSED, other = COVETRIVET_CLOSED;
+  covetrivet_caller a = COVETRIVET_CLOSED, b = COVETRIVET_CLOSED, c = COVETRIVET_CLOSED;
+  covetrivet_counts counts;
+  covetrivet_moved moved;
+  uint32_t number;
+  size_t count;
+  uint16_t small;
+
+  ANSWERS(COVETRIVET_CLOSED_HANDLE, covetrivet_open(&manager, &a));
+  ANSWERS(COVETRIVET_CLOSED_HANDLE, covetrivet_capacity(&manager, &number));
+  ANSWERS(COVETRIVET_CLOSED_HANDLE, covetrivet_get_limits(&manager, &found));
+  ANSWERS(COVETRIVET_CLOSED_HANDLE, covetrivet_account(&manager, 0, &counts));
+  ANSWERS(COVETRIVET_CLOSED_HANDLE, covetrivet_gather(&manager));
+  ANSWERS(COVETRIVET_CLOSED_HANDLE, covetrivet_roll_over(&manager, &limits, &count));
+  ANSWERS(COVETRIVET_CLOSED_HANDLE, covetrivet_moved_at(&manager, 0, &moved));
+  ANSWERS(COVETRIVET_CLOSED_HANDLE, covetrivet_hand_back(&manager, &a));
+  ANSWERS(COVETRIVET_OK, covetrivet_make(&limits, &manager));
+  ANSWERS(COVETRIVET_OPEN_HANDLE, covetrivet_make(&limits, &manager));
+  ANSWERS(COVETRIVET_CLOSED_HANDLE, covetrivet_hand_back(&manager, &a));
+  ANSWERS(COVETRIVET_OK, covetrivet_get_limits(&manager, &found));
+  SO(!memcmp(&found.parts, &limits.parts, 4 * sizeof(uint16_t)) && found.attempts == 3);
+  ANSWERS(COVETRIVET_OK, covetrivet_capacity(&manager, &number));
+  SO(number == 2 * 4 + 8);
+  ANSWERS(COVETRIVET_OK, covetrivet_open(&manager, &a));
+  ANSWERS(COVETRIVET_OPEN_HANDLE, covetrivet_open(&manager, &a));
+  ANSWERS(COVETRIVET_OK, covetrivet_open(&manager, &b));
+  ANSWERS(COVETRIVET_NO_PART, covetrivet_open(&manager, &c));
+  ANSWERS(COVETRIVET_OK, covetrivet_number(&a, &small));
+  SO(small == 0);
+  ANSWERS(COVETRIVET_OK, covetrivet_number(&b, &small));
+  SO(small == 1);
+  ANSWERS(COVETRIVET_NOT_ALL, covetrivet_account(&manager, 0, &counts));
+  ANSWERS(COVETRIVET_NOT_ALL, covetrivet_gather(&manager));
+  ANSWERS(COVETRIVET_NOT_ALL, covetrivet_roll_over(&manager, &limits, &count));
+  ANSWERS(COVETRIVET_NONE, covetrivet_moved_at(&manager, 0, &moved));
+  ANSWERS(COVETRIVET_BAD_STAGE, covetrivet_account(&manager, 16, &counts));
+  ANSWERS(COVETRIVET_OK, covetrivet_meet(&a, &b));
+  ANSWERS(COVETRIVET_CLOSED_HANDLE, covetrivet_meet(&a, &c));
+  ANSWERS(COVETRIVET_CLOSED_HANDLE, covetrivet_meet(&c, &a));
+  /* in any order, and lent again by number */
+  ANSWERS(COVETRIVET_OK, covetrivet_hand_back(&manager, &b));
+  ANSWERS(COVETRIVET_OK, covetrivet_hand_back(&manager, &a));
+  ANSWERS(COVETRIVET_CLOSED_HANDLE, covetrivet_number(&a, &small));
+  ANSWERS(COVETRIVET_OK, covetrivet_account(&manager, 0, &counts));
+  ANSWERS(COVETRIVET_OK, covetrivet_open(&manager, &c));
+  ANSWERS(COVETRIVET_OK, covetrivet_number(&c, &small));
+  SO(small == 0);
+  ANSWERS(COVETRIVET_OK, covetrivet_hand_back(&manager, &c));
+  /* a closed caller is lost to the account */
+  ANSWERS(COVETRIVET_OK, covetrivet_open(&manager, &c));
+  covetrivet_close(&c);
+  covetrivet_close(&c);
+  ANSWERS(COVETRIVET_NOT_ALL, covetrivet_account(&manager, 0, &counts));
+  covetrivet_give_up(&manager);
+  covetrivet_give_up(&manager);
+  for (count = 0; count < 9; count++) {
+    covetrivet_limits bad = limits;
+    if (count == 0) bad.parts = 0;
+    if (count == 1) bad.parts = 33;
+    if (count == 2) bad.rows = 0;
+    if (count == 3) bad.rows = 257;
+    if (count == 4) bad.units = 0;
+    if (count == 5) bad.units = 1025;
+    if (count == 6) bad.spare = 257;
+    if (count == 7) bad.attempts = 0;
+    if (count == 8) bad.attempts = 8;
+    ANSWERS(COVETRIVET_BAD_LIMITS, covetrivet_make(&bad, &other));
+    SO(other.at == NULL);
+  }
+}
+
+static void units(void) {
+  covetrivet_limits limits = { 1, 2, 3, 0, 1 };
+  covetrivet_manager manager = COVETRIVET_CLOSED;
+  covetrivet_caller me = COVETRIVET_CLOSED, none = COVETRIVET_CLOSED;
+  const uint64_t body[4] = { 1, 2, 3, 4 };
+  covetrivet_draft drafts[5];
+  covetrivet_work work;
+  covetrivet_born born = { 77, 77 };
+  covetrivet_element element;
+  covetrivet_released released;
+  covetrivet_look look;
+  covetrivet_left left;
+  uint32_t id;
+  uint8_t byte;
+  int k;
+
+  for (k = 0; k < 5; k++) {
+    memcpy(drafts[k].body, body, sizeof body);
+    drafts[k].stage = COVETRIVET_REPLIES;
+  }
+  ANSWERS(COVETRIVET_OK, covetrivet_make(&limits, &manager));
+  ANSWERS(COVETRIVET_OK, covetrivet_open(&manager, &me));
+  ANSWERS(COVETRIVET_CLOSED_HANDLE, covetrivet_submit(&none, 1, body, &id));
+  ANSWERS(COVETRIVET_CLOSED_HANDLE, covetrivet_claim(&none, 1, &work));
+  ANSWERS(COVETRIVET_CLOSED_HANDLE, covetrivet_commit(&none, drafts, 1, &born));
+  ANSWERS(COVETRIVET_CLOSED_HANDLE, covetrivet_abort(&none));
+  ANSWERS(COVETRIVET_BAD_STAGE, covetrivet_submit(&me, 0, body, &id));
+  ANSWERS(COVETRIVET_BAD_STAGE, covetrivet_submit(&me, 15, body, &id));
+  ANSWERS(COVETRIVET_BAD_STAGE, covetrivet_claim(&me, 0, &work));
+  ANSWERS(COVETRIVET_BAD_STAGE, covetrivet_claim_next(&me, 15, &work));
+  ANSWERS(COVETRIVET_IDLE, covetrivet_claim(&me, 1, &work));
+  ANSWERS(COVETRIVET_IDLE, covetrivet_claim_next(&me, 14, &work));
+  ANSWERS(COVETRIVET_NO_OPEN, covetrivet_abort(&me));
+  ANSWERS(COVETRIVET_NO_OPEN, covetrivet_commit(&me, drafts, 1, &born));
+  ANSWERS(COVETRIVET_NOT_THERE, covetrivet_read(&me, 0, &look));
+  ANSWERS(COVETRIVET_NOT_THERE, covetrivet_read(&me, UINT32_MAX, &look));
+  ANSWERS(COVETRIVET_NOT_THERE, covetrivet_kill(&me, 1, &byte));
+  ANSWERS(COVETRIVET_NOT_THERE, covetrivet_cancel(&me, 1, &id));
+  ANSWERS(COVETRIVET_NOT_THERE, covetrivet_claim_id(&me, 1, &work));
+  ANSWERS(COVETRIVET_OK, covetrivet_submit(&me, 7, body, &id));
+  SO(id == 0);
+  ANSWERS(COVETRIVET_NOT_PARKED, covetrivet_requeue(&me, 0, &byte));
+  ANSWERS(COVETRIVET_NOT_HELD, covetrivet_release(&me, 0, &released));
+  ANSWERS(COVETRIVET_BAD_STAGE, covetrivet_collect(&me, 0, &element));
+  ANSWERS(COVETRIVET_OK, covetrivet_claim(&me, 7, &work));
+  SO(work.element.id == 0 && work.element.root == 0 && work.element.stage == 7 && work.attempt == 1);
+  SO(work.element.by == COVETRIVET_BY_CLIENT && !memcmp(work.element.body, body, sizeof body) && work.unit == 0);
+  ANSWERS(COVETRIVET_OK, covetrivet_has_open(&me, &byte));
+  SO(byte == 1);
+  ANSWERS(COVETRIVET_BUSY, covetrivet_claim(&me, 7, &work));
+  ANSWERS(COVETRIVET_BUSY, covetrivet_claim_next(&me, 7, &work));
+  ANSWERS(COVETRIVET_BUSY, covetrivet_claim_id(&me, 0, &work));
+  ANSWERS(COVETRIVET_BUSY, covetrivet_kill(&me, 0, &byte));
+  ANSWERS(COVETRIVET_BUSY, covetrivet_cancel(&me, 0, &id));
+  ANSWERS(COVETRIVET_BUSY, covetrivet_release(&me, 0, &released));
+  ANSWERS(COVETRIVET_BUSY, covetrivet_collect(&me, 0, &element));
+  ANSWERS(COVETRIVET_BUSY, covetrivet_collect_next(&me, 0, &element));
+  ANSWERS(COVETRIVET_TOO_MANY, covetrivet_commit(&me, drafts, 5, &born));
+  drafts[1].stage = 0;
+  ANSWERS(COVETRIVET_BAD_DRAFT, covetrivet_commit(&me, drafts, 2, &born));
+  drafts[1].stage = 16;
+  ANSWERS(COVETRIVET_BAD_DRAFT, covetrivet_commit(&me, drafts, 4, &born));
+  SO(born.first == 77 && born.count == 77);
+  /* with one attempt it is parked at once, and has three further rounds */
+  ANSWERS(COVETRIVET_OK, covetrivet_abort(&me));
+  ANSWERS(COVETRIVET_OK, covetrivet_next_error(&me, 0, &id));
+  SO(id == 0);
+  ANSWERS(COVETRIVET_NONE, covetrivet_next_error(&me, 1, &id));
+  ANSWERS(COVETRIVET_OK, covetrivet_requeue(&me, 0, &byte));
+  SO(byte == 1);
+  ANSWERS(COVETRIVET_OK, covetrivet_rounds(&me, 0, &byte));
+  SO(byte == 1);
+  ANSWERS(COVETRIVET_OK, covetrivet_claim(&me, 7, &work));
+  drafts[1].stage = COVETRIVET_REPLIES;
+  /* one row is left, and no spare block: two outputs are too many, and the unit is over */
+  ANSWERS(COVETRIVET_FULL, covetrivet_commit(&me, drafts, 2, &born));
+  ANSWERS(COVETRIVET_OK, covetrivet_requeue(&me, 0, &byte));
+  ANSWERS(COVETRIVET_OK, covetrivet_claim_id(&me, 0, &work));
+  SO(work.unit == 2);
+  ANSWERS(COVETRIVET_OK, covetrivet_commit(&me, drafts, 1, &born));
+  SO(born.first == 1 && born.count == 1);
+  ANSWERS(COVETRIVET_OK, covetrivet_room(&me, &left));
+  SO(left.rows == 0 && left.units == 0);
+  ANSWERS(COVETRIVET_NO_UNIT, covetrivet_claim(&me, 7, &work));
+  ANSWERS(COVETRIVET_FULL, covetrivet_submit(&me, 7, body, &id));
+  ANSWERS(COVETRIVET_WAS_CONSUMED, covetrivet_kill(&me, 0, &byte));
+  ANSWERS(COVETRIVET_OK, covetrivet_reply(&me, 0, 0, &id));
+  SO(id == 1);
+  ANSWERS(COVETRIVET_OK, covetrivet_family(&me, 0, 1, &look));
+  SO(look.element.id == 1 && look.element.by == 2 && look.status.kind == COVETRIVET_WAITING);
+  ANSWERS(COVETRIVET_OK, covetrivet_collect_next(&me, 0, &element));
+  SO(element.id == 1 && element.stage == COVETRIVET_REPLIES && element.by == 2 && element.root == 0);
+  ANSWERS(COVETRIVET_NONE, covetrivet_collect_next(&me, 0, &element));
+  ANSWERS(COVETRIVET_ALREADY_KILLED, covetrivet_collect(&me, 1, &element));
+  ANSWERS(COVETRIVET_OK, covetrivet_read(&me, 0, &look));
+  SO(look.status.kind == COVETRIVET_CONSUMED && look.status.unit == 2);
+  covetrivet_give_up(&manager); /* the caller goes on */
+  ANSWERS(COVETRIVET_OK, covetrivet_read(&me, 1, &look));
+  SO(look.status.kind == COVETRIVET_KILLED);
+  covetrivet_close(&me);
+}
+
+static void nulls(void) {
+  covetrivet_limits limits = { 1, 1, 1, 0, 1 };
+  covetrivet_manager manager = COVETRIVET_CLOSED;
+  covetrivet_caller me = COVETRIVET_CLOSED;
+  covetrivet_work work;
+  covetrivet_born born;
+  const uint64_t body[4] = { 0, 0, 0, 0 };
+  uint32_t id;
+
+  ANSWERS(COVETRIVET_NULL, covetrivet_make(NULL, &manager));
+  ANSWERS(COVETRIVET_NULL, covetrivet_make(&limits, NULL));
+  ANSWERS(COVETRIVET_OK, covetrivet_make(&limits, &manager));
+  ANSWERS(COVETRIVET_NULL, covetrivet_open(&manager, NULL));
+  ANSWERS(COVETRIVET_OK, covetrivet_open(&manager, &me));
+  ANSWERS(COVETRIVET_NULL, covetrivet_submit(&me, 1, NULL, &id));
+  ANSWERS(COVETRIVET_NULL, covetrivet_submit(&me, 1, body, NULL));
+  ANSWERS(COVETRIVET_NULL, covetrivet_claim(NULL, 1, &work));
+  ANSWERS(COVETRIVET_NULL, covetrivet_commit(&me, NULL, 1, &born));
+  ANSWERS(COVETRIVET_NO_OPEN, covetrivet_commit(&me, NULL, 0, &born));
+  ANSWERS(COVETRIVET_OK, covetrivet_submit(&me, 1, body, &id));
+  ANSWERS(COVETRIVET_OK, covetrivet_claim(&me, 1, &work));
+  ANSWERS(COVETRIVET_OK, covetrivet_commit(&me, NULL, 0, &born));
+  SO(born.first == 0 && born.count == 0);
+  covetrivet_close(NULL);
+  covetrivet_close(&me);
+  covetrivet_give_up(NULL);
+  covetrivet_give_up(&manager);
+}
+
+int main(void) {
+  handles();
+  units();
+  nulls();
+  SO(covetrivet_version() == COVETRIVET_VERSION);
+  puts("misuse: each has its code");
+  return 0;
+}

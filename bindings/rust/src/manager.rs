@@ -1,0 +1,121 @@
+//! A manager, and the callers that are at home.
+
+use crate::caller::Caller;
+use crate::error::{told, Error};
+use crate::sys::{self, Handle};
+use crate::types::{Account, Counts, Limits, Moved};
+use std::sync::atomic::{AtomicU64, Ordering};
+use std::sync::{Mutex, MutexGuard, PoisonError};
+
+static NEXT: AtomicU64 = AtomicU64::new(0);
+
+/// A manager. It may be shared by threads: its own calls take a lock, those of its [`Caller`]s take none.
+///
+/// Dropped, it is given up with the callers at home; open ones go on.
+pub struct Manager {
+    handle: Mutex<Handle>,
+    id: u64,
+}
+
+impl Manager {
+    /// A manager with these limits, all of whose callers are at home. `BadLimits`, `NoMemory`.
+    pub fn new(limits: Limits) -> Result<Manager, Error> {
+        let mut handle = Handle::closed();
+        // SAFETY: both are references, and the handle is closed.
+        told(unsafe { sys::covetrivet_make(&limits, &mut handle) }, ())?;
+        Ok(Manager {
+            handle: Mutex::new(handle),
+            id: NEXT.fetch_add(1, Ordering::Relaxed),
+        })
+    }
+
+    fn handle(&self) -> MutexGuard<'_, Handle> {
+        // (no call of the library unwinds, so a poisoned lock says nothing of the handle)
+        self.handle.lock().unwrap_or_else(PoisonError::into_inner)
+    }
+
+    /// Opens the caller at home with the least number. `NoPart`, `NoMemory`.
+    pub fn open(&self) -> Result<Caller, Error> {
+        let mut caller = Handle::closed();
+        // SAFETY: the lock is held, and the caller's handle is closed.
+        told(unsafe { sys::covetrivet_open(&mut self.handle(), &mut caller) }, ())?;
+        Ok(Caller::of(caller, self.id))
+    }
+
+    /// Takes a caller home again. It comes back where it is of another manager (`OtherManager`).
+    pub fn hand_back(&self, mut caller: Caller) -> Result<(), (Caller, Error)> {
+        if caller.manager != self.id {
+            return Err((caller, Error::OtherManager));
+        }
+        // SAFETY: the caller is of this manager, as is asked for.
+        match told(unsafe { sys::covetrivet_hand_back(&mut self.handle(), &mut caller.handle) }, ()) {
+            Ok(()) => Ok(()),
+            Err(error) => Err((caller, error)),
+        }
+    }
+
+    /// The limits that the manager was made with.
+    pub fn limits(&self) -> Limits {
+        let mut limits = Limits { parts: 0, rows: 0, units: 0, spare: 0, attempts: 0 };
+        // SAFETY: the lock is held; a manager's handle is open, so it answers 0.
+        unsafe { sys::covetrivet_get_limits(&mut self.handle(), &mut limits) };
+        limits
+    }
+
+    /// How many elements it has room for, at most 10,240.
+    pub fn capacity(&self) -> u32 {
+        let mut capacity = 0;
+        // SAFETY: as above.
+        unsafe { sys::covetrivet_capacity(&mut self.handle(), &mut capacity) };
+        capacity
+    }
+
+    /// How many elements there are of each kind of status, in all and by stage, after one history that all callers have
+    /// then seen. `NotAll` unless all are at home.
+    pub fn account(&self) -> Result<Account, Error> {
+        let mut handle = self.handle();
+        let mut account = Account::default();
+        let places = std::iter::once(&mut account.total).chain(&mut account.stages);
+        for (stage, counts) in (0u8..).zip(places) {
+            let mut found = Counts::default();
+            // SAFETY: the lock is held, through all stages, so nothing happens between them.
+            told(unsafe { sys::covetrivet_account(&mut handle, stage, &mut found) }, ())?;
+            *counts = found;
+        }
+        Ok(account)
+    }
+
+    /// All callers look until all have seen one history. `NotAll` unless all are at home.
+    pub fn gather(&self) -> Result<(), Error> {
+        // SAFETY: the lock is held.
+        told(unsafe { sys::covetrivet_gather(&mut self.handle()) }, ())
+    }
+
+    /// What waits or is parked goes on in a new manager with these limits, each element once, and nothing else does.
+    /// This is the new manager then, all of whose callers are at home. What was carried over, by ascending ids.
+    /// `NotAll`, `Busy`, `BadLimits`, `Full`, `NoMemory`, where the old one stands as it did.
+    pub fn roll_over(&self, limits: Limits) -> Result<Vec<Moved>, Error> {
+        let mut handle = self.handle();
+        let mut count = 0;
+        // SAFETY: the lock is held.
+        told(unsafe { sys::covetrivet_roll_over(&mut handle, &limits, &mut count) }, ())?;
+        let mut all = vec![Moved::default(); count];
+        for (place, moved) in all.iter_mut().enumerate() {
+            // SAFETY: as above; the place is one of those.
+            told(unsafe { sys::covetrivet_moved_at(&mut handle, place, moved) }, ())?;
+        }
+        Ok(all)
+    }
+
+    /// A rollover into a manager with the same limits.
+    pub fn succeed(&self) -> Result<Vec<Moved>, Error> {
+        self.roll_over(self.limits())
+    }
+}
+
+impl Drop for Manager {
+    fn drop(&mut self) {
+        // SAFETY: nobody else has the handle.
+        unsafe { sys::covetrivet_give_up(&mut self.handle()) }
+    }
+}

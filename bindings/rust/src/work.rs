@@ -1,0 +1,78 @@
+//! An open unit of work.
+
+use crate::caller::Caller;
+use crate::error::{told, Error};
+use crate::sys;
+use crate::types::{Draft, Element};
+use std::ops::Range;
+
+/// A unit of work that holds an element. Dropped, it is aborted: the element waits again, or is parked.
+#[must_use = "work that is dropped is aborted"]
+pub struct Work<'a> {
+    caller: &'a mut Caller,
+    element: Element,
+    unit: u16,
+    attempt: u8,
+    is_open: bool,
+}
+
+impl<'a> Work<'a> {
+    pub(crate) fn of(caller: &'a mut Caller, work: &sys::Work) -> Work<'a> {
+        Work {
+            caller,
+            element: Element::of(&work.element),
+            unit: work.unit,
+            attempt: work.attempt,
+            is_open: true,
+        }
+    }
+
+    /// The element that it holds.
+    pub fn element(&self) -> &Element {
+        &self.element
+    }
+
+    /// Its own number.
+    pub fn unit(&self) -> u16 {
+        self.unit
+    }
+
+    /// The how manieth of the element's round it is, from 1 on.
+    pub fn attempt(&self) -> u8 {
+        self.attempt
+    }
+
+    /// The caller, for what it may do meanwhile: submit, read, look. The rest answers `Busy`.
+    pub fn caller(&mut self) -> &mut Caller {
+        self.caller
+    }
+
+    /// Consumes the element and makes these outputs, at most four, in one step. Their ids. It is over where this is
+    /// refused as `Lost` or `Full`, and goes on being held where as `TooMany` or `BadDraft`: then it is dropped, and
+    /// so aborted.
+    pub fn commit(mut self, drafts: &[Draft]) -> Result<Range<u32>, Error> {
+        let mut born = sys::Born::default();
+        // SAFETY: the handle is a caller's and open; the drafts are a slice.
+        let code = unsafe {
+            sys::covetrivet_commit(&mut self.caller.handle, drafts.as_ptr(), drafts.len(), &mut born)
+        };
+        let told = told(code, born.first..born.first + u32::from(born.count));
+        self.is_open = matches!(told, Err(Error::TooMany | Error::BadDraft));
+        told
+    }
+
+    /// Gives it up: the element waits again, or is parked. `Lost` where another caller had aborted it.
+    pub fn abort(mut self) -> Result<(), Error> {
+        self.is_open = false;
+        self.caller.abort()
+    }
+}
+
+impl Drop for Work<'_> {
+    fn drop(&mut self) {
+        if self.is_open {
+            // (where another caller was quicker it is aborted too)
+            let _ = self.caller.abort();
+        }
+    }
+}

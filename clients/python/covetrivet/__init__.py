@@ -1,0 +1,53 @@
+"""A client of Covetrivet's live sessions: the manager runs as a child process, and each command is a call.
+
+    from covetrivet import Draft, Session, refusals, submit
+
+    with Session(["rows 8", "server till eager 2 1 add", "worker packer 1"]) as session:
+        session.submit(1, 5, 6)
+        work = session.claim("packer")
+        session.commit("packer", Draft(2, 0, 10), Draft(15, 5, 6))
+
+A call returns a dataclass, or raises the refusal by its name (`refusals.Busy`). Several commands are sent at
+once in a batch:
+
+    with session.batch() as batch:
+        asked = [batch.add(submit(1, customer, price)) for customer, price in orders]
+    ids = [it.value.element for it in asked]
+
+One process owns a session, and all its threads may call it. A manager's rows and units are used once.
+`rollover` carries what is alive into a new one. A session with `on_full="rollover"` does so by itself, and
+the ids that it tells last.
+
+`dump` returns all that there is as lines, with which a new session goes on: `Session(session.dump().lines)`.
+A session with a log is gone on from by `Session.from_log`.
+
+`covetrivet.library` has the manager in this process, for its threads, by the C library.
+
+docs/LIVE.md says what each line of a session does. It needs Python 3.10, a Unix, and the standard library
+alone.
+"""
+from covetrivet import refusals
+from covetrivet.answers import (
+    Account, Cancelled, Counts, Done, Draft, Dumped, Heard, Killed, Look, Member, NotUnderstood, Released,
+    Reply, Requeued, RolledOver, Submitted, Work,
+)  # fmt: skip
+from covetrivet.batch import Batch, Later
+from covetrivet.commands import (
+    Command, abort, account, balance, cancel, claim, claim_next, collect, commit, count, drain,
+    drain_next, drop, dump, errors, family, kill, prepare, read, release, reply, requeue, rollover,
+    submit, take, total, turn,
+)  # fmt: skip
+from covetrivet.faults import LogFault, NoProgram, SessionBroken, SessionClosed, SessionEnded, SessionFault
+from covetrivet.program import version
+from covetrivet.session import Session
+
+__all__ = [
+    "Account", "Batch", "Cancelled", "Command", "Counts", "Done", "Draft", "Dumped", "Heard", "Killed",
+    "Later", "LogFault", "Look", "Member", "NoProgram", "NotUnderstood", "Released", "Reply", "Requeued",
+    "RolledOver", "Session", "SessionBroken", "SessionClosed", "SessionEnded", "SessionFault",
+    "Submitted", "Work", "abort", "account", "balance", "cancel", "claim", "claim_next", "collect",
+    "commit", "count", "drain", "drain_next", "drop", "dump", "errors", "family", "kill", "prepare",
+    "read", "refusals", "release", "reply", "requeue", "rollover", "submit", "take", "total", "turn",
+]  # fmt: skip
+
+__version__ = version()

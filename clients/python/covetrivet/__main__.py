@@ -1,0 +1,72 @@
+"""The command `covetrivet`, or `python3 -m covetrivet`: runs the program of sessions, and tells what its
+lines are.
+"""
+from __future__ import annotations
+
+import os
+import sys
+from collections.abc import Sequence
+
+from covetrivet import NoProgram, program
+
+HELP = """\
+covetrivet [SESSION]    answers a session line by line, of a file or its input
+covetrivet --help, --version    COVETRIVET_PROGRAM names the program of sessions
+Head     rows N  units N  limit N  spare N   (to 256, 1024, 7, 256; these first)
+         worker NAME STAGE       NAME is 1 to 8 letters, STAGE 1 to 14
+         server NAME eager|lazy STAGE REGISTERS add|take|pass OUT ..
+         start NAME REGISTER N   alive ID ATTEMPTS ROUNDS OUT [ROOT OUT]
+Client   submit STAGE W0 W1 [W2 [W3]]                   submitted ID
+         kill ID  cancel ROOT  requeue ID  release ID   killed ID aborted N ..
+         reply ROOT  collect ROOT  family ROOT          replies ROOT ID:W0:W1 ..
+         read ID  errors  count  account                one line each
+Worker   claim NAME         NAME work ID unit U attempt N root R body W0:..:W3
+         take NAME ID       the same of this element; NAME idle where none waits
+         commit NAME OUT .. NAME done ID unit U outputs FIRST COUNT
+         abort NAME         NAME aborted ID
+         OUT is STAGE:W0:W1[:W2[:W3]], four at most; STAGE 15 is a reply's
+Server   turn NAME   claim, next, take, prepare, commit, abort, drop NAME
+         balance NAME REGISTER    sum REGISTER    drain    drain next
+All      rollover           rolled over N OLD:NEW ..  used rows are free again
+         dump               dumped N, and N lines: a session that goes on there
+         restore            the first command behind alive lines
+Refused  refused [line L:] K WHY [U]; NAME busy, none, nounit, lost, full, ended
+Each command has one answer, in order. Nothing is durable. More: docs/LIVE.md
+"""
+
+
+def fail(status: int, why: object) -> int:
+    print(f"covetrivet: {why}", file=sys.stderr)
+    return status
+
+
+def main(words: Sequence[str] | None = None) -> int:
+    """Exit status: that of the program; 64, 66 or 69 where none is run: wrong words, no such file, no
+    program.
+    """
+    given = list(sys.argv[1:] if words is None else words)
+    if given in (["--help"], ["-h"]):
+        print(HELP, end="")
+        return 0
+    if given == ["--version"]:
+        print(f"covetrivet {program.version()}")
+        return 0
+    if len(given) > 1 or given[:1] and given[0].startswith("-"):
+        return fail(64, "one file at most; covetrivet --help")
+    try:
+        if given:
+            os.dup2(os.open(given[0], os.O_RDONLY), 0)
+    except OSError as fault:
+        return fail(66, f"can't read {given[0]}: {fault.strerror}")
+    try:
+        found = program.find()
+    except NoProgram as why:
+        return fail(69, why)
+    try:
+        os.execvp(found[0], found)
+    except OSError as fault:
+        return fail(69, program.cant_start(found[0], fault))
+
+
+if __name__ == "__main__":
+    sys.exit(main())

@@ -1,0 +1,247 @@
+"""What calls return, and how an answer's line is read. docs/LIVE.md has the lines."""
+from __future__ import annotations
+
+import re
+from collections.abc import Callable
+from dataclasses import dataclass
+
+from covetrivet import refusals
+
+Words = tuple[int, int, int, int]
+
+
+@dataclass(frozen=True)
+class Submitted:
+    """A client's element is born."""
+
+    element: int
+
+
+@dataclass(frozen=True)
+class Work:
+    """What a worker or a server's desk took. Of a server's work the root and the words aren't told."""
+
+    element: int
+    unit: int
+    attempt: int
+    told_root: int | None = None
+    told_words: Words | None = None
+
+    @property
+    def root(self) -> int:
+        """The id of the request. LookupError of a server's work."""
+        if self.told_root is None:
+            raise LookupError(f"the root of a server's work isn't told: {self}")
+        return self.told_root
+
+    @property
+    def words(self) -> Words:
+        """The element's body. LookupError of a server's work."""
+        if self.told_words is None:
+            raise LookupError(f"the words of a server's work aren't told: {self}")
+        return self.told_words
+
+
+@dataclass(frozen=True)
+class Done:
+    """A committed unit, and the ids of its outputs."""
+
+    element: int
+    unit: int
+    outputs: range
+
+
+@dataclass(frozen=True)
+class Killed:
+    """An element is killed; `aborted` counts the units that held it, 0 or 1."""
+
+    element: int
+    aborted: int
+
+
+@dataclass(frozen=True)
+class Cancelled:
+    """A request is cancelled; `killed` counts its elements that were killed by it."""
+
+    root: int
+    killed: int
+
+
+@dataclass(frozen=True)
+class Requeued:
+    """A parked element has another round of attempts."""
+
+    element: int
+    round: int
+
+
+@dataclass(frozen=True)
+class Released:
+    """The unit that held the element is aborted."""
+
+    element: int
+    unit: int
+    attempt: int
+
+
+@dataclass(frozen=True)
+class Reply:
+    """A reply to a request."""
+
+    element: int
+    words: Words
+
+
+@dataclass(frozen=True)
+class Member:
+    """An element of a request; `state` is waiting, held, consumed, parked or killed."""
+
+    element: int
+    stage: int
+    state: str
+
+
+@dataclass(frozen=True)
+class Look:
+    """An element that was read: `by` is `client` or the unit that made it, and the status is as in `held 16
+    1`.
+    """
+
+    element: int
+    stage: int
+    root: int
+    words: Words
+    by: str
+    status: str
+
+
+@dataclass(frozen=True)
+class Counts:
+    """The elements by status."""
+
+    waiting: int
+    held: int
+    consumed: int
+    parked: int
+    killed: int
+
+
+@dataclass(frozen=True)
+class Account:
+    """How many elements were born, and how many have each status."""
+
+    born: int
+    waiting: int
+    held: int
+    consumed: int
+    parked: int
+    killed: int
+
+
+@dataclass(frozen=True)
+class RolledOver:
+    """What is alive, by its id in the old manager, and its id in the new one."""
+
+    moved: dict[int, int]
+
+
+@dataclass(frozen=True)
+class Dumped:
+    """All that there is, as the lines of a session that goes on from there. Where ids last, comments among
+    them say which.
+    """
+
+    lines: tuple[str, ...]
+
+
+@dataclass(frozen=True)
+class Draft:
+    """An output of a commit: its stage, which is 15 for a reply, and its words."""
+
+    stage: int
+    zero: int = 0
+    one: int = 0
+    two: int = 0
+    three: int = 0
+
+    def __str__(self) -> str:
+        return ":".join(f"{it:d}" for it in (self.stage, self.zero, self.one, self.two, self.three))
+
+
+class NotUnderstood(ValueError):
+    """An answer hasn't the form that its command's answers have. The session is broken then."""
+
+
+@dataclass(frozen=True)
+class Heard:
+    """The answer to a command. `told` makes of the program's id of an element the one by which the session
+    tells it.
+    """
+
+    text: str
+    command: str
+    told: Callable[[int], int] = int
+
+    def numbers(self, form: str) -> tuple[int, ...]:
+        """Returns the numbers of an answer of this form. In it each N is a number, and each E an element's
+        id, which is told as the session tells it.
+        """
+        found = re.fullmatch(re.sub("[NE]", "([0-9]+)", form), self.text)
+        if not found:
+            raise NotUnderstood(f"{self.command!r} was answered {self.text!r}")
+        kinds = re.findall("[NE]", form)
+        told = zip(kinds, map(int, found.groups()))
+        return tuple(self.told(it) if kind == "E" else it for kind, it in told)
+
+    def behind(self, first: str) -> Heard:
+        """Returns what is behind the first word, which must be this one."""
+        word, _, rest = self.text.partition(" ")
+        if word != first:
+            raise NotUnderstood(f"{self.command!r} was answered {self.text!r}")
+        return Heard(rest, self.command, self.told)
+
+    def listed(self, form: str) -> list[str]:
+        """Returns the words behind those of the form."""
+        words, wanted = self.text.split(" "), form.split(" ")
+        Heard(" ".join(words[: len(wanted)]), self.command).numbers(form)
+        return words[len(wanted) :]
+
+    def refused(self) -> None:
+        """Raises the refusal that the answer is, by its name, if it is one that any command may have."""
+        found = re.fullmatch(r"refused (?:line \d+: )?\d+ (\w+)(?: (\d+))?", self.text)
+        if found:
+            kind = refusals.BY_NAME.get(found[1])
+            if kind is None:
+                raise NotUnderstood(f"{self.command!r} was answered {self.text!r}")
+            raise kind(self.command, unit=int(found[2]) if found[2] else None)
+
+    def said_of(self, name: str) -> Heard:
+        """Returns what is told behind the name of a worker or server, and raises what it is refused."""
+        said = self.behind(name)
+        first, *others = said.text.split(" ")
+        kind = refusals.BY_WORD.get(first)
+        if kind and len(others) <= 1:
+            raise kind(self.command, name, said.elements(others)[0] if others else None)
+        if first == "refused" and len(others) == 2:
+            why = refusals.BY_NAME.get(others[1])
+            element = said.elements(others[:1])[0]
+            if why:
+                raise why(self.command, name, element)
+            raise refusals.Declined(self.command, name, element, reason=others[1])
+        return said
+
+    def elements(self, words: list[str]) -> tuple[int, ...]:
+        """Returns ids, as the session tells them."""
+        return Heard(" ".join(words), self.command, self.told).numbers(" ".join("E" * len(words)))
+
+
+def words_of(text: str) -> Words:
+    """Returns the four words of a body that is told with two or four."""
+    words = [int(it) for it in text.split(":")]
+    zero, one, two, three = words + [0] * (4 - len(words))
+    return zero, one, two, three
+
+
+def pairs_of(listed: list[str]) -> dict[int, int]:
+    """Returns what is listed as OLD:NEW."""
+    return {int(old): int(new) for old, new in (it.split(":") for it in listed)}

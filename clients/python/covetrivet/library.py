@@ -1,0 +1,383 @@
+"""The C library for Python threads: a manager in this process, and a caller for each thread.
+
+    from covetrivet.library import REPLIES, Draft, Manager
+
+    with Manager(parts=2) as manager, manager.open() as client, manager.open() as server:
+        order = client.submit(1, 5, 6)
+        with server.claim(1) as work:
+            work.commit(Draft(REPLIES, work.words[0] + work.words[1]))
+        reply = client.collect_next(order)
+
+A call returns a dataclass or a number, or raises the refusal by its name: one of `covetrivet.refusals`, or of
+this module. Its `command` is the call's name. include/covetrivet.h says what each call does.
+
+Threads may share a manager, and also a caller: a lock lets one call at a time through. The interpreter's lock
+is given up during a call. A forked process has a copy of its own, which acts on nothing of its parent's; it
+must not use what another thread might have been using at the fork.
+
+The shared object that `./library` makes is loaded for the first manager: the file that COVETRIVET_LIBRARY
+names, or that of the checkout which this package is in. Else NoLibrary says what to do.
+"""
+from __future__ import annotations
+
+import threading
+from types import TracebackType
+from typing import Any
+
+from covetrivet import library_shapes as shapes
+from covetrivet.answers import Counts, Draft, Look, Released, Reply, RolledOver
+from covetrivet.faults import NoLibrary
+from covetrivet.library_answers import (
+    IDLE, NONE, REFUSALS, Account, BadDraft, ClosedHandle, Limits, NoPart, NotAll, OpenHandle, OtherManager,
+    Room, TooMany,
+)  # fmt: skip
+from covetrivet.refusals import Full, Lost, Refusal
+
+__all__ = [
+    "REPLIES", "Account", "BadDraft", "Caller", "ClosedHandle", "Counts", "Draft", "Limits", "Look",
+    "Manager", "NoLibrary", "NoPart", "NotAll", "OpenHandle", "OtherManager", "Released", "Reply",
+    "RolledOver", "Room", "TooMany", "Work",
+]  # fmt: skip
+
+# The stage of replies.
+REPLIES = 15
+
+
+class Handle:
+    """What managers and callers are to the library. One call at a time may use a handle, or even look at it.
+    """
+
+    def __init__(self) -> None:
+        self._handle = shapes.CHandle()
+        self._library = shapes.library()
+        # (one that a thread may take twice: a signal's handler may call, since it runs between calls)
+        self._lock = threading.RLock()
+
+    def _ask(self, call: str, *given: Any, none: int | None = None) -> Any:
+        """Makes a call, and returns what it writes; None where it answers `none`."""
+        takes, writes = shapes.CALLS[call]
+        words = [shapes.fitting(call, kind, it) for kind, it in zip(takes, given)]
+        value = writes() if writes else None
+        with self._lock:
+            code = self._library.calls[call](self._handle, *words, *([value] if writes else []))
+        if code == none:
+            return None
+        refuse(call, code)
+        return value
+
+    def _number(self, call: str, *given: Any) -> int:
+        return int(self._ask(call, *given).value)
+
+
+def refuse(call: str, code: int) -> None:
+    """Raises the refusal of this code, if it is one."""
+    if code:
+        kind = REFUSALS.get(code)
+        raise kind(call) if kind else Refusal(call, reason=f"code {code}")
+
+
+class Manager(Handle):
+    """A manager, all of whose callers are at home. BadLimits where a limit is out of its range, NoMemory,
+    NoLibrary.
+
+    Used as a context it is closed in the end.
+    """
+
+    def __init__(
+        self, parts: int = 4, rows: int = 256, units: int = 1024, attempts: int = 3, spare: int = 0
+    ) -> None:
+        super().__init__()
+        limits = shapes.limits_of("make", Limits(parts, rows, units, attempts, spare))
+        refuse("make", self._library.make(limits, self._handle))
+
+    def open(self) -> Caller:
+        """Opens the caller at home with the least number. NoPart where all are open, NoMemory."""
+        caller = Caller(self)
+        self._ask("open", caller._handle)
+        return caller
+
+    def hand_back(self, caller: Caller) -> None:
+        """Takes a caller home again, in any order. Its unit of work stays open. OtherManager where it isn't
+        this manager's.
+
+        A caller that is used as a context does so by itself.
+        """
+        if caller.manager is not self:
+            raise OtherManager("hand_back")
+        with caller._lock:
+            self._ask("hand_back", caller._handle)
+            caller._unit = None
+
+    def limits(self) -> Limits:
+        """The limits that the manager has."""
+        it = self._ask("get_limits")
+        return Limits(it.parts, it.rows, it.units, it.attempts, it.spare)
+
+    def capacity(self) -> int:
+        """How many elements it has room for, at most 10240."""
+        return self._number("capacity")
+
+    def account(self) -> Account:
+        """How many elements there are of each status. NotAll where not all callers are at home."""
+        with self._lock:
+            all = [self._ask("account", stage) for stage in range(REPLIES + 1)]
+        counts = [Counts(it.waiting, it.held, it.consumed, it.parked, it.killed) for it in all]
+        return Account(counts[0], dict(enumerate(counts[1:], 1)))
+
+    def gather(self) -> None:
+        """All callers look until all have seen one history. NotAll where not all are at home."""
+        self._ask("gather")
+
+    def rollover(self, limits: Limits | None = None) -> RolledOver:
+        """What waits or is parked goes on in a new manager, with the same limits or these. This is the new
+        one then.
+
+        NotAll where not all callers are at home, Busy where one has a unit open, BadLimits also where
+        `attempts` differs, Full where these limits are too small, NoMemory: it stands as it did.
+        """
+        with self._lock:
+            given = shapes.limits_of("roll_over", limits or self.limits())
+            count = self._number("roll_over", given)
+            moved = [self._ask("moved_at", place) for place in range(count)]
+        return RolledOver({it.old_id: it.new_id for it in moved})
+
+    def close(self) -> None:
+        """Gives up the manager. Callers that are open go on."""
+        with self._lock:
+            self._library.give_up(self._handle)
+
+    def __enter__(self) -> Manager:
+        return self
+
+    def __exit__(
+        self, kind: type[BaseException] | None, fault: BaseException | None, trace: TracebackType | None
+    ) -> None:
+        self.close()
+
+    def __del__(self) -> None:
+        if hasattr(self, "_library"):
+            self._library.give_up(self._handle)
+
+
+class Caller(Handle):
+    """A way to act on a manager, by `manager.open()`. Used as a context it is handed back in the end. One
+    that nothing holds any more is closed.
+
+    Each call may be refused as ClosedHandle. An element of an id that was never born is NotThere.
+    """
+
+    def __init__(self, manager: Manager) -> None:
+        super().__init__()
+        self.manager = manager
+        # (the unit of work that is open: that of a Work which isn't ended)
+        self._unit: int | None = None
+
+    # ---- of a client
+
+    def submit(self, stage: int, zero: int = 0, one: int = 0, two: int = 0, three: int = 0) -> int:
+        """Puts an element into the queue of a stage, 1 to 14. Its id. BadStage, Full; BadDraft where a word
+        isn't 0 to 2^64 - 1.
+        """
+        return self._number("submit", stage, shapes.body_of("submit", zero, one, two, three))
+
+    def read(self, element: int) -> Look:
+        """The element, and how it stands."""
+        return shapes.look_of(self._ask("read", element))
+
+    def rounds(self, element: int) -> int:
+        """How many further rounds of attempts it was given, 0 to 3."""
+        return self._number("rounds", element)
+
+    def reply(self, root: int, start: int = 0) -> int | None:
+        """The least id from `start` on of a reply to this request that waits."""
+        found = self._ask("reply", root, start, none=NONE)
+        return None if found is None else int(found.value)
+
+    def next_error(self, start: int = 0) -> int | None:
+        """The least id from `start` on of an element that is parked."""
+        found = self._ask("next_error", start, none=NONE)
+        return None if found is None else int(found.value)
+
+    def family(self, root: int) -> list[Look]:
+        """The elements of a request by ascending ids, and how each stands."""
+        members: list[Look] = []
+        start = 0
+        while found := self._ask("family", root, start, none=NONE):
+            members.append(shapes.look_of(found))
+            start = members[-1].element + 1
+        return members
+
+    def collect(self, element: int) -> Reply:
+        """Takes the reply with this id, once. BadStage where it is none, AlreadyKilled, Busy."""
+        it = self._ask("collect", element)
+        return Reply(it.id, shapes.words_of(it))
+
+    def collect_next(self, root: int) -> Reply | None:
+        """Takes the least reply to this request that waits, once, if there is one. Busy."""
+        it = self._ask("collect_next", root, none=NONE)
+        return None if it is None else Reply(it.id, shapes.words_of(it))
+
+    def requeue(self, element: int) -> int:
+        """Gives a parked element another round of attempts. Which, 1 to 3. NotParked, NoRound."""
+        return self._number("requeue", element)
+
+    def kill(self, element: int) -> int:
+        """Kills an element. How many units that held it were aborted. Consumed, AlreadyKilled, behind which
+        units may have been aborted too; Busy.
+        """
+        return self._number("kill", element)
+
+    def cancel(self, root: int) -> int:
+        """Kills each element of a request that is no reply and not finished. How many. Busy."""
+        return self._number("cancel", root)
+
+    def release(self, element: int) -> Released:
+        """Aborts the unit that holds an element. Which that was. NotHeld, Busy."""
+        it = self._ask("release", element)
+        return Released(element, it.unit, it.attempt)
+
+    # ---- of a server
+
+    def claim(self, stage: int) -> Work | None:
+        """Takes the first element of a stage, 1 to 14, that waits, if any does. BadStage, Busy, NoUnit."""
+        return self._claim("claim", stage)
+
+    def claim_next(self, stage: int) -> Work | None:
+        """Takes the next element of a stage in turn, if there is one. BadStage, Busy, NoUnit."""
+        return self._claim("claim_next", stage)
+
+    def claim_id(self, element: int) -> Work:
+        """Takes the element with this id. NotWaiting, BadStage where it is a reply, Busy, NoUnit."""
+        with self._lock:
+            return Work(self, self._ask("claim_id", element))
+
+    def _claim(self, call: str, stage: int) -> Work | None:
+        with self._lock:
+            it = self._ask(call, stage, none=IDLE)
+            return None if it is None else Work(self, it)
+
+    def commit(self, *drafts: Draft) -> range:
+        """Commits the open unit with these outputs, at most four. Their ids. Lost, Full: the unit is ended.
+        NoneOpen, TooMany, BadDraft: nothing has changed.
+        """
+        out = (shapes.CDraft * max(1, len(drafts)))()
+        for at, draft in zip(out, drafts):
+            if not 1 <= draft.stage <= REPLIES:
+                raise BadDraft("commit")
+            at.stage = draft.stage
+            at.body = shapes.body_of("commit", draft.zero, draft.one, draft.two, draft.three)
+        with self._lock:
+            try:
+                born = self._ask("commit", out, len(drafts))
+            except (Lost, Full):
+                self._unit = None
+                raise
+            self._unit = None
+        return range(born.first, born.first + born.count)
+
+    def abort(self) -> None:
+        """Gives up the open unit: its element waits again, or is parked. NoneOpen; Lost where another caller
+        had aborted it.
+        """
+        with self._lock:
+            self._unit = None
+            self._ask("abort")
+
+    # ---- of a caller alone, and of two
+
+    def number(self) -> int:
+        """The caller's number, from 0 on."""
+        return self._number("number")
+
+    def room(self) -> Room:
+        """What is left to it."""
+        it = self._ask("room")
+        return Room(it.rows, it.units)
+
+    def has_open(self) -> bool:
+        """Whether it has a unit of work open."""
+        return bool(self._number("has_open"))
+
+    def low(self, stage: int, part: int) -> int:
+        """How many first rows of a part have nothing alive of a stage, 1 to 15, or with 0 of any, as it last
+        found it.
+        """
+        return self._number("low", stage, part)
+
+    def seen_blocks(self) -> int:
+        """How many spare blocks were drawn, as it last found it."""
+        return self._number("seen_blocks")
+
+    def meet(self, other: Caller) -> None:
+        """The two show each other what they have seen. OtherManager where they aren't two of one manager."""
+        if other.manager is not self.manager or other is self:
+            raise OtherManager("meet")
+        # (in one order, so that two threads don't wait for each other)
+        first, second = sorted((self, other), key=id)
+        with first._lock, second._lock:
+            self._ask("meet", other._handle)
+
+    def close(self) -> None:
+        """Closes it for good: with it the account and rollovers are lost to the manager. Another caller can
+        release what it holds.
+        """
+        with self._lock:
+            self._unit = None
+            self._library.close(self._handle)
+
+    def __enter__(self) -> Caller:
+        return self
+
+    def __exit__(
+        self, kind: type[BaseException] | None, fault: BaseException | None, trace: TracebackType | None
+    ) -> None:
+        try:
+            self.manager.hand_back(self)
+        except ClosedHandle:
+            # It has been handed back or closed, or its manager is.
+            pass
+
+    def __del__(self) -> None:
+        if hasattr(self, "_library"):
+            self._library.close(self._handle)
+
+
+class Work:
+    """An open unit of work and the element that it holds. Used as a context it is aborted in the end unless
+    it was committed.
+    """
+
+    def __init__(self, caller: Caller, it: shapes.CWork) -> None:
+        self.caller = caller
+        self.element: int = it.element.id
+        self.stage: int = it.element.stage
+        self.root: int = it.element.root
+        self.words = shapes.words_of(it.element)
+        self.unit: int = it.unit
+        self.attempt: int = it.attempt
+        caller._unit = self.unit
+
+    @property
+    def is_open(self) -> bool:
+        """Whether it was neither committed nor aborted by its caller. Another one may have aborted it."""
+        return self.caller._unit == self.unit
+
+    def commit(self, *drafts: Draft) -> range:
+        """Consumes the element and makes these outputs, as Caller.commit does."""
+        return self.caller.commit(*drafts)
+
+    def abort(self) -> None:
+        """Gives it up, as Caller.abort does."""
+        self.caller.abort()
+
+    def __enter__(self) -> Work:
+        return self
+
+    def __exit__(
+        self, kind: type[BaseException] | None, fault: BaseException | None, trace: TracebackType | None
+    ) -> None:
+        if self.is_open:
+            try:
+                self.abort()
+            except Lost:
+                pass

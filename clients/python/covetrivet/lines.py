@@ -1,0 +1,62 @@
+"""Lines of a session, as far as a client must know them: which belong to the head, and which have an answer.
+"""
+from __future__ import annotations
+
+import re
+from collections.abc import Iterator, Sequence
+
+OF_HEAD = ("rows", "units", "limit", "spare", "server", "start", "worker", "alive")
+# What changes nothing. A log needs none of it.
+QUIET = ("read", "reply", "family", "errors", "count", "balance", "sum", "account", "dump")
+LONGEST_LINE = 200
+LINES_AT_ONCE = 1000
+
+
+def checked(line: str) -> str:
+    """Returns the line. ValueError where it has a byte that no line has, as a line end, which would make two
+    of it.
+    """
+    if not re.fullmatch("[ -~]*", line):
+        raise ValueError(f"this can't be a line of a session: {line!r}")
+    return line
+
+
+def is_empty(line: str) -> bool:
+    return line.startswith("#") or not line.strip()
+
+
+def is_answered(line: str) -> bool:
+    """Whether a line behind the head has an answer. A comment that is too long has one: it is refused."""
+    return not is_empty(line) or len(line) > LONGEST_LINE
+
+
+def is_for_logs(line: str) -> bool:
+    """Whether a log has this line. It has a rollover once that is done, and so not by this."""
+    return not is_empty(line) and line.split()[0] not in (*QUIET, "rollover")
+
+
+def is_rollover(line: str) -> bool:
+    return line.split() == ["rollover"]
+
+
+def is_alive(line: str) -> bool:
+    return line.split()[:1] == ["alive"]
+
+
+def head_of(lines: Sequence[str]) -> list[str]:
+    """Returns the lines before the first command."""
+    commands = (at for at, it in enumerate(lines) if not is_empty(it) and it.split()[0] not in OF_HEAD)
+    first = next(commands, len(lines))
+    return list(lines[:first])
+
+
+def pieces_of(lines: Sequence[str]) -> Iterator[list[str]]:
+    """Yields the lines in pieces. A rollover is a piece of its own."""
+    piece: list[str] = []
+    for line in lines:
+        if piece and (is_rollover(line) or is_rollover(piece[0]) or len(piece) == LINES_AT_ONCE):
+            yield piece
+            piece = []
+        piece.append(line)
+    if piece:
+        yield piece

@@ -1,0 +1,215 @@
+"""Sessions with a log, whose client or program is lost."""
+from __future__ import annotations
+
+import os
+import signal
+import subprocess
+import sys
+import tempfile
+import unittest
+from pathlib import Path
+
+from covetrivet import Counts, Draft, LogFault, NoProgram, Session, SessionBroken, SessionEnded, refusals
+
+HEAD = ["rows 16", "units 16", "worker clerk 1"]
+
+
+class Logs(unittest.TestCase):
+    def setUp(self) -> None:
+        folder = tempfile.TemporaryDirectory()
+        self.addCleanup(folder.cleanup)
+        self.path = f"{folder.name}/orders.log"
+
+    def lines(self) -> list[str]:
+        return Path(self.path).read_text(encoding="ascii").splitlines()
+
+    def lost(self, session: Session) -> None:
+        """Has the program be killed, as with its machine's power."""
+        session.process.kill()
+        with self.assertRaises(SessionEnded):
+            session.count()
+
+    def test_a_session_goes_on(self) -> None:
+        with Session(HEAD, log=self.path) as session:
+            for customer in range(4):
+                session.submit(1, customer, 10)
+            session.claim("clerk")
+            session.commit("clerk", Draft(15, 0, 1))
+            session.claim("clerk")
+            self.lost(session)
+        wanted = [*HEAD, "submit 1 0 10", "submit 1 1 10", "submit 1 2 10", "submit 1 3 10"]
+        wanted += ["claim clerk", "commit clerk 15:0:1:0:0", "claim clerk"]
+        for _life in range(3):
+            self.assertEqual(self.lines(), wanted)
+            with Session.from_log(self.path) as session:
+                # Order 1 is in hand, as it was: 2 and 3 wait, and the reply.
+                self.assertEqual(session.count(), Counts(3, 1, 1, 0, 0))
+                with self.assertRaises(refusals.Busy):
+                    session.claim("clerk")
+                self.lost(session)
+            wanted.append("claim clerk")
+
+    def test_a_client_is_killed(self) -> None:
+        # Each order that the killed client was told of is there once behind it.
+        child = (
+            "import sys\nfrom covetrivet import Session\n"
+            f"with Session(['rows 256', 'spare 256'], log={self.path!r}) as session:\n"
+            "    while True: print(session.submit(1, 7).element, flush=True)\n"
+        )
+        with subprocess.Popen([sys.executable, "-c", child], stdout=subprocess.PIPE, text=True) as client:
+            assert client.stdout
+            told = [client.stdout.readline() for _ in range(50)]
+            client.send_signal(signal.SIGKILL)
+            told += client.stdout.readlines()
+        with Session.from_log(self.path) as session:
+            waiting = session.count().waiting
+            self.assertIn(waiting - len(told), (0, 1))
+            self.assertEqual({session.read(int(it)).words[0] for it in told}, {7})
+            self.assertEqual(session.submit(1, 8).element, waiting)
+
+    def test_a_torn_last_line(self) -> None:
+        with Session(HEAD, log=self.path) as session:
+            session.submit(1, 1)
+            session.submit(1, 2)
+        with open(self.path, "a", encoding="ascii") as log:
+            log.write("submit 1 3")
+        for customer in (4, 5):
+            with Session.from_log(self.path) as session:
+                session.submit(1, customer)
+        with Session.from_log(self.path) as session:
+            waiting = range(session.count().waiting)
+            self.assertEqual([session.read(it).words[0] for it in waiting], [1, 2, 4, 5])
+
+    def test_a_log_is_no_other_sessions(self) -> None:
+        with Session(HEAD, log=self.path) as session:
+            session.submit(1, 1)
+            for other in (Session(HEAD, log=self.path), Session.from_log(self.path)):
+                with self.assertRaises(LogFault), other:
+                    pass
+            self.assertEqual(session.count(), Counts(1, 0, 0, 0, 0))
+        # Neither has changed it, and where the session is closed it still isn't begun anew.
+        self.assertEqual(self.lines(), [*HEAD, "submit 1 1 0"])
+        with self.assertRaises(LogFault), Session(HEAD, log=self.path):
+            pass
+        self.assertEqual(os.listdir(os.path.dirname(self.path)), ["orders.log"])
+
+    def test_a_session_that_doesnt_begin(self) -> None:
+        # It leaves no log behind, which would be in the way of the next one.
+        with self.assertRaises(refusals.BadLimits), Session(["rows 0"], log=self.path):
+            pass
+        with self.assertRaises(NoProgram), Session(HEAD, program="/nowhere/tp_live", log=self.path):
+            pass
+        self.assertEqual(os.listdir(os.path.dirname(self.path)), [])
+        with Session(HEAD, log=self.path) as session:
+            self.assertEqual(session.submit(1, 1).element, 0)
+
+    def test_no_log(self) -> None:
+        with self.assertRaises(LogFault), Session.from_log(self.path):
+            pass
+        Path(self.path).write_bytes(b"")
+        with self.assertRaises(LogFault), Session.from_log(self.path):
+            pass
+        with self.assertRaises(LogFault), Session(HEAD, log=f"{self.path}/nowhere"):
+            pass
+        with Session(HEAD) as session:
+            with self.assertRaises(LogFault):
+                session.shorten_log()
+            self.assertEqual(session.submit(1, 1).element, 0)
+
+    def test_a_log_that_cant_be_written(self) -> None:
+        with Session(HEAD, log=self.path) as session:
+            session.submit(1, 1)
+            assert session._log
+            os.close(session._log.descriptor)
+            session._log.descriptor = os.open("/dev/full", os.O_WRONLY)
+            with self.assertRaises(OSError):
+                session.submit(1, 2)
+            with self.assertRaises(SessionBroken):
+                session.submit(1, 3)
+        with Session.from_log(self.path) as session:
+            self.assertEqual(session.count(), Counts(1, 0, 0, 0, 0))
+
+    def test_a_short_log(self) -> None:
+        with Session(HEAD, log=self.path) as session:
+            for customer in range(4):
+                session.submit(1, customer)
+            session.cancel(1)
+            session.shorten_log()
+            # (0, 2 and 3 are 0, 1 and 2 behind the rollover)
+            work = session.claim("clerk")
+            assert work
+            self.assertEqual((work.element, work.unit, work.words), (0, 16, (0, 0, 0, 0)))
+            session.commit("clerk", Draft(15, 5))
+        alive = [f"alive {it} 0 0 1:{it}:0:0:0" for it in (0, 2, 3)]
+        wanted = ["rows 16", "units 16", "limit 3", "spare 0", "worker clerk 1", *alive, "restore"]
+        self.assertEqual(self.lines(), [*wanted, "claim clerk", "commit clerk 15:5:0:0:0"])
+        with Session.from_log(self.path) as session:
+            self.assertEqual(session.moved, {0: 0, 2: 1, 3: 2})
+            self.assertEqual([it.words[0] for it in session.collect(0)], [5])
+            self.assertEqual(session.count(), Counts(2, 0, 1, 0, 1))
+
+    def test_a_log_that_isnt_shortened(self) -> None:
+        with Session(["rows 64", "units 64", "worker clerk 1"], log=self.path) as session:
+            session.submit(1, 1)
+            session.claim("clerk")
+            with self.assertRaises(refusals.Busy):
+                session.shorten_log()
+            session.commit("clerk", Draft(15, 1, 1))
+            session.submit(1, 2, 2)
+            self.lost(session)
+        self.assertEqual(self.lines()[-2:], ["commit clerk 15:1:1:0:0", "submit 1 2 2"])
+        with Session.from_log(self.path) as session:
+            self.assertEqual(session.count(), Counts(2, 0, 1, 0, 0))
+
+    def test_a_log_with_no_room_to_roll(self) -> None:
+        with Session(["rows 4", "worker w 1"], log=self.path) as session:
+            session.submit(1, 1)
+            session.claim("w")
+            session.commit("w", *[Draft(2, it) for it in (5, 6, 7, 8)])
+            before = self.lines()
+            # The four are one family. Their root needs a row more for its copy.
+            with self.assertRaises(refusals.Full):
+                session.shorten_log()
+            self.assertEqual(self.lines(), before)
+            self.assertEqual(os.listdir(os.path.dirname(self.path)), ["orders.log"])
+            session.kill(4)
+            session.shorten_log()
+            self.assertEqual(session.count().waiting, 3)
+        with Session.from_log(self.path) as session:
+            self.assertEqual([session.read(it).words[0] for it in session.moved.values()], [6, 7, 8])
+
+    def test_ids_last_in_a_log(self) -> None:
+        early: list[int] = []
+        with Session(HEAD, log=self.path, on_full="rollover") as session:
+            for customer in range(40):
+                order = session.submit(1, customer, 10).element
+                if customer % 10 == 0:
+                    early.append(order)
+                    continue
+                try:
+                    session.take("clerk", order)
+                    session.commit("clerk", Draft(15, customer, 1))
+                except refusals.Full:
+                    session.take("clerk", order)
+                    session.commit("clerk", Draft(15, customer, 1))
+                if customer % 10 == 1:
+                    early.append(order)
+                else:
+                    session.collect(order)
+            rollovers = session.rollovers
+            self.assertGreater(rollovers, 1)
+            self.lost(session)
+        for life in range(4):
+            with Session.from_log(self.path) as session:
+                self.assertEqual(session.rollovers, 0 if life == 3 else rollovers)
+                # The early orders wait; of those with a reply the order is told by its root.
+                self.assertEqual([session.read(it).words[0] for it in early[::2]], [0, 10, 20, 30])
+                replies = [[it.words[0] for it in session.reply(it)] for it in early[1::2]]
+                self.assertEqual(replies, [[1], [11], [21], [31]])
+                if life == 2:
+                    session.shorten_log()
+                self.lost(session)
+
+
+if __name__ == "__main__":
+    unittest.main()

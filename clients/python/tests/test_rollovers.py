@@ -1,0 +1,165 @@
+"""Rollovers and dumps, and ids that last over them."""
+from __future__ import annotations
+
+import unittest
+
+from covetrivet import (
+    Account, Counts, Done, Draft, Dumped, Reply, RolledOver, Session, claim, count, dump, refusals, submit,
+)  # fmt: skip
+
+HEAD = ["rows 8", "units 8", "limit 2", "server till eager 2 1 add", "start till 0 100", "worker packer 1"]
+
+
+class Rollovers(unittest.TestCase):
+    def test_a_rollover(self) -> None:
+        with Session(HEAD) as session:
+            session.submit(1, 5)
+            session.submit(1, 6)
+            session.claim("packer")
+            with self.assertRaises(refusals.Busy):
+                session.rollover()
+            session.commit("packer", Draft(2, 0, 10), Draft(15, 5, 6))
+            self.assertEqual(session.rollover(), RolledOver({1: 0, 16: 17, 17: 18}))
+            self.assertEqual(session.reply(16), (Reply(18, (5, 6, 0, 0)),))
+            self.assertEqual(session.turn("till"), Done(17, 8, range(0)))
+            self.assertEqual(session.account(), Account(4, 2, 0, 2, 0, 0))
+        self.assertEqual(session.finals, {"till": (110,)})
+
+    def test_ids_last(self) -> None:
+        orders: list[int] = []
+        with Session(["rows 32", "units 6", "worker w 1"], on_full="rollover") as session:
+            for customer in range(100):
+                orders.append(session.submit(1, customer).element)
+                work = session.claim("w")
+                assert work
+                self.assertEqual((work.element, work.root, work.words[0]), (orders[-1], orders[-1], customer))
+                session.commit("w", Draft(15, customer), Draft(3, customer))
+                if customer > 1:
+                    # Its reply and its second output may have been carried over meanwhile, and keep their
+                    # root.
+                    self.assertEqual([it.words[0] for it in session.collect(orders[-3])], [customer - 2])
+                    self.assertEqual(session.cancel(orders[-3]).killed, 1)
+            self.assertEqual(len({*orders}), 100)
+            self.assertGreater(session.rollovers, 10)
+            with self.assertRaises(refusals.NotThere) as caught:
+                session.read(orders[0])
+            self.assertEqual(caught.exception.element, orders[0])
+
+    def test_roots_that_no_answer_told(self) -> None:
+        # What a drain makes is told by no answer, and keeps its root all the same.
+        head = ["rows 8", "units 8", "server till eager 1 1 add 2:same:same", "worker packer 2"]
+        with Session(head, on_full="rollover") as session:
+            order = session.submit(1, 0, 7).element
+            session.drain()
+            session.rollover()
+            session.rollover()
+            work = session.claim("packer")
+            assert work
+            self.assertEqual((work.root, work.words), (order, (0, 7, 0, 0)))
+            self.assertEqual([it.state for it in session.family(order)], ["consumed", "held"])
+
+    def test_what_finds_no_room(self) -> None:
+        head = ["rows 2", "units 8", "limit 2", "worker w 1", "worker v 1"]
+        with Session(head, on_full="rollover") as session:
+            order = session.submit(1, 1).element
+            session.claim("w")
+            with self.assertRaises(refusals.Full):
+                session.commit("w", Draft(15), Draft(15), Draft(15))
+            self.assertEqual(session.read(order).status, "waiting 1")
+            session.claim("v")
+            session.submit(1, 2)
+            with self.assertRaises(refusals.Full) as caught:
+                session.submit(1, 3)
+            self.assertIsInstance(caught.exception.__cause__, refusals.Busy)
+
+
+class Dumps(unittest.TestCase):
+    LINES = (
+        "rows 8", "units 8", "limit 2", "spare 0", "server till eager 2 1 add", "start till 0 100",
+        "worker packer 1", "alive 1 0 0 1:6:0:0:0", "alive 16 0 0 2:0:10:0:0 0 1:5:0:0:0",
+        "alive 17 0 0 15:5:6:0:0 0 1:5:0:0:0", "restore",
+    )  # fmt: skip
+
+    def test_a_dump(self) -> None:
+        with Session(HEAD) as session:
+            session.submit(1, 5)
+            session.submit(1, 6)
+            session.claim("packer")
+            with self.assertRaises(refusals.Busy):
+                session.dump()
+            session.commit("packer", Draft(2, 0, 10), Draft(15, 5, 6))
+            dumped = session.dump()
+            self.assertEqual(dumped, Dumped(self.LINES))
+            self.assertEqual(session.count(), Counts(3, 0, 1, 0, 0))
+        # The command `restore` is sent where it lacks.
+        for lines in (dumped.lines, dumped.lines[:-1]):
+            with Session(lines) as session:
+                self.assertEqual(session.moved, {1: 0, 16: 17, 17: 18})
+                self.assertEqual(session.reply(16), (Reply(18, (5, 6, 0, 0)),))
+                self.assertEqual(session.turn("till"), Done(17, 8, range(0)))
+                self.assertEqual(session.account(), Account(4, 2, 0, 2, 0, 0))
+            self.assertEqual(session.finals, {"till": (110,)})
+
+    def test_a_dropped_desk(self) -> None:
+        with Session(HEAD) as session:
+            session.drop("till")
+            dumped = session.dump()
+        self.assertEqual(dumped.lines[-2:], ("restore", "drop till"))
+        with Session(dumped.lines) as session:
+            self.assertEqual(session.moved, {})
+            with self.assertRaises(refusals.Ended):
+                session.turn("till")
+            session.submit(1, 5)
+        self.assertEqual(session.finals, {"till": (100,)})
+
+    def test_dumps_in_a_batch(self) -> None:
+        with Session(HEAD) as session:
+            with session.batch() as batch:
+                batch.add(submit(1, 6))
+                one = batch.add(dump())
+                batch.add(claim("packer"))
+                another = batch.add(dump())
+                counted = batch.add(count())
+            self.assertEqual(one.value.lines[-2:], ("alive 0 0 0 1:6:0:0:0", "restore"))
+            with self.assertRaises(refusals.Busy):
+                _ = another.value
+            self.assertEqual(counted.value, Counts(0, 1, 0, 0, 0))
+            session.abort("packer")
+            with session.batch() as batch:
+                asked = [batch.add(dump()) for _ in range(2000)]
+            self.assertEqual({it.value.lines[-2] for it in asked}, {"alive 0 1 0 1:6:0:0:0"})
+
+    def test_ids_last(self) -> None:
+        with Session(["rows 8", "units 8", "worker w 1"], on_full="rollover") as session:
+            session.submit(1, 1)
+            session.claim("w")
+            (reply,) = session.commit("w", Draft(15, 7)).outputs
+            early = session.submit(1, 2).element
+            session.rollover()
+            late = session.submit(1, 3).element
+            dumped = session.dump()
+        with Session(dumped.lines, on_full="rollover") as session:
+            self.assertEqual(session.moved, {it: it for it in (early, late, reply)})
+            self.assertEqual([it.element for it in session.collect(0)], [reply])
+            work = session.claim("w")
+            assert work
+            self.assertEqual([work.element, session.commit("w").element], [early, early])
+            work = session.claim("w")
+            assert work
+            self.assertEqual([work.element, session.commit("w").element], [late, late])
+            self.assertNotIn(session.submit(1, 4).element, (0, early, late, reply))
+        # A session in which they don't last tells which is which.
+        with Session(dumped.lines) as session:
+            self.assertEqual({*session.moved}, {early, late, reply})
+            self.assertEqual(session.read(session.moved[late]).words, (3, 0, 0, 0))
+
+    def test_ids_of_plain_lines_last(self) -> None:
+        with Session(self.LINES, on_full="rollover") as session:
+            self.assertEqual([*session.moved], [1, 16, 17])
+            session.rollover()
+            self.assertEqual({session.read(it).status for it in session.moved}, {"waiting 0"})
+            self.assertEqual(session.read(17).words, (5, 6, 0, 0))
+
+
+if __name__ == "__main__":
+    unittest.main()

@@ -1,0 +1,5 @@
+pub mod Bares
+pub mod CallerHandles
+pub mod Answered
+pub mod HomeHandles
+pub mod Unmade

@@ -1,0 +1,9 @@
+use Rattle.covetrivet_c.proofs.client.covetrivet_collect_next.Goals as goal
+
+pub returns : goal.returns
+returns c =
+    let call = c.collect_next-answer in
+    record {
+      answer = rw (c.in-Some.ensures.was, c.set.ensures, ← c.deref_mut.ensures.value)
+          (call.ensures.manager, (call.result, c.tell_element.ensures, call.ensures.answer));
+    }

@@ -1,0 +1,127 @@
+-- What contracts say of a manager with the passes that are at home.
+use Rattle.std.specs.Prelude.{◌≡◌, ◌≢◌, ◌⊎◌, ◌≤◌, ℕ, zero, suc, All, List, [], length}
+use Rattle.std.specs.Arc.{arc_value}
+use Rattle.std.specs.List.{AllZip, insert, slice_index_or}
+use Rattle.tp_model.specs.declared.types.Account.{Account}
+use Rattle.tp_model.specs.declared.types.Counts.{Counts}
+use Rattle.tp_model.specs.declared.types.Limits.{Limits}
+use Rattle.tp_model.specs.declared.types.Refusal.TheVariants as refusals
+use Rattle.tp_model.specs.Steps.{AreLimits}
+use Rattle.tp_manager.specs.Accounts.{AreAll, Gathers}
+use Rattle.tp_manager.specs.Bounds.{gather_steps}
+use Rattle.tp_manager.specs.Shown.{KeeperShown, PassShown}
+use Rattle.tp_alone.specs.Thread.{Stays}
+use Rattle.tp_rollover.specs.Answers.{Rolls}
+use Rattle.tp_rollover.specs.Faults.{AreFree, LacksPass}
+use Rattle.tp_rollover.specs.Managed.{IsNewPass}
+use Rattle.tp_rollover.specs.declared.moved.Moved.{Moved}
+use Rattle.tp_rollover.specs.declared.moved.RollFault.{RollFault}
+use Rattle.tp_rollover.specs.declared.moved.RollFault.TheVariants as rolls
+use Rattle.covetrivet_c.specs.declared.fault.Fault.{Fault}
+use Rattle.covetrivet_c.specs.declared.fault.Fault.TheVariants as faults
+use Rattle.covetrivet_c.specs.declared.home.Home.{Home}
+
+-- the limits of its manager
+abbrev pub home_limits : Home → Limits
+home_limits h = (arc_value h.manager).limits
+
+-- a new manager with these limits, all of whose passes are at home, and new; nothing was carried over
+pub record IsNewHome (l : Limits) (h : Home) : Type 0 where
+  pub limits : home_limits h ≡ l
+  pub are : AreLimits l
+  pub seen : h.keeper.seen ≡ []
+  pub all : AreAll h.keeper h.passes.items
+  pub parts : length h.passes.items ≡ l.parts
+  pub new : All IsNewPass h.passes.items
+  pub moved : h.moved.items ≡ []
+
+-- why there is none
+abbrev pub IsUnmade : Limits → Fault → Type 0
+IsUnmade l (faults.Refused refusals.BadLimits) = ¬ AreLimits l
+IsUnmade l (faults.Refused refusals.NoMemory) = Unit {0}
+IsUnmade l (faults.Refused other) = ⊥
+IsUnmade l other = ⊥
+
+-- why no pass is lent
+abbrev pub IsUnlent : List PassShown → Fault → Type 0
+IsUnlent passes faults.NoPart = passes ≡ []
+IsUnlent passes (faults.Refused refusals.NoMemory) = Unit {0}
+IsUnlent passes (faults.Refused other) = ⊥
+IsUnlent passes other = ⊥
+
+-- the pass is at home too
+pub record TakesHome (pass : PassShown) (olds news : List PassShown) : Type 0 where
+  pub place : ℕ
+  pub inside : place ≤ length olds
+  pub news_are : news ≡ insert olds place pass
+
+-- in at most as many steps as a gathering takes, all have seen one history
+abbrev pub HasGathered : Limits → KeeperShown → KeeperShown → List PassShown → List PassShown → Type 0
+HasGathered l keeper keeper' olds news = Gathers l (gather_steps l (length olds)) keeper keeper' olds news
+
+-- the counts of a stage, 1 to 15, and with 0 those of all stages
+abbrev pub counts_of : Account → ℕ → Counts
+counts_of a zero = a.total
+counts_of a (suc stage) = slice_index_or a.stages stage a.total
+
+-- What was alive went over, and the passes of the new manager have no unit open. The keeper of the old one,
+-- with a dash, and its passes show this at the last.
+pub record Carries (l k : Limits) (keeper keeper' new' : KeeperShown) (olds olds' news' : List PassShown)
+    (moved : List Moved) : Type 0 where
+  pub given : keeper'.given ≡ keeper.given
+  pub rolls : Rolls l k keeper' new' olds olds' news' moved
+  pub all : AreAll new' news'
+  pub free : AreFree news'
+
+-- the passes have done nothing but look
+pub record StayPut (keeper keeper' : KeeperShown) (olds olds' : List PassShown) : Type 0 where
+  pub given : keeper'.given ≡ keeper.given
+  pub passes : AllZip Stays olds olds'
+
+-- why nothing went over
+abbrev pub IsUncarried : Limits → Limits → List PassShown → List PassShown → Fault → Type 0
+IsUncarried l k olds news (faults.Refused refusals.NoMemory) = Unit {0}
+IsUncarried l k olds news (faults.Refused refusals.BadLimits) = k.attempts ≢ l.attempts
+IsUncarried l k olds news (faults.Refused refusals.Full) = AreFree olds
+IsUncarried l k olds news (faults.Refused other) = ⊥
+IsUncarried l k olds news faults.Nothing = LacksPass olds news
+IsUncarried l k olds news faults.Busy = ¬ AreFree olds
+IsUncarried l k olds news faults.Unequal = AreFree olds
+IsUncarried l k olds news other = ⊥
+
+-- It has gone on in a new manager with these limits, all of whose passes are at home, with no unit open, and
+-- it keeps what was carried over.
+pub record GoesOn (old new : Home) (l : Limits) : Type 0 where
+  pub limits : home_limits new ≡ l
+  pub keeper : KeeperShown
+  pub passes : List PassShown
+  pub carries : Carries (home_limits old) l old.keeper keeper new.keeper old.passes.items passes
+      new.passes.items new.moved.items
+  pub parts : length new.passes.items ≡ l.parts
+
+-- it has the same manager, and its passes have done nothing but look
+pub record StaysHome (old new : Home) : Type 0 where
+  pub manager : new.manager ≡ old.manager
+  pub put : StayPut old.keeper new.keeper old.passes.items new.passes.items
+  pub moved : new.moved ≡ old.moved
+
+-- why it has not gone on
+abbrev pub IsUnrolled : Home → Limits → Fault → Type 0
+IsUnrolled h l (faults.Refused refusals.NoMemory) = Unit {0}
+IsUnrolled h l (faults.Refused refusals.BadLimits) = (¬ AreLimits l) ⊎ (l.attempts ≢ (home_limits h).attempts)
+IsUnrolled h l (faults.Refused refusals.Full) = AreFree h.passes.items
+IsUnrolled h l (faults.Refused other) = ⊥
+IsUnrolled h l faults.NotAll = ¬ AreAll h.keeper h.passes.items
+IsUnrolled h l faults.Nothing = h.passes.items ≡ []
+IsUnrolled h l faults.Busy = ¬ AreFree h.passes.items
+IsUnrolled h l faults.Unequal = AreFree h.passes.items
+IsUnrolled h l other = ⊥
+
+-- a rollover's fault
+abbrev pub fault_of : RollFault → Fault
+fault_of rolls.NoMemory = faults.Refused refusals.NoMemory
+fault_of rolls.BadLimits = faults.Refused refusals.BadLimits
+fault_of rolls.NoPass = faults.Nothing
+fault_of rolls.Busy = faults.Busy
+fault_of rolls.Full = faults.Refused refusals.Full
+fault_of rolls.Unequal = faults.Unequal

@@ -1,0 +1,11 @@
+pub mod Accounting
+pub mod Asked
+pub mod Callers
+pub mod Clients
+pub mod Codes
+pub mod Held
+pub mod Homes
+pub mod Makes
+pub mod Servers
+pub mod Shapes
+pub mod Told

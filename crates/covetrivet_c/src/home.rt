@@ -1,0 +1,118 @@
+//! A manager with its keeper, and the passes that are at home.
+ghost use Rattle.std.specs.Prelude.{All};
+ghost use Rattle.std.specs.Arc.{arc_value};
+ghost use Rattle.tp_manager.specs.Shown.{IsKeptBy, IsOf};
+
+use crate::caller::{Caller, pass_of};
+use crate::fault::Fault;
+use crate::places::place_of;
+use std::alloc::Global;
+use std::sync::Arc;
+use tp_manager::{Keeper, MakeFault, Manager, Pass};
+use tp_model::types::{Limits, Refusal};
+use tp_rollover::{Managed, Moved};
+
+/// An owner of a manager, its keeper, the passes that no caller has, and what the last rollover carried over.
+#[derive(Drop)]
+pub struct Home {
+    pub manager: Arc<Manager, Global>,
+    pub keeper: Keeper,
+    pub passes: Vec<Pass>,
+    pub moved: Vec<Moved>,
+    pub ghost kept: { IsKeptBy (arc_value manager) keeper },
+    pub ghost own: { All (IsOf (arc_value manager)) passes.items },
+}
+
+impl Home {
+    ghost use Rattle.std.specs.Prelude.{◌≡◌, ◌∷◌, IfOk, IfErr, MatchResult};
+    ghost use Rattle.covetrivet_c.specs.Homes.{IsNewHome, IsUnlent, IsUnmade, TakesHome};
+
+    /// A manager with these limits, all of whose passes are at home.
+    pub fn new(alloc: Global, limits: Limits) -> Result<Home, Fault>
+        ensures made { IfOk result (IsNewHome limits) }
+        ensures unmade { IfErr result (IsUnmade limits) }
+    {
+        match Managed::new(alloc, limits) {
+            Ok(made) => {
+                let Managed {
+                    manager,
+                    keeper,
+                    passes,
+                } = made;
+                match Arc::new(alloc, manager) {
+                    Ok(manager) => Ok(Home {
+                        manager,
+                        keeper,
+                        passes,
+                        moved: Vec::new(alloc),
+                    }),
+                    Err(_) => Err(Fault::Refused(Refusal::NoMemory)),
+                }
+            }
+            Err(MakeFault::NoMemory) => Err(Fault::Refused(Refusal::NoMemory)),
+            Err(MakeFault::BadLimits) => Err(Fault::Refused(Refusal::BadLimits)),
+            Err(MakeFault::NoPart) => unreachable!(),
+        }
+    }
+
+    /// The same on the heap.
+    pub fn boxed(alloc: Global, limits: Limits) -> Result<Box<Home, Global>, Fault>
+        ensures { MatchResult result (λ b. IsNewHome limits b.value) (IsUnmade limits) }
+    {
+        match Home::new(alloc, limits) {
+            Ok(home) => match Box::new(alloc, home) {
+                Ok(home) => Ok(home),
+                Err(_) => Err(Fault::Refused(Refusal::NoMemory)),
+            },
+            Err(fault) => Err(fault),
+        }
+    }
+
+    /// A caller with the first pass that is at home. `NoPart` where none is, `NoMemory`.
+    pub fn lend(&mut self, alloc: Global) -> Result<Box<Caller, Global>, Fault>
+        ensures same { (self.new.manager ≡ self.old.manager) × (self.new.keeper ≡ self.old.keeper)
+            × (self.new.moved ≡ self.old.moved) }
+        ensures lent { MatchResult result
+            (λ b. (arc_value b.value.manager ≡ arc_value self.old.manager)
+            × (self.old.passes.items ≡ b.value.pass ∷ self.new.passes.items))
+            (λ f. (self.new.passes.items ≡ self.old.passes.items) × IsUnlent self.old.passes.items f) }
+    {
+        if self.passes.len() == 0 {
+            return Err(Fault::NoPart);
+        }
+        let Ok(manager) = Arc::try_clone(&self.manager) else {
+            return Err(Fault::Refused(Refusal::NoMemory));
+        };
+        let pass = self.passes.remove(0);
+        match Box::new(alloc, Caller { manager, pass }) {
+            Ok(caller) => Ok(caller),
+            Err(refused) => {
+                let Ok(()) = self.passes.insert(0, pass_of(refused.value)) else {
+                    unreachable!();
+                };
+                Err(Fault::Refused(Refusal::NoMemory))
+            }
+        }
+    }
+
+    /// Takes a caller's pass home again. The caller comes back where there is no room for it, which is where
+    /// it isn't of this manager.
+    pub fn hand_back(&mut self, caller: Box<Caller, Global>) -> Result<(), Box<Caller, Global>>
+        requires of { arc_value caller.value.manager ≡ arc_value self.old.manager }
+        ensures same { (self.new.manager ≡ self.old.manager) × (self.new.keeper ≡ self.old.keeper)
+            × (self.new.moved ≡ self.old.moved) }
+        ensures back { MatchResult result
+            (λ _. TakesHome caller.value.pass self.old.passes.items self.new.passes.items)
+            (λ b. (self.new.passes.items ≡ self.old.passes.items) × (b.value ≡ caller.value)) }
+    {
+        if self.passes.len() >= self.passes.capacity() {
+            return Err(caller);
+        }
+        let pass = pass_of(Box::into_inner(caller));
+        let place = place_of(&self.passes, pass.number());
+        let Ok(()) = self.passes.insert(place, pass) else {
+            unreachable!();
+        };
+        Ok(())
+    }
+}

@@ -1,0 +1,145 @@
+//! What C calls to make, open, close and hand back.
+ghost use Rattle.std.specs.Prelude.{◌≡◌, None};
+ghost use Rattle.covetrivet_c.specs.Makes.{HandsBack, IsOfHome, Makes, Opens, ShowsHome, capacity_of};
+ghost use Rattle.covetrivet_c.specs.Homes.{home_limits};
+ghost use Rattle.covetrivet_c.specs.Shapes.{limits_in, limits_shape};
+
+use crate::caller_handle::CallerHandle;
+use crate::codes::{CLOSED, NO_MEMORY, OK, OPEN};
+use crate::home::Home;
+use crate::home_handle::HomeHandle;
+use crate::shapes::{PlainLimits, limits_in, limits_out};
+use std::alloc::Global;
+
+/// Makes a manager with these limits. The handle leads to nothing before.
+#[unsafe(no_mangle)]
+pub extern "C" fn covetrivet_make(
+    alloc: Global,
+    limits: &PlainLimits,
+    manager: &mut HomeHandle,
+) -> u32
+    ensures made { Makes (limits_in limits.now) manager.old.held manager.new.held result }
+{
+    if let Some(home) = manager.lift(alloc) {
+        manager.set(home);
+        return OPEN;
+    }
+    match Home::boxed(alloc, limits_in(limits)) {
+        Ok(home) => {
+            manager.set(home);
+            OK
+        }
+        Err(fault) => fault.code(),
+    }
+}
+
+/// Gives up a manager, with the passes that are at home. Its callers go on.
+#[unsafe(no_mangle)]
+pub extern "C" fn covetrivet_give_up(alloc: Global, manager: &mut HomeHandle)
+    ensures closed { manager.new.held ≡ None }
+{
+    let _ = manager.lift(alloc);
+}
+
+/// Opens a caller with the first pass that is at home. Its handle leads to nothing before.
+#[unsafe(no_mangle)]
+pub extern "C" fn covetrivet_open(
+    alloc: Global,
+    manager: &mut HomeHandle,
+    caller: &mut CallerHandle,
+) -> u32
+    ensures opened { Opens manager.old.held manager.new.held caller.old.held caller.new.held result }
+{
+    if let Some(inner) = caller.lift(alloc) {
+        caller.set(inner);
+        return OPEN;
+    }
+    let Some(mut home) = manager.lift(alloc) else {
+        return CLOSED;
+    };
+    let answer = home.lend(alloc);
+    manager.set(home);
+    match answer {
+        Ok(inner) => {
+            caller.set(inner);
+            OK
+        }
+        Err(fault) => fault.code(),
+    }
+}
+
+/// Closes a caller, and gives up its pass. Its open unit of work stays open: the element stays held, and
+/// another caller can release it.
+#[unsafe(no_mangle)]
+pub extern "C" fn covetrivet_close(alloc: Global, caller: &mut CallerHandle)
+    ensures closed { caller.new.held ≡ None }
+{
+    let _ = caller.lift(alloc);
+}
+
+/// Hands a caller of this manager back: its pass is at home, and its handle leads to nothing.
+#[unsafe(no_mangle)]
+pub extern "C" fn covetrivet_hand_back(
+    alloc: Global,
+    manager: &mut HomeHandle,
+    caller: &mut CallerHandle,
+) -> u32
+    requires of { IsOfHome manager.old.held caller.old.held }
+    ensures answer { HandsBack manager.old.held manager.new.held caller.old.held caller.new.held result }
+{
+    let Some(mut home) = manager.lift(alloc) else {
+        return CLOSED;
+    };
+    let Some(inner) = caller.lift(alloc) else {
+        manager.set(home);
+        return CLOSED;
+    };
+    match home.hand_back(inner) {
+        Ok(()) => {
+            manager.set(home);
+            OK
+        }
+        Err(inner) => {
+            caller.set(inner);
+            manager.set(home);
+            NO_MEMORY
+        }
+    }
+}
+
+/// Writes the limits that the manager was made with.
+#[unsafe(no_mangle)]
+pub extern "C" fn covetrivet_get_limits(
+    alloc: Global,
+    manager: &mut HomeHandle,
+    limits: &mut PlainLimits,
+) -> u32
+    ensures answer { ShowsHome (λ h. limits_shape (home_limits h))
+        manager.old.held manager.new.held result limits.old limits.new }
+{
+    let Some(home) = manager.lift(alloc) else {
+        return CLOSED;
+    };
+    let found = home.manager.limits();
+    manager.set(home);
+    *limits = limits_out(&found);
+    OK
+}
+
+/// Writes how many elements the manager has room for.
+#[unsafe(no_mangle)]
+pub extern "C" fn covetrivet_capacity(
+    alloc: Global,
+    manager: &mut HomeHandle,
+    capacity: &mut u32,
+) -> u32
+    ensures answer { ShowsHome capacity_of manager.old.held manager.new.held result capacity.old capacity.new }
+{
+    let Some(home) = manager.lift(alloc) else {
+        return CLOSED;
+    };
+    let found = home.manager.capacity();
+    manager.set(home);
+    *capacity = found;
+    OK
+}

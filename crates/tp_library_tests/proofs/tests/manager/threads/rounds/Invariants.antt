@@ -1,6 +1,0 @@
-use Rattle.std.proofs.Common.{◌≡◌, None}
-use Rattle.tp_manager.specs.Shown.{IsOf}
-use Rattle.tp_library_tests.proofs.tests.manager.threads.rounds.Given as goal
-
-abbrev pub invariant-loop-i : goal.invariant-loop-i
-invariant-loop-i l = record { own : IsOf l.manager l.pass; free : l.pass.open_unit ≡ None }
