@@ -89,7 +89,6 @@ class Story:
 
     def read_script(self, script):
         commands, gap, before, workers = [], False, [], []
-        is_session = any(it.split()[:1] and it.split()[0] in ("worker", "alive", "restore", "dump") for it in script.splitlines())
         for line in script.splitlines():
             words = line.split()
             if not words or line.startswith("#"):
@@ -104,11 +103,10 @@ class Story:
                 self.alive[int(words[1])] = words[2:]
             elif words[0] == "limit":
                 self.attempts = int(words[1])
-            elif words[0] not in SETTINGS and words[0] != "start" and (words[0] != "account" or is_session):
+            elif words[0] not in SETTINGS and words[0] not in ("start", "account"):
                 commands.append((" ".join(words), gap))
                 gap = False
         self.title = " ".join(before)
-        # (a session's account comes among its commands)
         self.servers += workers
         return commands
 

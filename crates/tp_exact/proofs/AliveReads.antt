@@ -12,8 +12,9 @@ use Rattle.tp_script.specs.Alive.{AliveWords, alive_at, alive_of, alive_places, 
 use Rattle.tp_script.specs.Commands.{SubmitWords, submit_words}
 use Rattle.tp_script.specs.Drafts.{draft_at, draft_of, is_draft, output_stage}
 use Rattle.tp_script.specs.LineWords.{◌>>=◌, known, number_at, require}
-use Rattle.tp_script.specs.Session.{HeadView, alive_line, head_at, head_own, head_words, line_words}
-use Rattle.tp_script.specs.Keyword.{session_word}
+use Rattle.tp_script.specs.Grammar.{alive_line, head_at, head_keyword, head_words, line_words}
+use Rattle.tp_script.specs.Script.{HeadView}
+use Rattle.tp_script.specs.declared.head.Driver.TheVariants as drivers
 use Rattle.tp_script.specs.Text.{words}
 use Rattle.tp_script.specs.declared.fault.LineFault.{LineFault}
 use Rattle.tp_script.specs.declared.fault.LineFault.TheVariants.{BadNumber, BadLimits, Syntax, TooLong}
@@ -193,10 +194,10 @@ module _ (id attempts rounds root : ℕ) (own : List ℕ) (stage : ℕ) (body : 
       ∙ bind_ok (require (is_draft own && is_draft other) Syntax) tt _ (ap (λ t. require t Syntax) (and_true (is_draft own) (is_draft other) first.is_one second.is_one)))
       ∙ of_words
 
-  in_head : (ws : List (List ℕ)) (h : HeadView) → alive_places ws ≡ Ok said → length h.alive < MAX_ALIVE → head_words (codes "alive" ∷ ws) h ≡ Ok (record h { alive = h.alive ++ made ∷ [] }, None)
-  unfolding head_words head_own alive_line session_word
+  in_head : (ws : List (List ℕ)) (h : HeadView) → alive_places ws ≡ Ok said → length h.alive < MAX_ALIVE → head_words drivers.Session (codes "alive" ∷ ws) h ≡ Ok (record h { alive = h.alive ++ made ∷ [] }, None)
+  unfolding head_words head_keyword alive_line
   in_head ws h places room =
-      bind_ok (alive_line ws h) (record h { alive = h.alive ++ made ∷ [] }) _
+      bind_ok (alive_line ws h) (record h { alive = h.alive ++ made ∷ [] }) (λ t. Ok (t, None))
       (bind_ok (alive_at ws) made _ (at_words ws places)
       ∙ bind_ok (require (nat_lt (length h.alive) MAX_ALIVE) BadLimits) tt _ (ap (λ t. require t BadLimits) (le_true (suc (length h.alive)) MAX_ALIVE (omega (arith, room)))))
 
@@ -299,7 +300,7 @@ module _ (s : Survivor) (h : HeadView) (fit : IsFit s) (room : length h.alive < 
       ap (λ r. record { id = s.id; attempts = tries; rounds = s.rounds; draft = record { stage = s.stage; body = s.body }; root = r; root_draft = record { stage = s.stage; body = s.body } }) (sym e)
       ∙ (ap (λ x. record { id = s.id; attempts = tries; rounds = s.rounds; draft = record { stage = s.stage; body = s.body }; root = s.root; root_draft = record { stage = x; body = s.body } }) (sym like.0)
       ∙ ap (λ x. record { id = s.id; attempts = tries; rounds = s.rounds; draft = record { stage = s.stage; body = s.body }; root = s.root; root_draft = record { stage = s.root_stage; body = x } }) (sym like.1)) in
-      bind_ok (line_words (line_with text)) _ (λ ws. head_words ws h) read ∙ (line ∙ ap (λ (a : AliveLine). Ok (record h { alive = h.alive ++ a ∷ [] }, None)) same)
+      bind_ok (line_words (line_with text)) _ (λ ws. head_words drivers.Session ws h) read ∙ (line ∙ ap (λ (a : AliveLine). Ok (record h { alive = h.alive ++ a ∷ [] }, None)) same)
 
   -- or another's
   abbrev behind_other : List ℕ
@@ -320,7 +321,7 @@ module _ (s : Survivor) (h : HeadView) (fit : IsFit s) (room : length h.alive < 
       let l1 = length-append text (32 ∷ (decimal s.root ++ (32 ∷ last))) in let l2 = length-append (decimal s.root) (32 ∷ last) in omega (arith, r, l, m, l1, l2)) in
       let read = read_with behind_other (text ∷ decimal s.root ∷ last ∷ []) short all words_are in
       let line = in_head s.id tries s.rounds s.root text s.stage s.body own last s.root_stage s.root_body of_root fit.id fit.attempts fit.rounds_are fit.root (decimal s.id ∷ decimal tries ∷ decimal s.rounds ∷ text ∷ decimal s.root ∷ last ∷ []) h refl room in
-      bind_ok (line_words (line_with behind_other)) _ (λ ws. head_words ws h) read ∙ line
+      bind_ok (line_words (line_with behind_other)) _ (λ ws. head_words drivers.Session ws h) read ∙ line
 
 pub alive_line_reads : AliveLineReads
 alive_line_reads s h fit room =

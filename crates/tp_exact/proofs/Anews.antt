@@ -17,7 +17,7 @@ use Rattle.tp_rollover.specs.declared.survivors.Survivor.{Survivor}
 use Rattle.tp_report.specs.Answer.{line, rolled_text}
 use Rattle.tp_report.specs.declared.answer.Renamed.{Renamed}
 use Rattle.tp_script.specs.Script.{ServerView}
-use Rattle.tp_script.specs.Session.{HeadView, head_view}
+use Rattle.tp_script.specs.Script.{HeadView, head_view}
 use Rattle.tp_script.specs.declared.head.Head.{Head}
 use Rattle.tp_commands.specs.Acting.{DeskShown, PlaceShown}
 use Rattle.tp_perform.specs.Restore.{Restored}
@@ -218,7 +218,7 @@ module _ (head : Head) (old new : Live) (text : List ℕ) (s : SessionState) (is
       together = together;
       manager = same;
       desks = again_all scene.places new.stand.scene.places s.report.desks new.stand.scene.racers again (All-tail Free new.stand.scene.client (map (λ p. p.desk.pass) new.stand.scene.places ++ new.stand.scene.racers) free) is.stands.desks;
-      served = again_served scene.places new.stand.scene.places h.script.servers again is.stands.served;
+      served = again_served scene.places new.stand.scene.places h.servers again is.stands.served;
     };
     works = is.works ∙ sym works;
   }

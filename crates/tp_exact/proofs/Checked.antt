@@ -1,32 +1,31 @@
--- Each server of a script that was read has a recipe without a fault.
-use Rattle.std.proofs.Common.{◌≡◌, ℕ, zero, suc, ◌+◌, ◌-◌, ◌^◌, ◌&&◌, not, Bool, true, false, List, [], ◌∷◌, ◌++◌, All, length, Option, Some, None, Result, Ok, Err, nat_le, nat_lt, refl, sym, ap, subst}
-use Rattle.std.specs.Prelude.{if◌then◌else◌, is_ok, replicate, slice_get, slice_set}
-use Rattle.std.specs.List.{list_all}
+-- Each server of a head that was read has a recipe without a fault.
+use Rattle.std.proofs.Common.{◌≡◌, ℕ, zero, suc, ◌-◌, ◌^◌, Bool, true, false, List, [], ◌∷◌, ◌++◌, All, length, Option, Some, None, Result, Ok, Err, nat_lt, refl, ap, subst}
+use Rattle.std.specs.Prelude.{is_ok, replicate, slice_get, slice_set}
 use Rattle.std.proofs.lemmas.List.Elements.{All-append, All-cons, All-head, All-nil, All-set, All-tail}
 use Rattle.tp_server.specs.declared.recipe.BadRecipe.{BadRecipe}
 use Rattle.tp_server.specs.declared.recipe.Recipe.{Recipe}
 use Rattle.tp_server.specs.Check.{check_of}
 use Rattle.tp_script.specs.declared.fault.LineFault.{LineFault}
 use Rattle.tp_script.specs.declared.fault.LineFault.TheVariants as fault
-use Rattle.tp_script.specs.declared.fault.Refused.{Refused}
+use Rattle.tp_script.specs.declared.head.Act.{Act}
+use Rattle.tp_script.specs.declared.head.AliveLine.{AliveLine}
+use Rattle.tp_script.specs.declared.head.Driver.{Driver}
+use Rattle.tp_script.specs.declared.head.TheConstants.{MAX_ALIVE, MAX_WORKERS}
 use Rattle.tp_script.specs.declared.keyword.Keyword.{Keyword}
 use Rattle.tp_script.specs.declared.keyword.Keyword.TheVariants as first
-use Rattle.tp_script.specs.declared.script.Command.{Command}
-use Rattle.tp_model.specs.declared.types.TheConstants.{MAX_ATTEMPTS, MAX_BLOCKS, MAX_PART_ROWS, MAX_PASSES, MAX_UNITS}
 use Rattle.tp_script.specs.declared.script.TheConstants.{MAX_SERVERS}
-use Rattle.tp_script.specs.declared.source.TheConstants.{MAX_SCRIPT_BYTES}
-use Rattle.tp_script.specs.Commands.{command_at, with_command}
-use Rattle.tp_script.specs.Grammar.{account_line, at_line, behind_account, is_comment, keyword_line, limit_line, line_at, lines_from, no_lines, rows_line, script, setting_at, spare_line, units_line, words_line}
+use Rattle.tp_model.specs.declared.types.TheConstants.{MAX_ATTEMPTS, MAX_BLOCKS, MAX_PART_ROWS, MAX_UNITS}
+use Rattle.tp_script.specs.Alive.{alive_at}
+use Rattle.tp_script.specs.Commands.{stage_at}
+use Rattle.tp_script.specs.Grammar.{account_at, act_at, alive_line, dump_at, ends_head, head_keyword, head_words, in_head, limit_line, restore_at, rows_line, setting_at, spare_line, units_line, unless_alive, worker_line}
 use Rattle.tp_script.specs.Keyword.{keyword}
-use Rattle.tp_script.specs.LineWords.{◌>>=◌, is_name, known, none, number_at, one, require, three}
-use Rattle.tp_script.specs.Passes.{racers}
-use Rattle.tp_script.specs.Script.{ScriptView, ServerView, passes}
-use Rattle.tp_script.specs.ServerLines.{Shape, begin_at, begun, has_commands, new_name, recipe_at, registers_for, server_at, server_line, shape_at, start_line, with_server}
-use Rattle.tp_script.specs.Text.{lines, words}
-use Rattle.tp_exact.specs.Script.{IsChecked}
+use Rattle.tp_script.specs.LineWords.{◌>>=◌, is_name, known, number_at, one, require, three, two}
+use Rattle.tp_script.specs.Script.{HeadView, ServerView}
+use Rattle.tp_script.specs.ServerLines.{Shape, begin_at, begun, new_name, recipe_at, registers_for, server_at, server_line, shape_at, start_line, with_server}
+use Rattle.tp_exact.specs.Programs.{IsChecked}
 
-abbrev pub Good : ScriptView → Type 0
-Good s = All IsChecked s.servers
+abbrev pub Good : HeadView → Type 0
+Good h = All IsChecked h.servers
 
 -- ---- chains that went through
 
@@ -54,44 +53,29 @@ ok_is (Err e) is = absurd cc
 
 -- ---- lines that leave the servers
 
-same_good : (s t : ScriptView) → t.servers ≡ s.servers → Good s → Good t
-same_good s t same good = subst (All IsChecked) (sym same) good
-
-rows_same : (w : List ℕ) (s t : ScriptView) → rows_line w s ≡ Ok t → t.servers ≡ s.servers
+rows_good : (w : List ℕ) (s t : HeadView) → rows_line w s ≡ Ok t → Good s → Good t
 unfolding rows_line
-rows_same w s t is =
+rows_good w s t is good =
     let a = went (setting_at 1 MAX_PART_ROWS w s) (λ n. Ok (record s { settings = record s.settings { rows = n } })) t is in
-    sym (ap (λ (z : ScriptView). z.servers) (went_to (record s { settings = record s.settings { rows = a.0 } }) t a.2))
+    subst Good (went_to (record s { settings = record s.settings { rows = a.0 } }) t a.2) good
 
-units_same : (w : List ℕ) (s t : ScriptView) → units_line w s ≡ Ok t → t.servers ≡ s.servers
+units_good : (w : List ℕ) (s t : HeadView) → units_line w s ≡ Ok t → Good s → Good t
 unfolding units_line
-units_same w s t is =
+units_good w s t is good =
     let a = went (setting_at 1 MAX_UNITS w s) (λ n. Ok (record s { settings = record s.settings { units = n } })) t is in
-    sym (ap (λ (z : ScriptView). z.servers) (went_to (record s { settings = record s.settings { units = a.0 } }) t a.2))
+    subst Good (went_to (record s { settings = record s.settings { units = a.0 } }) t a.2) good
 
-limit_same : (w : List ℕ) (s t : ScriptView) → limit_line w s ≡ Ok t → t.servers ≡ s.servers
+limit_good : (w : List ℕ) (s t : HeadView) → limit_line w s ≡ Ok t → Good s → Good t
 unfolding limit_line
-limit_same w s t is =
+limit_good w s t is good =
     let a = went (setting_at 1 MAX_ATTEMPTS w s) (λ n. Ok (record s { settings = record s.settings { attempts = n } })) t is in
-    sym (ap (λ (z : ScriptView). z.servers) (went_to (record s { settings = record s.settings { attempts = a.0 } }) t a.2))
+    subst Good (went_to (record s { settings = record s.settings { attempts = a.0 } }) t a.2) good
 
-spare_same : (w : List ℕ) (s t : ScriptView) → spare_line w s ≡ Ok t → t.servers ≡ s.servers
+spare_good : (w : List ℕ) (s t : HeadView) → spare_line w s ≡ Ok t → Good s → Good t
 unfolding spare_line
-spare_same w s t is =
+spare_good w s t is good =
     let a = went (setting_at 0 MAX_BLOCKS w s) (λ n. Ok (record s { settings = record s.settings { spare = n } })) t is in
-    sym (ap (λ (z : ScriptView). z.servers) (went_to (record s { settings = record s.settings { spare = a.0 } }) t a.2))
-
-account_same : (ws : List (List ℕ)) (s t : ScriptView) → account_line ws s ≡ Ok t → t.servers ≡ s.servers
-unfolding account_line
-account_same ws s t is =
-    let a = went (none ws) (λ u. Ok (record s { account = true })) t is in
-    sym (ap (λ (z : ScriptView). z.servers) (went_to (record s { account = true }) t a.2))
-
-command_same : (c : Command) (s t : ScriptView) → with_command c s ≡ Ok t → t.servers ≡ s.servers
-unfolding with_command
-command_same c s t is =
-    let a = went (require (nat_le (passes s + racers c) MAX_PASSES) fault.BadLimits) (λ u. Ok (record s { commands = s.commands ++ c ∷ [] })) t is in
-    sym (ap (λ (z : ScriptView). z.servers) (went_to (record s { commands = s.commands ++ c ∷ [] }) t a.2))
+    subst Good (went_to (record s { settings = record s.settings { spare = a.0 } }) t a.2) good
 
 -- ---- a server more
 
@@ -101,31 +85,27 @@ checked_for recipe registers is =
     let a = went (require (is_ok (check_of recipe)) fault.BadRecipe) (λ u. Ok (replicate recipe.registers 0)) registers is in
     ok_is (check_of recipe) (required (is_ok (check_of recipe)) fault.BadRecipe a.0 a.1)
 
-module _ (ws : List (List ℕ)) (s : ScriptView) where
+module _ (ws : List (List ℕ)) (s : HeadView) where
   abbrev made : Shape → List ℕ → Recipe → List ℕ → ServerView
   made shape name recipe registers = record { name = name; kind = shape.kind; recipe = recipe; registers = registers }
 
-  abbrev of_recipe : Shape → List ℕ → Recipe → Result ScriptView LineFault
+  abbrev of_recipe : Shape → List ℕ → Recipe → Result HeadView LineFault
   of_recipe shape name recipe = registers_for recipe >>= λ registers. Ok (with_server (made shape name recipe registers) s)
 
-  abbrev in_room : Shape → List ℕ → Recipe → Result ScriptView LineFault
+  abbrev in_room : Shape → List ℕ → Recipe → Result HeadView LineFault
   in_room shape name recipe = require (nat_lt (length s.servers) MAX_SERVERS) fault.BadLimits >>= λ u. of_recipe shape name recipe
 
-  abbrev of_name : Shape → List ℕ → Result ScriptView LineFault
+  abbrev of_name : Shape → List ℕ → Result HeadView LineFault
   of_name shape name = recipe_at shape >>= λ recipe. in_room shape name recipe
 
-  abbrev in_order : Shape → Result ScriptView LineFault
-  in_order shape = new_name shape.name s >>= λ name. of_name shape name
+  abbrev of_shape : Shape → Result HeadView LineFault
+  of_shape shape = new_name shape.name s >>= λ name. of_name shape name
 
-  abbrev of_shape : Shape → Result ScriptView LineFault
-  of_shape shape = require (not (has_commands s)) fault.Order >>= λ u. in_order shape
-
-  pub server_good : (t : ScriptView) → server_line ws s ≡ Ok t → Good s → Good t
+  server_good : (t : HeadView) → server_line ws s ≡ Ok t → Good s → Good t
   unfolding server_line
   server_good t is good =
       let shape = went (shape_at ws) of_shape t is in
-      let order = went (require (not (has_commands s)) fault.Order) (λ u. in_order shape.0) t shape.2 in
-      let name = went (new_name shape.0.name s) (of_name shape.0) t order.2 in
+      let name = went (new_name shape.0.name s) (of_name shape.0) t shape.2 in
       let recipe = went (recipe_at shape.0) (in_room shape.0 name.0) t name.2 in
       let room = went (require (nat_lt (length s.servers) MAX_SERVERS) fault.BadLimits) (λ u. of_recipe shape.0 name.0 recipe.0) t recipe.2 in
       let registers = went (registers_for recipe.0) (λ registers. Ok (with_server (made shape.0 name.0 recipe.0 registers) s)) t room.2 in
@@ -146,7 +126,7 @@ begun_good k v x y is good =
     let a = went (require (nat_lt k (length x.registers)) fault.BadRecipe) (λ u. Ok (record x { registers = slice_set x.registers k v })) y is in
     subst IsChecked (went_to (record x { registers = slice_set x.registers k v }) y a.2) good
 
-begin_good : (place k v : ℕ) (s t : ScriptView) → begin_at place k v s ≡ Ok t → Good s → Good t
+begin_good : (place k v : ℕ) (s t : HeadView) → begin_at place k v s ≡ Ok t → Good s → Good t
 unfolding begin_at
 begin_good place k v s t is good =
     let old = went (known (slice_get s.servers place) fault.BadName) (λ server. begun k v server >>= λ y. Ok (record s { servers = slice_set s.servers place y })) t is in
@@ -155,101 +135,86 @@ begin_good place k v s t is good =
     let one = begun_good k v old.0 new.0 new.1 (good_at s.servers place old.0 good there) in
     subst Good (went_to (record s { servers = slice_set s.servers place new.0 }) t new.2) (All-set IsChecked s.servers place new.0 one good)
 
-module _ (name k v : List ℕ) (s : ScriptView) where
-  abbrev of_number : ℕ → ℕ → Result ScriptView LineFault
+module _ (name k v : List ℕ) (s : HeadView) where
+  abbrev of_number : ℕ → ℕ → Result HeadView LineFault
   of_number place n = number_at (2 ^ 64 - 1) v >>= λ value. begin_at place n value s
 
-  abbrev of_place : ℕ → Result ScriptView LineFault
+  abbrev of_place : ℕ → Result HeadView LineFault
   of_place place = number_at (2 ^ 64 - 1) k >>= λ n. of_number place n
 
-  abbrev of_server : Result ScriptView LineFault
+  abbrev of_server : Result HeadView LineFault
   of_server = server_at name s >>= λ place. of_place place
 
-  abbrev well_named : Result ScriptView LineFault
-  well_named = require (is_name name) fault.BadName >>= λ u. of_server
-
-  start_good : (t : ScriptView) → start_line (name, k, v) s ≡ Ok t → Good s → Good t
+  start_good : (t : HeadView) → start_line (name, k, v) s ≡ Ok t → Good s → Good t
   unfolding start_line
   start_good t is good =
-      let order = went (require (not (has_commands s)) fault.Order) (λ u. well_named) t is in
-      let called = went (require (is_name name) fault.BadName) (λ u. of_server) t order.2 in
+      let called = went (require (is_name name) fault.BadName) (λ u. of_server) t is in
       let place = went (server_at name s) of_place t called.2 in
       let at = went (number_at (2 ^ 64 - 1) k) (of_number place.0) t place.2 in
       let value = went (number_at (2 ^ 64 - 1) v) (λ value. begin_at place.0 at.0 value s) t at.2 in
       begin_good place.0 at.0 value.0 s t value.2 good
 
--- ---- a whole line, and all lines
+-- ---- workers, and what is alive
 
-pub keyword_good : (k : Keyword) (ws : List (List ℕ)) (s t : ScriptView) → keyword_line k ws s ≡ Ok t → Good s → Good t
-unfolding keyword_line
-keyword_good first.Rows ws s t is good = let a = went (one ws) (λ w. rows_line w s) t is in same_good s t (rows_same a.0 s t a.2) good
-keyword_good first.Units ws s t is good = let a = went (one ws) (λ w. units_line w s) t is in same_good s t (units_same a.0 s t a.2) good
-keyword_good first.Limit ws s t is good = let a = went (one ws) (λ w. limit_line w s) t is in same_good s t (limit_same a.0 s t a.2) good
-keyword_good first.Spare ws s t is good = let a = went (one ws) (λ w. spare_line w s) t is in same_good s t (spare_same a.0 s t a.2) good
-keyword_good first.Server ws s t is good = server_good ws s t is good
-keyword_good first.Start ws s t is good = let a = went (three ws) (λ w. start_line w s) t is in start_good a.0.0 a.0.1 a.0.2 s t a.2 good
-keyword_good (first.Do verb) ws s t is good = let a = went (command_at verb ws s) (λ c. with_command c s) t is in same_good s t (command_same a.0 s t a.2) good
-keyword_good first.Account ws s t is good = same_good s t (account_same ws s t is) good
+module _ (name stage : List ℕ) (h : HeadView) where
+  abbrev with_worker : List ℕ → ℕ → HeadView
+  with_worker fresh place = record h { workers = h.workers ++ record { name = fresh; stage = place } ∷ [] }
 
-never_behind : (r : Result ScriptView LineFault) (t : ScriptView) → behind_account r ≡ Ok t → ⊥
-never_behind (Ok s) t is = absurd cc
-never_behind (Err fault.Syntax) t is = absurd cc
-never_behind (Err other) t is = absurd cc
+  abbrev worker_room : List ℕ → ℕ → Result HeadView LineFault
+  worker_room fresh place = require (nat_lt (length h.workers) MAX_WORKERS) fault.BadLimits >>= λ u. Ok (with_worker fresh place)
 
-abbrev either : Bool → Keyword → List (List ℕ) → ScriptView → Result ScriptView LineFault
-either b k ws s = if b then behind_account (keyword_line k ws s) else keyword_line k ws s
+  abbrev of_stage : List ℕ → Result HeadView LineFault
+  of_stage fresh = stage_at stage >>= λ place. worker_room fresh place
 
-either_good : (b : Bool) (k : Keyword) (ws : List (List ℕ)) (s t : ScriptView) → either b k ws s ≡ Ok t → Good s → Good t
-either_good true k ws s t is good = absurd (never_behind (keyword_line k ws s) t is)
-either_good false k ws s t is good = keyword_good k ws s t is good
+  worker_good : (t : HeadView) → worker_line (name, stage) h ≡ Ok t → Good h → Good t
+  unfolding worker_line
+  worker_good t is good =
+      let fresh = went (new_name name h) of_stage t is in
+      let place = went (stage_at stage) (worker_room fresh.0) t fresh.2 in
+      let room = went (require (nat_lt (length h.workers) MAX_WORKERS) fault.BadLimits) (λ u. Ok (with_worker fresh.0 place.0)) t place.2 in
+      subst Good (went_to (with_worker fresh.0 place.0) t room.2) good
 
-words_good : (ws : List (List ℕ)) (s t : ScriptView) → words_line ws s ≡ Ok t → Good s → Good t
-unfolding words_line
-words_good [] s t is good = subst Good (went_to s t is) good
-words_good (w ∷ ws) s t is good = let k = went (known (keyword w) fault.Syntax) (λ k. either s.account k ws s) t is in either_good s.account k.0 ws s t k.2 good
+alive_good : (ws : List (List ℕ)) (h t : HeadView) → alive_line ws h ≡ Ok t → Good h → Good t
+unfolding alive_line
+alive_good ws h t is good =
+    let line = went (alive_at ws) (λ line. require (nat_lt (length h.alive) MAX_ALIVE) fault.BadLimits >>= λ u. Ok (with_line line)) t is in
+    let room = went (require (nat_lt (length h.alive) MAX_ALIVE) fault.BadLimits) (λ u. Ok (with_line line.0)) t line.2 in
+    subst Good (went_to (with_line line.0) t room.2) good
+  where
+    with_line : AliveLine → HeadView
+    with_line line = record h { alive = h.alive ++ line ∷ [] }
 
-abbrev but_comment : Bool → List ℕ → ScriptView → Result ScriptView LineFault
-but_comment b line s = if b then Ok s else words_line (words line) s
+-- ---- a line of the head
 
-comment_good : (b : Bool) (line : List ℕ) (s t : ScriptView) → but_comment b line s ≡ Ok t → Good s → Good t
-comment_good true line s t is good = subst Good (went_to s t is) good
-comment_good false line s t is good = words_good (words line) s t is good
+abbrev Read : Type 0
+Read = HeadView × Option Act
 
-abbrev is_clean : List ℕ → Bool
-is_clean line = list_all (λ b. nat_le 32 b && nat_le b 126) line
+in_good : (r : Result HeadView LineFault) (h : HeadView) (t : Read) → in_head r ≡ Ok t → ((s : HeadView) → r ≡ Ok s → Good s) → Good t.0
+in_good r h t is good =
+    let a = went r (λ s. Ok (s, None)) t is in
+    subst (λ (x : Read). Good x.0) (went_to (a.0, None) t a.2) (good a.0 a.1)
 
-line_good : (line : List ℕ) (s t : ScriptView) → line_at line s ≡ Ok t → Good s → Good t
-unfolding line_at
-line_good line s t is good =
-    let short = went (require (nat_le (length line) 200) fault.TooLong) (λ u. require (is_clean line) fault.Syntax >>= λ v. but_comment (is_comment line) line s) t is in
-    let clean = went (require (is_clean line) fault.Syntax) (λ v. but_comment (is_comment line) line s) t short.2 in
-    comment_good (is_comment line) line s t clean.2 good
+ends_good : (said : Result Act LineFault) (h : HeadView) (t : Read) → ends_head h said ≡ Ok t → Good h → Good t.0
+ends_good said h t is good =
+    let a = went said (λ x. Ok (h, Some x)) t is in
+    subst (λ (x : Read). Good x.0) (went_to (h, Some a.0) t a.2) good
 
-abbrev whole : ScriptView → Result ScriptView Refused
-whole x = Ok x
+keyword_good : (driver : Driver) (k : Keyword) (ws : List (List ℕ)) (h : HeadView) (t : Read) → head_keyword driver k ws h ≡ Ok t → Good h → Good t.0
+unfolding head_keyword
+keyword_good driver first.Rows ws h t is good = in_good (one ws >>= λ w. rows_line w h) h t is (λ s so. let a = went (one ws) (λ w. rows_line w h) s so in rows_good a.0 h s a.2 good)
+keyword_good driver first.Units ws h t is good = in_good (one ws >>= λ w. units_line w h) h t is (λ s so. let a = went (one ws) (λ w. units_line w h) s so in units_good a.0 h s a.2 good)
+keyword_good driver first.Limit ws h t is good = in_good (one ws >>= λ w. limit_line w h) h t is (λ s so. let a = went (one ws) (λ w. limit_line w h) s so in limit_good a.0 h s a.2 good)
+keyword_good driver first.Spare ws h t is good = in_good (one ws >>= λ w. spare_line w h) h t is (λ s so. let a = went (one ws) (λ w. spare_line w h) s so in spare_good a.0 h s a.2 good)
+keyword_good driver first.Server ws h t is good = in_good (server_line ws h) h t is (λ s so. server_good ws h s so good)
+keyword_good driver first.Start ws h t is good = in_good (three ws >>= λ w. start_line w h) h t is (λ s so. let a = went (three ws) (λ w. start_line w h) s so in start_good a.0.0 a.0.1 a.0.2 h s a.2 good)
+keyword_good driver first.Worker ws h t is good = in_good (two ws >>= λ w. worker_line w h) h t is (λ s so. let a = went (two ws) (λ w. worker_line w h) s so in worker_good a.0.0 a.0.1 h s a.2 good)
+keyword_good driver first.Alive ws h t is good = in_good (alive_line ws h) h t is (λ s so. alive_good ws h s so good)
+keyword_good driver (first.Do v) ws h t is good = ends_good (unless_alive h.alive (act_at driver v ws h)) h t is good
+keyword_good driver first.Dump ws h t is good = ends_good (unless_alive h.alive (dump_at ws)) h t is good
+keyword_good driver first.Account ws h t is good = ends_good (unless_alive h.alive (account_at ws)) h t is good
+keyword_good driver first.Restore ws h t is good = ends_good (restore_at ws) h t is good
 
-same_whole : (x y : ScriptView) → whole x ≡ Ok y → x ≡ y
-same_whole x y e = cc
-
--- a line, and then the others
-next_good : (n : ℕ) (line : List ℕ) (s t : ScriptView) (others : ScriptView → Result ScriptView Refused) → Good s → ((u : ScriptView) → others u ≡ Ok t → Good u → Good t)
-    → (r : Result ScriptView LineFault) → line_at line s ≡ r → at_line n r others ≡ Ok t → Good t
-next_good n line s t others good rest (Ok u) here is = rest u is (line_good line s u here good)
-next_good n line s t others good rest (Err e) here is = absurd cc
-
-lines_good : (n : ℕ) (all : List (List ℕ)) (s t : ScriptView) → lines_from n all s ≡ Ok t → Good s → Good t
-unfolding lines_from
-lines_good n [] s t is good = subst Good (same_whole s t is) good
-lines_good n (line ∷ others) s t is good =
-    next_good n line s t (λ u. lines_from (n + 1) others u) good (λ u so better. lines_good (n + 1) others u t so better) (line_at line s) refl is
-
-abbrev too_long : Result ScriptView Refused
-too_long = Err (record { line = 0; fault = fault.TooLong })
-
-short_good : (b : Bool) (bytes : List ℕ) (t : ScriptView) → (if b then too_long else lines_from 1 (lines bytes) no_lines) ≡ Ok t → Good t
-short_good true bytes t is = absurd cc
-short_good false bytes t is = lines_good 1 (lines bytes) no_lines t is (All-nil IsChecked)
-
-pub script_good : (bytes : List ℕ) (t : ScriptView) → script bytes ≡ Ok t → All IsChecked t.servers
-unfolding script
-script_good bytes t is = short_good (nat_lt MAX_SCRIPT_BYTES (length bytes)) bytes t is
+pub words_good : (driver : Driver) (ws : List (List ℕ)) (h : HeadView) (t : HeadView × Option Act) → head_words driver ws h ≡ Ok t → Good h → Good t.0
+unfolding head_words
+words_good driver [] h t is good = subst (λ (x : Read). Good x.0) (went_to (h, None) t is) good
+words_good driver (w ∷ ws) h t is good = let k = went (known (keyword w) fault.Syntax) (λ k. head_keyword driver k ws h) t is in keyword_good driver k.0 ws h t k.2 good

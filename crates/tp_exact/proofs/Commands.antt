@@ -11,7 +11,7 @@ use Rattle.tp_server.specs.Pending.{Pending}
 use Rattle.tp_manager.specs.Shown.{KeeperShown, ManagerShown, PassShown}
 use Rattle.tp_report.specs.declared.answer.ServerAnswer.TheVariants as told
 use Rattle.tp_report.specs.Answer.{balance_text, line, named_text}
-use Rattle.tp_script.specs.Script.{ScriptView, ServerView}
+use Rattle.tp_script.specs.Script.{HeadView, ServerView}
 use Rattle.tp_script.specs.declared.script.ClientAct.{ClientAct}
 use Rattle.tp_script.specs.declared.script.Command.{Command}
 use Rattle.tp_commands.specs.Acting.{PlaceShown}
@@ -170,5 +170,5 @@ summed_so k (p ∷ ps) (d ∷ ds) a =
 -- ---- a command without a race
 
 -- the passes of races are as they were
-pub racers_kept : (m : ManagerShown) (script : ScriptView) (c : Command) (raced : ℕ) (old : Scene) (text : List ℕ) (new : Scene) (p : Performs m script c raced old text new) → p.after ≡ p.here → new.racers ≡ old.racers
-racers_kept m script c raced old text new p same = p.kept ∙ (ap (λ z. p.front ++ (z ++ p.back)) same ∙ sym p.parts)
+pub racers_kept : (m : ManagerShown) (head : HeadView) (c : Command) (raced : ℕ) (old : Scene) (text : List ℕ) (new : Scene) (p : Performs m head c raced old text new) → p.after ≡ p.here → new.racers ≡ old.racers
+racers_kept m head c raced old text new p same = p.kept ∙ (ap (λ z. p.front ++ (z ++ p.back)) same ∙ sym p.parts)

@@ -5,7 +5,7 @@ use Rattle.tp_model.specs.declared.types.Limits.{Limits}
 use Rattle.tp_manager.specs.Shown.{ManagerShown}
 use Rattle.tp_rollover.specs.declared.survivors.Survivor.{Survivor}
 use Rattle.tp_rollover.proofs.Seen.{stays_trans}
-use Rattle.tp_script.specs.Session.{HeadView, head_view}
+use Rattle.tp_script.specs.Script.{HeadView, head_view}
 use Rattle.tp_script.specs.declared.head.Head.{Head}
 use Rattle.tp_commands.specs.Acting.{PlaceShown}
 use Rattle.tp_perform.specs.Scenes.{Gathered, OnlyPass, passes_in}
@@ -59,15 +59,15 @@ module _ (head : Head) (old : Live) (s : SessionState) (is : StandsLive (head_vi
     same : thread_of l (passes_in new.stand.scene) new.stand.keeper.seen ≡ s.report.manager
     same = (alone_idle l old.stand.keeper new.stand.keeper (passes_in old.stand.scene) (passes_in new.stand.scene) old.stand.keeper.seen new.stand.keeper.seen is.stands.together stay after).1 ∙ sym is.stands.manager
 
-    still : AllZip OnlyPass old.stand.scene.places new.stand.scene.places → new.works ≡ old.works → StandsLive h new s
+    pub still : AllZip OnlyPass old.stand.scene.places new.stand.scene.places → new.works ≡ old.works → StandsLive h new s
     still places works =
         let apart = looks_apart old.stand.scene.places new.stand.scene.places old.stand.scene.racers new.stand.scene.racers places stay.1 in
         record {
-          stands = subst (λ (m : ManagerShown). Stands h.script.servers m.limits new.stand.keeper new.stand.keeper.seen new.stand.scene s.report) (sym manager) (record {
+          stands = subst (λ (m : ManagerShown). Stands h.servers m.limits new.stand.keeper new.stand.keeper.seen new.stand.scene s.report) (sym manager) (record {
             together = after;
             manager = sym same;
             desks = still_all old.stand.scene.places new.stand.scene.places s.report.desks apart.0 is.stands.desks;
-            served = served_all old.stand.scene.places new.stand.scene.places h.script.servers apart.0 is.stands.served;
+            served = served_all old.stand.scene.places new.stand.scene.places h.servers apart.0 is.stands.served;
           });
           works = is.works ∙ sym works;
         }

@@ -15,7 +15,7 @@ use Rattle.tp_model.proofs.Stages.{born_staged}
 use Rattle.tp_model.proofs.WordProofs.{rounds_by_words}
 use Rattle.tp_rollover.specs.Survivors.{IsSurvivor}
 use Rattle.tp_rollover.specs.declared.survivors.Survivor.{Survivor}
-use Rattle.tp_script.specs.Session.{HeadView}
+use Rattle.tp_script.specs.Script.{HeadView}
 use Rattle.tp_script.specs.declared.head.AliveLine.{AliveLine}
 use Rattle.tp_script.specs.declared.head.TheConstants.{MAX_ALIVE}
 use Rattle.tp_session.specs.Dump.{alive_text, attempts_of}

@@ -21,10 +21,6 @@ pub mod Drains
 pub mod GivingUps
 pub mod Covered
 pub mod Begins
-pub mod Chain
-pub mod Scripts
-pub mod Fronts
-pub mod Runs
 pub mod Checked
 pub mod WorkerActs
 pub mod SessionHeads
@@ -33,7 +29,6 @@ pub mod Anews
 pub mod SessionActs
 pub mod Sessions
 pub mod HeadsChecked
-pub mod Programs
 pub mod Described
 pub mod DumpActs
 pub mod Tries
@@ -41,3 +36,5 @@ pub mod RestoredDumps
 pub mod Cuts
 pub mod AliveReads
 pub mod FoundLines
+pub mod Scripts
+pub mod Plains

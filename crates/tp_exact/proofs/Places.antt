@@ -26,7 +26,7 @@ use Rattle.tp_desk.specs.declared.turned.Turned.TheVariants as turneds
 use Rattle.tp_report.specs.declared.answer.ServerAnswer.{ServerAnswer}
 use Rattle.tp_report.specs.declared.answer.ServerAnswer.TheVariants as told
 use Rattle.tp_report.specs.Answer.{line, named_text}
-use Rattle.tp_script.specs.Script.{ScriptView, ServerView}
+use Rattle.tp_script.specs.Script.{HeadView, ServerView}
 use Rattle.tp_script.specs.declared.script.Command.TheVariants as command
 use Rattle.tp_script.specs.declared.script.DeskAct.{DeskAct}
 use Rattle.tp_script.specs.declared.script.DeskAct.TheVariants as acts
@@ -275,25 +275,25 @@ module _ (servers : List ServerView) (l : Limits) (keeper keeper' : KeeperShown)
       (subst (Answers answer) (ap (λ m. does server.recipe act (worker at) m d) (sym stands.manager) ∙ sym computed) so, behaves l act p.desk q.desk answer did.0)
 
 -- a command on a desk, and its line
-pub at_desk : (m : ManagerShown) (script : ScriptView) (act : DeskAct) (at raced : ℕ) (keeper keeper' : KeeperShown) (h h' : List Event) (old new next : Scene) (text : List ℕ) (s : ReportState) → Stands script.servers m.limits keeper h old s
-    → Performs m script (command.Desk at act) raced old text new → OnlyLooks new next → AreTogether m.limits keeper' (passes_in next) h'
-    → let step = command_step script.servers (command.Desk at act) s in (text ≡ step.0) × Stands script.servers m.limits keeper' h' next step.1
-at_desk m script act at raced keeper keeper' h h' old new next text s stands performs looks after =
+pub at_desk : (m : ManagerShown) (head : HeadView) (act : DeskAct) (at raced : ℕ) (keeper keeper' : KeeperShown) (h h' : List Event) (old new next : Scene) (text : List ℕ) (s : ReportState) → Stands head.servers m.limits keeper h old s
+    → Performs m head (command.Desk at act) raced old text new → OnlyLooks new next → AreTogether m.limits keeper' (passes_in next) h'
+    → let step = command_step head.servers (command.Desk at act) s in (text ≡ step.0) × Stands head.servers m.limits keeper' h' next step.1
+at_desk m head act at raced keeper keeper' h h' old new next text s stands performs looks after =
     let t = performs.tells in
     let p : PlaceShown = t.does.old in
     let q : PlaceShown = t.does.new in
-    let racers = racers_kept m script (command.Desk at act) raced old text new performs t.others.racers in
+    let racers = racers_kept m head (command.Desk at act) raced old text new performs t.others.racers in
     let d = zip_at IsFor old.places s.desks at p stands.desks t.does.there in
-    let served = zip_at IsServedBy old.places script.servers at p stands.served t.does.there in
+    let served = zip_at IsServedBy old.places head.servers at p stands.served t.does.there in
     let same : served.0 ≡ t.server = same_some served.0 t.server (sym served.1 ∙ t.named) in
     let is_served : IsServedBy p t.server = subst (λ v. IsServedBy p v) same served.2 in
-    let so = answers_at script.servers m.limits keeper keeper' h h' old new next s at p q stands t.does.there t.does.others t.others.client racers looks after act t.server d.0 t.answer is_served d.2 p.is_dropped refl t.does.does in
+    let so = answers_at head.servers m.limits keeper keeper' h h' old new next s at p q stands t.does.there t.does.others t.others.client racers looks after act t.server d.0 t.answer is_served d.2 p.is_dropped refl t.does.does in
     let done : DeskAnswered = does_unless_dropped t.server.recipe act (worker at) s.manager d.0 in
-    let computed : command_step script.servers (command.Desk at act) s ≡ (line (named_text t.server.name done.answer), with_acted s at done)
+    let computed : command_step head.servers (command.Desk at act) s ≡ (line (named_text t.server.name done.answer), with_acted s at done)
     = ap (λ o. desk_at o (slice_get s.desks at) at act s) t.named ∙ ap (λ o. desk_at (Some t.server) o at act s) d.1 in
-    subst (λ (r : List ℕ × ReportState). (text ≡ r.0) × Stands script.servers m.limits keeper' h' next r.1) (sym computed) (
+    subst (λ (r : List ℕ × ReportState). (text ≡ r.0) × Stands head.servers m.limits keeper' h' next r.1) (sym computed) (
       t.text_is ∙ ap (λ x. line (named_text t.server.name x)) so.0.0,
-      leads_at script.servers m.limits keeper keeper' h h' old new next s at p q stands t.does.there t.does.others t.others.client racers looks after t.server d.0 done t.named d.1 so.1 is_served so.0.1 so.0.2,
+      leads_at head.servers m.limits keeper keeper' h h' old new next s at p q stands t.does.there t.does.others t.others.client racers looks after t.server d.0 done t.named d.1 so.1 is_served so.0.1 so.0.2,
     )
   where
     same_some : {A : Type 0} (x y : A) → Some x ≡ Some y → x ≡ y

@@ -40,7 +40,7 @@ restored_dump old done survivors head first new moved limits found lines same al
     let l = old.stand.manager.limits in
     let h = done.stand.keeper.seen in
     let back : map (survivor_of l.attempts) (map line_of survivors) ≡ survivors = all_again l h survivors found.together.legal limits.attempts.0 found.found.described in
-    let is : map (survivor_of head.script.settings.attempts) head.alive ≡ survivors = ap (λ n. map (survivor_of n) head.alive) same ∙ (ap (map (survivor_of l.attempts)) lines ∙ back) in
+    let is : map (survivor_of head.settings.attempts) head.alive ≡ survivors = ap (λ n. map (survivor_of n) head.alive) same ∙ (ap (map (survivor_of l.attempts)) lines ∙ back) in
     let again = restored.restores.again in (
       is,
       restored_rolls l new.manager.limits h new.keeper.seen survivors moved limits also found.together.legal restored.restores.together.legal found.found (subst (λ ss. StandAgain new.manager.limits new.keeper.seen ss moved) is again),

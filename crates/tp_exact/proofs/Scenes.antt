@@ -1,5 +1,5 @@
 -- All passes of a scene have gathered: they are together, and nothing else has changed.
-use Rattle.std.proofs.Common.{List, [], ◌∷◌, ◌++◌, All, length, map}
+use Rattle.std.proofs.Common.{ℕ, List, [], ◌∷◌, ◌++◌, All, length, map}
 use Rattle.std.specs.List.{AllZip}
 use Rattle.std.proofs.lemmas.List.Elements.{All-head, All-tail}
 use Rattle.tp_model.specs.History.{In, here, there}
@@ -7,7 +7,7 @@ use Rattle.tp_model.proofs.Bridges.{in_none}
 use Rattle.tp_manager.specs.Bounds.{gather_steps}
 use Rattle.tp_manager.specs.Shown.{IsOf, KeeperShown, ManagerShown, PassShown}
 use Rattle.tp_commands.specs.Acting.{PlaceShown}
-use Rattle.tp_perform.specs.Scenes.{Gathered, OnlyPass, Scene, passes_in}
+use Rattle.tp_perform.specs.Scenes.{Gathered, GatheredIn, OnlyPass, Scene, passes_in}
 use Rattle.tp_alone.specs.Thread.{AreTogether, Stays}
 use Rattle.tp_alone.proofs.Gatherings.{gathered_together}
 use Rattle.tp_exact.specs.Stands.{OnlyLooks, OnlyLooksAt}
@@ -26,17 +26,25 @@ looks_apart (p ∷ ps) (q ∷ qs) rs ts same looks =
     let others = looks_apart ps qs rs ts same.1 looks.1 in
     ((record { pass = looks.0; same = same.0 }, others.0), others.1)
 
-module _ (m : ManagerShown) (keeper keeper' : KeeperShown) (old new : Scene) (g : Gathered m keeper keeper' old new) where
+-- in however many steps
+module _ (steps : ℕ) (m : ManagerShown) (keeper keeper' : KeeperShown) (old new : Scene) (g : GatheredIn steps m keeper keeper' old new) where
   both : AreTogether m.limits keeper' (passes_in new) keeper'.seen × AllZip Stays (passes_in old) (passes_in new)
-  both = gathered_together m.limits (gather_steps m.limits (length (passes_in old))) keeper keeper' (passes_in old) (passes_in new) g.gathers g.all g.given (λ p q. (all_at (IsOf m) (passes_in new) p g.own q).1)
+  both = gathered_together m.limits steps keeper keeper' (passes_in old) (passes_in new) g.gathers g.all g.given (λ p q. (all_at (IsOf m) (passes_in new) p g.own q).1)
 
+  pub together_in : AreTogether m.limits keeper' (passes_in new) keeper'.seen
+  together_in = both.0
+
+  pub gathers_in : AllZip Stays (passes_in old) (passes_in new)
+  gathers_in = both.1
+
+module _ (m : ManagerShown) (keeper keeper' : KeeperShown) (old new : Scene) (g : Gathered m keeper keeper' old new) where
   pub together : AreTogether m.limits keeper' (passes_in new) keeper'.seen
-  together = both.0
+  together = together_in (gather_steps m.limits (length (passes_in old))) m keeper keeper' old new g
 
   pub each_stays : AllZip Stays (passes_in old) (passes_in new)
-  each_stays = both.1
+  each_stays = gathers_in (gather_steps m.limits (length (passes_in old))) m keeper keeper' old new g
 
   pub looks : OnlyLooks old new
   looks =
-      let apart = looks_apart old.places new.places old.racers new.racers g.places both.1.1 in
-      record { client = both.1.0; places = apart.0; racers = apart.1 }
+      let apart = looks_apart old.places new.places old.racers new.racers g.places each_stays.1 in
+      record { client = each_stays.0; places = apart.0; racers = apart.1 }

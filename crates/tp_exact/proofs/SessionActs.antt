@@ -2,8 +2,7 @@
 use Rattle.std.proofs.Common.{◌≡◌, Bool, true, false, List, ℕ, Option, None, Some, Ok, Err, sym, subst}
 use Rattle.tp_rollover.specs.declared.moved.RollFault.{RollFault}
 use Rattle.tp_script.specs.Passes.{is_race, is_rollover}
-use Rattle.tp_script.specs.Script.{script_view}
-use Rattle.tp_script.specs.Session.{head_view}
+use Rattle.tp_script.specs.Script.{head_view}
 use Rattle.tp_script.specs.declared.head.Act.TheVariants as acts
 use Rattle.tp_script.specs.declared.head.Head.{Head}
 use Rattle.tp_script.specs.declared.script.Command.{Command}
@@ -14,7 +13,7 @@ use Rattle.tp_exact.proofs.Anews.{by_dump, by_restore, by_rollover}
 use Rattle.tp_exact.proofs.SessionLines.{by_account, by_command, by_worker}
 
 -- a command, by whether it is a rollover
-command_so : (head : Head) (c : Command) (b : Bool) (old new : Live) (text : List ℕ) (s : SessionState) → is_race c ≡ false → StandsLive (head_view head) old s → TellsBy b (script_view head.script) c old text new
+command_so : (head : Head) (c : Command) (b : Bool) (old new : Live) (text : List ℕ) (s : SessionState) → is_race c ≡ false → StandsLive (head_view head) old s → TellsBy b (head_view head) c old text new
     → (why : Option RollFault) × IsUnforeseen why × IsStep (head_view head) new text (command_by b (head_view head) why c s)
 command_so head c true old new text s raceless is t = by_rollover head old new text s is t.holds t
 command_so head c false old new text s raceless is t = (None, tt, by_command head old new text s is c raceless t)

@@ -1,6 +1,7 @@
 -- The head of a session: what is read of it is what is computed.
 use Rattle.std.proofs.Common.{append_assoc, ◌≡◌, ℕ, ◌+◌, suc, List, [], ◌∷◌, ◌++◌, length, Option, None, Some, Result, Ok, Err, refl, sym, ◌∙◌, ap, arith}
-use Rattle.tp_script.specs.Session.{HeadView, head_at}
+use Rattle.tp_script.specs.Grammar.{head_at}
+use Rattle.tp_script.specs.Script.{HeadView}
 use Rattle.tp_script.specs.declared.fault.LineFault.{LineFault}
 use Rattle.tp_script.specs.declared.head.Act.{Act}
 use Rattle.tp_session.specs.Answers.{refused_line}

@@ -12,8 +12,7 @@ use Rattle.tp_manager.specs.Shown.{KeeperShown, ManagerShown, PassShown}
 use Rattle.tp_report.specs.Answer.{account_text, answer_text, line}
 use Rattle.tp_report.specs.declared.answer.Answer.TheVariants as answer
 use Rattle.tp_script.specs.Passes.{is_race}
-use Rattle.tp_script.specs.Script.{script_view}
-use Rattle.tp_script.specs.Session.{HeadView, head_view, worker_view}
+use Rattle.tp_script.specs.Script.{HeadView, head_view, worker_view}
 use Rattle.tp_script.specs.declared.head.Act.TheVariants as acts
 use Rattle.tp_script.specs.declared.head.Head.{Head}
 use Rattle.tp_script.specs.declared.head.WorkerAct.{WorkerAct}
@@ -102,12 +101,12 @@ module _ (head : Head) (old new : Live) (text : List ℕ) (s : SessionState) (is
 
   -- ---- a command of scripts
 
-  pub by_command : (c : Command) → is_race c ≡ false → CommandTold (script_view head.script) c old text new → Leads (command_by false h None c s)
+  pub by_command : (c : Command) → is_race c ≡ false → CommandTold (head_view head) c 0 old text new → Leads (command_by false h None c s)
   by_command c raceless t =
-      let one = exact_command c raceless old.stand.manager (script_view head.script) 0 old.stand.keeper new.stand.keeper scene new.stand.scene text s.report is.stands t.performs in (
+      let one = exact_command c raceless old.stand.manager (head_view head) 0 old.stand.keeper new.stand.keeper scene new.stand.scene text s.report is.stands t.performs in (
         one.0,
         record {
-          stands = subst (λ (m : ManagerShown). Stands h.script.servers m.limits new.stand.keeper new.stand.keeper.seen new.stand.scene (command_step h.script.servers c s.report).1) (sym t.manager) one.1;
+          stands = subst (λ (m : ManagerShown). Stands h.servers m.limits new.stand.keeper new.stand.keeper.seen new.stand.scene (command_step h.servers c s.report).1) (sym t.manager) one.1;
           works = is.works ∙ sym t.works;
         },
       )
@@ -121,12 +120,12 @@ module _ (head : Head) (old new : Live) (text : List ℕ) (s : SessionState) (is
     only : OnlyLooks middle next
     only = looks old.stand.manager old.stand.keeper keeper' middle next g
 
-    stands_so : (m : State) → m ≡ thread_of l (passes_in next) keeper'.seen → Stands h.script.servers l keeper' keeper'.seen next (record s.report { manager = m })
+    stands_so : (m : State) → m ≡ thread_of l (passes_in next) keeper'.seen → Stands h.servers l keeper' keeper'.seen next (record s.report { manager = m })
     stands_so m same = record {
       together = now_together;
       manager = same;
       desks = still_all middle.places next.places s.report.desks only.places (subst (λ ps. AllZip IsFor ps s.report.desks) (sym places) is.stands.desks);
-      served = served_all middle.places next.places h.script.servers only.places (subst (λ ps. AllZip IsServedBy ps h.script.servers) (sym places) is.stands.served);
+      served = served_all middle.places next.places h.servers only.places (subst (λ ps. AllZip IsServedBy ps h.servers) (sym places) is.stands.served);
     }
 
   -- ---- a worker
@@ -148,7 +147,7 @@ module _ (head : Head) (old new : Live) (text : List ℕ) (s : SessionState) (is
     front = scene.client ∷ (passes scene.places ++ parts.front)
 
     abbrev c : ℕ
-    c = 1 + length h.script.servers + at
+    c = 1 + length h.servers + at
 
     gathered : Gathered old.stand.manager old.stand.keeper new.stand.keeper middle new.stand.scene
     gathered = subst (λ (x : Stand). Gathered x.manager x.keeper new.stand.keeper x.scene new.stand.scene) t.did.stand t.gathers.gathered
@@ -170,7 +169,7 @@ module _ (head : Head) (old new : Live) (text : List ℕ) (s : SessionState) (is
     place_is =
         let e = append_long (passes scene.places) parts.front in
         let f = passes_long scene.places in
-        let g = zip_long IsServedBy scene.places h.script.servers is.stands.served in
+        let g = zip_long IsServedBy scene.places h.servers is.stands.served in
         let i = parts.long in
         omega (arith, e, f, g, i)
 
@@ -206,7 +205,7 @@ module _ (head : Head) (old new : Live) (text : List ℕ) (s : SessionState) (is
         subst (λ o. Leads (worker_step o act at c s)) (sym named) (
           t.text_is ∙ ap (λ x. worker_line (string_bytes t.it.name) x) so.0,
           record {
-            stands = subst (λ (m : ManagerShown). Stands h.script.servers m.limits new.stand.keeper new.stand.keeper.seen new.stand.scene (record s.report { manager = done.manager })) (sym manager_same)
+            stands = subst (λ (m : ManagerShown). Stands h.servers m.limits new.stand.keeper new.stand.keeper.seen new.stand.scene (record s.report { manager = done.manager })) (sym manager_same)
                 (stands_so middle new.stand.keeper new.stand.scene refl gathered done.manager (sym so.1));
             works = ap (λ ws. slice_set ws at done.work) is.works ∙ (ap (λ w. slice_set old.works at w) (sym so.2) ∙ sym (t.gathers.works ∙ t.did.works));
           },
@@ -240,7 +239,7 @@ module _ (head : Head) (old new : Live) (text : List ℕ) (s : SessionState) (is
 
     leaves : thread_of l (passes_in new.stand.scene) new.stand.keeper.seen ≡ was → StandsLive h new s
     leaves same = record {
-      stands = subst (λ (m : ManagerShown). Stands h.script.servers m.limits new.stand.keeper new.stand.keeper.seen new.stand.scene s.report) (sym (t.gathers.manager ∙ ap (λ (x : Stand). x.manager) t.counts.stand))
+      stands = subst (λ (m : ManagerShown). Stands h.servers m.limits new.stand.keeper new.stand.keeper.seen new.stand.scene s.report) (sym (t.gathers.manager ∙ ap (λ (x : Stand). x.manager) t.counts.stand))
           (stands_so counted new.stand.keeper new.stand.scene refl all_gathered s.report.manager (is.stands.manager ∙ sym same));
       works = is.works ∙ sym (t.gathers.works ∙ t.counts.works);
     }

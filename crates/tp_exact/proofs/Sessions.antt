@@ -11,7 +11,8 @@ use Rattle.tp_model.proofs.Histories.{legal_empty}
 use Rattle.tp_plain.specs.OneThread.{start}
 use Rattle.tp_workers.specs.Free.{IsFreePass}
 use Rattle.tp_manager.specs.Shown.{PassShown, view_in}
-use Rattle.tp_script.specs.Session.{HeadView, body_at, head_view, no_head}
+use Rattle.tp_script.specs.Grammar.{body_at}
+use Rattle.tp_script.specs.Script.{HeadView, head_view, no_head}
 use Rattle.tp_script.specs.Passes.{is_race}
 use Rattle.tp_script.specs.declared.fault.LineFault.{LineFault}
 use Rattle.tp_script.specs.declared.head.Act.{Act}
@@ -20,25 +21,22 @@ use Rattle.tp_script.specs.declared.head.Head.{Head}
 use Rattle.tp_script.specs.declared.script.Command.{Command}
 use Rattle.tp_rollover.specs.Managed.{IsNewPass}
 use Rattle.tp_rollover.specs.declared.moved.RollFault.{RollFault}
-use Rattle.tp_perform.specs.Ending.{final_lines}
 use Rattle.tp_perform.specs.Scenes.{Scene, passes_in}
 use Rattle.tp_reference.specs.PlainReport.{finals_below}
 use Rattle.tp_alone.specs.Thread.{AreDrawn, AreTogether, IsFresh, drawn_of}
 use Rattle.tp_alone.proofs.Starts.{alone_start}
 use Rattle.std.proofs.lemmas.List.{append-nil}
 use Rattle.tp_report.specs.Written.{AppendsFront}
-use Rattle.tp_session.specs.Conversed.{CommandLines, IsCommand, LiveBegins, LiveEnds, Session, SessionPart, finals_of}
+use Rattle.tp_session.specs.Conversed.{CommandLines, IsCommand, LiveBegins, LiveEnds, Session, SessionPart, finals_of, limits_of}
 use Rattle.tp_session.specs.Heard.{HearsFront, heard}
 use Rattle.tp_session.specs.Live.{Live}
 use Rattle.tp_session.specs.Told.{BodyLines, HeadLines, HeadTold, LinesFrom}
 use Rattle.tp_exact.specs.PlainSession.{HeadRead, Refusals, SessionState, act_step, begin, command_by, first_refusal, line_step, lines_from, lines_step, other_refusals, read_head, session_by, session_of}
-use Rattle.tp_exact.specs.Script.{IsChecked}
+use Rattle.tp_exact.specs.Programs.{IsChecked}
 use Rattle.tp_exact.specs.Sessions.{AreUnforeseen, ComputedOfBytes, ExactSession, ExactSessionFront, IsStep, IsUnforeseen, StandsLive, asks_race, asks_refusable, has_refusable_in, is_refusable}
 use Rattle.tp_exact.proofs.Begins.{desks_first, served_first}
-use Rattle.tp_exact.proofs.Finals.{lines_so}
-use Rattle.tp_exact.proofs.Fronts.{front_longer}
+use Rattle.tp_exact.proofs.Finals.{exact_finals, registers_left}
 use Rattle.tp_exact.proofs.Scenes.{all_at}
-use Rattle.tp_exact.proofs.Scripts.{registers_left}
 use Rattle.tp_exact.proofs.HeadsChecked.{command_raceless, head_good, line_raceless}
 use Rattle.tp_exact.proofs.SessionHeads.{head_alone, head_is, head_more, read_as}
 use Rattle.tp_exact.proofs.SessionActs.{exact_line}
@@ -60,7 +58,7 @@ act_same : (x y : Act) → ◌≡◌ {A = Result (Option Act) LineFault} (Ok (So
 act_same x y e = cc
 
 -- for some refusals that the lines don't tell, the text is that of these steps
-abbrev AreSteps : HeadView → Live → List ℕ → (Refusals → List ℕ × SessionState) → Type 0
+abbrev pub AreSteps : HeadView → Live → List ℕ → (Refusals → List ℕ × SessionState) → Type 0
 AreSteps h last text steps = (refusals : Refusals) × AreUnforeseen refusals × IsStep h last text (steps refusals)
 
 pub lines_are : (head : Head) (past : ℕ) (lines : List (List ℕ)) (old last : Live) (text : List ℕ) (s : SessionState) → StandsLive (head_view head) old s → BodyLines head past lines old text last
@@ -104,7 +102,7 @@ no_works (w ∷ ws) (x ∷ xs) same idle =
     let rest : length ws ≡ length xs = omega (arith, same) in
     ap (λ v. v ∷ map (λ _. None) xs) (sym (All-head (λ work. work ≡ None) w ws idle)) ∙ ap (λ vs. w ∷ vs) (no_works ws xs rest (All-tail (λ work. work ≡ None) w ws idle))
 
-module _ (head : Head) (first : Live) (begins : LiveBegins (head_view head) first) (checked : All IsChecked (head_view head).script.servers) where
+module _ (head : Head) (racers : ℕ) (none : racers ≡ 0) (first : Live) (begins : LiveBegins (head_view head) racers first) (checked : All IsChecked (head_view head).servers) where
   abbrev h : HeadView
   h = head_view head
 
@@ -158,25 +156,23 @@ module _ (head : Head) (first : Live) (begins : LiveBegins (head_view head) firs
   begins_live = record {
     stands = record {
       together = together_first;
-      manager = ap start (sym begins.new.limits) ∙ sym (alone_start l first.stand.keeper (passes_in scene) first.stand.keeper.seen together_first fresh);
-      desks = desks_first scene.places h.script.servers begins.desks (λ p at. (new_at p (there (in_left scene.racers at))).open_unit) begins.registers;
-      served = served_first scene.places h.script.servers begins.recipes checked;
+      manager = ap (λ n. start (limits_of h n)) (sym none) ∙ ap start (sym begins.new.limits) ∙ sym (alone_start l first.stand.keeper (passes_in scene) first.stand.keeper.seen together_first fresh);
+      desks = desks_first scene.places h.servers begins.desks (λ p at. (new_at p (there (in_left scene.racers at))).open_unit) begins.registers;
+      served = served_first scene.places h.servers begins.recipes checked;
     };
-    works = no_works first.works h.workers begins.each_worker begins.idle;
+    works = no_works first.works h.workers (omega (arith, begins.each_worker, none)) begins.idle;
   }
 
 -- ---- the end
 
-pub finals_are : (h : HeadView) (last : Live) (registers : List (List ℕ)) (s : SessionState) → StandsLive h last s → LiveEnds last registers → finals_of h registers ≡ finals_below h.script.servers s.report.desks (length h.script.servers)
-finals_are h last registers s is ends =
-    ap (λ rs. final_lines h.script.servers rs (length h.script.servers)) (registers_left last.stand.scene.places ends.passes registers s.report.desks ends.ended is.stands.desks)
-    ∙ lines_so h.script.servers s.report.desks (length h.script.servers)
+pub finals_are : (h : HeadView) (last : Live) (registers : List (List ℕ)) (s : SessionState) → StandsLive h last s → LiveEnds last registers → finals_of h registers ≡ finals_below h.servers s.report.desks (length h.servers)
+finals_are h last registers s is ends = exact_finals h registers s.report.desks (registers_left last.stand.scene.places ends.passes registers s.report.desks ends.ended is.stands.desks)
 
 -- ---- a whole session
 
 -- the servers of what was read of the head have no fault
 abbrev IsCoveredRead : HeadRead → Type 0
-IsCoveredRead read = All IsChecked read.head.script.servers
+IsCoveredRead read = All IsChecked read.head.servers
 
 covers : (bytes : List ℕ) → IsCoveredRead (read_head 0 (heard bytes) no_head)
 covers bytes = head_good 0 (heard bytes) no_head (All-nil IsChecked)
@@ -196,16 +192,16 @@ module _ (bytes : List ℕ) (Told : List ℕ → Type 0) (t : Session bytes Told
       let all : List ℕ × SessionState = lines_from command whole_head (length t.taken) refusals lines (begin whole_head) in
       subst Told (ap (λ x. t.head_text ++ (x ++ finals_of whole_head t.registers)) is.0 ∙ (ap (λ x. t.head_text ++ (all.0 ++ x)) (finals_are whole_head t.last t.registers all.1 is.1 t.ends) ∙ sym (ap (session_by refusals) read))) t.told
 
-  covered_so : (command : Option Act) (lines : List (List ℕ)) → read_head 0 (heard bytes) no_head ≡ read_as t.head_text whole_head (length t.taken) command lines → All IsChecked whole_head.script.servers
+  covered_so : (command : Option Act) (lines : List (List ℕ)) → read_head 0 (heard bytes) no_head ≡ read_as t.head_text whole_head (length t.taken) command lines → All IsChecked whole_head.servers
   covered_so command lines read = subst IsCoveredRead read (covers bytes)
 
   by_body : (behind : List (List ℕ)) → heard bytes ≡ t.taken ++ behind → CommandLines t.head (length t.taken) behind t.first t.text t.last → TellsSome bytes Told
   by_body [] are (none, same) =
       let read = ap (λ lines. read_head 0 lines no_head) are ∙ head_alone t.taken no_head whole_head t.head_text t.heads in
-      ([], All-nil IsUnforeseen, told_so [] None [] read (none, subst (λ z. StandsLive whole_head z (begin whole_head)) (sym same) (begins_live t.head t.first t.begins (covered_so None [] read))))
+      ([], All-nil IsUnforeseen, told_so [] None [] read (none, subst (λ z. StandsLive whole_head z (begin whole_head)) (sym same) (begins_live t.head 0 refl t.first t.begins (covered_so None [] read))))
   by_body (line ∷ others) are (act, command, body) =
       let read = ap (λ lines. read_head 0 lines no_head) are ∙ head_is t.taken line others act no_head whole_head t.head_text t.heads command in
-      let from = from_command t.head (length t.taken) line act others t.first t.last t.text (begin whole_head) command (begins_live t.head t.first t.begins (covered_so (Some act) others read)) body in
+      let from = from_command t.head (length t.taken) line act others t.first t.last t.text (begin whole_head) command (begins_live t.head 0 refl t.first t.begins (covered_so (Some act) others read)) body in
       (from.0, from.1, told_so from.0 (Some act) others read from.2)
 
   pub whole_is : TellsSome bytes Told
@@ -215,6 +211,10 @@ pub exact_session : ExactSession
 exact_session bytes before after t = whole_is bytes (Appends before after) t
 
 -- ---- after a fault
+
+-- more could follow
+pub front_longer : (a b : Option (List ℕ)) (x y : List ℕ) → AppendsFront a b x → AppendsFront a b (x ++ y)
+front_longer a b x y f = (f.0 ++ y, (f.1.0, ap (λ t. t ++ y) f.1.1 ∙ append_assoc f.1.0 f.0 y, f.1.2))
 
 -- fewer lines are told a prefix of all
 fewer : (h : HeadView) (past : ℕ) (refusals : Refusals) (lines others : List (List ℕ)) (s : SessionState)
@@ -239,7 +239,7 @@ module _ (bytes : List ℕ) (before after : Option (List ℕ)) where
       let read = ap (λ lines. read_head 0 lines no_head) are ∙ head_more 0 taken rest no_head h text lines in
       let others : HeadRead = read_head (0 + length taken) rest h in
       let all : List ℕ × SessionState = lines_from others.command others.head others.past [] others.behind (begin others.head) in
-      let finals : List ℕ = finals_below others.head.script.servers all.1.report.desks (length others.head.script.servers) in
+      let finals : List ℕ = finals_below others.head.servers all.1.report.desks (length others.head.servers) in
       ([], All-nil IsUnforeseen, subst (AppendsFront before after) (sym (ap (session_by []) read ∙ append_assoc text others.text (all.0 ++ finals))) (front_longer before after text (others.text ++ (all.0 ++ finals)) told))
 
   head_front : (head : HeadView) → HeadTold (HearsFront (Some bytes)) no_head head (AppendsFront before after) → TellsSome bytes (AppendsFront before after)
@@ -254,11 +254,11 @@ module _ (bytes : List ℕ) (before after : Option (List ℕ)) where
         by_head t.taken t.others part_head t.head_text are t.heads (subst (AppendsFront before after) (ap (λ x. t.head_text ++ x) none ∙ append-nil t.head_text) t.told)
     by_part (line ∷ lines) are (act, command, body) =
         let read = ap (λ all. read_head 0 all no_head) are ∙ head_is t.taken line (lines ++ t.others) act no_head part_head t.head_text t.heads command in
-        let servers : All IsChecked part_head.script.servers = subst IsCoveredRead read (covers bytes) in
-        let told = from_command t.head (length t.taken) line act lines t.first t.last t.text (begin part_head) command (begins_live t.head t.first t.begins servers) body in
+        let servers : All IsChecked part_head.servers = subst IsCoveredRead read (covers bytes) in
+        let told = from_command t.head (length t.taken) line act lines t.first t.last t.text (begin part_head) command (begins_live t.head 0 refl t.first t.begins servers) body in
         let few = fewer_from part_head (length t.taken) told.0 act lines t.others (begin part_head) in
         let all : List ℕ × SessionState = lines_from (Some act) part_head (length t.taken) told.0 (lines ++ t.others) (begin part_head) in
-        let finals : List ℕ = finals_below part_head.script.servers all.1.report.desks (length part_head.script.servers) in
+        let finals : List ℕ = finals_below part_head.servers all.1.report.desks (length part_head.servers) in
         let first : List ℕ = (lines_from (Some act) part_head (length t.taken) told.0 lines (begin part_head)).0 in
         let is : session_of told.0 bytes ≡ (t.head_text ++ first) ++ (few.0 ++ finals) =
         ap (session_by told.0) read ∙ (ap (λ x. t.head_text ++ (x ++ finals)) few.1 ∙ (ap (λ x. t.head_text ++ x) (append_assoc first few.0 finals) ∙ sym (append_assoc t.head_text first (few.0 ++ finals)))) in
@@ -279,7 +279,7 @@ exact_session_front bytes before after t =
 
 -- ---- where nothing can be refused so
 
-act_unasked : (h : HeadView) (why : Option RollFault) (act : Act) (s : SessionState) → is_refusable act ≡ false → act_step h why act s ≡ act_step h None act s
+pub act_unasked : (h : HeadView) (why : Option RollFault) (act : Act) (s : SessionState) → is_refusable act ≡ false → act_step h why act s ≡ act_step h None act s
 act_unasked h why (acts.Worker at act) s none = refl
 act_unasked h why acts.Account s none = refl
 act_unasked h why acts.Dump s none = absurd cc
@@ -292,7 +292,7 @@ line_unasked h n why (Err fault) s none = refl
 line_unasked h n why (Ok (Some act)) s none = act_unasked h why act s none
 
 -- an answer, and then others
-abbrev then_told : (SessionState → List ℕ × SessionState) → List ℕ × SessionState → List ℕ × SessionState
+abbrev pub then_told : (SessionState → List ℕ × SessionState) → List ℕ × SessionState → List ℕ × SessionState
 then_told rest first = (first.0 ++ (rest first.1).0, (rest first.1).1)
 
 lines_unasked : (h : HeadView) (past : ℕ) (refusals : Refusals) (lines : List (List ℕ)) (s : SessionState) → has_refusable_in h lines ≡ false → lines_step h past refusals lines s ≡ lines_step h past [] lines s
@@ -314,5 +314,5 @@ from_unasked (Some act) h past refusals lines s first none =
 pub computed_of_bytes : ComputedOfBytes
 computed_of_bytes bytes refusals unasked =
     let read : HeadRead = read_head 0 (heard bytes) no_head in
-    ap (λ (body : List ℕ × SessionState). read.text ++ (body.0 ++ finals_below read.head.script.servers body.1.report.desks (length read.head.script.servers)))
+    ap (λ (body : List ℕ × SessionState). read.text ++ (body.0 ++ finals_below read.head.servers body.1.report.desks (length read.head.servers)))
     (from_unasked read.command read.head read.past refusals read.behind (begin read.head) unasked.0 unasked.1)

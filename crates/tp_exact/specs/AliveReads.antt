@@ -4,7 +4,8 @@ use Rattle.tp_model.specs.History.{In}
 use Rattle.tp_model.specs.Steps.{AreLimits}
 use Rattle.tp_model.specs.declared.types.TheConstants.{MAX_ATTEMPTS, MAX_ROUNDS, REPLY_STAGE}
 use Rattle.tp_rollover.specs.declared.survivors.Survivor.{Survivor}
-use Rattle.tp_script.specs.Session.{HeadView, head_at}
+use Rattle.tp_script.specs.Grammar.{head_at}
+use Rattle.tp_script.specs.Script.{HeadView}
 use Rattle.tp_script.specs.declared.head.TheConstants.{MAX_ALIVE}
 use Rattle.tp_session.specs.Dump.{alive_text, attempts_of}
 use Rattle.tp_session.specs.Live.{FoundAlive, Live}

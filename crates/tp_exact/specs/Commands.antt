@@ -1,7 +1,7 @@
 -- A command after which all gather: its line is the computed one.
 use Rattle.std.specs.Prelude.{◌≡◌, ℕ, false, List}
 use Rattle.tp_manager.specs.Shown.{KeeperShown, ManagerShown}
-use Rattle.tp_script.specs.Script.{ScriptView}
+use Rattle.tp_script.specs.Script.{HeadView}
 use Rattle.tp_script.specs.declared.script.Command.{Command}
 use Rattle.tp_script.specs.Passes.{is_race}
 use Rattle.tp_perform.specs.Scenes.{Scene}
@@ -13,9 +13,9 @@ use Rattle.tp_exact.specs.Stands.{Stands}
 -- computed state after it, and its line is the computed one
 abbrev pub ExactCommand : Type 0
 ExactCommand =
-    (c : Command) → is_race c ≡ false → (m : ManagerShown) (script : ScriptView) (raced : ℕ)
+    (c : Command) → is_race c ≡ false → (m : ManagerShown) (head : HeadView) (raced : ℕ)
     (keeper keeper' : KeeperShown) (old new : Scene) (text : List ℕ) (s : ReportState)
-    → Stands script.servers m.limits keeper keeper.seen old s
-    → PerformsAll m script c raced keeper old text keeper' new
-    → let step = command_step script.servers c s in
-    (text ≡ step.0) × Stands script.servers m.limits keeper' keeper'.seen new step.1
+    → Stands head.servers m.limits keeper keeper.seen old s
+    → PerformsAll m head c raced keeper old text keeper' new
+    → let step = command_step head.servers c s in
+    (text ≡ step.0) × Stands head.servers m.limits keeper' keeper'.seen new step.1

@@ -7,7 +7,7 @@ use Rattle.tp_rollover.specs.declared.moved.Moved.{Moved}
 use Rattle.tp_rollover.specs.declared.survivors.Survivor.{Survivor}
 use Rattle.tp_report.specs.Answer.{answer_text, line}
 use Rattle.tp_report.specs.declared.answer.Answer.TheVariants as answer
-use Rattle.tp_script.specs.Session.{HeadView, head_view}
+use Rattle.tp_script.specs.Script.{HeadView, head_view}
 use Rattle.tp_script.specs.declared.head.AliveLine.{AliveLine}
 use Rattle.tp_script.specs.declared.head.Head.{Head}
 use Rattle.tp_perform.specs.Restore.{Restored}
@@ -50,7 +50,7 @@ abbrev pub RestoredDump : Type 0
 RestoredDump =
     (old done : Live) (survivors : List Survivor) (head : HeadView) (first new : Stand) (moved : List Moved)
     → AreLimits old.stand.manager.limits → FoundAlive old survivors done → head.alive ≡ map line_of survivors
-    → head.script.settings.attempts ≡ old.stand.manager.limits.attempts
+    → head.settings.attempts ≡ old.stand.manager.limits.attempts
     → new.manager.limits.attempts ≡ old.stand.manager.limits.attempts
     → Restored (survivors_of head) first moved new
     → (survivors_of head ≡ survivors)

@@ -4,11 +4,11 @@ pub mod Stands
 pub mod Commands
 pub mod Finals
 pub mod Desks
-pub mod Script
 pub mod PlainWorkers
 pub mod Alive
 pub mod PlainSession
 pub mod Sessions
+pub mod PlainScript
 pub mod Programs
 pub mod Dumps
 pub mod AliveReads

@@ -14,7 +14,8 @@ use Rattle.tp_report.specs.Answer.{account_text, answer_text, line, rolled_text}
 use Rattle.tp_report.specs.declared.answer.Answer.TheVariants as answer
 use Rattle.tp_report.specs.declared.answer.Renamed.{Renamed}
 use Rattle.tp_script.specs.Passes.{is_rollover}
-use Rattle.tp_script.specs.Session.{HeadView, WorkerView, body_at, head_at, no_head}
+use Rattle.tp_script.specs.Grammar.{body_at, head_at}
+use Rattle.tp_script.specs.Script.{HeadView, WorkerView, no_head}
 use Rattle.tp_script.specs.declared.fault.LineFault.{LineFault}
 use Rattle.tp_script.specs.declared.head.Act.{Act}
 use Rattle.tp_script.specs.declared.head.Act.TheVariants as acts
@@ -108,14 +109,14 @@ dump_of h s = dump_lines h (map (λ d. d.registers) s.report.desks) (map (λ d. 
 -- a command: a rollover, or one of those that scripts have without one
 abbrev pub command_by : Bool → HeadView → Option RollFault → Command → SessionState → List ℕ × SessionState
 command_by true h why c s = unless_refused (is_open s) why s (anew rolled_text (alive_of s.report.manager) s)
-command_by false h why c s = let step = command_step h.script.servers c s.report in
+command_by false h why c s = let step = command_step h.servers c s.report in
     (step.0, record s { report = step.1 })
 
 -- what is asked for, and why it was refused, if it was
 abbrev pub act_step : HeadView → Option RollFault → Act → SessionState → List ℕ × SessionState
 act_step h why (acts.Command c) s = command_by (is_rollover c) h why c s
 act_step h why (acts.Worker at act) s =
-    worker_step (slice_get h.workers at) act at (1 + length h.script.servers + at) s
+    worker_step (slice_get h.workers at) act at (1 + length h.servers + at) s
 act_step h why acts.Account s = (account_line s, s)
 act_step h why acts.Dump s = unless_refused (is_open s) why s (dump_text (dump_of h s), s)
 act_step h why acts.Restore s = unless_refused (is_open s) why s (anew restored_text (survivors_of h) s)
@@ -175,7 +176,7 @@ read_head past (line ∷ others) h = read_line past line others h (read_head (pa
 -- before the first command
 abbrev pub begin : HeadView → SessionState
 begin h = record {
-  report = record { manager = start (limits_of h); desks = map new_desk h.script.servers };
+  report = record { manager = start (limits_of h 0); desks = map new_desk h.servers };
   works = map (λ _. None) h.workers;
 }
 
@@ -184,8 +185,8 @@ begin h = record {
 abbrev pub session_by : Refusals → HeadRead → List ℕ
 session_by refusals read =
     let body = lines_from read.command read.head read.past refusals read.behind (begin read.head) in
-    read.text ++ (body.0 ++ finals_below read.head.script.servers body.1.report.desks
-    (length read.head.script.servers))
+    read.text ++ (body.0 ++ finals_below read.head.servers body.1.report.desks
+    (length read.head.servers))
 
 -- of all lines of the bytes, where those behind the head were refused so
 abbrev pub session_of : Refusals → List ℕ → List ℕ

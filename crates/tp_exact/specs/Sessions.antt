@@ -9,7 +9,8 @@ use Rattle.tp_rollover.specs.declared.moved.RollFault.{RollFault}
 use Rattle.tp_rollover.specs.declared.moved.RollFault.TheVariants as faults
 use Rattle.tp_report.specs.Written.{AppendsFront}
 use Rattle.tp_script.specs.Passes.{is_race, is_rollover}
-use Rattle.tp_script.specs.Session.{HeadView, body_at, head_view, no_head}
+use Rattle.tp_script.specs.Grammar.{body_at}
+use Rattle.tp_script.specs.Script.{HeadView, head_view, no_head}
 use Rattle.tp_script.specs.declared.fault.LineFault.{LineFault}
 use Rattle.tp_script.specs.declared.head.Act.{Act}
 use Rattle.tp_script.specs.declared.head.Act.TheVariants as acts
@@ -39,7 +40,7 @@ ExactWorker =
 
 -- what is there stands for a computed state: its scene does, as a script's, and the workers have the same in hand
 pub record StandsLive (h : HeadView) (live : Live) (s : SessionState) : Type 0 where
-  pub stands : Stands h.script.servers live.stand.manager.limits live.stand.keeper live.stand.keeper.seen
+  pub stands : Stands h.servers live.stand.manager.limits live.stand.keeper live.stand.keeper.seen
       live.stand.scene s.report
   pub works : s.works ≡ live.works
 

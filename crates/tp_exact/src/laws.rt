@@ -6,8 +6,7 @@ ghost use Rattle.tp_exact.specs.Desks.{ExactDesk};
 ghost use Rattle.tp_exact.specs.AliveReads.{AliveLineReads, FoundLinesRead};
 ghost use Rattle.tp_exact.specs.Dumps.{ExactDump, RestoredDump};
 ghost use Rattle.tp_exact.specs.Finals.{ExactAccount, ExactFinals};
-ghost use Rattle.tp_exact.specs.Programs.{ExactProgram, NeverRefuses};
-ghost use Rattle.tp_exact.specs.Script.{ExactFront, ExactRun, ExactScript};
+ghost use Rattle.tp_exact.specs.Programs.{ComputedOfScript, ExactProgram, SamePlain};
 ghost use Rattle.tp_exact.specs.Sessions.{ComputedOfBytes, ExactLine, ExactSession, ExactSessionFront};
 ghost use Rattle.tp_exact.specs.Sessions.{ExactWorker};
 
@@ -22,7 +21,7 @@ pub fn exact_command()
     ensures { ExactCommand }
 {}
 
-/// The lines at the end: the final ones of a script without a race, and the counts of a closing account.
+/// The lines at the end: the final ones, and the counts of a closing account.
 pub fn exact_end()
     ensures finals { ExactFinals }
     ensures account { ExactAccount }
@@ -32,20 +31,6 @@ pub fn exact_end()
 /// drop.
 pub fn exact_desk()
     ensures { ExactDesk }
-{}
-
-/// The report of a whole script without a race or a rollover: it is the computed one, and after a fault a
-/// prefix of it.
-pub fn exact_script()
-    ensures whole { ExactScript }
-    ensures front { ExactFront }
-{}
-
-/// What `tp_perform::run` leaves of the bytes of a script without a race or a rollover, by its clause
-/// `report`: the computed report, or the line of the refusal, and after a fault a prefix of it. So it and
-/// `tp_reference::run_plain` write the same.
-pub fn exact_run()
-    ensures { ExactRun }
 {}
 
 /// What a live session's worker is asked: its answer, and what that leaves.
@@ -90,10 +75,12 @@ pub fn exact_session()
     ensures unasked { ComputedOfBytes }
 {}
 
-/// What `tp_session::run` leaves of the bytes of a script, by its clause `ran`. Of a session it is the answers
-/// to its lines, and of another script without a race or a rollover the report; of a refused one the line of
-/// the refusal; and after a fault a prefix of that.
+/// What `tp_session::run` leaves of the bytes of a script without a race, by its clause `ran`: the computed
+/// report, or the line of the refusal, and after a fault a prefix of it. It is computed of the bytes, and of which
+/// rollovers, dumps and restores were refused where the lines alone don't say so; without such lines of the bytes
+/// alone. So `run` and `tp_reference::run_plain` write the same.
 pub fn exact_program()
     ensures whole { ExactProgram }
-    ensures checked { NeverRefuses }
+    ensures unasked { ComputedOfScript }
+    ensures plain { SamePlain }
 {}

@@ -1,12 +1,9 @@
--- All passes that a keeper gave out, and the account that ends a report.
-use Rattle.std.proofs.Common.{◌≡◌, ℕ, ◌+◌, List, [], ◌∷◌, true, refl, sym, ◌∙◌, ap, length}
+-- All passes that a keeper gave out.
+use Rattle.std.proofs.Common.{◌≡◌, ℕ, ◌+◌, List, [], ◌∷◌, sym, ◌∙◌, ap, length}
 use Rattle.std.proofs.lemmas.List.{length-map}
 use Rattle.tp_manager.specs.Accounts.{AreAll, AreNumberedFrom}
 use Rattle.tp_manager.specs.Shown.{KeeperShown, PassShown}
-use Rattle.tp_script.specs.declared.script.Script.{Script}
-use Rattle.tp_script.specs.Script.{script_view}
 use Rattle.tp_workers.specs.Free.{numbers}
-use Rattle.tp_perform.specs.Performing.{account_count}
 
 -- others with the same numbers
 from_same : (c : ℕ) (ps qs : List PassShown) → numbers qs ≡ numbers ps → AreNumberedFrom c ps → AreNumberedFrom c qs
@@ -28,7 +25,3 @@ all_same keeper ps qs same all =
 -- and as many of them given out
 pub all_kept : (keeper keeper' : KeeperShown) (ps qs : List PassShown) → numbers qs ≡ numbers ps → keeper'.given ≡ keeper.given → AreAll keeper ps → AreAll keeper' qs
 all_kept keeper keeper' ps qs same given all = let these = all_same keeper ps qs same all in (these.0 ∙ sym given, these.1)
-
--- an account that is asked for is one line
-pub account_asked : (script : Script) → script.account ≡ true → account_count (script_view script) ≡ 1
-account_asked script asked = rw asked refl

@@ -4,7 +4,7 @@ use Rattle.std.specs.List.{AllZip}
 use Rattle.std.specs.declared.alloc.Global.{Global}
 use Rattle.std.specs.declared.dyn_box.DynBox.{DynBox}
 use Rattle.std.proofs.lemmas.List.{take-append-drop}
-use Rattle.std.proofs.lemmas.List.Elements.{All-cons, All-drop, All-head, All-nil, All-tail, All-take}
+use Rattle.std.proofs.lemmas.List.Elements.{All-cons, All-head, All-nil, All-tail, All-take}
 use mathlib.Core.List.{IsPrefix}
 use Rattle.tp_model.specs.declared.event.Event.{Event}
 use Rattle.tp_model.specs.declared.types.Work.{Work}
@@ -26,8 +26,8 @@ use Rattle.tp_workers.specs.Free.{IsFreePass, numbers}
 use Rattle.tp_commands.specs.declared.place.Place.{Place}
 use Rattle.tp_commands.specs.Acting.{places_shown}
 use Rattle.tp_commands.specs.Places.{AllLie, Lies, workers}
-use Rattle.tp_perform.specs.Scenes.{Gathered, OnlyPass, Scene, passes_in}
-use Rattle.tp_perform.specs.Told.{AreReady, IsScene, RacersFree, units_held}
+use Rattle.tp_perform.specs.Scenes.{Gathered, GatheredIn, OnlyPass, Scene, passes_in}
+use Rattle.tp_perform.specs.Told.{AreReady, IsScene, units_held}
 
 -- ---- lists side by side
 
@@ -60,10 +60,6 @@ still_free m m' (p ∷ ps) (q ∷ qs) same own all =
     let free = All-head (IsFreePass m) p ps all in
     All-cons (IsFreePass m') q qs (record { own = All-head (IsOf m') q qs own; free = parts.0 ∙ free.free })
     (still_free m m' ps qs parts.1 (All-tail (IsOf m') q qs own) (All-tail (IsFreePass m) p ps all))
-
--- those of races, of all
-pub racers_still : (m m' : ManagerShown) (n : ℕ) (ps qs : List PassShown) → units_held n qs ≡ units_held n ps → All (IsOf m') qs → RacersFree m n ps → RacersFree m' n qs
-racers_still m m' n ps qs same own free = still_free m m' (drop n (drop 1 ps)) (drop n (drop 1 qs)) same (All-drop (IsOf m') n _ (All-drop (IsOf m') 1 qs own)) free
 
 -- ---- a pass that has done nothing but look
 
@@ -191,36 +187,52 @@ module _ {X : Type 0} {F : X → Type 0} (behaviour : DynBox X Global F → Beha
 
 -- all passes of a scene gathered
 module _ {X : Type 0} {F : X → Type 0} (behaviour : DynBox X Global F → Behaviour) (registers : DynBox X Global F → List ℕ) (pending : DynBox X Global F → Option Pending) (m : ManagerShown) (keeper keeper' : KeeperShown)
-    (ps qs : List PassShown) (ss : List (DynBox X Global F)) (os : List (Place X F)) (ready : AreReady behaviour registers pending m ps ss os)
-    (gathers : Gathers m.limits (gather_steps m.limits (length ps)) keeper keeper' ps qs) (all : AreAll keeper' qs) (given : keeper'.given ≡ keeper.given) (own : All (IsOf m) qs) where
-  abbrev steps : ℕ
-  steps = gather_steps m.limits (length ps)
+    (ps qs : List PassShown) (ss : List (DynBox X Global F)) (os : List (Place X F)) (ready : AreReady behaviour registers pending m ps ss os) where
+  module _ (steps : ℕ) (gathers : Gathers m.limits steps keeper keeper' ps qs) (all : AreAll keeper' qs) (given : keeper'.given ≡ keeper.given) (own : All (IsOf m) qs) where
+    looked : AllZip Looks ps qs
+    looked = zip_with (attended steps keeper'.seen) ps qs gathers.passes
 
-  looked : AllZip Looks ps qs
-  looked = zip_with (attended steps keeper'.seen) ps qs gathers.passes
+    pub ready_looked : AreReady behaviour registers pending m qs ss os
+    ready_looked = ready_on behaviour registers pending m ps qs ss os looked own ready
 
-  pub ready_gathered : AreReady behaviour registers pending m qs ss os
-  ready_gathered = ready_on behaviour registers pending m ps qs ss os looked own ready
+    pub numbers_looked : numbers qs ≡ numbers ps
+    numbers_looked = same_numbers ps qs looked
 
-  pub numbers_gathered : numbers qs ≡ numbers ps
-  numbers_gathered = same_numbers ps qs looked
+    pub held_looked : (n : ℕ) → units_held n qs ≡ units_held n ps
+    held_looked n = same_held n ps qs looked
 
-  pub held_gathered : (n : ℕ) → units_held n qs ≡ units_held n ps
-  held_gathered n = same_held n ps qs looked
+    pub gathered_in : (a : Scene) → IsScene behaviour registers pending ps ss os a → (b : Scene) × GatheredIn steps m keeper keeper' a b × IsScene behaviour registers pending qs ss os b
+    gathered_in a is =
+        let b = scene_on behaviour registers pending ps qs ss os a looked is in
+        let olds : ps ≡ passes_in a = sym (all_in behaviour registers pending m ps ss os a ready is) in
+        let news : qs ≡ passes_in b.0 = sym (all_in behaviour registers pending m qs ss os b.0 ready_looked b.1) in (
+          b.0,
+          record {
+            gathers = subst (λ zs. Gathers m.limits steps keeper keeper' zs (passes_in b.0)) olds (subst (λ zs. Gathers m.limits steps keeper keeper' ps zs) news gathers);
+            all = subst (AreAll keeper') news all;
+            given = given;
+            own = subst (All (IsOf m)) news own;
+            places = subst (λ zs. AllZip OnlyPass zs b.0.places) (sym is.1) (subst (λ zs. AllZip OnlyPass (places_shown behaviour registers pending (workers (length ss) ps) ss os) zs) (sym b.1.1)
+                (only_passes behaviour registers pending (workers (length ss) ps) (workers (length ss) qs) ss os (zip_take Looks (length ss) (drop 1 ps) (drop 1 qs) (zip_drop Looks 1 ps qs looked))));
+          },
+          b.1,
+        )
 
-  pub gathered : (a : Scene) → IsScene behaviour registers pending ps ss os a → (b : Scene) × Gathered m keeper keeper' a b × IsScene behaviour registers pending qs ss os b
-  gathered a is =
-      let b = scene_on behaviour registers pending ps qs ss os a looked is in
-      let olds : ps ≡ passes_in a = sym (all_in behaviour registers pending m ps ss os a ready is) in
-      let news : qs ≡ passes_in b.0 = sym (all_in behaviour registers pending m qs ss os b.0 ready_gathered b.1) in (
-        b.0,
-        record {
-          gathers = subst (λ zs. Gathers m.limits (gather_steps m.limits (length zs)) keeper keeper' zs (passes_in b.0)) olds (subst (λ zs. Gathers m.limits (gather_steps m.limits (length ps)) keeper keeper' ps zs) news gathers);
-          all = subst (AreAll keeper') news all;
-          given = given;
-          own = subst (All (IsOf m)) news own;
-          places = subst (λ zs. AllZip OnlyPass zs b.0.places) (sym is.1) (subst (λ zs. AllZip OnlyPass (places_shown behaviour registers pending (workers (length ss) ps) ss os) zs) (sym b.1.1)
-              (only_passes behaviour registers pending (workers (length ss) ps) (workers (length ss) qs) ss os (zip_take Looks (length ss) (drop 1 ps) (drop 1 qs) (zip_drop Looks 1 ps qs looked))));
-        },
-        b.1,
-      )
+  module _ (gathers : Gathers m.limits (gather_steps m.limits (length ps)) keeper keeper' ps qs) (all : AreAll keeper' qs) (given : keeper'.given ≡ keeper.given) (own : All (IsOf m) qs) where
+    abbrev steps : ℕ
+    steps = gather_steps m.limits (length ps)
+
+    pub ready_gathered : AreReady behaviour registers pending m qs ss os
+    ready_gathered = ready_looked steps gathers all given own
+
+    pub numbers_gathered : numbers qs ≡ numbers ps
+    numbers_gathered = numbers_looked steps gathers all given own
+
+    pub held_gathered : (n : ℕ) → units_held n qs ≡ units_held n ps
+    held_gathered n = held_looked steps gathers all given own n
+
+    pub gathered : (a : Scene) → IsScene behaviour registers pending ps ss os a → (b : Scene) × Gathered m keeper keeper' a b × IsScene behaviour registers pending qs ss os b
+    gathered a is =
+        let b = gathered_in steps gathers all given own a is in
+        let olds : ps ≡ passes_in a = sym (all_in behaviour registers pending m ps ss os a ready is) in
+        (b.0, subst (λ zs. GatheredIn (gather_steps m.limits (length zs)) m keeper keeper' a b.0) olds b.1, b.2)

@@ -1,5 +1,4 @@
 pub mod RegisterLemmas
-pub mod Endings
 pub mod Everyone
 pub mod Tellings
 pub mod Slices

@@ -1,8 +1,7 @@
 -- A manager with all its passes between two commands.
-use Rattle.std.proofs.Common.{◌≡◌, ℕ, List, All, Option, sym, ◌∙◌, ap, subst, length}
+use Rattle.std.proofs.Common.{◌≡◌, ℕ, List, All, Option, sym, subst, length}
 use Rattle.std.specs.declared.alloc.Global.{Global}
 use Rattle.std.specs.declared.dyn_box.DynBox.{DynBox}
-use Rattle.tp_model.specs.declared.types.Limits.{Limits}
 use Rattle.tp_server.specs.Behaviour.{Behaviour}
 use Rattle.tp_server.specs.Pending.{Pending}
 use Rattle.tp_manager.specs.Accounts.{Gathers}
@@ -13,14 +12,8 @@ use Rattle.tp_rollover.specs.Managed.{IsManaged}
 use Rattle.tp_rollover.specs.declared.managed.Managed.{Managed}
 use Rattle.tp_workers.specs.Free.{IsFreePass}
 use Rattle.tp_commands.specs.declared.place.Place.{Place}
-use Rattle.tp_perform.specs.Rollover.{stand}
-use Rattle.tp_perform.specs.Scenes.{Scene}
-use Rattle.tp_perform.specs.Told.{AreReady, GathersAt, IsScene, RacersFree}
-use Rattle.tp_perform.proofs.Gatherings.{gathered, held_gathered, racers_still, ready_gathered}
-
--- as many passes as the limits say
-pub same_parts : (old new : Managed) → IsManaged old → IsManaged new → new.manager.limits ≡ old.manager.limits → length new.passes.items ≡ length old.passes.items
-same_parts old new is is' limits = is'.parts ∙ (ap (λ (l : Limits). l.parts) limits ∙ sym is.parts)
+use Rattle.tp_perform.specs.Told.{AreReady}
+use Rattle.tp_perform.proofs.Gatherings.{ready_gathered}
 
 -- free passes
 pub all_own_free : (m : ManagerShown) (ps : List PassShown) → All (IsOf m) ps → AreFree ps → All (IsFreePass m) ps
@@ -37,13 +30,3 @@ module _ {X : Type 0} {F : X → Type 0} (behaviour : DynBox X Global F → Beha
   ready_at =
       subst (λ z. AreReady behaviour registers pending z new.passes.items ss os) (sym manager)
       (ready_gathered behaviour registers pending old.manager old.keeper new.keeper old.passes.items new.passes.items ss os ready gathers is'.all given own)
-
-  pub free_at : (n : ℕ) → RacersFree old.manager n old.passes.items → RacersFree new.manager n new.passes.items
-  free_at n free =
-      racers_still old.manager new.manager n old.passes.items new.passes.items
-      (held_gathered behaviour registers pending old.manager old.keeper new.keeper old.passes.items new.passes.items ss os ready gathers is'.all given own n) is'.own free
-
-  pub gathered_at : (a : Scene) → IsScene behaviour registers pending old.passes.items ss os a → (b : Scene) × GathersAt (stand old a) (stand new b) × IsScene behaviour registers pending new.passes.items ss os b
-  gathered_at a is =
-      let b = gathered behaviour registers pending old.manager old.keeper new.keeper old.passes.items new.passes.items ss os ready gathers is'.all given own a is in
-      (b.0, (manager, b.1), b.2)

@@ -1,7 +1,9 @@
 -- What clients and killers of a race did, by the passes of the race.
-use Rattle.std.proofs.Common.{◌≡◌, ℕ, List, ◌++◌, sym, ◌∙◌, ap, subst, length, take, drop, replicate}
+use Rattle.std.proofs.Common.{◌≡◌, ℕ, List, [], ◌∷◌, ◌++◌, All, Option, refl, sym, ◌∙◌, ap, subst, length, map, take, drop, replicate}
+use Rattle.std.proofs.lemmas.List.Elements.{All-head, All-tail}
 use Rattle.std.proofs.Math.Seq.{drop-append_seam, take-append_seam}
 use Rattle.tp_manager.specs.Shown.{ManagerShown, PassShown}
+use Rattle.tp_workers.specs.Free.{IsFreePass, numbers}
 use Rattle.tp_workers.specs.declared.killer.KillJob.{KillJob}
 use Rattle.tp_script.specs.declared.script.Race.{Race}
 use Rattle.tp_workers.specs.Clients.{JobShown}
@@ -20,3 +22,16 @@ races_ran m rows submitted plan racers cs ks cs' ks' submits kills kill front ba
     let five : cs' ≡ take plan.clients (cs' ++ ks') = sym (ap (λ n. take n (cs' ++ ks')) (sym many) ∙ take-append_seam cs' ks') in
     let six : ks' ≡ drop plan.clients (cs' ++ ks') = sym (ap (λ n. drop n (cs' ++ ks')) (sym many) ∙ drop-append_seam cs' ks') in
     subst (λ (x : List JobShown × List KillJob × List PassShown × List PassShown × List PassShown × List PassShown). RacersRan m x.0 x.1 x.2 x.3 submitted x.4 x.5) (λ i. (one i, two i, front i, back i, five i, six i)) ran
+
+-- free passes have the same units open: none
+pub none_open : (m : ManagerShown) (ps qs : List PassShown) → numbers qs ≡ numbers ps → All (IsFreePass m) ps → All (IsFreePass m) qs → map (λ (p : PassShown). p.open_unit) qs ≡ map (λ (p : PassShown). p.open_unit) ps
+none_open m [] [] same old new = refl
+none_open m [] (q ∷ qs) same old new = absurd cc
+none_open m (p ∷ ps) [] same old new = absurd cc
+none_open m (p ∷ ps) (q ∷ qs) same old new =
+    let one : q.open_unit ≡ p.open_unit = (All-head (IsFreePass m) q qs new).free ∙ sym (All-head (IsFreePass m) p ps old).free in
+    ap (λ (u : Option ℕ). u ∷ map (λ (p : PassShown). p.open_unit) qs) one
+    ∙ ap (λ (us : List (Option ℕ)). p.open_unit ∷ us) (none_open m ps qs (rest (numbers qs) (numbers ps) same) (All-tail (IsFreePass m) p ps old) (All-tail (IsFreePass m) q qs new))
+  where
+    rest : (xs ys : List ℕ) → q.number ∷ xs ≡ p.number ∷ ys → xs ≡ ys
+    rest xs ys e = cc

@@ -4,7 +4,7 @@ use Rattle.std.specs.Option.{option_map}
 use Rattle.std.specs.declared.alloc.Global.{Global}
 use Rattle.std.specs.declared.dyn_box.DynBox.{DynBox}
 use Rattle.std.proofs.Math.Seq.{drop-append_seam, take-append_seam}
-use Rattle.std.proofs.lemmas.List.{length-append, length-map, length-take, take-append-drop}
+use Rattle.std.proofs.lemmas.List.{length-append, length-take, take-append-drop}
 use Rattle.std.proofs.lemmas.List.Elements.{All-append, All-cons, All-drop, All-head, All-nil, All-take}
 use Rattle.tp_server.specs.Behaviour.{Behaviour}
 use Rattle.tp_server.specs.Pending.{Pending}
@@ -12,12 +12,12 @@ use Rattle.tp_manager.specs.Shown.{IsOf, ManagerShown, PassShown}
 use Rattle.tp_desk.specs.declared.aside.Aside.{Aside}
 use Rattle.tp_workers.specs.Free.{IsFreePass, numbers}
 use Rattle.tp_commands.specs.declared.place.Place.{Place}
-use Rattle.tp_commands.specs.Acting.{AllEnded, places_shown}
+use Rattle.tp_commands.specs.Acting.{places_shown}
 use Rattle.tp_commands.specs.Places.{AllLeft, AllLie, IsLeft, Lies, first_of, firsts, workers}
 use Rattle.tp_commands.proofs.Lefts.{same_parts, same_within, workers_are}
 use Rattle.tp_commands.proofs.Lies.{lie_passes, lie_servers}
 use Rattle.tp_perform.specs.Scenes.{Scene, scene}
-use Rattle.tp_perform.specs.Told.{ArePasses, AreReady, IsScene, RacersFree, after_servers, units_held}
+use Rattle.tp_perform.specs.Told.{AreReady, IsScene, after_servers, units_held}
 
 first_same : {A : Type 0} (x y : A) (xs ys : List A) → x ∷ xs ≡ y ∷ ys → (x ≡ y) × (xs ≡ ys)
 first_same x y xs ys e = (cc, cc)
@@ -152,22 +152,11 @@ module _ {X : Type 0} {F : X → Type 0} (behaviour : DynBox X Global F → Beha
     back_own : All (IsOf m) back
     back_own = subst (All (IsOf m)) (ap (drop (length here)) race ∙ drop-append_seam here back) (All-drop (IsOf m) (length here) rear rear_own)
 
-    -- where those behind are free
-    module _ (racers_free : RacersFree m (length ss) ps) where
-      rest_free : All (IsFreePass m) rest
-      rest_free = subst (All (IsFreePass m)) behind racers_free
-
-      front_free : All (IsFreePass m) front
-      front_free = subst (All (IsFreePass m)) (ap (take (length front)) before ∙ take-append_seam front rear) (All-take (IsFreePass m) (length front) rest rest_free)
-
-      rear_free : All (IsFreePass m) rear
-      rear_free = subst (All (IsFreePass m)) (ap (drop (length front)) before ∙ drop-append_seam front rear) (All-drop (IsFreePass m) (length front) rest rest_free)
-
-      pub here_free : All (IsFreePass m) here
-      here_free = subst (All (IsFreePass m)) (ap (take (length here)) race ∙ take-append_seam here back) (All-take (IsFreePass m) (length here) rear rear_free)
-
-      back_free : All (IsFreePass m) back
-      back_free = subst (All (IsFreePass m)) (ap (drop (length here)) race ∙ drop-append_seam here back) (All-drop (IsFreePass m) (length here) rear rear_free)
+    -- where those of the race are free
+    pub here_free : All (IsFreePass m) (take (length here) (drop (length front) (after_servers (length ss) ps))) → All (IsFreePass m) here
+    here_free free =
+        let tail : drop (length front) (after_servers (length ss) ps) ≡ rear = ap (drop (length front)) (behind ∙ before) ∙ drop-append_seam front rear in
+        subst (All (IsFreePass m)) (ap (take (length here)) (tail ∙ race) ∙ take-append_seam here back) free
 
     -- behind a command
     module _ (client' : PassShown) (ws' here' : List PassShown) (ss' : List Box) (os' : List (Place X F)) (free : IsFreePass m client') (own : All (IsOf m) ws') (lie : AllLie behaviour registers pending ws' ss' os') (here_own : All (IsOf m) here') where
@@ -197,10 +186,6 @@ module _ {X : Type 0} {F : X → Type 0} (behaviour : DynBox X Global F → Beha
             let rest_same : map (λ (p : PassShown). p.open_unit) others' ≡ map (λ (p : PassShown). p.open_unit) rest = same_within (λ (p : PassShown). p.open_unit) rest front rear here back here' before race same in
             ap (map (λ (p : PassShown). p.open_unit)) behind_after ∙ (rest_same ∙ ap (map (λ (p : PassShown). p.open_unit)) (sym behind))
 
-        pub racers_after : RacersFree m (length ss) ps → All (IsFreePass m) here' → RacersFree m (length ss) (client' ∷ (ws' ++ others'))
-        racers_after before_free here'_free =
-            subst (All (IsFreePass m)) (sym behind_after) (All-append (IsFreePass m) front (here' ++ back) (front_free before_free) (All-append (IsFreePass m) here' back here'_free (back_free before_free)))
-
       pub numbers_after : client'.number ≡ client.number → firsts os' ≡ firsts os → numbers here' ≡ numbers here → numbers (client' ∷ (ws' ++ others')) ≡ numbers ps
       numbers_after same began race_same =
           let middle = began_numbers ws ws' ss ss' os os' lie_workers lie began in
@@ -214,30 +199,3 @@ module _ {X : Type 0} {F : X → Type 0} (behaviour : DynBox X Global F → Beha
 
       pub scene_after : Is (client' ∷ (ws' ++ others')) ss' os' (scene behaviour registers pending client' ws' ss' os' others')
       scene_after = is_scene (client' ∷ (ws' ++ others')) client' ws' others' ss' os' refl many'
-
-    -- behind the ends of desks
-    module _ (qs : List PassShown) (ts : List Box) (free : All (IsFreePass m) qs) (left : AllLeft behaviour registers (firsts os) qs ts) where
-      pub free_left : RacersFree m (length ss) ps → All (IsFreePass m) (client ∷ (qs ++ rest))
-      free_left racers_free = All-cons (IsFreePass m) client (qs ++ rest) client_free (All-append (IsFreePass m) qs rest free (rest_free racers_free))
-
-      numbers_left : numbers qs ≡ numbers ws
-      numbers_left = ended_numbers ws qs ss ts os lie_workers left
-
-      pub all_numbers_left : numbers (client ∷ (qs ++ rest)) ≡ numbers ps
-      all_numbers_left =
-          ap (λ zs. client.number ∷ zs) (same_parts (λ (p : PassShown). p.number) (ws ++ rest) ws rest qs rest refl numbers_left refl) ∙ ap numbers (sym apart)
-
-      long_left : length qs ≡ length ss
-      long_left = sym (length-map qs (λ (p : PassShown). p.number)) ∙ (ap length numbers_left ∙ (length-map ws (λ (p : PassShown). p.number) ∙ many))
-
-      pub desks_left : AllLeft behaviour registers (firsts os) (workers (length ss) (client ∷ (qs ++ rest))) ts
-      desks_left = subst (λ zs. AllLeft behaviour registers (firsts os) zs ts) (sym (workers_are behaviour registers pending (length ss) client qs rest long_left)) left
-
-      pub ended_left : (registers_left : List (List ℕ)) (last : Scene) → AllEnded (places_shown behaviour registers pending ws ss os) qs registers_left → Is ps ss os last
-          → ArePasses (length ss) last (client ∷ (qs ++ rest)) × AllEnded last.places (workers (length ss) (client ∷ (qs ++ rest))) registers_left
-      ended_left registers_left last ended is =
-          let one = one_scene ps ss os last (scene behaviour registers pending client ws ss os rest) is (is_scene ps client ws rest ss os apart many) in
-          let these : workers (length ss) (client ∷ (qs ++ rest)) ≡ qs = workers_are behaviour registers pending (length ss) client qs rest long_left in (
-            subst (λ (z : Scene). ArePasses (length ss) z (client ∷ (qs ++ rest))) (sym one) (ap (λ zs. client ∷ (zs ++ rest)) (sym these)),
-            subst (λ (z : Scene). AllEnded z.places (workers (length ss) (client ∷ (qs ++ rest))) registers_left) (sym one) (subst (λ zs. AllEnded (places_shown behaviour registers pending ws ss os) zs registers_left) (sym these) ended),
-          )

@@ -1,10 +1,8 @@
--- After the commands of a script: the desks give up what they have in hand, one after another, and then end.
-use Rattle.std.specs.Prelude.{◌≡◌, ℕ, zero, suc, List, length}
-use Rattle.tp_manager.specs.Shown.{KeeperShown, ManagerShown, PassShown}
-use Rattle.tp_commands.specs.Acting.{AllEnded, GivesUpIn}
-use Rattle.tp_commands.specs.Places.{workers}
+-- After the last command the desks give up what they have in hand, one after another.
+use Rattle.std.specs.Prelude.{◌≡◌, ℕ, zero, suc, length}
+use Rattle.tp_manager.specs.Shown.{KeeperShown, ManagerShown}
+use Rattle.tp_commands.specs.Acting.{GivesUpIn}
 use Rattle.tp_perform.specs.Scenes.{Gathered, OnlyPlaces, Scene}
-use Rattle.tp_perform.specs.Told.{ArePasses}
 
 -- the desk at a place gave up what it had in hand, and then all gathered
 pub record GivesUp (m : ManagerShown) (at : ℕ) (keeper : KeeperShown) (old : Scene) (keeper' : KeeperShown)
@@ -23,11 +21,3 @@ GiveUpBelow m (suc at) keeper old keeper' new = (kept : KeeperShown) × (between
 -- all of them
 abbrev pub GiveUpAll : ManagerShown → KeeperShown → Scene → KeeperShown → Scene → Type 0
 GiveUpAll m keeper old = GiveUpBelow m (length old.places) keeper old
-
--- the desks of n servers gave up what they had in hand, and then ended with these passes and registers
-pub record DesksEnd (m : ManagerShown) (n : ℕ) (keeper : KeeperShown) (last : Scene) (keeper' : KeeperShown)
-    (left : List PassShown) (registers : List (List ℕ)) : Type 0 where
-  pub idle : Scene
-  pub give_up : GiveUpAll m keeper last keeper' idle
-  pub all : ArePasses n idle left
-  pub ended : AllEnded idle.places (workers n left) registers

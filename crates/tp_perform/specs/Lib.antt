@@ -1,12 +1,9 @@
 pub mod Ending
-pub mod Performing
 pub mod Drains
 pub mod GivingUp
-pub mod Reported
 pub mod Rollover
 pub mod Restore
 pub mod Scenes
 pub mod Together
 pub mod Told
 pub mod Units
-pub mod Whole

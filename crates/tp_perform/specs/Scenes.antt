@@ -1,5 +1,5 @@
--- What is there while a script is performed, and that all its passes gather.
-use Rattle.std.specs.Prelude.{◌≡◌, ℕ, List, ◌∷◌, ◌++◌, All, Option, length, map}
+-- What is there between two commands, and that all passes gather.
+use Rattle.std.specs.Prelude.{◌≡◌, ℕ, false, List, ◌∷◌, ◌++◌, All, Option, Some, None, length, map}
 use Rattle.std.specs.List.{AllZip}
 use Rattle.std.specs.declared.alloc.Global.{Global}
 use Rattle.std.specs.declared.dyn_box.DynBox.{DynBox}
@@ -11,7 +11,7 @@ use Rattle.tp_manager.specs.Shown.{IsOf, KeeperShown, ManagerShown, PassShown}
 use Rattle.tp_commands.specs.declared.place.Place.{Place}
 use Rattle.tp_commands.specs.Acting.{PlaceShown, places_shown}
 
--- what is there while a script is performed: the client's pass, the places of desks, and the passes of races
+-- what is there: the client's pass, the places of desks, and the passes of workers and races
 pub record Scene : Type 0 where
   pub client : PassShown
   pub places : List PlaceShown
@@ -30,6 +30,12 @@ module _ {X : Type 0} {F : X → Type 0} (behaviour : DynBox X Global F → Beha
     places = places_shown behaviour registers pending passes servers places;
     racers = racers;
   }
+
+-- the desk begins there
+pub record IsNewPlace (p : PlaceShown) : Type 0 where
+  pub began : p.began ≡ Some (p.desk.pass, p.desk.registers)
+  pub work : p.desk.work ≡ None
+  pub kept : p.is_dropped ≡ false
 
 -- what stands between two commands
 pub record Stand : Type 0 where
@@ -51,12 +57,14 @@ pub record OnlyPlaces (old new : Scene) : Type 0 where
 abbrev pub OnlyPass : PlaceShown → PlaceShown → Type 0
 OnlyPass old new = new ≡ record old { desk = record old.desk { pass = new.desk.pass } }
 
--- all passes, of which there are no others, have gathered, and nothing else has changed
-pub record Gathered (m : ManagerShown) (keeper keeper' : KeeperShown) (old new : Scene) : Type 0 where
-  pub gathers :
-      let l = m.limits in
-      Gathers l (gather_steps l (length (passes_in old))) keeper keeper' (passes_in old) (passes_in new)
+-- all passes, of which there are no others, have gathered in at most n steps, and nothing else has changed
+pub record GatheredIn (n : ℕ) (m : ManagerShown) (keeper keeper' : KeeperShown) (old new : Scene) : Type 0 where
+  pub gathers : Gathers m.limits n keeper keeper' (passes_in old) (passes_in new)
   pub all : AreAll keeper' (passes_in new)
   pub given : keeper'.given ≡ keeper.given
   pub own : All (IsOf m) (passes_in new)
   pub places : AllZip OnlyPass old.places new.places
+
+abbrev pub Gathered : ManagerShown → KeeperShown → KeeperShown → Scene → Scene → Type 0
+Gathered m keeper keeper' old new =
+    GatheredIn (gather_steps m.limits (length (passes_in old))) m keeper keeper' old new

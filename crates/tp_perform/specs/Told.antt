@@ -1,8 +1,7 @@
--- What the commands of a script are told, one after another: the line of each is that of its call's answer.
-use Rattle.std.specs.Prelude.{◌≡◌, ◌≤◌, ℕ, zero, suc, List, [], ◌∷◌, ◌++◌, All, Option, Some, None, length}
+-- What a command is told: its line is that of its call's answer.
+use Rattle.std.specs.Prelude.{◌≡◌, ℕ, List, [], ◌∷◌, ◌++◌, All, Option, Some, None, length}
 use Rattle.std.specs.Prelude.{IfSome, IsSome, map, slice_get, drop, take}
 use Rattle.std.specs.Option.{option_map}
-use Rattle.std.specs.Io.KnownBytes.{Appends}
 use Rattle.std.specs.declared.alloc.Global.{Global}
 use Rattle.std.specs.declared.dyn_box.DynBox.{DynBox}
 use Rattle.tp_model.specs.declared.types.Limits.{Limits}
@@ -14,24 +13,22 @@ use Rattle.tp_desk.specs.declared.order.Order.{Order}
 use Rattle.tp_desk.specs.declared.order.Order.TheVariants as orders
 use Rattle.tp_workers.specs.Free.{IsFreePass}
 use Rattle.tp_report.specs.Answer.{answer_text, line, named_text}
-use Rattle.tp_report.specs.Written.{AppendsFront}
 use Rattle.tp_report.specs.declared.answer.Answer.TheVariants as answer
 use Rattle.tp_report.specs.declared.answer.ServerAnswer.{ServerAnswer}
-use Rattle.tp_script.specs.Passes.{racers, racing}
-use Rattle.tp_script.specs.Script.{ScriptView, ServerView}
+use Rattle.tp_script.specs.Passes.{racers}
+use Rattle.tp_script.specs.Script.{HeadView, ServerView}
 use Rattle.tp_script.specs.declared.script.ClientAct.{ClientAct}
 use Rattle.tp_script.specs.declared.script.Command.{Command}
 use Rattle.tp_script.specs.declared.script.Command.TheVariants as command
 use Rattle.tp_commands.specs.declared.place.Place.{Place}
 use Rattle.tp_script.specs.declared.script.DeskAct.{DeskAct}
-use Rattle.tp_commands.specs.Acting.{DoesIn, IsSteadyPlace, PlaceShown, new_places, places_shown}
+use Rattle.tp_commands.specs.Acting.{DoesIn, IsSteadyPlace, PlaceShown, places_shown}
 use Rattle.tp_commands.specs.Asked.{TellsClient}
 use Rattle.tp_script.specs.declared.script.Race.{Race}
 use Rattle.tp_commands.specs.Registers.{TellsBalance, register_sum}
 use Rattle.tp_commands.specs.Places.{AllLie, workers}
 use Rattle.tp_perform.specs.Drains.{Drains}
-use Rattle.tp_perform.specs.Rollover.{RollsOn}
-use Rattle.tp_perform.specs.Scenes.{Gathered, OnlyClient, OnlyPlaces, Scene, Stand}
+use Rattle.tp_perform.specs.Scenes.{Gathered, OnlyClient, OnlyPlaces, Scene}
 use Rattle.tp_perform.specs.Together.{Races}
 
 -- the line tells what the client did
@@ -68,19 +65,19 @@ pub record RaceLine (m : ManagerShown) (rows : ℕ) (plan : Race)
   pub text_is : text ≡ line (answer_text (answer.Raced submitted))
   pub client : new.client ≡ old.client
 
--- the line of a script's command; a drain is told by its rounds
-abbrev pub TellsCommand : ManagerShown → ScriptView → Command → Scene → List ℕ → Scene → Type 0
-TellsCommand m s (command.Client act) = ClientLine m.limits act
-TellsCommand m s (command.Desk at act) = ServerLine m s.servers act at
-TellsCommand m s (command.Balance at k) = BalanceLine s.servers at k
-TellsCommand m s (command.Sum k) = λ old text new.
+-- the line of a command; a drain is told by its rounds
+abbrev pub TellsCommand : ManagerShown → HeadView → Command → Scene → List ℕ → Scene → Type 0
+TellsCommand m h (command.Client act) = ClientLine m.limits act
+TellsCommand m h (command.Desk at act) = ServerLine m h.servers act at
+TellsCommand m h (command.Balance at k) = BalanceLine h.servers at k
+TellsCommand m h (command.Sum k) = λ old text new.
     (text ≡ line (answer_text (answer.Sum k (register_sum k old.places)))) × (new ≡ old)
-TellsCommand m s (command.Race plan) = RaceLine m s.settings.rows plan
-TellsCommand m s other = λ old text new. ⊥
+TellsCommand m h (command.Race plan) = RaceLine m h.settings.rows plan
+TellsCommand m h other = λ old text new. ⊥
 
--- A command leads from one scene to another, and this is its line. A race takes the passes behind those of
--- the races before it; the other ones are as they were.
-pub record Performs (m : ManagerShown) (s : ScriptView) (c : Command) (raced : ℕ)
+-- A command leads from one scene to another, and this is its line. A race takes passes behind so many others,
+-- which are as they were.
+pub record Performs (m : ManagerShown) (h : HeadView) (c : Command) (raced : ℕ)
     (old : Scene) (text : List ℕ) (new : Scene) : Type 0 where
   pub front : List PassShown
   pub here : List PassShown
@@ -90,7 +87,7 @@ pub record Performs (m : ManagerShown) (s : ScriptView) (c : Command) (raced : �
   pub kept : new.racers ≡ front ++ (after ++ back)
   pub behind : length front ≡ raced
   pub needed : length here ≡ racers c
-  pub tells : TellsCommand m s c (record old { racers = here }) text (record new { racers = after })
+  pub tells : TellsCommand m h c (record old { racers = here }) text (record new { racers = after })
   -- at each place the registers are the fold of what the desk has committed since it began
   pub steady : All IsSteadyPlace new.places
 
@@ -102,61 +99,28 @@ drain_order other = None
 
 -- A command leads from one scene to another, this is its line, and all have gathered after it. In a drain
 -- they gather after each turn.
-abbrev pub PerformsBy : Option Order → ManagerShown → ScriptView → Command → ℕ → KeeperShown → Scene → List ℕ
+abbrev pub PerformsBy : Option Order → ManagerShown → HeadView → Command → ℕ → KeeperShown → Scene → List ℕ
     → KeeperShown → Scene → Type 0
-PerformsBy None m s c raced keeper old text keeper' new =
-    (done : Scene) × Performs m s c raced old text done × Gathered m keeper keeper' done new
-PerformsBy (Some order) m s c raced keeper old text keeper' new = Drains order m keeper old text keeper' new
+PerformsBy None m h c raced keeper old text keeper' new =
+    (done : Scene) × Performs m h c raced old text done × Gathered m keeper keeper' done new
+PerformsBy (Some order) m h c raced keeper old text keeper' new = Drains order m keeper old text keeper' new
 
-abbrev pub PerformsAll : ManagerShown → ScriptView → Command → ℕ → KeeperShown → Scene → List ℕ → KeeperShown
+abbrev pub PerformsAll : ManagerShown → HeadView → Command → ℕ → KeeperShown → Scene → List ℕ → KeeperShown
     → Scene → Type 0
-PerformsAll m s c = PerformsBy (drain_order c) m s c
-
--- all passes have gathered, and the manager is the same
-abbrev pub GathersAt : Stand → Stand → Type 0
-GathersAt old new = (new.manager ≡ old.manager)
-    × Gathered old.manager old.keeper new.keeper old.scene new.scene
-
--- A command leads from what stood before it to what stands after it, and this is its line. Only a rollover
--- leads to another manager.
-abbrev pub PerformsAt : ScriptView → Command → ℕ → Stand → List ℕ → Stand → Type 0
-PerformsAt s command.Rollover raced = RollsOn
-PerformsAt s c raced = λ old text new. (new.manager ≡ old.manager)
-    × PerformsAll old.manager s c raced old.keeper old.scene text new.keeper new.scene
-
--- All passes have gathered, and then the first n commands of a script have led from what stood to what
--- stands. The lines of these commands are this text.
-abbrev pub Told : ScriptView → Stand → ℕ → List ℕ → Stand → Type 0
-Told s old zero text new = (text ≡ []) × GathersAt old new
-Told s old (suc n) text new =
-    (before : List ℕ) × (last : List ℕ) × (c : Command) × (between : Stand)
-    × Told s old n before between × (slice_get s.commands n ≡ Some c)
-    × PerformsAt s c (racing (take n s.commands)) between last new
-    × (text ≡ before ++ last)
-
--- all of them were performed, and their lines written
-abbrev pub ToldAll : ScriptView → Stand → Stand → Option (List ℕ) → Option (List ℕ) → Type 0
-ToldAll s old new before after = (text : List ℕ)
-    × Told s old (length s.commands) text new × Appends before after text
-
--- some of them were performed, and a front of their lines written
-abbrev pub ToldFront : ScriptView → Stand → Option (List ℕ) → Option (List ℕ) → Type 0
-ToldFront s old before after =
-    (n : ℕ) × (text : List ℕ) × (new : Stand) × (n ≤ length s.commands)
-    × Told s old n text new × AppendsFront before after text
+PerformsAll m h c = PerformsBy (drain_order c) m h c
 
 -- of all passes the first is the client's, then comes one for each of so many servers, and the rest are those
--- of races
+-- of workers and races
 abbrev pub ArePasses : ℕ → Scene → List PassShown → Type 0
 ArePasses servers s passes = passes ≡ s.client ∷ (workers servers passes ++ s.racers)
 
--- the passes of races: those after the client's and those of this many servers
+-- the passes of workers and races: those after the client's and those of this many servers
 abbrev pub after_servers : ℕ → List PassShown → List PassShown
 after_servers servers passes = drop servers (drop 1 passes)
 
--- they are free
-abbrev pub RacersFree : ManagerShown → ℕ → List PassShown → Type 0
-RacersFree m servers passes = All (IsFreePass m) (after_servers servers passes)
+-- so many of them are free, behind so many others
+abbrev pub RaceFree : ManagerShown → ℕ → ℕ → ℕ → List PassShown → Type 0
+RaceFree m servers raced many passes = All (IsFreePass m) (take many (drop raced (after_servers servers passes)))
 
 -- the units that they have open
 abbrev pub units_held : ℕ → List PassShown → List (Option ℕ)
@@ -164,12 +128,6 @@ units_held servers passes = map (λ p. p.open_unit) (after_servers servers passe
 
 module _ {X : Type 0} {F : X → Type 0} (behaviour : DynBox X Global F → Behaviour)
     (registers : DynBox X Global F → List ℕ) (pending : DynBox X Global F → Option Pending) where
-  -- the scene before the first command: of the client's pass, new desks of the servers', and the passes of
-  -- races
-  abbrev pub IsFirstScene : List PassShown → List (DynBox X Global F) → Scene → Type 0
-  IsFirstScene passes servers s = ArePasses (length servers) s passes
-      × (s.places ≡ new_places behaviour registers pending (workers (length servers) passes) servers)
-
   -- the scene of these passes, of these servers, and of desks that lie aside
   abbrev pub IsScene : List PassShown → List (DynBox X Global F) → List (Place X F) → Scene → Type 0
   IsScene passes servers places s = ArePasses (length servers) s passes

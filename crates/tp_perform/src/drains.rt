@@ -3,7 +3,6 @@ ghost use Rattle.std.specs.Prelude.{◌≡◌, ◌+◌, ◌⊎◌, ◌≤◌, �
 ghost use Rattle.tp_manager.specs.Accounts.{AreAll};
 ghost use Rattle.tp_manager.specs.Shown.{IsKeptBy};
 ghost use Rattle.tp_workers.specs.Free.{numbers};
-ghost use Rattle.tp_report.specs.Lines.{IsLine};
 ghost use Rattle.tp_commands.specs.Acting.{StaysIn, TurnsIn};
 ghost use Rattle.tp_commands.specs.Places.{firsts};
 ghost use Rattle.tp_perform.specs.Drains.{Drains, Round, Turn, has_claimed};
@@ -46,7 +45,6 @@ pub(crate) fn drain_line(
         × IsScene behaviour registers pending passes.old servers.old places.old old
         × Drains order manager.now keeper.old old (string_bytes text) keeper.new new
         × IsScene behaviour registers pending passes.new servers.new places.new new) }
-    ensures line { IfOk result (λ text. IsLine (string_bytes text)) }
 {
     'rounds: while round(manager, keeper, passes, servers, places, order) {}
     line(alloc, Answer::Drained)

@@ -1,21 +1,18 @@
-//! Scripts performed over the shared manager: from a reader's bytes to the lines of a report.
+//! What a command does to all that a script or a session has: the manager with its passes, servers and desks.
 #![tactic(auto)]
 
-pub mod account;
-mod commands;
+pub mod boxes;
 mod drains;
 pub mod finals;
 mod giving_up;
 mod one_command;
-pub mod perform;
-mod program;
 mod race_lines;
 mod racing;
 mod restoring;
 pub mod rollover;
-pub mod serve;
 
+pub use giving_up::give_up_all;
 pub use one_command::perform_next;
-pub use program::run;
+pub use race_lines::race_next;
 pub use restoring::restore;
-pub use rollover::roll_over_line;
+pub use rollover::{gather_all, roll_over_line};

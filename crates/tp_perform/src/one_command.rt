@@ -4,14 +4,13 @@ ghost use Rattle.std.specs.Prelude.{◌≡◌, ◌+◌, ◌≤◌, [], All, IfOk
 ghost use Rattle.tp_manager.specs.Accounts.{AreAll};
 ghost use Rattle.tp_manager.specs.Shown.{IsKeptBy, IsOf};
 ghost use Rattle.tp_workers.specs.Free.{IsFreePass, numbers};
-ghost use Rattle.tp_report.specs.Lines.{IsLine};
 ghost use Rattle.tp_commands.specs.Places.{AllLie, firsts};
 ghost use Rattle.tp_perform.specs.Scenes.{Scene, scene};
 ghost use Rattle.tp_perform.specs.Told.{AreReady, IsScene, Performs, PerformsAll, TellsCommand, drain_order};
 ghost use Rattle.tp_perform.specs.Told.{units_held};
 ghost use Rattle.tp_script.specs.Passes.{is_race, is_rollover};
 ghost use Rattle.tp_script.specs.Ranges.{IsInRange};
-ghost use Rattle.tp_script.specs.Script.{script_view};
+ghost use Rattle.tp_script.specs.Script.{head_view};
 
 use crate::drains::drain_line;
 use std::alloc::{AllocError, Global};
@@ -20,13 +19,13 @@ use tp_commands::{Place, balance_line, client_line, desk_line, sum};
 use tp_desk::Order;
 use tp_manager::{Keeper, Manager, Pass};
 use tp_report::{Answer, line};
-use tp_script::{Command, Script};
+use tp_script::{Command, Head};
 use tp_server::Server;
 
 /// Performs a command that is no race, no drain and no rollover, and answers its line.
 fn command_line(
     alloc: Global,
-    script: &Script,
+    head: &Head,
     manager: &Manager,
     client: &mut Pass,
     passes: &mut [Pass],
@@ -37,8 +36,8 @@ fn command_line(
     requires client { IsFreePass manager.now client.old }
     requires own { All (IsOf manager.now) passes.old }
     requires lie { AllLie behaviour registers pending passes.old servers.old places.old }
-    requires as_many { length places.old ≡ length script.now.servers.items }
-    requires in_range { IsInRange (length script.now.servers.items) command }
+    requires as_many { length places.old ≡ length head.now.servers.items }
+    requires in_range { IsInRange (length head.now.servers.items) command }
     requires no_race { is_race command ≡ false }
     requires no_rollover { is_rollover command ≡ false }
     requires no_drain { drain_order command ≡ None }
@@ -49,13 +48,12 @@ fn command_line(
     ensures as_many { length places.new ≡ length places.old }
     ensures began { firsts places.new ≡ firsts places.old }
     ensures tells { IfOk result (λ text.
-        TellsCommand manager.now (script_view script.now) command
+        TellsCommand manager.now (head_view head.now) command
         (scene behaviour registers pending client.old passes.old servers.old places.old [])
         (string_bytes text)
         (scene behaviour registers pending client.new passes.new servers.new places.new [])) }
-    ensures line { IfOk result (λ text. IsLine (string_bytes text)) }
 {
-    let named = script.servers.as_slice();
+    let named = head.servers.as_slice();
     match command {
         Command::Client(act) => client_line(alloc, manager, client, act),
         Command::Desk { server, act } => desk_line(
@@ -83,7 +81,7 @@ fn command_line(
 /// servers. The passes are all, from the client's on.
 fn command_in(
     alloc: Global,
-    script: &Script,
+    head: &Head,
     manager: &Manager,
     passes: &mut [Pass],
     servers: &mut [Box<dyn Server + Send>],
@@ -91,9 +89,9 @@ fn command_in(
     command: Command,
 ) -> Result<String, AllocError>
     requires ready { AreReady behaviour registers pending manager.now passes.old servers.old places.old }
-    requires as_many { length places.old ≡ length script.now.servers.items }
+    requires as_many { length places.old ≡ length head.now.servers.items }
     requires enough { 1 + length servers.old ≤ length passes.old }
-    requires in_range { IsInRange (length script.now.servers.items) command }
+    requires in_range { IsInRange (length head.now.servers.items) command }
     requires no_race { is_race command ≡ false }
     requires no_rollover { is_rollover command ≡ false }
     requires no_drain { drain_order command ≡ None }
@@ -104,16 +102,15 @@ fn command_in(
     ensures held { units_held (length servers.old) passes.new ≡ units_held (length servers.old) passes.old }
     ensures tells { IfOk result (λ text. (old : Scene) × (new : Scene)
         × IsScene behaviour registers pending passes.old servers.old places.old old
-        × Performs manager.now (script_view script.now) command 0 old (string_bytes text) new
+        × Performs manager.now (head_view head.now) command 0 old (string_bytes text) new
         × IsScene behaviour registers pending passes.new servers.new places.new new) }
-    ensures line { IfOk result (λ text. IsLine (string_bytes text)) }
 {
     let Some((client, others)) = passes.split_first_mut() else {
         unreachable!();
     };
     let (workers, _rest) = others.split_at_mut(servers.len());
     command_line(
-        alloc, script, manager, client, workers, servers, places, command,
+        alloc, head, manager, client, workers, servers, places, command,
     )
 }
 
@@ -139,7 +136,7 @@ fn order_of(command: Command) -> Option<Order>
 /// session's workers.
 pub fn perform_next(
     alloc: Global,
-    script: &Script,
+    head: &Head,
     manager: &Manager,
     keeper: &mut Keeper,
     passes: &mut [Pass],
@@ -150,9 +147,9 @@ pub fn perform_next(
     requires keeper { IsKeptBy manager.now keeper.old }
     requires given { AreAll keeper.old passes.old }
     requires ready { AreReady behaviour registers pending manager.now passes.old servers.old places.old }
-    requires as_many { length places.old ≡ length script.now.servers.items }
+    requires as_many { length places.old ≡ length head.now.servers.items }
     requires enough { 1 + length servers.old ≤ length passes.old }
-    requires in_range { IsInRange (length script.now.servers.items) command }
+    requires in_range { IsInRange (length head.now.servers.items) command }
     requires no_race { is_race command ≡ false }
     requires no_rollover { is_rollover command ≡ false }
     ensures keeper { IsKeptBy manager.now keeper.new }
@@ -165,15 +162,14 @@ pub fn perform_next(
     ensures held { units_held (length servers.old) passes.new ≡ units_held (length servers.old) passes.old }
     ensures tells { IfOk result (λ text. (old : Scene) × (new : Scene)
         × IsScene behaviour registers pending passes.old servers.old places.old old
-        × PerformsAll manager.now (script_view script.now) command 0
+        × PerformsAll manager.now (head_view head.now) command 0
         keeper.old old (string_bytes text) keeper.new new
         × IsScene behaviour registers pending passes.new servers.new places.new new) }
-    ensures line { IfOk result (λ text. IsLine (string_bytes text)) }
 {
     match order_of(command) {
         Some(order) => drain_line(alloc, manager, keeper, passes, servers, places, order),
         None => {
-            let line = command_in(alloc, script, manager, passes, servers, places, command)?;
+            let line = command_in(alloc, head, manager, passes, servers, places, command)?;
             keeper.gather(manager, passes);
             Ok(line)
         }

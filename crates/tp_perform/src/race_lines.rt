@@ -1,16 +1,15 @@
-//! A race as a command of a script: by which passes, and its line.
+//! A race as a command: by which passes, and its line.
 ghost use Rattle.std.specs.Prelude.{◌≡◌, ◌+◌, ◌≤◌, All, IfOk, length, string_bytes, true};
 ghost use Rattle.tp_manager.specs.Accounts.{AreAll};
 ghost use Rattle.tp_manager.specs.Shown.{IsKeptBy, IsOf};
 ghost use Rattle.tp_workers.specs.Free.{IsFreePass, numbers};
-ghost use Rattle.tp_report.specs.Lines.{IsLine};
 ghost use Rattle.tp_commands.specs.Places.{AllLie, firsts};
 ghost use Rattle.tp_perform.specs.Scenes.{Scene, scene};
-ghost use Rattle.tp_perform.specs.Told.{AreReady, IsScene, Performs, PerformsAll, RacersFree};
-ghost use Rattle.tp_perform.specs.Told.{TellsCommand};
+ghost use Rattle.tp_perform.specs.Told.{AreReady, IsScene, Performs, PerformsAll, RaceFree};
+ghost use Rattle.tp_perform.specs.Told.{TellsCommand, units_held};
 ghost use Rattle.tp_script.specs.Passes.{is_race, racers as racers_of};
 ghost use Rattle.tp_script.specs.Ranges.{IsInRange};
-ghost use Rattle.tp_script.specs.Script.{script_view};
+ghost use Rattle.tp_script.specs.Script.{head_view};
 
 use crate::racing::run_race;
 use std::alloc::{AllocError, Global};
@@ -19,14 +18,14 @@ use std::thread::Threads;
 use tp_commands::Place;
 use tp_manager::{Keeper, Manager, Pass};
 use tp_report::{Answer, line};
-use tp_script::{Command, Script};
+use tp_script::{Command, Head};
 use tp_server::Server;
 
 /// Performs a race by the passes of its clients and killers, and answers its line.
 fn race_line<R: Threads + Sync>(
     rt: &R,
     alloc: Global,
-    script: &Script,
+    head: &Head,
     manager: &Manager,
     client: &Pass,
     passes: &mut [Pass],
@@ -37,10 +36,10 @@ fn race_line<R: Threads + Sync>(
 ) -> Result<String, AllocError>
     requires own { All (IsOf manager.now) passes.old }
     requires lie { AllLie behaviour registers pending passes.old servers.old places.old }
-    requires as_many { length places.old ≡ length script.now.servers.items }
+    requires as_many { length places.old ≡ length head.now.servers.items }
     requires racers { All (IsFreePass manager.now) racers.old }
     requires enough { length racers.old ≡ racers_of command }
-    requires in_range { IsInRange (length script.now.servers.items) command }
+    requires in_range { IsInRange (length head.now.servers.items) command }
     requires race { is_race command ≡ true }
     ensures own { All (IsOf manager.now) passes.new }
     ensures lie { AllLie behaviour registers pending passes.new servers.new places.new }
@@ -49,15 +48,14 @@ fn race_line<R: Threads + Sync>(
     ensures racers { All (IsFreePass manager.now) racers.new }
     ensures racers_numbered { numbers racers.new ≡ numbers racers.old }
     ensures tells { IfOk result (λ text.
-        TellsCommand manager.now (script_view script.now) command
+        TellsCommand manager.now (head_view head.now) command
         (scene behaviour registers pending client.now passes.old servers.old places.old racers.old)
         (string_bytes text)
         (scene behaviour registers pending client.now passes.new servers.new places.new racers.new)) }
-    ensures line { IfOk result (λ text. IsLine (string_bytes text)) }
 {
     match command {
         Command::Race(race) => {
-            let rows = script.settings.rows;
+            let rows = head.settings.rows;
             let submitted = run_race(
                 rt, alloc, manager, passes, servers, places, racers, rows, race,
             )?;
@@ -73,12 +71,12 @@ fn race_line<R: Threads + Sync>(
     }
 }
 
-/// Performs a race by the passes that it needs of all: those of the servers, and its own, which lie behind
-/// those of the races before it.
+/// Performs a race by the passes that it needs of all: those of the servers, and its own, which lie behind so
+/// many others.
 pub(crate) fn race_in<R: Threads + Sync>(
     rt: &R,
     alloc: Global,
-    script: &Script,
+    head: &Head,
     manager: &Manager,
     passes: &mut [Pass],
     servers: &mut [Box<dyn Server + Send>],
@@ -87,21 +85,20 @@ pub(crate) fn race_in<R: Threads + Sync>(
     command: Command,
 ) -> Result<String, AllocError>
     requires ready { AreReady behaviour registers pending manager.now passes.old servers.old places.old }
-    requires free { RacersFree manager.now (length servers.old) passes.old }
-    requires as_many { length places.old ≡ length script.now.servers.items }
+    requires free { RaceFree manager.now (length servers.old) raced (racers_of command) passes.old }
+    requires as_many { length places.old ≡ length head.now.servers.items }
     requires enough { 1 + length servers.old + raced + racers_of command ≤ length passes.old }
-    requires in_range { IsInRange (length script.now.servers.items) command }
+    requires in_range { IsInRange (length head.now.servers.items) command }
     requires race { is_race command ≡ true }
     ensures ready { AreReady behaviour registers pending manager.now passes.new servers.new places.new }
-    ensures free { RacersFree manager.now (length servers.old) passes.new }
+    ensures held { units_held (length servers.old) passes.new ≡ units_held (length servers.old) passes.old }
     ensures as_many { length places.new ≡ length places.old }
     ensures began { firsts places.new ≡ firsts places.old }
     ensures numbered { numbers passes.new ≡ numbers passes.old }
     ensures tells { IfOk result (λ text. (old : Scene) × (new : Scene)
         × IsScene behaviour registers pending passes.old servers.old places.old old
-        × Performs manager.now (script_view script.now) command raced old (string_bytes text) new
+        × Performs manager.now (head_view head.now) command raced old (string_bytes text) new
         × IsScene behaviour registers pending passes.new servers.new places.new new) }
-    ensures line { IfOk result (λ text. IsLine (string_bytes text)) }
 {
     let Some((client, others)) = passes.split_first_mut() else {
         unreachable!();
@@ -110,16 +107,17 @@ pub(crate) fn race_in<R: Threads + Sync>(
     let (_before, racers) = rest.split_at_mut(raced);
     let (here, _after) = racers.split_at_mut(usize::from(command.racers()));
     race_line(
-        rt, alloc, script, manager, client, workers, servers, places, here, command,
+        rt, alloc, head, manager, client, workers, servers, places, here, command,
     )
 }
 
 /// Performs a race, after which all passes gather, and answers its line. The passes are all that the keeper
-/// gave out.
-pub(crate) fn race_next<R: Threads + Sync>(
+/// gave out: the client's, then one for each server, then others, of which so many stand before those of the
+/// race.
+pub fn race_next<R: Threads + Sync>(
     rt: &R,
     alloc: Global,
-    script: &Script,
+    head: &Head,
     manager: &Manager,
     keeper: &mut Keeper,
     passes: &mut [Pass],
@@ -131,28 +129,27 @@ pub(crate) fn race_next<R: Threads + Sync>(
     requires keeper { IsKeptBy manager.now keeper.old }
     requires given { AreAll keeper.old passes.old }
     requires ready { AreReady behaviour registers pending manager.now passes.old servers.old places.old }
-    requires free { RacersFree manager.now (length servers.old) passes.old }
-    requires as_many { length places.old ≡ length script.now.servers.items }
+    requires free { RaceFree manager.now (length servers.old) raced (racers_of command) passes.old }
+    requires as_many { length places.old ≡ length head.now.servers.items }
     requires enough { 1 + length servers.old + raced + racers_of command ≤ length passes.old }
-    requires in_range { IsInRange (length script.now.servers.items) command }
+    requires in_range { IsInRange (length head.now.servers.items) command }
     requires race { is_race command ≡ true }
     ensures keeper { IsKeptBy manager.now keeper.new }
     ensures given { keeper.new.given ≡ keeper.old.given }
     ensures all { AreAll keeper.new passes.new }
     ensures ready { AreReady behaviour registers pending manager.now passes.new servers.new places.new }
-    ensures free { RacersFree manager.now (length servers.old) passes.new }
+    ensures held { units_held (length servers.old) passes.new ≡ units_held (length servers.old) passes.old }
     ensures as_many { length places.new ≡ length places.old }
     ensures began { firsts places.new ≡ firsts places.old }
     ensures numbered { numbers passes.new ≡ numbers passes.old }
     ensures tells { IfOk result (λ text. (old : Scene) × (new : Scene)
         × IsScene behaviour registers pending passes.old servers.old places.old old
-        × PerformsAll manager.now (script_view script.now) command raced
+        × PerformsAll manager.now (head_view head.now) command raced
         keeper.old old (string_bytes text) keeper.new new
         × IsScene behaviour registers pending passes.new servers.new places.new new) }
-    ensures line { IfOk result (λ text. IsLine (string_bytes text)) }
 {
     let line = race_in(
-        rt, alloc, script, manager, passes, servers, places, raced, command,
+        rt, alloc, head, manager, passes, servers, places, raced, command,
     )?;
     keeper.gather(manager, passes);
     Ok(line)

@@ -3,7 +3,6 @@ ghost use Rattle.std.specs.Prelude.{◌≡◌, ◌+◌, ◌≤◌, List, ℕ, No
 ghost use Rattle.tp_manager.specs.Accounts.{Gathers};
 ghost use Rattle.tp_manager.specs.Bounds.{gather_steps};
 ghost use Rattle.tp_report.specs.Answer.{line, rolled_text};
-ghost use Rattle.tp_report.specs.Lines.{IsLine};
 ghost use Rattle.tp_rollover.specs.Faults.{AreFree};
 ghost use Rattle.tp_rollover.specs.Managed.{IsManaged};
 ghost use Rattle.tp_commands.specs.Places.{AllLie, all_firsts, firsts, workers};
@@ -37,7 +36,6 @@ pub fn all_renamed(alloc: Global, moved: &[Moved]) -> Result<Vec<Renamed>, Alloc
 /// The line of a rollover that carried these over.
 fn rolled_line(alloc: Global, moved: &[Moved]) -> Result<String, AllocError>
     ensures text { IfOk result (λ text. string_bytes text ≡ line (rolled_text (map renamed moved.now))) }
-    ensures line { IfOk result (λ text. IsLine (string_bytes text)) }
 {
     let elements = all_renamed(alloc, moved)?;
     line(alloc, Answer::RolledOver(&elements))
@@ -46,7 +44,6 @@ fn rolled_line(alloc: Global, moved: &[Moved]) -> Result<String, AllocError>
 /// The line of a rollover that was refused, or of a restore or a dump.
 pub fn refused_line(alloc: Global, why: RollFault) -> Result<String, AllocError>
     ensures text { IfOk result (λ text. string_bytes text ≡ line (roll_refused_text why)) }
-    ensures line { IfOk result (λ text. IsLine (string_bytes text)) }
 {
     match why {
         RollFault::NoMemory => line(alloc, Answer::Refused(Refusal::NoMemory)),
@@ -59,7 +56,7 @@ pub fn refused_line(alloc: Global, why: RollFault) -> Result<String, AllocError>
 }
 
 /// All passes gather.
-pub(crate) fn gather_all(managed: &mut Managed)
+pub fn gather_all(managed: &mut Managed)
     requires managed { IsManaged managed.old }
     ensures managed { IsManaged managed.new }
     ensures manager { managed.new.manager ≡ managed.old.manager }
@@ -120,7 +117,6 @@ pub fn roll_over_line(
         × IsScene behaviour registers pending managed.old.passes.items servers.now places.old old
         × RollsOn (stand managed.old old) (string_bytes text) (stand managed.new new)
         × IsScene behaviour registers pending managed.new.passes.items servers.now places.new new) }
-    ensures line { IfOk result (λ text. IsLine (string_bytes text)) }
 {
     match managed.roll_over(alloc) {
         Ok(moved) => {

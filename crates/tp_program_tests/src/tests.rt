@@ -1,7 +1,6 @@
 //! What tools/sweeps can't say of the built program: readers and writers that fail at each of their calls, over either
-//! manager, and what a failed performance leaves in its caller's servers.
+//! manager.
 
-mod boxes;
 mod devices;
 mod faults;
 

@@ -3,24 +3,24 @@ use Rattle.std.proofs.Common.{◌≡◌, ℕ, ◌+◌, ◌<◌, ◌≤◌, List,
 use Rattle.std.specs.Prelude.{slice_get, option_map}
 use Rattle.std.proofs.lemmas.Option.{slice_get-map, slice_get_read}
 use Rattle.std.proofs.lemmas.List.{drop_more, drop_all}
-use Rattle.tp_script.specs.declared.script.Command.{Command}
+use Rattle.tp_script.specs.declared.head.Act.{Act}
 use Rattle.tp_script.specs.declared.script.ScriptServer.{ScriptServer}
 use Rattle.tp_script.specs.Script.{ServerView, server_view}
 use Rattle.tp_desk.specs.declared.order.Order.{Order}
 use Rattle.tp_plain.specs.OneThread as thread
 use Rattle.tp_reference.specs.declared.plain_desk.PlainDesk.{PlainDesk}
 use Rattle.tp_reference.specs.PlainDesks.{given_up}
-use Rattle.tp_reference.specs.PlainReport.{ReportState, command_step, closing, ended_below, final_line, finals_below, reports, round_below, round_of, round_turn, rounds}
+use Rattle.tp_reference.specs.PlainReport.{ReportState, act_step, closing, ended_below, final_line, finals_below, reports, round_below, round_of, round_turn, rounds}
 
-pub reports_more : (servers : List ServerView) (account : Bool) (cs : List Command) (i : ℕ) (c : Command) (s next : ReportState) (line : List ℕ) → i < length cs → command_step servers (get_or cs i c) s ≡ (line, next)
+pub reports_more : (servers : List ServerView) (account : Bool) (cs : List Act) (i : ℕ) (c : Act) (s next : ReportState) (line : List ℕ) → i < length cs → act_step servers (get_or cs i c) s ≡ (line, next)
     → reports servers account (drop i cs) s ≡ line ++ reports servers account (drop (i + 1) cs) next
 unfolding reports
 reports_more servers account cs i c s next line lt step =
-    ap (λ (w : List Command). reports servers account w s) (drop_more cs i c lt) ∙ ap (λ (p : List ℕ × ReportState). p.0 ++ reports servers account (drop (i + 1) cs) p.1) step
+    ap (λ (w : List Act). reports servers account w s) (drop_more cs i c lt) ∙ ap (λ (p : List ℕ × ReportState). p.0 ++ reports servers account (drop (i + 1) cs) p.1) step
 
-pub reports_done : (servers : List ServerView) (account : Bool) (cs : List Command) (i : ℕ) (s : ReportState) → length cs ≤ i → reports servers account (drop i cs) s ≡ closing servers account s
+pub reports_done : (servers : List ServerView) (account : Bool) (cs : List Act) (i : ℕ) (s : ReportState) → length cs ≤ i → reports servers account (drop i cs) s ≡ closing servers account s
 unfolding reports
-reports_done servers account cs i s le = ap (λ (w : List Command). reports servers account w s) (drop_all i cs le)
+reports_done servers account cs i s le = ap (λ (w : List Act). reports servers account w s) (drop_all i cs le)
 
 -- the server at a place, without where it lies in memory
 pub server_there : (servers : List ScriptServer) (i : ℕ) (server : ScriptServer) → i < length servers → server ≡ get_or servers i server → slice_get (map server_view servers) i ≡ Some (server_view server)

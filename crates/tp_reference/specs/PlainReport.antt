@@ -1,18 +1,20 @@
--- What is reported of a script: the run of one thread over its commands. It covers all commands but races
--- and rollovers.
+-- What is reported of a script: the run of one thread over its commands. It covers those of the client and of
+-- servers: no workers, races, rollovers, dumps and restores.
 use Rattle.std.specs.Prelude.{ℕ, zero, suc, ◌+◌, ◌*◌, ◌||◌, Bool, true, false, if◌then◌else◌, List, [], ◌∷◌}
 use Rattle.std.specs.Prelude.{◌++◌, length, map, Option, Some, None, Result, Ok, Err, slice_get, slice_set}
 use Rattle.std.specs.Prelude.{sum_by}
 use Rattle.tp_model.specs.declared.types.Limits.{Limits}
 use Rattle.tp_plain.specs.OneThread as thread
 use Rattle.tp_plain.specs.OneThread.{start}
+use Rattle.tp_script.specs.declared.head.Act.{Act}
+use Rattle.tp_script.specs.declared.head.Act.TheVariants as act
 use Rattle.tp_script.specs.declared.script.Command.{Command}
 use Rattle.tp_script.specs.declared.script.Command.TheVariants.{Client, Desk, Balance, Sum, Race, Drain}
 use Rattle.tp_script.specs.declared.script.Command.TheVariants.{DrainNext, Rollover}
 use Rattle.tp_script.specs.declared.script.DeskAct.{DeskAct}
 use Rattle.tp_script.specs.declared.fault.Refused.{Refused}
 use Rattle.tp_script.specs.Fault.{refused_text}
-use Rattle.tp_script.specs.Script.{ScriptView, ServerView}
+use Rattle.tp_script.specs.Script.{HeadView, ScriptView, ServerView}
 use Rattle.tp_desk.specs.declared.order.Order.{Order}
 use Rattle.tp_desk.specs.declared.order.Order.TheVariants.{LeastFirst, InTurn}
 use Rattle.tp_desk.specs.declared.turned.Turned.TheVariants as turned
@@ -134,6 +136,11 @@ command_step servers Rollover s = ([], s)
 command_step servers Drain s = (line (answer_text answer.Drained), drain_of LeastFirst servers s)
 command_step servers DrainNext s = (line (answer_text answer.Drained), drain_of InTurn servers s)
 
+-- what is asked for; all else writes nothing, since its script isn't run
+abbrev pub act_step : List ServerView → Act → ReportState → List ℕ × ReportState
+act_step servers (act.Command c) s = command_step servers c s
+act_step servers other s = ([], s)
+
 -- ---- the whole report
 
 -- the final line of the server at a place; there is always one
@@ -163,19 +170,19 @@ closing servers account s = finals_below servers s.desks (length servers)
     ++ account_line account (length servers) s
 
 -- what the commands from here on write, and then the closing
-unfoldable pub reports : List ServerView → Bool → List Command → ReportState → List ℕ
+unfoldable pub reports : List ServerView → Bool → List Act → ReportState → List ℕ
 reports servers account [] s = closing servers account s
-reports servers account (c ∷ cs) s = let step = command_step servers c s in step.0
-    ++ reports servers account cs step.1
+reports servers account (a ∷ others) s = let step = act_step servers a s in step.0
+    ++ reports servers account others step.1
 
 -- a pass for the client, and one for each server
-abbrev pub limits_of : ScriptView → Limits
-limits_of s = record {
-  parts = 1 + length s.servers;
-  rows = s.settings.rows;
-  units = s.settings.units;
-  attempts = s.settings.attempts;
-  spare = s.settings.spare;
+abbrev pub limits_of : HeadView → Limits
+limits_of h = record {
+  parts = 1 + length h.servers;
+  rows = h.settings.rows;
+  units = h.settings.units;
+  attempts = h.settings.attempts;
+  spare = h.settings.spare;
 }
 
 -- a desk with nothing in hand
@@ -187,13 +194,13 @@ new_desk server = record {
   is_dropped = false;
 }
 
--- a script before its first command
-abbrev pub begin : ScriptView → ReportState
-begin s = record { manager = start (limits_of s); desks = map new_desk s.servers }
+-- before the first command
+abbrev pub begin : HeadView → ReportState
+begin h = record { manager = start (limits_of h); desks = map new_desk h.servers }
 
--- the report of a script without races and rollovers
+-- the report of a script that is run
 abbrev pub report_of : ScriptView → List ℕ
-report_of s = reports s.servers s.account s.commands (begin s)
+report_of s = reports s.head.servers s.account s.acts (begin s.head)
 
 -- the report of what a script's bytes say: of a refusal the one line of it
 abbrev pub report_of_read : Result ScriptView Refused → List ℕ

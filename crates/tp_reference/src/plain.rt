@@ -1,13 +1,15 @@
 //! A script run over the manager of one thread: what the tests hold the program against.
-ghost use Rattle.std.specs.Prelude.{◌≡◌, ◌+◌, ◌^◌, ◌<◌, ◌≤◌, IfSome, IsErrOf, IsTrue};
+ghost use Rattle.std.specs.Prelude.{◌≡◌, ◌+◌, ◌^◌, ◌<◌, ◌≤◌, Ok, IfSome, IsErrOf, IsTrue};
 ghost use Rattle.tp_script.specs.declared.source.TheConstants.{MAX_READS};
-ghost use Rattle.tp_script.specs.Grammar.{script};
-ghost use Rattle.tp_reference.specs.Whole.{Reports};
+ghost use Rattle.tp_script.specs.Whole.{script};
+ghost use Rattle.tp_script.specs.Script.{script_view};
+ghost use Rattle.std.specs.List.{list_any};
+ghost use Rattle.tp_reference.specs.Whole.{Reports, is_beyond, is_other};
 
 use crate::plain_report::write_plain_report;
 use std::alloc::Global;
 use tp_report::{Fault, Sink, fault_of, write_refusal};
-use tp_script::{ReadFault, Source, read_script};
+use tp_script::{Act, ReadFault, Script, Source, read_script};
 
 /// How a run over the manager of one thread ends without a fault.
 #[derive(Clone, Copy, Debug, PartialEq, Eq)]
@@ -16,13 +18,13 @@ pub enum PlainExit {
     Done,
     /// The script was refused, and the refusal written.
     Refused,
-    /// There is a race among its commands, which takes several threads, or a rollover, which takes two managers.
-    /// Nothing was run, and nothing written.
+    /// There is a race among its commands, which takes several threads, or a rollover, a dump or a restore, which
+    /// take two managers, or a worker. Nothing was run, and nothing written.
     NotRun,
 }
 
 /// Reads a script, runs it over the manager of one thread, and writes its report and nothing else. A script
-/// with a race or a rollover isn't run. The reader is asked at most 100,000 times.
+/// with a worker, a race, a rollover, a dump or a restore isn't run. The reader is asked at most 100,000 times.
 pub fn run_plain<R: Source, W: Sink>(
     alloc: Global,
     reader: &mut R,
@@ -37,7 +39,7 @@ pub fn run_plain<R: Source, W: Sink>(
 {
     match read_script(alloc, reader) {
         Ok(script) => {
-            if script.has_race() || script.has_rollover() {
+            if is_beyond(&script) {
                 return Ok(PlainExit::NotRun);
             }
             match write_plain_report(alloc, &script, writer) {
@@ -52,4 +54,31 @@ pub fn run_plain<R: Source, W: Sink>(
         Err(ReadFault::NoMemory) => Err(Fault::NoMemory),
         Err(ReadFault::Read) => Err(Fault::Read),
     }
+}
+
+/// Whether this is something that one thread over one manager doesn't do.
+fn is_other(act: &Act) -> bool
+    ensures { result ≡ is_other act.now }
+{
+    match act {
+        Act::Command(command) => command.is_race() || command.is_rollover(),
+        _ => true,
+    }
+}
+
+/// Whether there is such among these.
+fn has_other(acts: &[Act]) -> bool
+    ensures { result ≡ list_any is_other acts.now }
+{
+    acts.iter().any(|act| is_other(act))
+}
+
+/// Whether a script has such, or a worker.
+fn is_beyond(script: &Script) -> bool
+    ensures { result ≡ is_beyond (Ok (script_view script.now)) }
+{
+    if !script.head.workers.is_empty() {
+        return true;
+    }
+    has_other(script.acts.as_slice())
 }

@@ -22,12 +22,12 @@ pub fn write_plain_report<W: Sink>(
         (report_of (script_view script.now))) }
     ensures write { IsErrOf result RunFault.Write → IsTrue (W.has_failed sink.new) }
 {
-    let mut run = PlainRun::new(alloc, script)?;
-    for command in &script.commands {
-        let line = run.command(alloc, script.servers.as_slice(), *command)?;
+    let mut run = PlainRun::new(alloc, &script.head)?;
+    for act in &script.acts {
+        let line = run.act(alloc, script, act)?;
         write_all(sink, line.as_bytes())?;
     }
-    let last = run.closing(alloc, script.servers.as_slice(), script.account)?;
+    let last = run.closing(alloc, script.head.servers.as_slice(), script.account)?;
     write_all(sink, last.as_bytes())?;
     Ok(())
 }

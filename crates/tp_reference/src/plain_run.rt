@@ -1,10 +1,10 @@
 //! A script over the manager of one thread.
-ghost use Rattle.std.specs.Prelude.{◌≡◌, ◌+◌, ◌<◌, ◌≤◌, map, length, string_bytes, IfOk, slice_get};
-ghost use Rattle.tp_script.specs.Ranges.{IsInRange};
+ghost use Rattle.std.specs.Prelude.{◌≡◌, ◌+◌, ◌<◌, ◌≤◌, map, length, string_bytes, vec_len, IfOk, slice_get};
+ghost use Rattle.tp_script.specs.Ranges.{IsInRange, IsScriptAct};
 ghost use Rattle.tp_script.specs.declared.script.TheConstants.{MAX_SERVERS};
-ghost use Rattle.tp_script.specs.Script.{script_view, server_view};
-ghost use Rattle.tp_reference.specs.PlainReport.{balance_at, begin, command_step, counted_value, desk_step};
-ghost use Rattle.tp_reference.specs.PlainReport.{new_desk, register_sum, worker};
+ghost use Rattle.tp_script.specs.Script.{head_view, server_view};
+ghost use Rattle.tp_reference.specs.PlainReport.{act_step, balance_at, begin, command_step, counted_value};
+ghost use Rattle.tp_reference.specs.PlainReport.{desk_step, new_desk, register_sum, worker};
 ghost use Rattle.tp_reference.specs.PlainRunning.{state, IsSetUp};
 
 use crate::client_acts::client_line;
@@ -16,7 +16,7 @@ use tp_desk::Order;
 use tp_model::types::Limits;
 use tp_plain::plain::Plain;
 use tp_report::{Answer, ServerAnswer, line};
-use tp_script::{Command, DeskAct, Script, ScriptServer};
+use tp_script::{Act, Command, DeskAct, Head, Script, ScriptServer};
 
 /// A script that runs: the manager of one thread, and a desk for each server.
 #[derive(Drop)]
@@ -53,20 +53,20 @@ fn new_desks(alloc: Global, servers: &[ScriptServer]) -> Result<Vec<PlainDesk>, 
 }
 
 impl PlainRun {
-    /// The script before its first command.
-    pub fn new(alloc: Global, script: &Script) -> Result<PlainRun, AllocError>
-        ensures begins { IfOk result (λ run. state run ≡ begin (script_view script.now)) }
-        ensures ready { IfOk result (λ run. IsSetUp (map server_view script.now.servers.items) run) }
+    /// The run of a script with this head before its first command.
+    pub fn new(alloc: Global, head: &Head) -> Result<PlainRun, AllocError>
+        ensures begins { IfOk result (λ run. state run ≡ begin (head_view head.now)) }
+        ensures ready { IfOk result (λ run. IsSetUp (map server_view head.now.servers.items) run) }
     {
-        let settings = script.settings;
+        let settings = head.settings;
         let limits = Limits {
-            parts: 1 + script.servers.len() as u16,
+            parts: 1 + head.servers.len() as u16,
             rows: settings.rows,
             units: settings.units,
             attempts: settings.attempts,
             spare: settings.spare,
         };
-        let desks = new_desks(alloc, script.servers.as_slice())?;
+        let desks = new_desks(alloc, head.servers.as_slice())?;
         match Plain::new(alloc, limits) {
             Ok(plain) => Ok(PlainRun {
                 plain,
@@ -165,6 +165,27 @@ impl PlainRun {
                 self.drain(servers, Order::InTurn)?;
                 line(alloc, Answer::Drained)
             }
+        }
+    }
+
+    /// Does what is asked for, and answers its line.
+    pub(crate) fn act(
+        &mut self,
+        alloc: Global,
+        script: &Script,
+        act: &Act,
+    ) -> Result<String, AllocError>
+        requires ready { IsSetUp (map server_view script.now.head.servers.items) self.old }
+        requires in_range { IsScriptAct (vec_len script.now.head.servers) (vec_len script.now.head.workers) act.now }
+        ensures step { IfOk result (λ text.
+            act_step (map server_view script.now.head.servers.items) act.now (state self.old)
+            ≡ (string_bytes text, state self.new)) }
+        ensures ready { IfOk result (λ _. IsSetUp (map server_view script.now.head.servers.items) self.new) }
+    {
+        match act {
+            Act::Command(command) => self.command(alloc, script.head.servers.as_slice(), *command),
+            // A script with something else isn't run.
+            _ => Ok(String::new(alloc)),
         }
     }
 }

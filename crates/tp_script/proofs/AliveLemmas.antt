@@ -2,7 +2,7 @@
 use Rattle.std.proofs.Common.{List, [], ◌∷◌, ◌++◌}
 use Rattle.std.specs.List.{All}
 use Rattle.std.proofs.lemmas.List.Elements.{All-push}
-use Rattle.tp_script.specs.Alive.{IsAliveInRange}
+use Rattle.tp_script.specs.Rounds.{IsAliveInRange}
 use Rattle.tp_script.specs.declared.head.AliveLine.{AliveLine}
 
 pub one_more : (lines : List AliveLine) (line : AliveLine) → All IsAliveInRange lines → IsAliveInRange line → All IsAliveInRange (lines ++ line ∷ [])

@@ -5,5 +5,4 @@ pub mod GrammarLemmas
 pub mod LinesLemmas
 pub mod FirstWords
 pub mod DraftLemmas
-pub mod WorkersLemmas
 pub mod AliveLemmas

@@ -1,4 +1,4 @@
--- ScriptView, one after the other.
+-- The lines of a script, one after the other.
 use Rattle.std.proofs.Common.{◌≡◌, ℕ, ◌+◌, ◌≤◌, ◌<◌, List, [], ◌∷◌, length, take, Option, Some, None, Result, Ok, Err, refl, sym, ap, ◌∙◌, arith, inl, inr}
 use Rattle.std.specs.Prelude.{IfSome}
 use Rattle.std.proofs.lemmas.Bool.{cases_lt, le-ltb, lt-ltb}
@@ -10,11 +10,11 @@ use Rattle.tp_script.specs.declared.fault.LineError.TheVariants as errors
 use Rattle.tp_script.specs.declared.fault.Refused.{Refused}
 use Rattle.tp_script.specs.declared.fault.ReadFault.{ReadFault}
 use Rattle.tp_script.specs.declared.fault.ReadFault.TheVariants as faults
-use Rattle.tp_script.specs.declared.script.Script.{Script}
+use Rattle.tp_script.specs.declared.whole.Script.{Script}
 use Rattle.tp_script.specs.Script.{ScriptView}
 use Rattle.tp_script.specs.Text.{lines}
 use Rattle.tp_script.specs.Reading.{Fails}
-use Rattle.tp_script.specs.Grammar.{line_at, at_line, lines_from, no_lines, script}
+use Rattle.tp_script.specs.Whole.{line_at, at_line, lines_from, no_lines, script}
 use Rattle.tp_script.specs.Devices.{HasNoScript}
 use Rattle.tp_script.specs.Reading.{ReadsAs, fault_at}
 

@@ -1,15 +1,11 @@
 -- What an `alive` line says of an element.
-use Rattle.std.specs.Prelude.{ℕ, ◌≤◌, ◌-◌, ◌^◌, List, [], ◌∷◌, ◌&&◌, Result, Ok, Err}
+use Rattle.std.specs.Prelude.{ℕ, ◌-◌, ◌^◌, List, [], ◌∷◌, ◌&&◌, Result, Ok, Err}
 use Rattle.tp_model.specs.declared.types.TheConstants.{MAX_ATTEMPTS, MAX_ROUNDS}
 use Rattle.tp_script.specs.declared.fault.LineFault.{LineFault}
 use Rattle.tp_script.specs.declared.fault.LineFault.TheVariants.{Syntax}
 use Rattle.tp_script.specs.declared.head.AliveLine.{AliveLine}
 use Rattle.tp_script.specs.Drafts.{draft_at, is_draft}
 use Rattle.tp_script.specs.LineWords.{◌>>=◌, require, number_at}
-
--- it was taken no more often in its round, and was given no more rounds, than an element can be
-abbrev pub IsAliveInRange : AliveLine → Type 0
-IsAliveInRange line = (line.attempts ≤ MAX_ATTEMPTS) × (line.rounds ≤ MAX_ROUNDS)
 
 -- the words of an `alive` line, each in its place
 pub record AliveWords : Type 0 where

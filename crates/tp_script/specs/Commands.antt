@@ -1,9 +1,9 @@
--- The command lines of a script.
-use Rattle.std.specs.Prelude.{ℕ, ◌+◌, ◌-◌, ◌^◌, List, [], ◌∷◌, ◌++◌, Result, Ok, Err, nat_le, codes}
+-- The command lines.
+use Rattle.std.specs.Prelude.{ℕ, ◌-◌, ◌^◌, List, [], ◌∷◌, Result, Ok, Err, nat_le, codes}
 use Rattle.std.specs.Prelude.{if◌then◌else◌}
 use Rattle.std.specs.Str.{bytes_eq}
 use Rattle.tp_script.specs.declared.fault.LineFault.{LineFault}
-use Rattle.tp_script.specs.declared.fault.LineFault.TheVariants.{Syntax, BadNumber, BadLimits, BadName}
+use Rattle.tp_script.specs.declared.fault.LineFault.TheVariants.{Syntax, BadNumber, BadName}
 use Rattle.tp_script.specs.declared.keyword.Verb.{Verb}
 use Rattle.tp_script.specs.declared.keyword.Verb.TheVariants as verb
 use Rattle.tp_script.specs.declared.script.Command.{Command}
@@ -12,19 +12,18 @@ use Rattle.tp_script.specs.declared.script.Command.TheVariants.{DrainNext, Rollo
 use Rattle.tp_script.specs.declared.script.ClientAct.TheVariants as client
 use Rattle.tp_script.specs.declared.script.DeskAct.TheVariants as desk
 use Rattle.tp_model.specs.declared.types.TheConstants.{MAX_PART_ROWS, MAX_PASSES, MAX_STAGE}
-use Rattle.tp_script.specs.Passes.{racers}
-use Rattle.tp_script.specs.Script.{ScriptView, passes}
+use Rattle.tp_script.specs.Script.{HeadView}
 use Rattle.tp_script.specs.ServerLines.{server_at}
 use Rattle.tp_script.specs.LineWords.{◌>>=◌, require, none, one, two, number_at, is_name}
 
 -- the server of this name
-unfoldable pub named : List ℕ → ScriptView → Result ℕ LineFault
+unfoldable pub named : List ℕ → HeadView → Result ℕ LineFault
 named name s = do
   _ ← require (is_name name) BadName
   server_at name s
 
 -- a server as the one word
-unfoldable pub one_server : List (List ℕ) → ScriptView → Result ℕ LineFault
+unfoldable pub one_server : List (List ℕ) → HeadView → Result ℕ LineFault
 one_server ws s = one ws >>= λ name. named name s
 
 -- an id as the one word
@@ -60,14 +59,14 @@ submit_at w = do
   Ok (Client (client.Submit stage (key ∷ amount ∷ word_two ∷ word_three ∷ [])))
 
 -- `take NAME ID`
-unfoldable pub take_at : List ℕ × List ℕ → ScriptView → Result Command LineFault
+unfoldable pub take_at : List ℕ × List ℕ → HeadView → Result Command LineFault
 take_at (name, id) s = do
   server ← named name s
   id ← number_at (2 ^ 32 - 1) id
   Ok (Desk server (desk.Take id))
 
 -- `balance NAME K`
-unfoldable pub balance_at : List ℕ × List ℕ → ScriptView → Result Command LineFault
+unfoldable pub balance_at : List ℕ × List ℕ → HeadView → Result Command LineFault
 balance_at (name, k) s = do
   server ← named name s
   k ← number_at (2 ^ 64 - 1) k
@@ -131,7 +130,7 @@ drain_at (w ∷ []) = if bytes_eq w (codes "next") then Ok DrainNext else Err Sy
 drain_at ws = Err Syntax
 
 -- a command of this first word, with the words after it
-unfoldable pub command_at : Verb → List (List ℕ) → ScriptView → Result Command LineFault
+unfoldable pub command_at : Verb → List (List ℕ) → HeadView → Result Command LineFault
 command_at verb.Submit ws s = submit_words ws >>= λ w. submit_at w
 command_at verb.Kill ws s = one_id ws >>= λ id. Ok (Client (client.Kill id))
 command_at verb.Cancel ws s = one_id ws >>= λ root. Ok (Client (client.Cancel root))
@@ -150,9 +149,3 @@ command_at verb.Sum ws s = one ws >>= λ w. number_at (2 ^ 64 - 1) w >>= λ k. O
 command_at verb.Race ws s = race_words ws >>= λ w. race_at w
 command_at verb.Drain ws s = drain_at ws
 command_at verb.Rollover ws s = none ws >>= λ _. Ok Rollover
-
--- the script with one command more, unless it needs more passes then than there can be
-unfoldable pub with_command : Command → ScriptView → Result ScriptView LineFault
-with_command c s = do
-  _ ← require (nat_le (passes s + racers c) MAX_PASSES) BadLimits
-  Ok (record s { commands = s.commands ++ c ∷ [] })

@@ -1,118 +1,228 @@
--- What a script says, line by line, or its first fault.
-use Rattle.std.specs.Prelude.{ℕ, ◌+◌, ◌-◌, ◌^◌, List, [], ◌∷◌, length, Bool, true, false, not, ◌&&◌, Result}
-use Rattle.std.specs.Prelude.{Ok, Err, nat_lt, nat_le, ◌==◌, if◌then◌else◌}
+-- What a line says: in the head, and behind it. Scripts and live sessions have the same lines, but for races.
+use Rattle.std.specs.Prelude.{ℕ, ◌-◌, ◌^◌, List, [], ◌∷◌, ◌++◌, length, Bool, true, false, ◌&&◌, Option, Some}
+use Rattle.std.specs.Prelude.{None, Result, Ok, Err, nat_lt, nat_le, ◌==◌, if◌then◌else◌}
 use Rattle.std.specs.List.{list_all}
 use Rattle.tp_model.specs.declared.types.TheConstants.{MAX_ATTEMPTS, MAX_BLOCKS, MAX_PART_ROWS, MAX_UNITS}
-use Rattle.tp_script.specs.declared.source.TheConstants.{MAX_SCRIPT_BYTES}
 use Rattle.tp_script.specs.declared.fault.LineFault.{LineFault}
-use Rattle.tp_script.specs.declared.fault.LineFault.TheVariants.{Syntax, BadLimits, TooLong, Order}
-use Rattle.tp_script.specs.declared.fault.Refused.{Refused}
+use Rattle.tp_script.specs.declared.fault.LineFault.TheVariants.{Syntax, BadLimits, BadName, TooLong, Order}
+use Rattle.tp_script.specs.declared.head.Act.{Act}
+use Rattle.tp_script.specs.declared.head.Act.TheVariants as act
+use Rattle.tp_script.specs.declared.head.AliveLine.{AliveLine}
+use Rattle.tp_script.specs.declared.head.Driver.{Driver}
+use Rattle.tp_script.specs.declared.head.Driver.TheVariants as drivers
+use Rattle.tp_script.specs.declared.head.TheConstants.{MAX_ALIVE, MAX_WORKERS}
+use Rattle.tp_script.specs.declared.head.WorkerAct.{WorkerAct}
+use Rattle.tp_script.specs.declared.head.WorkerAct.TheVariants as does
 use Rattle.tp_script.specs.declared.keyword.Keyword.{Keyword}
 use Rattle.tp_script.specs.declared.keyword.Keyword.TheVariants as first
-use Rattle.tp_script.specs.Text.{lines, words}
-use Rattle.tp_script.specs.Commands.{command_at, with_command}
+use Rattle.tp_script.specs.declared.keyword.Verb.{Verb}
+use Rattle.tp_script.specs.declared.keyword.Verb.TheVariants as verb
+use Rattle.tp_script.specs.declared.script.Command.{Command}
+use Rattle.tp_script.specs.declared.script.DeskAct.TheVariants as desk
+use Rattle.tp_script.specs.Alive.{alive_at, alive_words}
+use Rattle.tp_script.specs.Commands.{stage_at, command_at}
+use Rattle.tp_script.specs.Drafts.{draft_words, drafts_at}
 use Rattle.tp_script.specs.Keyword.{keyword}
-use Rattle.tp_script.specs.Script.{ScriptView}
-use Rattle.tp_script.specs.ServerLines.{has_commands, server_line, start_line}
-use Rattle.tp_script.specs.LineWords.{◌>>=◌, require, known, none, one, three, number_at}
+use Rattle.tp_script.specs.Passes.{is_race}
+use Rattle.tp_script.specs.Script.{HeadView}
+use Rattle.tp_script.specs.ServerLines.{new_name, server_line, shape_at, start_line, worker_at}
+use Rattle.tp_script.specs.Text.{words}
+use Rattle.tp_script.specs.LineWords.{◌>>=◌, require, known, none, one, two, three, number_at}
 
--- ---- settings
-
--- a setting comes before servers and commands, and is `least` to `most`
-unfoldable pub setting_at : ℕ → ℕ → List ℕ → ScriptView → Result ℕ LineFault
-setting_at least most w s = do
-  _ ← require ((length s.servers == 0) && not (has_commands s)) Order
-  n ← number_at (2 ^ 64 - 1) w
-  _ ← require (nat_le least n && nat_le n most) BadLimits
-  Ok n
-
--- `rows N`
-unfoldable pub rows_line : List ℕ → ScriptView → Result ScriptView LineFault
-rows_line w s = do
-  n ← setting_at 1 MAX_PART_ROWS w s
-  Ok (record s { settings = record s.settings { rows = n } })
-
--- `units N`
-unfoldable pub units_line : List ℕ → ScriptView → Result ScriptView LineFault
-units_line w s = do
-  n ← setting_at 1 MAX_UNITS w s
-  Ok (record s { settings = record s.settings { units = n } })
-
--- `limit N`
-unfoldable pub limit_line : List ℕ → ScriptView → Result ScriptView LineFault
-limit_line w s = do
-  n ← setting_at 1 MAX_ATTEMPTS w s
-  Ok (record s { settings = record s.settings { attempts = n } })
-
--- `spare S`
-unfoldable pub spare_line : List ℕ → ScriptView → Result ScriptView LineFault
-spare_line w s = do
-  n ← setting_at 0 MAX_BLOCKS w s
-  Ok (record s { settings = record s.settings { spare = n } })
-
--- ---- the closing account
-
--- `account`
-unfoldable pub account_line : List (List ℕ) → ScriptView → Result ScriptView LineFault
-account_line ws s = none ws >>= λ _. Ok (record s { account = true })
-
--- a line after `account` is out of order, whatever it says, unless it says nothing that a line could
-abbrev pub behind_account : Result ScriptView LineFault → Result ScriptView LineFault
-behind_account (Err Syntax) = Err Syntax
-behind_account read = Err Order
-
--- ---- a whole line, and all lines
-
--- a line of this first word, with the words after it
-unfoldable pub keyword_line : Keyword → List (List ℕ) → ScriptView → Result ScriptView LineFault
-keyword_line first.Rows ws s = one ws >>= λ w. rows_line w s
-keyword_line first.Units ws s = one ws >>= λ w. units_line w s
-keyword_line first.Limit ws s = one ws >>= λ w. limit_line w s
-keyword_line first.Spare ws s = one ws >>= λ w. spare_line w s
-keyword_line first.Server ws s = server_line ws s
-keyword_line first.Start ws s = three ws >>= λ w. start_line w s
-keyword_line (first.Do verb) ws s = command_at verb ws s >>= λ c. with_command c s
-keyword_line first.Account ws s = account_line ws s
-
--- a line of these words says nothing where there are none
-unfoldable pub words_line : List (List ℕ) → ScriptView → Result ScriptView LineFault
-words_line [] s = Ok s
-words_line (w ∷ ws) s = known (keyword w) Syntax >>= λ k. if s.account
-    then behind_account (keyword_line k ws s) else keyword_line k ws s
+-- ---- words
 
 -- a line that begins with `#`
 abbrev pub is_comment : List ℕ → Bool
 is_comment [] = false
 is_comment (b ∷ bs) = b == 35
 
--- a line of at most 200 bytes, each a space or visible
-unfoldable pub line_at : List ℕ → ScriptView → Result ScriptView LineFault
-line_at line s = do
+-- the words of a line of at most 200 bytes, each a space or visible; a comment has none
+unfoldable pub line_words : List ℕ → Result (List (List ℕ)) LineFault
+line_words line = do
   _ ← require (nat_le (length line) 200) TooLong
   _ ← require (list_all (λ b. nat_le 32 b && nat_le b 126) line) Syntax
-  if is_comment line then Ok s else words_line (words line) s
+  if is_comment line then Ok [] else Ok (words line)
 
--- what the others say, unless line n has a fault
-abbrev pub at_line : ℕ → Result ScriptView LineFault → (ScriptView → Result ScriptView Refused)
-    → Result ScriptView Refused
-at_line n (Ok s) others = others s
-at_line n (Err fault) others = Err (record { line = n; fault = fault })
+-- ---- settings
 
--- the lines from number n on
-unfoldable pub lines_from : ℕ → List (List ℕ) → ScriptView → Result ScriptView Refused
-lines_from n [] s = Ok s
-lines_from n (line ∷ others) s = at_line n (line_at line s) (λ t. lines_from (n + 1) others t)
+-- a setting comes before servers, and is `least` to `most`
+unfoldable pub setting_at : ℕ → ℕ → List ℕ → HeadView → Result ℕ LineFault
+setting_at least most w h = do
+  _ ← require (length h.servers == 0) Order
+  n ← number_at (2 ^ 64 - 1) w
+  _ ← require (nat_le least n && nat_le n most) BadLimits
+  Ok n
 
--- a script without lines
-abbrev pub no_lines : ScriptView
-no_lines = record {
-  settings = record { rows = 64; units = 256; attempts = 3; spare = 0 };
-  servers = [];
-  commands = [];
-  account = false;
-}
+-- `rows N`
+unfoldable pub rows_line : List ℕ → HeadView → Result HeadView LineFault
+rows_line w h = do
+  n ← setting_at 1 MAX_PART_ROWS w h
+  Ok (record h { settings = record h.settings { rows = n } })
 
--- what the bytes of a script say, or the line and number of its first fault
-unfoldable pub script : List ℕ → Result ScriptView Refused
-script bytes = if nat_lt MAX_SCRIPT_BYTES (length bytes) then Err (record { line = 0; fault = TooLong })
-    else lines_from 1 (lines bytes) no_lines
+-- `units N`
+unfoldable pub units_line : List ℕ → HeadView → Result HeadView LineFault
+units_line w h = do
+  n ← setting_at 1 MAX_UNITS w h
+  Ok (record h { settings = record h.settings { units = n } })
+
+-- `limit N`
+unfoldable pub limit_line : List ℕ → HeadView → Result HeadView LineFault
+limit_line w h = do
+  n ← setting_at 1 MAX_ATTEMPTS w h
+  Ok (record h { settings = record h.settings { attempts = n } })
+
+-- `spare S`
+unfoldable pub spare_line : List ℕ → HeadView → Result HeadView LineFault
+spare_line w h = do
+  n ← setting_at 0 MAX_BLOCKS w h
+  Ok (record h { settings = record h.settings { spare = n } })
+
+-- ---- workers, and what is alive
+
+-- `worker NAME STAGE`
+unfoldable pub worker_line : List ℕ × List ℕ → HeadView → Result HeadView LineFault
+worker_line (name, stage) h = do
+  fresh ← new_name name h
+  place ← stage_at stage
+  _ ← require (nat_lt (length h.workers) MAX_WORKERS) BadLimits
+  Ok (record h { workers = h.workers ++ record { name = fresh; stage = place } ∷ [] })
+
+-- `alive ID ATTEMPTS ROUNDS OUT` or `alive ID ATTEMPTS ROUNDS OUT ROOT OUT`
+unfoldable pub alive_line : List (List ℕ) → HeadView → Result HeadView LineFault
+alive_line ws h = do
+  line ← alive_at ws
+  _ ← require (nat_lt (length h.alive) MAX_ALIVE) BadLimits
+  Ok (record h { alive = h.alive ++ line ∷ [] })
+
+-- ---- commands
+
+-- `take NAME ID` of a worker
+unfoldable pub worker_take : List (List ℕ) → Result WorkerAct LineFault
+worker_take ws = two ws >>= λ w. number_at (2 ^ 32 - 1) w.1 >>= λ id. Ok (does.Take id)
+
+-- `commit NAME OUT..` of a worker
+unfoldable pub worker_commit : List (List ℕ) → Result WorkerAct LineFault
+worker_commit ws = do
+  drafts ← draft_words ws
+  drafts ← drafts_at drafts
+  Ok (does.Commit (record { items = drafts }))
+
+-- what a worker is asked by a line of this first word; its name is the first of the words after
+unfoldable pub worker_act : Verb → List (List ℕ) → Result WorkerAct LineFault
+worker_act (verb.Desk desk.Claim) ws = one ws >>= λ _. Ok does.Claim
+worker_act (verb.Desk desk.Commit) ws = worker_commit ws
+worker_act (verb.Desk desk.Abort) ws = one ws >>= λ _. Ok does.Abort
+worker_act (verb.Desk other) ws = one ws >>= λ _. Err BadName
+worker_act verb.Take ws = worker_take ws
+worker_act verb.Balance ws = two ws >>= λ _. Err BadName
+worker_act other ws = Err Syntax
+
+-- the words after this first word begin with a name
+abbrev pub is_named : Verb → Bool
+is_named (verb.Desk a) = true
+is_named verb.Take = true
+is_named verb.Balance = true
+is_named other = false
+
+-- the worker that such words name
+abbrev pub worker_of : Verb → List (List ℕ) → HeadView → Option ℕ
+worker_of v [] h = None
+worker_of v (name ∷ ws) h = if is_named v then worker_at name h else None
+
+-- a race is a script's
+abbrev pub given_by : Driver → Command → Result Act LineFault
+given_by drivers.Script c = Ok (act.Command c)
+given_by drivers.Session c = if is_race c then Err Syntax else Ok (act.Command c)
+
+-- a command: of a worker where it names one, and else another
+abbrev pub act_by : Driver → Option ℕ → Verb → List (List ℕ) → HeadView → Result Act LineFault
+act_by driver None v ws h = command_at v ws h >>= λ c. given_by driver c
+act_by driver (Some worker) v ws h = worker_act v ws >>= λ a. Ok (act.Worker worker a)
+
+unfoldable pub act_at : Driver → Verb → List (List ℕ) → HeadView → Result Act LineFault
+act_at driver v ws h = act_by driver (worker_of v ws h) v ws h
+
+-- `account`
+abbrev pub account_at : List (List ℕ) → Result Act LineFault
+account_at ws = none ws >>= λ _. Ok act.Account
+
+-- `dump`
+abbrev pub dump_at : List (List ℕ) → Result Act LineFault
+dump_at ws = none ws >>= λ _. Ok act.Dump
+
+-- `restore`
+abbrev pub restore_at : List (List ℕ) → Result Act LineFault
+restore_at ws = none ws >>= λ _. Ok act.Restore
+
+-- ---- a line of the head
+
+-- a line that is one of the head
+abbrev pub in_head : Result HeadView LineFault → Result (HeadView × Option Act) LineFault
+in_head read = read >>= λ h. Ok (h, None)
+
+-- a line that is the first command, which ends the head
+abbrev pub ends_head : HeadView → Result Act LineFault → Result (HeadView × Option Act) LineFault
+ends_head h said = said >>= λ a. Ok (h, Some a)
+
+-- Where the head says what is alive, `restore` alone may be the first command. Another is out of order then,
+-- unless it says nothing that a command could.
+abbrev pub unless_alive : List AliveLine → Result Act LineFault → Result Act LineFault
+unless_alive [] said = said
+unless_alive (line ∷ others) (Err Syntax) = Err Syntax
+unless_alive (line ∷ others) said = Err Order
+
+-- a line of the head of this first word: what the head is then, and the command that ends it, if it is one
+unfoldable pub head_keyword : Driver → Keyword → List (List ℕ) → HeadView
+    → Result (HeadView × Option Act) LineFault
+head_keyword driver first.Rows ws h = in_head (one ws >>= λ w. rows_line w h)
+head_keyword driver first.Units ws h = in_head (one ws >>= λ w. units_line w h)
+head_keyword driver first.Limit ws h = in_head (one ws >>= λ w. limit_line w h)
+head_keyword driver first.Spare ws h = in_head (one ws >>= λ w. spare_line w h)
+head_keyword driver first.Server ws h = in_head (server_line ws h)
+head_keyword driver first.Start ws h = in_head (three ws >>= λ w. start_line w h)
+head_keyword driver first.Worker ws h = in_head (two ws >>= λ w. worker_line w h)
+head_keyword driver first.Alive ws h = in_head (alive_line ws h)
+head_keyword driver (first.Do v) ws h = ends_head h (unless_alive h.alive (act_at driver v ws h))
+head_keyword driver first.Dump ws h = ends_head h (unless_alive h.alive (dump_at ws))
+head_keyword driver first.Account ws h = ends_head h (unless_alive h.alive (account_at ws))
+head_keyword driver first.Restore ws h = ends_head h (restore_at ws)
+
+-- the words of a line of the head
+unfoldable pub head_words : Driver → List (List ℕ) → HeadView → Result (HeadView × Option Act) LineFault
+head_words driver [] h = Ok (h, None)
+head_words driver (w ∷ ws) h = known (keyword w) Syntax >>= λ k. head_keyword driver k ws h
+
+-- a line of a session's head
+unfoldable pub head_at : List ℕ → HeadView → Result (HeadView × Option Act) LineFault
+head_at line h = line_words line >>= λ ws. head_words drivers.Session ws h
+
+-- ---- a line behind the head
+
+-- a line of the head is out of order there, unless it says nothing that such a line could
+abbrev pub out_of_order : {A : Type 0} → Result A LineFault → Result Act LineFault
+out_of_order (Ok x) = Err Order
+out_of_order (Err fault) = Err fault
+
+-- what a line of this first word asks for
+unfoldable pub body_keyword : Driver → Keyword → List (List ℕ) → HeadView → Result Act LineFault
+body_keyword driver first.Rows ws h = out_of_order (one ws)
+body_keyword driver first.Units ws h = out_of_order (one ws)
+body_keyword driver first.Limit ws h = out_of_order (one ws)
+body_keyword driver first.Spare ws h = out_of_order (one ws)
+body_keyword driver first.Server ws h = out_of_order (shape_at ws)
+body_keyword driver first.Start ws h = out_of_order (three ws)
+body_keyword driver first.Worker ws h = out_of_order (two ws)
+body_keyword driver first.Alive ws h = out_of_order (alive_words ws)
+body_keyword driver first.Restore ws h = out_of_order (none ws)
+body_keyword driver first.Dump ws h = dump_at ws
+body_keyword driver first.Account ws h = account_at ws
+body_keyword driver (first.Do v) ws h = act_at driver v ws h
+
+-- the words of such a line, which asks for nothing where there are none
+unfoldable pub body_words : Driver → List (List ℕ) → HeadView → Result (Option Act) LineFault
+body_words driver [] h = Ok None
+body_words driver (w ∷ ws) h = known (keyword w) Syntax >>= λ k. body_keyword driver k ws h >>= λ a. Ok (Some a)
+
+-- a line of a session behind its head
+unfoldable pub body_at : List ℕ → HeadView → Result (Option Act) LineFault
+body_at line h = line_words line >>= λ ws. body_words drivers.Session ws h

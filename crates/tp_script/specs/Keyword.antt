@@ -1,11 +1,9 @@
 -- The first words of lines.
-use Rattle.std.specs.Prelude.{ℕ, List, [], ◌∷◌, Option, Some, None, option_map, find, codes, if◌then◌else◌}
+use Rattle.std.specs.Prelude.{ℕ, List, [], ◌∷◌, Option, option_map, find, codes}
 use Rattle.std.specs.Str.{bytes_eq}
 use Rattle.tp_script.specs.declared.keyword.Keyword.{Keyword}
 use Rattle.tp_script.specs.declared.keyword.Keyword.TheVariants.{Rows, Units, Limit, Spare, Server, Start, Do}
-use Rattle.tp_script.specs.declared.keyword.Keyword.TheVariants.{Account}
-use Rattle.tp_script.specs.declared.keyword.SessionWord.{SessionWord}
-use Rattle.tp_script.specs.declared.keyword.SessionWord.TheVariants as own
+use Rattle.tp_script.specs.declared.keyword.Keyword.TheVariants.{Worker, Alive, Restore, Dump, Account}
 use Rattle.tp_script.specs.declared.keyword.Verb.TheVariants as verb
 use Rattle.tp_script.specs.declared.script.DeskAct.TheVariants as desk
 
@@ -18,6 +16,8 @@ first_words =
     ∷ (codes "spare", Spare)
     ∷ (codes "server", Server)
     ∷ (codes "start", Start)
+    ∷ (codes "worker", Worker)
+    ∷ (codes "alive", Alive)
     ∷ (codes "submit", Do verb.Submit)
     ∷ (codes "turn", Do (verb.Desk desk.Turn))
     ∷ (codes "reply", Do verb.Reply)
@@ -42,16 +42,11 @@ first_words =
     ∷ (codes "race", Do verb.Race)
     ∷ (codes "drain", Do verb.Drain)
     ∷ (codes "rollover", Do verb.Rollover)
+    ∷ (codes "restore", Restore)
+    ∷ (codes "dump", Dump)
     ∷ (codes "account", Account)
     ∷ []
 
 -- what a line of this first word is
 abbrev pub keyword : List ℕ → Option Keyword
 keyword word = option_map (λ row. row.1) (find (λ row. bytes_eq row.0 word) first_words)
-
--- what a line of this first word is, where sessions alone have the word
-unfoldable pub session_word : List ℕ → Option SessionWord
-session_word w = if bytes_eq w (codes "worker") then Some own.Worker
-    else if bytes_eq w (codes "alive") then Some own.Alive
-    else if bytes_eq w (codes "restore") then Some own.Restore
-    else if bytes_eq w (codes "dump") then Some own.Dump else None

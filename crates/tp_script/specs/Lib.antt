@@ -4,13 +4,13 @@ pub mod Devices
 pub mod Keyword
 pub mod Passes
 pub mod Ranges
+pub mod Rounds
 pub mod Script
 pub mod LineWords
 pub mod ServerLines
 pub mod Commands
-pub mod Grammar
-pub mod Reading
 pub mod Drafts
 pub mod Alive
-pub mod Session
-pub mod Workers
+pub mod Grammar
+pub mod Whole
+pub mod Reading

@@ -6,9 +6,10 @@ use Rattle.tp_script.specs.declared.fault.LineError.TheVariants as errors
 use Rattle.tp_script.specs.declared.fault.ReadFault.{ReadFault}
 use Rattle.tp_script.specs.declared.fault.ReadFault.TheVariants as faults
 use Rattle.tp_script.specs.declared.fault.Refused.{Refused}
-use Rattle.tp_script.specs.declared.script.Script.{Script}
+use Rattle.tp_script.specs.declared.head.Head.{Head}
+use Rattle.tp_script.specs.declared.whole.Script.{Script}
 use Rattle.tp_script.specs.declared.servers.Shape.{Shape}
-use Rattle.tp_script.specs.Script.{ScriptView, script_view}
+use Rattle.tp_script.specs.Script.{HeadView, ScriptView, head_view, script_view}
 use Rattle.tp_script.specs.ServerLines as lines
 use Rattle.tp_script.specs.declared.commands.RaceWords.{RaceWords}
 use Rattle.tp_script.specs.declared.commands.SubmitWords.{SubmitWords}
@@ -26,7 +27,11 @@ abbrev pub Gives : {X Y : Type 0} → (X → Y) → Result X LineError → Resul
 Gives view (Ok x) read = read ≡ Ok (view x)
 Gives view (Err e) read = Fails e read
 
--- the script, as it is now, is what is said, unless memory ran out
+-- the head, as it is now, is what is said, unless memory ran out
+abbrev pub GivesHead : Head → Result (Unit {0}) LineError → Result HeadView LineFault → Type 0
+GivesHead h r read = Gives (λ _. head_view h) r read
+
+-- so is the script
 abbrev pub GivesScript : Script → Result (Unit {0}) LineError → Result ScriptView LineFault → Type 0
 GivesScript s r read = Gives (λ _. script_view s) r read
 

@@ -1,14 +1,17 @@
--- A script as contracts see it, without where it lies in memory.
-use Rattle.std.specs.Prelude.{ℕ, ◌+◌, Bool, List, length, map, string_bytes}
+-- A script and its head as contracts see them, without where they lie in memory.
+use Rattle.std.specs.Prelude.{ℕ, ◌+◌, Bool, List, [], length, map, string_bytes}
 use Rattle.tp_server.specs.declared.recipe.Recipe.{Recipe}
+use Rattle.tp_script.specs.declared.head.Act.{Act}
+use Rattle.tp_script.specs.declared.head.AliveLine.{AliveLine}
+use Rattle.tp_script.specs.declared.head.Head.{Head}
+use Rattle.tp_script.specs.declared.head.WorkerLine.{WorkerLine}
 use Rattle.tp_script.specs.declared.script.Kind.{Kind}
 use Rattle.tp_script.specs.declared.script.Settings.{Settings}
-use Rattle.tp_script.specs.declared.script.Command.{Command}
 use Rattle.tp_script.specs.declared.script.ScriptServer.{ScriptServer}
-use Rattle.tp_script.specs.declared.script.Script.{Script}
+use Rattle.tp_script.specs.declared.whole.Script.{Script}
 use Rattle.tp_script.specs.Passes.{racing}
 
--- the limits that a script sets
+-- the limits that a head sets
 pub record SettingsView : Type 0 where
   pub rows : ℕ
   pub units : ℕ
@@ -22,16 +25,36 @@ pub record ServerView : Type 0 where
   pub recipe : Recipe
   pub registers : List ℕ
 
--- a whole script
-pub record ScriptView : Type 0 where
+-- a worker line: the worker's name, and the stage that it works on
+pub record WorkerView : Type 0 where
+  pub name : List ℕ
+  pub stage : ℕ
+
+-- the lines before the first command: settings, servers, workers, and what is alive
+pub record HeadView : Type 0 where
   pub settings : SettingsView
   pub servers : List ServerView
-  pub commands : List Command
+  pub workers : List WorkerView
+  pub alive : List AliveLine
+
+-- a whole script: its head, what its commands ask for, and whether it asks for the closing account
+pub record ScriptView : Type 0 where
+  pub head : HeadView
+  pub acts : List Act
   pub account : Bool
 
--- how many passes a script needs: the client's, one for each server, and those of its races
+-- a head without lines
+abbrev pub no_head : HeadView
+no_head = record {
+  settings = record { rows = 64; units = 256; attempts = 3; spare = 0 };
+  servers = [];
+  workers = [];
+  alive = [];
+}
+
+-- how many passes a script needs: the client's, one for each server and each worker, and those of its races
 abbrev pub passes : ScriptView → ℕ
-passes s = 1 + length s.servers + racing s.commands
+passes s = 1 + length s.head.servers + length s.head.workers + racing s.acts
 
 -- what settings show
 abbrev pub settings_view : Settings → SettingsView
@@ -46,11 +69,19 @@ server_view s = record {
   registers = s.registers;
 }
 
+-- what a worker line shows
+abbrev pub worker_view : WorkerLine → WorkerView
+worker_view w = record { name = string_bytes w.name; stage = w.stage }
+
+-- what a head shows
+abbrev pub head_view : Head → HeadView
+head_view h = record {
+  settings = settings_view h.settings;
+  servers = map server_view h.servers.items;
+  workers = map worker_view h.workers.items;
+  alive = h.alive.items;
+}
+
 -- what a script shows
 abbrev pub script_view : Script → ScriptView
-script_view s = record {
-  settings = settings_view s.settings;
-  servers = map server_view s.servers.items;
-  commands = s.commands.items;
-  account = s.account;
-}
+script_view s = record { head = head_view s.head; acts = s.acts.items; account = s.account }

@@ -1,27 +1,23 @@
 -- The lines that make servers.
-use Rattle.std.specs.Prelude.{ℕ, ◌-◌, ◌^◌, List, [], ◌∷◌, ◌++◌, length, Bool, not, ◌&&◌, Result, Ok, Err}
-use Rattle.std.specs.Prelude.{nat_lt, nat_le, ◌==◌, replicate, slice_set, position, slice_get, is_none, is_ok}
+use Rattle.std.specs.Prelude.{ℕ, ◌-◌, ◌^◌, List, [], ◌∷◌, ◌++◌, length, ◌&&◌, Option, Result, Ok, Err}
+use Rattle.std.specs.Prelude.{nat_lt, nat_le, replicate, slice_set, position, slice_get, is_none, is_ok}
 use Rattle.std.specs.List.{list_all}
 use Rattle.std.specs.Str.{bytes_eq}
 use Rattle.tp_server.specs.declared.recipe.Act.{Act}
 use Rattle.tp_server.specs.declared.recipe.Recipe.{Recipe}
 use Rattle.tp_server.specs.Check.{check_of}
 use Rattle.tp_script.specs.declared.fault.LineFault.{LineFault}
-use Rattle.tp_script.specs.declared.fault.LineFault.TheVariants.{Syntax, BadLimits, BadRecipe, BadName, Order}
+use Rattle.tp_script.specs.declared.fault.LineFault.TheVariants.{Syntax, BadLimits, BadRecipe, BadName}
 use Rattle.tp_script.specs.declared.script.Kind.{Kind}
 use Rattle.tp_script.specs.declared.script.TheConstants.{MAX_SERVERS}
 use Rattle.tp_script.specs.LineWords.{◌>>=◌, require, known, number_at, is_name, kind_at, act_at, is_output}
 use Rattle.tp_script.specs.LineWords.{outputs_at}
-use Rattle.tp_script.specs.Script.{ScriptView, ServerView}
+use Rattle.tp_script.specs.Script.{HeadView, ServerView}
 use Rattle.tp_model.specs.declared.types.TheConstants.{MAX_OUTPUTS}
 
--- whether there is a command
-abbrev pub has_commands : ScriptView → Bool
-has_commands s = not (length s.commands == 0)
-
 -- the place of the server of this name
-abbrev pub server_at : List ℕ → ScriptView → Result ℕ LineFault
-server_at name s = known (position (λ server. bytes_eq server.name name) s.servers) BadName
+abbrev pub server_at : List ℕ → HeadView → Result ℕ LineFault
+server_at name h = known (position (λ server. bytes_eq server.name name) h.servers) BadName
 
 -- the words of a server line, each in its place
 pub record Shape : Type 0 where
@@ -50,10 +46,15 @@ shape_at (name ∷ kind ∷ stage ∷ registers ∷ act ∷ outputs) = do
   })
 shape_at ws = Err Syntax
 
--- a name that no server has yet
-unfoldable pub new_name : List ℕ → ScriptView → Result (List ℕ) LineFault
-new_name name s = do
-  _ ← require (is_name name && is_none (position (λ server. bytes_eq server.name name) s.servers)) BadName
+-- the place of the worker of this name, if there is one
+abbrev pub worker_at : List ℕ → HeadView → Option ℕ
+worker_at name h = position (λ w. bytes_eq w.name name) h.workers
+
+-- a name that no server and no worker has yet
+unfoldable pub new_name : List ℕ → HeadView → Result (List ℕ) LineFault
+new_name name h = do
+  _ ← require (is_name name && is_none (position (λ server. bytes_eq server.name name) h.servers)) BadName
+  _ ← require (is_none (worker_at name h)) BadName
   Ok name
 
 -- the numbers of a server line
@@ -76,20 +77,19 @@ registers_for recipe = do
   _ ← require (is_ok (check_of recipe)) BadRecipe
   Ok (replicate recipe.registers 0)
 
--- the script with one server more
-abbrev pub with_server : ServerView → ScriptView → ScriptView
-with_server server s = record s { servers = s.servers ++ server ∷ [] }
+-- the head with one server more
+abbrev pub with_server : ServerView → HeadView → HeadView
+with_server server h = record h { servers = h.servers ++ server ∷ [] }
 
 -- `server NAME KIND STAGE REGISTERS ACT OUT..`
-unfoldable pub server_line : List (List ℕ) → ScriptView → Result ScriptView LineFault
-server_line ws s = do
+unfoldable pub server_line : List (List ℕ) → HeadView → Result HeadView LineFault
+server_line ws h = do
   shape ← shape_at ws
-  _ ← require (not (has_commands s)) Order
-  name ← new_name shape.name s
+  name ← new_name shape.name h
   recipe ← recipe_at shape
-  _ ← require (nat_lt (length s.servers) MAX_SERVERS) BadLimits
+  _ ← require (nat_lt (length h.servers) MAX_SERVERS) BadLimits
   registers ← registers_for recipe
-  Ok (with_server (record { name = name; kind = shape.kind; recipe = recipe; registers = registers }) s)
+  Ok (with_server (record { name = name; kind = shape.kind; recipe = recipe; registers = registers }) h)
 
 -- register k of a server begins with v
 unfoldable pub begun : ℕ → ℕ → ServerView → Result ServerView LineFault
@@ -98,18 +98,17 @@ begun k v server = do
   Ok (record server { registers = slice_set server.registers k v })
 
 -- register k of the server at a place begins with v
-unfoldable pub begin_at : ℕ → ℕ → ℕ → ScriptView → Result ScriptView LineFault
-begin_at place k v s = do
-  server ← known (slice_get s.servers place) BadName
+unfoldable pub begin_at : ℕ → ℕ → ℕ → HeadView → Result HeadView LineFault
+begin_at place k v h = do
+  server ← known (slice_get h.servers place) BadName
   server ← begun k v server
-  Ok (record s { servers = slice_set s.servers place server })
+  Ok (record h { servers = slice_set h.servers place server })
 
 -- `start NAME K V`
-unfoldable pub start_line : List ℕ × List ℕ × List ℕ → ScriptView → Result ScriptView LineFault
-start_line (name, k, v) s = do
-  _ ← require (not (has_commands s)) Order
+unfoldable pub start_line : List ℕ × List ℕ × List ℕ → HeadView → Result HeadView LineFault
+start_line (name, k, v) h = do
   _ ← require (is_name name) BadName
-  place ← server_at name s
+  place ← server_at name h
   k ← number_at (2 ^ 64 - 1) k
   v ← number_at (2 ^ 64 - 1) v
-  begin_at place k v s
+  begin_at place k v h

@@ -1,8 +1,10 @@
-//! The lines of a session that say what is alive.
+//! The lines of a head that say what is alive.
 ghost use Rattle.std.specs.Prelude.{◌≡◌, ◌&&◌, map, IfOk, OnErr};
-ghost use Rattle.tp_script.specs.Alive.{IsAliveInRange, alive_at, alive_of, alive_places, alive_words};
+ghost use Rattle.tp_script.specs.Rounds.{IsAliveInRange};
+ghost use Rattle.tp_script.specs.Alive.{alive_at, alive_of, alive_places, alive_words};
 ghost use Rattle.tp_script.specs.Reading.{Gives, alive_view};
-ghost use Rattle.tp_script.specs.Session.{alive_line, head_view};
+ghost use Rattle.tp_script.specs.Grammar.{alive_line};
+ghost use Rattle.tp_script.specs.Script.{head_view};
 
 use crate::drafts::{draft_at, is_draft};
 use crate::fault::{LineError, LineFault};
@@ -89,7 +91,7 @@ fn alive_at(alloc: Global, words: &[&[u8]]) -> Result<AliveLine, LineError>
 
 impl Head {
     /// `alive ID ATTEMPTS ROUNDS OUT` or `alive ID ATTEMPTS ROUNDS OUT ROOT OUT`
-    #[tactic(auto, unfolding(crate::specs::Session::alive_line), using(crate::proofs::AliveLemmas::one_more))]
+    #[tactic(auto, unfolding(crate::specs::Grammar::alive_line), using(crate::proofs::AliveLemmas::one_more))]
     pub(crate) fn alive_line(&mut self, alloc: Global, words: &[&[u8]]) -> Result<(), LineError>
         ensures gives { Gives (λ _. head_view self.new) result
             (alive_line (map (λ x. x.now) words.now) (head_view self.old)) }

@@ -1,16 +1,17 @@
-//! The command lines of a script.
+//! The command lines.
 ghost use Rattle.std.specs.Prelude.{◌<◌, ◌≤◌, ℕ, map, vec_len, IfOk};
 ghost use Rattle.tp_model.specs.declared.types.TheConstants.{MAX_STAGE};
 ghost use Rattle.tp_script.specs.Commands.{named, one_server, one_id, submit_words, submit_at, take_at};
 ghost use Rattle.tp_script.specs.Commands.{balance_at, race_words, stage_at, race_at, drain_at, command_at};
 ghost use Rattle.tp_script.specs.Ranges.{IsInRange};
 ghost use Rattle.tp_script.specs.Reading.{Gives, submit_view, race_view};
-ghost use Rattle.tp_script.specs.Script.{script_view};
+ghost use Rattle.tp_script.specs.Script.{head_view};
 
 use crate::fault::{LineError, LineFault};
+use crate::head::Head;
 use crate::keyword::Verb;
 use crate::line_words::{is, is_name, none, number_at, one, two};
-use crate::script::{ClientAct, Command, DeskAct, Race, Script};
+use crate::script::{ClientAct, Command, DeskAct, Race};
 use tp_model::types::{MAX_PART_ROWS, MAX_PASSES, MAX_STAGE};
 
 // The one word, an id.
@@ -152,11 +153,11 @@ fn drain_at(words: &[&[u8]]) -> Result<Command, LineError>
     }
 }
 
-impl Script {
+impl Head {
     // The server of this name.
     #[tactic(auto, unfolding(crate::specs::Commands::named))]
     fn named(&self, name: &[u8]) -> Result<usize, LineError>
-        ensures gives { Gives (λ n. n) result (named name.now (script_view self.now)) }
+        ensures gives { Gives (λ n. n) result (named name.now (head_view self.now)) }
         ensures within { IfOk result (λ n. n < vec_len self.now.servers) }
     {
         if !is_name(name) {
@@ -169,7 +170,7 @@ impl Script {
     #[tactic(auto, unfolding(crate::specs::Commands::one_server))]
     fn one_server(&self, words: &[&[u8]]) -> Result<usize, LineError>
         ensures gives { Gives (λ n. n) result (one_server (map (λ x. x.now) words.now)
-            (script_view self.now)) }
+            (head_view self.now)) }
         ensures within { IfOk result (λ n. n < vec_len self.now.servers) }
     {
         self.named(one(words)?)
@@ -179,7 +180,7 @@ impl Script {
     #[tactic(auto, unfolding(crate::specs::Commands::take_at))]
     fn take_at(&self, words: (&[u8], &[u8])) -> Result<Command, LineError>
         ensures gives { Gives (λ c. c) result (take_at (words.entry.0.now, words.entry.1.now)
-            (script_view self.now)) }
+            (head_view self.now)) }
         ensures in_range { IfOk result (λ c. IsInRange (vec_len self.now.servers) c) }
     {
         let server = self.named(words.0)?;
@@ -192,7 +193,7 @@ impl Script {
     #[tactic(auto, unfolding(crate::specs::Commands::balance_at))]
     fn balance_at(&self, words: (&[u8], &[u8])) -> Result<Command, LineError>
         ensures gives { Gives (λ c. c) result (balance_at (words.entry.0.now, words.entry.1.now)
-            (script_view self.now)) }
+            (head_view self.now)) }
         ensures in_range { IfOk result (λ c. IsInRange (vec_len self.now.servers) c) }
     {
         let server = self.named(words.0)?;
@@ -204,7 +205,7 @@ impl Script {
     #[tactic(auto, unfolding(crate::specs::Commands::command_at))]
     pub(crate) fn command_at(&self, verb: Verb, words: &[&[u8]]) -> Result<Command, LineError>
         ensures gives { Gives (λ c. c) result (command_at verb (map (λ x. x.now) words.now)
-            (script_view self.now)) }
+            (head_view self.now)) }
         ensures in_range { IfOk result (λ c. IsInRange (vec_len self.now.servers) c) }
     {
         match verb {

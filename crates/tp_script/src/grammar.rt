@@ -1,30 +1,143 @@
-//! The lines of a script, and its settings.
-ghost use Rattle.std.specs.Prelude.{◌≡◌, ◌≤◌, ◌&&◌, map, IfOk, OnErr, nat_le};
+//! What a line says: in the head, and behind it. Scripts and live sessions have the same lines, but for races.
+ghost use Rattle.std.specs.Prelude.{◌≡◌, ◌≤◌, ◌&&◌, None, Result, Some, map, nat_le, vec_len, ℕ, IfOk, IfSome};
+ghost use Rattle.std.specs.Prelude.{OnErr};
 ghost use Rattle.std.specs.List.{list_all};
-ghost use Rattle.tp_script.specs.Grammar.{setting_at, rows_line, units_line, limit_line, spare_line};
-ghost use Rattle.tp_script.specs.Grammar.{account_line, keyword_line, words_line, is_comment, line_at};
-ghost use Rattle.tp_script.specs.Keyword.{keyword};
-ghost use Rattle.tp_script.specs.LineWords.{known};
+ghost use Rattle.tp_script.specs.declared.fault.LineFault.{LineFault};
 ghost use Rattle.tp_script.specs.declared.fault.LineFault.TheVariants.{Syntax};
-ghost use Rattle.tp_script.specs.Reading.{Gives, GivesScript};
-ghost use Rattle.tp_script.specs.Script.{script_view};
+ghost use Rattle.tp_script.specs.declared.head.Act.{Act};
+ghost use Rattle.tp_script.specs.Grammar.{account_at, act_at, body_at, body_keyword, body_words, dump_at, given_by};
+ghost use Rattle.tp_script.specs.Grammar.{head_at, head_keyword, head_words, is_comment, limit_line, line_words};
+ghost use Rattle.tp_script.specs.Grammar.{out_of_order, restore_at, rows_line, setting_at, spare_line, units_line};
+ghost use Rattle.tp_script.specs.Grammar.{unless_alive};
+ghost use Rattle.tp_script.specs.Keyword.{keyword};
+ghost use Rattle.tp_script.specs.LineWords.{known, one};
+ghost use Rattle.tp_script.specs.Ranges.{IsActInRange, IsActOf, IsInRange};
+ghost use Rattle.tp_script.specs.Reading.{Gives, GivesHead};
+ghost use Rattle.tp_script.specs.Script.{head_view};
 
+use crate::alive::alive_words;
 use crate::fault::{LineError, LineFault};
-use crate::keyword::Keyword;
-use crate::line_words::{none, number_at, one, three};
-use crate::script::Script;
+use crate::head::{Act, Driver, Head};
+use crate::keyword::{Keyword, Verb};
+use crate::line_words::{none, number_at, one, three, two};
+use crate::script::Command;
+use crate::servers::shape_at;
 use crate::text::words;
+use crate::worker_lines::worker_act;
 use std::alloc::Global;
 use tp_model::types::{MAX_ATTEMPTS, MAX_BLOCKS, MAX_PART_ROWS, MAX_UNITS};
 
-impl Script {
-    // A setting comes before servers and commands, and is `least` to `most`.
+// ---- words
+
+/// The words of a line.
+#[tactic(auto, unfolding(crate::specs::Grammar::line_words))]
+pub(crate) fn line_words(alloc: Global, line: &[u8]) -> Result<Vec<&[u8]>, LineError>
+    ensures { Gives (λ v. map (λ x. x.now) v.items) result (line_words line.now) }
+{
+    if line.len() > 200 {
+        return Err(LineFault::TooLong.into());
+    }
+    if !all_allowed(line) {
+        return Err(LineFault::Syntax.into());
+    }
+    if is_comment(line) {
+        return Ok(Vec::new(alloc));
+    }
+    Ok(words(alloc, line)?)
+}
+
+// The keyword that a word is.
+fn first_word(word: &[u8]) -> Result<Keyword, LineError>
+    ensures { Gives (λ k. k) result (known (keyword word.now) Syntax) }
+{
+    match Keyword::of(word) {
+        Some(keyword) => Ok(keyword),
+        None => Err(LineFault::Syntax.into()),
+    }
+}
+
+// Whether a line begins with `#`.
+fn is_comment(line: &[u8]) -> bool
+    ensures { result ≡ is_comment line.now }
+{
+    line.first() == Some(&b'#')
+}
+
+// Whether each byte of a line is a space or visible.
+fn all_allowed(line: &[u8]) -> bool
+    ensures { result ≡ list_all (λ b. nat_le 32 b && nat_le b 126) line.now }
+{
+    line.iter().all(|byte| (32..=126).contains(byte))
+}
+
+// ---- what is asked for
+
+// A race is a script's.
+fn given_by(driver: Driver, command: Command) -> Result<Act, LineError>
+    ensures gives { Gives (λ a. a) result (given_by driver command) }
+    ensures in_range { (servers : ℕ) → (workers : ℕ) → IsInRange servers command
+        → IfOk result (λ a. IsActOf driver servers workers a) }
+{
+    match driver {
+        Driver::Script => Ok(Act::Command(command)),
+        Driver::Session => {
+            if command.is_race() {
+                return Err(LineFault::Syntax.into());
+            }
+            Ok(Act::Command(command))
+        }
+    }
+}
+
+// `account`
+fn account_at(words: &[&[u8]]) -> Result<Act, LineError>
+    ensures gives { Gives (λ a. a) result (account_at (map (λ x. x.now) words.now)) }
+    ensures in_range { (driver : Driver) → (servers : ℕ) → (workers : ℕ)
+        → IfOk result (λ a. IsActOf driver servers workers a) }
+{
+    none(words)?;
+    Ok(Act::Account)
+}
+
+// `dump`
+fn dump_at(words: &[&[u8]]) -> Result<Act, LineError>
+    ensures gives { Gives (λ a. a) result (dump_at (map (λ x. x.now) words.now)) }
+    ensures in_range { (driver : Driver) → (servers : ℕ) → (workers : ℕ)
+        → IfOk result (λ a. IsActOf driver servers workers a) }
+{
+    none(words)?;
+    Ok(Act::Dump)
+}
+
+// `restore`
+fn restore_at(words: &[&[u8]]) -> Result<Act, LineError>
+    ensures gives { Gives (λ a. a) result (restore_at (map (λ x. x.now) words.now)) }
+    ensures in_range { (driver : Driver) → (servers : ℕ) → (workers : ℕ)
+        → IfOk result (λ a. IsActOf driver servers workers a) }
+{
+    none(words)?;
+    Ok(Act::Restore)
+}
+
+// A setting behind the head.
+fn late_setting(words: &[&[u8]]) -> Result<Act, LineError>
+    ensures gives { Gives (λ a. a) result (out_of_order (one (map (λ x. x.now) words.now))) }
+    ensures refused { IfOk result (λ _. ⊥) }
+{
+    one(words)?;
+    Err(LineFault::Order.into())
+}
+
+impl Head {
+    // ---- settings
+
+    // A setting comes before servers, and is `least` to `most`.
     #[tactic(auto, unfolding(crate::specs::Grammar::setting_at))]
     fn setting_at(&self, word: &[u8], least: u16, most: u16) -> Result<u16, LineError>
-        ensures gives { Gives (λ n. n) result (setting_at least most word.now (script_view self.now)) }
+        ensures gives { Gives (λ n. n) result (setting_at least most word.now (head_view self.now)) }
         ensures bounds { IfOk result (λ n. (least ≤ n) × (n ≤ most)) }
     {
-        if !self.servers.is_empty() || !self.commands.is_empty() {
+        if !self.servers.is_empty() {
             return Err(LineFault::Order.into());
         }
         let n = number_at(word, u64::MAX)?;
@@ -37,8 +150,8 @@ impl Script {
     // `rows N`
     #[tactic(auto, unfolding(crate::specs::Grammar::rows_line))]
     fn rows_line(&mut self, word: &[u8]) -> Result<(), LineError>
-        ensures gives { GivesScript self.new result (rows_line word.now (script_view self.old)) }
-        ensures kept { OnErr result (script_view self.new ≡ script_view self.old) }
+        ensures gives { GivesHead self.new result (rows_line word.now (head_view self.old)) }
+        ensures kept { OnErr result (head_view self.new ≡ head_view self.old) }
     {
         self.settings.rows = self.setting_at(word, 1, MAX_PART_ROWS)?;
         Ok(())
@@ -47,8 +160,8 @@ impl Script {
     // `units N`
     #[tactic(auto, unfolding(crate::specs::Grammar::units_line))]
     fn units_line(&mut self, word: &[u8]) -> Result<(), LineError>
-        ensures gives { GivesScript self.new result (units_line word.now (script_view self.old)) }
-        ensures kept { OnErr result (script_view self.new ≡ script_view self.old) }
+        ensures gives { GivesHead self.new result (units_line word.now (head_view self.old)) }
+        ensures kept { OnErr result (head_view self.new ≡ head_view self.old) }
     {
         self.settings.units = self.setting_at(word, 1, MAX_UNITS)?;
         Ok(())
@@ -57,8 +170,8 @@ impl Script {
     // `limit N`
     #[tactic(auto, unfolding(crate::specs::Grammar::limit_line))]
     fn limit_line(&mut self, word: &[u8]) -> Result<(), LineError>
-        ensures gives { GivesScript self.new result (limit_line word.now (script_view self.old)) }
-        ensures kept { OnErr result (script_view self.new ≡ script_view self.old) }
+        ensures gives { GivesHead self.new result (limit_line word.now (head_view self.old)) }
+        ensures kept { OnErr result (head_view self.new ≡ head_view self.old) }
     {
         self.settings.attempts = self.setting_at(word, 1, u16::from(MAX_ATTEMPTS))? as u8;
         Ok(())
@@ -67,65 +180,48 @@ impl Script {
     // `spare S`
     #[tactic(auto, unfolding(crate::specs::Grammar::spare_line))]
     fn spare_line(&mut self, word: &[u8]) -> Result<(), LineError>
-        ensures gives { GivesScript self.new result (spare_line word.now (script_view self.old)) }
-        ensures kept { OnErr result (script_view self.new ≡ script_view self.old) }
+        ensures gives { GivesHead self.new result (spare_line word.now (head_view self.old)) }
+        ensures kept { OnErr result (head_view self.new ≡ head_view self.old) }
     {
         self.settings.spare = self.setting_at(word, 0, MAX_BLOCKS)?;
         Ok(())
     }
 
-    // `account`
-    #[tactic(auto, unfolding(crate::specs::Grammar::account_line))]
-    fn account_line(&mut self, words: &[&[u8]]) -> Result<(), LineError>
-        ensures gives { GivesScript self.new result (account_line (map (λ x. x.now) words.now)
-            (script_view self.old)) }
-        ensures kept { OnErr result (script_view self.new ≡ script_view self.old) }
-    {
-        none(words)?;
-        self.account = true;
-        Ok(())
-    }
+    // ---- commands
 
-    /// What a line says after its first word.
-    #[tactic(auto, unfolding(crate::specs::Grammar::keyword_line))]
-    pub(crate) fn keyword_line(
-        &mut self,
+    // The command of this first word, with the words after it.
+    #[tactic(auto, unfolding(crate::specs::Grammar::act_at))]
+    fn act_at(
+        &self,
         alloc: Global,
-        keyword: Keyword,
+        driver: Driver,
+        verb: Verb,
         words: &[&[u8]],
-    ) -> Result<(), LineError>
-        ensures gives { GivesScript self.new result (keyword_line keyword (map (λ x. x.now) words.now)
-            (script_view self.old)) }
-        ensures kept { OnErr result (script_view self.new ≡ script_view self.old) }
+    ) -> Result<Act, LineError>
+        ensures gives { Gives (λ a. a) result
+            (act_at driver verb (map (λ x. x.now) words.now) (head_view self.now)) }
+        ensures in_range { IfOk result (λ a.
+            IsActOf driver (vec_len self.now.servers) (vec_len self.now.workers) a) }
     {
-        match keyword {
-            Keyword::Rows => self.rows_line(one(words)?),
-            Keyword::Units => self.units_line(one(words)?),
-            Keyword::Limit => self.limit_line(one(words)?),
-            Keyword::Spare => self.spare_line(one(words)?),
-            Keyword::Server => self.server_line(alloc, words),
-            Keyword::Start => self.start_line(three(words)?),
-            Keyword::Do(verb) => {
-                let command = self.command_at(verb, words)?;
-                self.add(command)
+        match self.worker_of(verb, words) {
+            None => given_by(driver, self.command_at(verb, words)?),
+            Some(worker) => {
+                let act = worker_act(alloc, verb, words)?;
+                Ok(Act::Worker { worker, act })
             }
-            Keyword::Account => self.account_line(words),
         }
     }
 
-    // What the words of a line say.
-    #[tactic(auto, unfolding(crate::specs::Grammar::words_line))]
-    fn words_line(&mut self, alloc: Global, words: &[&[u8]]) -> Result<(), LineError>
-        ensures { GivesScript self.new result (words_line (map (λ x. x.now) words.now)
-            (script_view self.old)) }
+    // The first command, unless it is `restore`: out of order where the head says what is alive.
+    fn first_command(&self, driver: Driver, read: Result<Act, LineError>) -> Result<Act, LineError>
+        ensures gives { (said : Result Act LineFault) → Gives (λ a. a) read said
+            → Gives (λ a. a) result (unless_alive (head_view self.now).alive said) }
+        ensures in_range { IfOk read (λ a.
+            IsActOf driver (vec_len self.now.servers) (vec_len self.now.workers) a)
+            → IfOk result (λ a.
+            IsActOf driver (vec_len self.now.servers) (vec_len self.now.workers) a) }
     {
-        let Some((first, others)) = words.split_first() else {
-            return Ok(());
-        };
-        let keyword = first_word(first)?;
-        let is_behind = self.account;
-        let read = self.keyword_line(alloc, keyword, others);
-        if !is_behind {
+        if self.alive.is_empty() {
             return read;
         }
         match read {
@@ -135,45 +231,160 @@ impl Script {
         }
     }
 
-    /// Adds what a line says.
-    #[tactic(auto, unfolding(crate::specs::Grammar::line_at))]
-    pub(crate) fn line(&mut self, alloc: Global, line: &[u8]) -> Result<(), LineError>
-        ensures { GivesScript self.new result (line_at line.now (script_view self.old)) }
+    // ---- a line of the head
+
+    // A line of the head of this first word, which isn't a command.
+    #[tactic(auto, unfolding(crate::specs::Grammar::head_keyword))]
+    fn head_keyword(
+        &mut self,
+        alloc: Global,
+        driver: Driver,
+        keyword: Keyword,
+        words: &[&[u8]],
+    ) -> Result<Option<Act>, LineError>
+        ensures gives { Gives (λ a. (head_view self.new, a)) result
+            (head_keyword driver keyword (map (λ x. x.now) words.now) (head_view self.old)) }
+        ensures kept { OnErr result (head_view self.new ≡ head_view self.old) }
+        ensures in_range { IfOk result (λ said. IfSome said (λ a.
+            IsActOf driver (vec_len self.new.servers) (vec_len self.new.workers) a)) }
     {
-        if line.len() > 200 {
-            return Err(LineFault::TooLong.into());
+        match keyword {
+            Keyword::Rows => self.rows_line(one(words)?)?,
+            Keyword::Units => self.units_line(one(words)?)?,
+            Keyword::Limit => self.limit_line(one(words)?)?,
+            Keyword::Spare => self.spare_line(one(words)?)?,
+            Keyword::Server => self.server_line(alloc, words)?,
+            Keyword::Start => self.start_line(three(words)?)?,
+            Keyword::Worker => self.worker_line(alloc, two(words)?)?,
+            Keyword::Alive => self.alive_line(alloc, words)?,
+            Keyword::Do(verb) => {
+                let act = self.first_command(driver, self.act_at(alloc, driver, verb, words))?;
+                return Ok(Some(act));
+            }
+            Keyword::Dump => {
+                let act = self.first_command(driver, dump_at(words))?;
+                return Ok(Some(act));
+            }
+            Keyword::Account => {
+                let act = self.first_command(driver, account_at(words))?;
+                return Ok(Some(act));
+            }
+            Keyword::Restore => {
+                let act = restore_at(words)?;
+                return Ok(Some(act));
+            }
         }
-        if !all_allowed(line) {
-            return Err(LineFault::Syntax.into());
-        }
-        if is_comment(line) {
-            return Ok(());
-        }
-        let words = words(alloc, line)?;
-        self.words_line(alloc, words.as_slice())
+        Ok(None)
     }
-}
 
-/// The keyword that a word is.
-pub(crate) fn first_word(word: &[u8]) -> Result<Keyword, LineError>
-    ensures { Gives (λ k. k) result (known (keyword word.now) Syntax) }
-{
-    match Keyword::of(word) {
-        Some(keyword) => Ok(keyword),
-        None => Err(LineFault::Syntax.into()),
+    /// What the words of a line of the head say, up to the first command.
+    #[tactic(auto, unfolding(crate::specs::Grammar::head_words))]
+    pub(crate) fn head_words(
+        &mut self,
+        alloc: Global,
+        driver: Driver,
+        words: &[&[u8]],
+    ) -> Result<Option<Act>, LineError>
+        ensures gives { Gives (λ a. (head_view self.new, a)) result
+            (head_words driver (map (λ x. x.now) words.now) (head_view self.old)) }
+        ensures kept { OnErr result (head_view self.new ≡ head_view self.old) }
+        ensures in_range { IfOk result (λ said. IfSome said (λ a.
+            IsActOf driver (vec_len self.new.servers) (vec_len self.new.workers) a)) }
+    {
+        let Some((first, others)) = words.split_first() else {
+            return Ok(None);
+        };
+        self.head_keyword(alloc, driver, first_word(first)?, others)
     }
-}
 
-/// Whether a line begins with `#`.
-pub(crate) fn is_comment(line: &[u8]) -> bool
-    ensures { result ≡ is_comment line.now }
-{
-    line.first() == Some(&b'#')
-}
+    /// Adds what a line of a session's head says, or answers the first command, which ends the head. A faulty
+    /// line leaves the head as it was.
+    #[tactic(auto, unfolding(crate::specs::Grammar::head_at))]
+    pub fn head_line(&mut self, alloc: Global, line: &[u8]) -> Result<Option<Act>, LineError>
+        ensures gives { Gives (λ a. (head_view self.new, a)) result (head_at line.now (head_view self.old)) }
+        ensures kept { OnErr result (head_view self.new ≡ head_view self.old) }
+        ensures in_range { IfOk result (λ said. IfSome said (λ a.
+            IsActInRange (vec_len self.new.servers) (vec_len self.new.workers) a)) }
+    {
+        let words = line_words(alloc, line)?;
+        self.head_words(alloc, Driver::Session, words.as_slice())
+    }
 
-/// Whether each byte of a line is a space or visible.
-pub(crate) fn all_allowed(line: &[u8]) -> bool
-    ensures { result ≡ list_all (λ b. nat_le 32 b && nat_le b 126) line.now }
-{
-    line.iter().all(|byte| (32..=126).contains(byte))
+    // ---- a line behind the head
+
+    // What a line of this first word asks for. A line of the head is out of order there.
+    #[tactic(auto, unfolding(crate::specs::Grammar::body_keyword))]
+    fn body_keyword(
+        &self,
+        alloc: Global,
+        driver: Driver,
+        keyword: Keyword,
+        words: &[&[u8]],
+    ) -> Result<Act, LineError>
+        ensures gives { Gives (λ a. a) result
+            (body_keyword driver keyword (map (λ x. x.now) words.now) (head_view self.now)) }
+        ensures in_range { IfOk result (λ a.
+            IsActOf driver (vec_len self.now.servers) (vec_len self.now.workers) a) }
+    {
+        match keyword {
+            Keyword::Do(verb) => self.act_at(alloc, driver, verb, words),
+            Keyword::Account => account_at(words),
+            Keyword::Dump => dump_at(words),
+            Keyword::Rows => late_setting(words),
+            Keyword::Units => late_setting(words),
+            Keyword::Limit => late_setting(words),
+            Keyword::Spare => late_setting(words),
+            Keyword::Server => {
+                shape_at(alloc, words)?;
+                Err(LineFault::Order.into())
+            }
+            Keyword::Start => {
+                three(words)?;
+                Err(LineFault::Order.into())
+            }
+            Keyword::Worker => {
+                two(words)?;
+                Err(LineFault::Order.into())
+            }
+            Keyword::Alive => {
+                alive_words(words)?;
+                Err(LineFault::Order.into())
+            }
+            Keyword::Restore => {
+                none(words)?;
+                Err(LineFault::Order.into())
+            }
+        }
+    }
+
+    /// What the words of a line behind the head ask for, if there are any.
+    #[tactic(auto, unfolding(crate::specs::Grammar::body_words))]
+    pub(crate) fn body_words(
+        &self,
+        alloc: Global,
+        driver: Driver,
+        words: &[&[u8]],
+    ) -> Result<Option<Act>, LineError>
+        ensures gives { Gives (λ a. a) result
+            (body_words driver (map (λ x. x.now) words.now) (head_view self.now)) }
+        ensures in_range { IfOk result (λ said. IfSome said (λ a.
+            IsActOf driver (vec_len self.now.servers) (vec_len self.now.workers) a)) }
+    {
+        let Some((first, others)) = words.split_first() else {
+            return Ok(None);
+        };
+        let act = self.body_keyword(alloc, driver, first_word(first)?, others)?;
+        Ok(Some(act))
+    }
+
+    /// What a line of a session behind its head asks for, if it isn't empty or a comment.
+    #[tactic(auto, unfolding(crate::specs::Grammar::body_at))]
+    pub fn body_line(&self, alloc: Global, line: &[u8]) -> Result<Option<Act>, LineError>
+        ensures gives { Gives (λ a. a) result (body_at line.now (head_view self.now)) }
+        ensures in_range { IfOk result (λ said. IfSome said (λ a.
+            IsActInRange (vec_len self.now.servers) (vec_len self.now.workers) a)) }
+    {
+        let words = line_words(alloc, line)?;
+        self.body_words(alloc, Driver::Session, words.as_slice())
+    }
 }

@@ -1,15 +1,26 @@
-//! The head of a live session, and what its lines ask for.
-ghost use Rattle.std.specs.Prelude.{◌≤◌, vec_len};
+//! The head of a script or a session, and what the lines behind it ask for.
+ghost use Rattle.std.specs.Prelude.{◌≡◌, ◌≤◌, vec_len};
 ghost use Rattle.std.specs.List.{All};
-ghost use Rattle.tp_script.specs.Alive.{IsAliveInRange};
+ghost use Rattle.tp_script.specs.Rounds.{IsAliveInRange};
 ghost use Rattle.tp_script.specs.declared.head.TheConstants.{MAX_ALIVE, MAX_WORKERS};
+ghost use Rattle.tp_script.specs.declared.script.TheConstants.{MAX_SERVERS};
 
-use crate::script::{Command, Script};
+use crate::script::{Command, MAX_SERVERS, ScriptServer, Settings};
 use arrayvec::ArrayVec;
+use std::alloc::Global;
 use std::string::String;
 use tp_model::types::Draft;
 
-/// How many workers a session may have: with the most servers and the client they have all passes.
+/// Who gives the lines.
+#[derive(Clone, Copy)]
+pub enum Driver {
+    /// A script: it is read and checked whole before any of it is done, and may have races.
+    Script,
+    /// A live session: its lines are answered one by one.
+    Session,
+}
+
+/// How many workers there may be: with the most servers and the client they have all passes.
 pub const MAX_WORKERS: usize = 23;
 
 /// How many elements a head may say are alive: as many as a manager has rows at most, those of all passes and
@@ -27,8 +38,8 @@ pub struct WorkerLine {
     ghost high: { stage ≤ 14 },
 }
 
-/// An `alive` line: an element that waits or is parked, as `dump` tells of it. It is alive again once the
-/// session is restored.
+/// An `alive` line: an element that waits or is parked, as `dump` tells of it. It is alive again behind
+/// `restore`.
 #[derive(Clone, Copy)]
 pub struct AliveLine {
     /// Its id before.
@@ -58,31 +69,79 @@ pub enum WorkerAct {
     Abort,
 }
 
-/// What a line of a session asks for. A worker is given by its place.
+/// What a line asks for. A worker is given by its place.
 #[derive(Drop)]
 pub enum Act {
-    /// A command of scripts, but no race.
+    /// A command of the client, of a server's desk, or of all.
     Command(Command),
     /// A worker does this.
     Worker { worker: usize, act: WorkerAct },
     /// The account is reported.
     Account,
-    /// The lines of a session are reported that leads to this state.
+    /// The lines are reported that lead to this state.
     Dump,
     /// What the head says is alive again. It is the first command.
     Restore,
 }
 
-/// The head of a session: settings, servers, workers, and what is alive.
+impl Act {
+    ghost use Rattle.tp_script.specs.Passes.{races, racers_of};
+
+    /// Whether it is a race.
+    pub fn is_race(&self) -> bool
+        ensures { result ≡ races self.now }
+    {
+        match self {
+            Act::Command(command) => command.is_race(),
+            _ => false,
+        }
+    }
+
+    /// How many passes it needs for itself: those of a race's clients and killers.
+    pub fn racers(&self) -> u16
+        ensures { result ≡ racers_of self.now }
+    {
+        match self {
+            Act::Command(command) => command.racers(),
+            _ => 0,
+        }
+    }
+}
+
+/// The lines before the first command: settings, servers, workers, and what is alive.
 #[derive(Drop)]
 pub struct Head {
-    /// The settings and the servers, as those of a script.
-    pub script: Script,
+    /// The limits that they set.
+    pub settings: Settings,
+    /// The servers, in the order of their lines.
+    pub servers: Vec<ScriptServer>,
     /// The workers, in the order of their lines.
     pub workers: Vec<WorkerLine>,
     /// What is alive, in the order of the lines. Lines may contradict each other.
     pub alive: Vec<AliveLine>,
+    ghost few_servers: { vec_len servers ≤ MAX_SERVERS },
     ghost few: { vec_len workers ≤ MAX_WORKERS },
     ghost few_alive: { vec_len alive ≤ MAX_ALIVE },
     ghost alive_in_range: { All IsAliveInRange alive.items },
+}
+
+impl Head {
+    ghost use Rattle.tp_script.specs.Script.{head_view, no_head};
+
+    /// A head without lines.
+    pub fn new(alloc: Global) -> Head
+        ensures { head_view result ≡ no_head }
+    {
+        Head {
+            settings: Settings {
+                rows: 64,
+                units: 256,
+                attempts: 3,
+                spare: 0,
+            },
+            servers: Vec::new(alloc),
+            workers: Vec::new(alloc),
+            alive: Vec::new(alloc),
+        }
+    }
 }

@@ -1,8 +1,7 @@
 //! The first words of lines.
 ghost use Rattle.std.specs.Prelude.{◌≡◌};
-ghost use Rattle.tp_script.specs.Keyword.{keyword, session_word};
+ghost use Rattle.tp_script.specs.Keyword.{keyword};
 
-use crate::line_words::is;
 use crate::script::DeskAct;
 
 /// What a line is, by its first word.
@@ -14,9 +13,17 @@ pub enum Keyword {
     Spare,
     Server,
     Start,
+    /// The line names a worker.
+    Worker,
+    /// The line says that an element is alive.
+    Alive,
     /// The line is a command.
     Do(Verb),
-    /// The line asks for the closing account.
+    /// The line asks that what the head says be alive again.
+    Restore,
+    /// The line asks for the lines that lead to this state.
+    Dump,
+    /// The line asks for the account.
     Account,
 }
 
@@ -45,13 +52,15 @@ pub enum Verb {
 }
 
 /// The first words that lines may have: how each is written, and what the line is.
-const FIRST_WORDS: [(&str, Keyword); 31] = [
+const FIRST_WORDS: [(&str, Keyword); 35] = [
     ("rows", Keyword::Rows),
     ("units", Keyword::Units),
     ("limit", Keyword::Limit),
     ("spare", Keyword::Spare),
     ("server", Keyword::Server),
     ("start", Keyword::Start),
+    ("worker", Keyword::Worker),
+    ("alive", Keyword::Alive),
     ("submit", Keyword::Do(Verb::Submit)),
     ("turn", Keyword::Do(Verb::Desk(DeskAct::Turn))),
     ("reply", Keyword::Do(Verb::Reply)),
@@ -76,6 +85,8 @@ const FIRST_WORDS: [(&str, Keyword); 31] = [
     ("race", Keyword::Do(Verb::Race)),
     ("drain", Keyword::Do(Verb::Drain)),
     ("rollover", Keyword::Do(Verb::Rollover)),
+    ("restore", Keyword::Restore),
+    ("dump", Keyword::Dump),
     ("account", Keyword::Account),
 ];
 
@@ -89,38 +100,5 @@ impl Keyword {
             .find(|row| row.0.as_bytes() == word)
             .copied()?;
         Some(row.1)
-    }
-}
-
-/// What a line of a session is, by its first word, where sessions alone have the word.
-#[derive(Clone, Copy)]
-pub enum SessionWord {
-    /// The line names a worker.
-    Worker,
-    /// The line says that an element is alive.
-    Alive,
-    /// The line asks that what the head says be alive again.
-    Restore,
-    /// The line asks for the lines of a session that leads to this state.
-    Dump,
-}
-
-impl SessionWord {
-    /// What a line of this first word is, where sessions alone have the word.
-    #[tactic(auto, unfolding(crate::specs::Keyword::session_word))]
-    pub fn of(word: &[u8]) -> Option<SessionWord>
-        ensures { result ≡ session_word word.now }
-    {
-        if is(word, "worker") {
-            Some(SessionWord::Worker)
-        } else if is(word, "alive") {
-            Some(SessionWord::Alive)
-        } else if is(word, "restore") {
-            Some(SessionWord::Restore)
-        } else if is(word, "dump") {
-            Some(SessionWord::Dump)
-        } else {
-            None
-        }
     }
 }

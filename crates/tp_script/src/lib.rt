@@ -1,4 +1,4 @@
-//! Scripts: what their bytes say, or their first faulty line and its fault.
+//! What the lines of scripts and live sessions say, or their first fault.
 #![tactic(auto)]
 
 mod alive;
@@ -12,17 +12,14 @@ mod line_words;
 mod parse;
 mod script;
 mod servers;
-mod session;
 mod source;
 mod text;
+mod whole;
 mod worker_lines;
-mod workers;
 
 pub use fault::{LineError, LineFault, ReadFault, Refused};
-pub use head::{Act, AliveLine, Head, MAX_ALIVE, MAX_WORKERS, WorkerAct, WorkerLine};
+pub use head::{Act, AliveLine, Driver, Head, MAX_ALIVE, MAX_WORKERS, WorkerAct, WorkerLine};
 pub use parse::read_script;
-pub use script::{
-    ClientAct, Command, DeskAct, Kind, MAX_SERVERS, Race, Script, ScriptServer, Settings,
-};
+pub use script::{ClientAct, Command, DeskAct, Kind, MAX_SERVERS, Race, ScriptServer, Settings};
 pub use source::{BytesSource, Failed, MAX_READS, MAX_SCRIPT_BYTES, Source, StdSource, read_all};
-pub use workers::{check_lines, is_session};
+pub use whole::Script;

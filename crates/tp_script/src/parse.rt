@@ -1,13 +1,13 @@
 //! A script from its bytes.
 ghost use Rattle.std.specs.Prelude.{◌≡◌, ◌+◌, ◌^◌, ◌<◌, ◌≤◌, IfSome, IsErrOf, IsTrue};
 ghost use Rattle.tp_script.specs.declared.source.TheConstants.{MAX_READS};
-ghost use Rattle.tp_script.specs.Grammar.{script};
+ghost use Rattle.tp_script.specs.Whole.{script};
 ghost use Rattle.tp_script.specs.Reading.{ReadsAs, fault_at};
 
 use crate::fault::{LineError, LineFault, ReadFault, Refused};
-use crate::script::Script;
 use crate::source::{MAX_SCRIPT_BYTES, Source, read_all};
 use crate::text::lines;
+use crate::whole::Script;
 use std::alloc::Global;
 
 /// The fault of a line.

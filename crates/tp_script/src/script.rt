@@ -1,23 +1,16 @@
-//! A script that was read: settings, servers and commands.
-ghost use Rattle.std.specs.Prelude.{◌≡◌, ◌≤◌, ◌<◌, ◌+◌, Ok, OnErr, length, vec_len};
+//! What lines set and ask for: settings, servers and commands.
+ghost use Rattle.std.specs.Prelude.{◌≡◌, ◌≤◌, Ok, length};
 ghost use Rattle.tp_server.specs.Check.{check_of};
-ghost use Rattle.std.specs.List.{All};
-ghost use Rattle.tp_script.specs.Passes.{racing};
-ghost use Rattle.tp_script.specs.Ranges.{IsInRange, IsInRange-prop};
-ghost use Rattle.tp_model.specs.declared.types.TheConstants.{MAX_ATTEMPTS, MAX_BLOCKS, MAX_PART_ROWS};
-ghost use Rattle.tp_model.specs.declared.types.TheConstants.{MAX_PASSES, MAX_UNITS};
-ghost use Rattle.tp_script.specs.declared.script.TheConstants.{MAX_SERVERS};
+ghost use Rattle.tp_model.specs.declared.types.TheConstants.{MAX_ATTEMPTS, MAX_BLOCKS, MAX_PART_ROWS, MAX_UNITS};
 
-use crate::fault::{LineError, LineFault};
-use std::alloc::Global;
 use std::string::String;
-use tp_model::types::{Body, MAX_PASSES};
+use tp_model::types::Body;
 use tp_server::{Recipe, Registers};
 
-/// How many servers a script may have.
+/// How many servers a head may have.
 pub const MAX_SERVERS: usize = 8;
 
-/// The limits that a script sets.
+/// The limits that a head sets.
 #[derive(Clone, Copy)]
 pub struct Settings {
     /// Rows of each pass, 1 to 256.
@@ -46,7 +39,7 @@ pub enum Kind {
 /// A server line, with the start lines of that server.
 #[derive(Drop)]
 pub struct ScriptServer {
-    /// 1 to 8 small letters, which no other server of the script has.
+    /// 1 to 8 small letters, which no other server or worker has.
     pub name: String,
     /// How it keeps prepared work.
     pub kind: Kind,
@@ -58,7 +51,7 @@ pub struct ScriptServer {
     ghost counted: { length registers ≡ recipe.registers },
 }
 
-/// What the script's own client does.
+/// What the client does.
 #[derive(Clone, Copy)]
 pub enum ClientAct {
     /// It submits an element.
@@ -123,7 +116,7 @@ pub struct Race {
     pub turns: u16,
 }
 
-/// A command. A server is given by its place among the script's servers.
+/// A command. A server is given by its place among the servers.
 #[derive(Clone, Copy)]
 pub enum Command {
     /// The client does this.
@@ -169,102 +162,5 @@ impl Command {
             Command::Race(race) => u16::from(race.clients) + u16::from(race.killers),
             _ => 0,
         }
-    }
-}
-
-/// A whole script.
-#[derive(Drop)]
-pub struct Script {
-    /// The limits that it sets.
-    pub settings: Settings,
-    /// Its servers, in the order of their lines.
-    pub servers: Vec<ScriptServer>,
-    /// Its commands, in their order.
-    pub commands: Vec<Command>,
-    /// Whether it asks for the closing account, after all commands.
-    pub account: bool,
-    // How many passes it needs.
-    pass_count: u16,
-    ghost few_servers: { vec_len servers ≤ MAX_SERVERS },
-    ghost passes_counted: { pass_count ≡ 1 + vec_len servers + racing commands.items },
-    ghost few_passes: { pass_count ≤ MAX_PASSES },
-    ghost commands_in_range: { All (IsInRange (vec_len servers)) commands.items } by { Prim.hlevel IsInRange-prop },
-}
-
-impl Script {
-    ghost use Rattle.tp_script.specs.Grammar.{no_lines};
-    ghost use Rattle.tp_script.specs.Passes.{has_race, has_rollover};
-    ghost use Rattle.tp_script.specs.Script.{script_view, server_view, passes};
-    ghost use Rattle.tp_script.specs.ServerLines.{with_server};
-    ghost use Rattle.tp_script.specs.Commands.{with_command};
-    ghost use Rattle.tp_script.specs.Reading.{GivesScript};
-
-    /// A script without lines.
-    pub(crate) fn new(alloc: Global) -> Script
-        ensures { script_view result ≡ no_lines }
-    {
-        Script {
-            settings: Settings {
-                rows: 64,
-                units: 256,
-                attempts: 3,
-                spare: 0,
-            },
-            servers: Vec::new(alloc),
-            commands: Vec::new(alloc),
-            account: false,
-            pass_count: 1,
-        }
-    }
-
-    /// How many passes it needs: the client's, one for each server, and those of its races.
-    pub fn passes(&self) -> u16
-        ensures value { result ≡ passes (script_view self.now) }
-        ensures bound { result ≤ MAX_PASSES }
-    {
-        self.pass_count
-    }
-
-    /// Whether there is a race among its commands.
-    pub fn has_race(&self) -> bool
-        ensures { result ≡ has_race self.now.commands.items }
-    {
-        self.commands.iter().any(|command| command.is_race())
-    }
-
-    /// Whether there is a rollover among its commands.
-    pub fn has_rollover(&self) -> bool
-        ensures { result ≡ has_rollover self.now.commands.items }
-    {
-        self.commands.iter().any(|command| command.is_rollover())
-    }
-
-    /// Adds a server.
-    #[tactic(auto, using(crate::proofs::ScriptLemmas::racing_none, crate::proofs::ScriptLemmas::all_in_range_none))]
-    pub(crate) fn add_server(&mut self, server: ScriptServer) -> Result<(), LineError>
-        requires few { vec_len self.old.servers < MAX_SERVERS }
-        requires first { vec_len self.old.commands ≡ 0 }
-        ensures gives { GivesScript self.new result (Ok (with_server (server_view server) (script_view self.old))) }
-        ensures kept { OnErr result (script_view self.new ≡ script_view self.old) }
-    {
-        self.servers.push(server)?;
-        self.pass_count += 1;
-        Ok(())
-    }
-
-    /// Adds a command, unless the script needs more passes then than there can be.
-    #[tactic(auto, unfolding(crate::specs::Commands::with_command), using(std::proofs::lemmas::List::Sums::sum_by_push, crate::proofs::ScriptLemmas::all_in_range_push))]
-    pub(crate) fn add(&mut self, command: Command) -> Result<(), LineError>
-        requires { IsInRange (vec_len self.old.servers) command }
-        ensures gives { GivesScript self.new result (with_command command (script_view self.old)) }
-        ensures kept { OnErr result (script_view self.new ≡ script_view self.old) }
-    {
-        let racers = command.racers();
-        if racers > MAX_PASSES - self.pass_count {
-            return Err(LineFault::BadLimits.into());
-        }
-        self.commands.push(command)?;
-        self.pass_count += racers;
-        Ok(())
     }
 }

@@ -4,14 +4,15 @@ ghost use Rattle.std.specs.Prelude.{◌≡◌, ◌≤◌, ◌<◌, map, length, 
 ghost use Rattle.std.specs.Prelude.{string_bytes, replicate, Ok, is_ok};
 ghost use Rattle.std.specs.Str.{bytes_eq};
 ghost use Rattle.tp_server.specs.Check.{check_of};
-ghost use Rattle.tp_script.specs.Reading.{Gives, GivesScript, shape_view};
-ghost use Rattle.tp_script.specs.Script.{script_view, server_view};
+ghost use Rattle.tp_script.specs.Reading.{Gives, GivesHead, shape_view};
+ghost use Rattle.tp_script.specs.Script.{head_view, server_view};
 ghost use Rattle.tp_script.specs.ServerLines.{server_at, shape_at, new_name, recipe_at, registers_for};
 ghost use Rattle.tp_script.specs.ServerLines.{server_line, begun, begin_at, start_line};
 
 use crate::fault::{LineError, LineFault};
+use crate::head::Head;
 use crate::line_words::{act_at, all_outputs, is_name, kind_at, name_text, number_at, outputs_at};
-use crate::script::{Kind, MAX_SERVERS, Script, ScriptServer};
+use crate::script::{Kind, MAX_SERVERS, ScriptServer};
 use std::alloc::Global;
 use std::string::String;
 use tp_model::types::MAX_OUTPUTS;
@@ -90,7 +91,7 @@ fn registers_for(recipe: &Recipe) -> Result<Registers, LineError>
     }
 }
 
-impl Script {
+impl Head {
     // The place of the server of this name in memory.
     fn find(&self, name: &[u8]) -> Option<usize>
         ensures found { result ≡ position (λ server.
@@ -102,10 +103,10 @@ impl Script {
             .position(|server| server.name.as_bytes() == name)
     }
 
-    // The same in the script as contracts see it: names are their bytes there.
+    // The same in the head as contracts see it: names are their bytes there.
     fn place(&self, name: &[u8]) -> Option<usize>
         ensures found { result ≡ position (λ server. bytes_eq server.name name.now)
-            (script_view self.now).servers }
+            (head_view self.now).servers }
         ensures within { IfSome result (λ i. i < vec_len self.now.servers) }
     {
         self.find(name)
@@ -113,7 +114,7 @@ impl Script {
 
     /// The place of the server of this name.
     pub(crate) fn server_at(&self, name: &[u8]) -> Result<usize, LineError>
-        ensures gives { Gives (λ x. x) result (server_at name.now (script_view self.now)) }
+        ensures gives { Gives (λ x. x) result (server_at name.now (head_view self.now)) }
         ensures within { IfOk result (λ i. i < vec_len self.now.servers) }
     {
         match self.place(name) {
@@ -122,12 +123,15 @@ impl Script {
         }
     }
 
-    /// A name that no server has yet.
+    /// A name that no server and no worker has yet.
     #[tactic(auto, unfolding(crate::specs::ServerLines::new_name))]
     pub(crate) fn new_name(&self, alloc: Global, name: &[u8]) -> Result<String, LineError>
-        ensures { Gives (λ x. string_bytes x) result (new_name name.now (script_view self.now)) }
+        ensures { Gives (λ x. string_bytes x) result (new_name name.now (head_view self.now)) }
     {
         if !is_name(name) || self.place(name).is_some() {
+            return Err(LineFault::BadName.into());
+        }
+        if self.worker_at(name).is_some() {
             return Err(LineFault::BadName.into());
         }
         Ok(String::from_str(alloc, name_text(name))?)
@@ -136,14 +140,11 @@ impl Script {
     /// `server NAME KIND STAGE REGISTERS ACT OUT..`
     #[tactic(auto, unfolding(crate::specs::ServerLines::server_line))]
     pub(crate) fn server_line(&mut self, alloc: Global, words: &[&[u8]]) -> Result<(), LineError>
-        ensures gives { GivesScript self.new result (server_line (map (λ x. x.now) words.now)
-            (script_view self.old)) }
-        ensures kept { OnErr result (script_view self.new ≡ script_view self.old) }
+        ensures gives { GivesHead self.new result (server_line (map (λ x. x.now) words.now)
+            (head_view self.old)) }
+        ensures kept { OnErr result (head_view self.new ≡ head_view self.old) }
     {
         let shape = shape_at(alloc, words)?;
-        if !self.commands.is_empty() {
-            return Err(LineFault::Order.into());
-        }
         let name = self.new_name(alloc, shape.name)?;
         let recipe = recipe_at(alloc, &shape)?;
         if self.servers.len() >= MAX_SERVERS {
@@ -151,23 +152,21 @@ impl Script {
         }
         let registers = registers_for(&recipe)?;
         let kind = shape.kind;
-        self.add_server(ScriptServer {
+        self.servers.push(ScriptServer {
             name,
             kind,
             recipe,
             registers,
-        })
+        })?;
+        Ok(())
     }
 
     /// `start NAME K V`
     #[tactic(auto, unfolding(crate::specs::ServerLines::start_line))]
     pub(crate) fn start_line(&mut self, words: (&[u8], &[u8], &[u8])) -> Result<(), LineError>
-        ensures gives { GivesScript self.new result (start_line (words.entry.0.now, words.entry.1.now, words.entry.2.now) (script_view self.old)) }
-        ensures kept { OnErr result (script_view self.new ≡ script_view self.old) }
+        ensures gives { GivesHead self.new result (start_line (words.entry.0.now, words.entry.1.now, words.entry.2.now) (head_view self.old)) }
+        ensures kept { OnErr result (head_view self.new ≡ head_view self.old) }
     {
-        if !self.commands.is_empty() {
-            return Err(LineFault::Order.into());
-        }
         if !is_name(words.0) {
             return Err(LineFault::BadName.into());
         }
@@ -180,8 +179,8 @@ impl Script {
     // Register k of the server at a place begins with v.
     fn begin_at(&mut self, place: usize, k: u64, v: u64) -> Result<(), LineError>
         requires { place < vec_len self.old.servers }
-        ensures gives { GivesScript self.new result (begin_at place k v (script_view self.old)) }
-        ensures kept { OnErr result (script_view self.new ≡ script_view self.old) }
+        ensures gives { GivesHead self.new result (begin_at place k v (head_view self.old)) }
+        ensures kept { OnErr result (head_view self.new ≡ head_view self.old) }
     {
         self.servers[place].begin(k, v)
     }

@@ -1,10 +1,11 @@
-//! The lines of a session that make workers, and what workers are asked.
+//! The lines that make workers, and what workers are asked.
 ghost use Rattle.std.specs.Prelude.{◌≡◌, ◌<◌, map, IfSome, OnErr, position, string_bytes, vec_len};
 ghost use Rattle.std.specs.Str.{bytes_eq};
 ghost use Rattle.tp_script.specs.declared.keyword.Verb.TheVariants as verbs;
 ghost use Rattle.tp_script.specs.Reading.{Gives};
-ghost use Rattle.tp_script.specs.Session.{head_view, is_named, worker_act, worker_at, worker_commit};
-ghost use Rattle.tp_script.specs.Session.{worker_line, worker_of, worker_take};
+ghost use Rattle.tp_script.specs.Grammar.{is_named, worker_act, worker_commit, worker_line, worker_of, worker_take};
+ghost use Rattle.tp_script.specs.Script.{head_view};
+ghost use Rattle.tp_script.specs.ServerLines.{worker_at};
 
 use crate::commands::stage_at;
 use crate::drafts::{draft_words, drafts_at};
@@ -17,7 +18,7 @@ use std::alloc::Global;
 use std::string::String;
 
 // `take NAME ID` of a worker.
-#[tactic(auto, unfolding(crate::specs::Session::worker_take))]
+#[tactic(auto, unfolding(crate::specs::Grammar::worker_take))]
 fn worker_take(words: &[&[u8]]) -> Result<WorkerAct, LineError>
     ensures { Gives (λ a. a) result (worker_take (map (λ x. x.now) words.now)) }
 {
@@ -27,7 +28,7 @@ fn worker_take(words: &[&[u8]]) -> Result<WorkerAct, LineError>
 }
 
 // `commit NAME OUT..` of a worker.
-#[tactic(auto, unfolding(crate::specs::Session::worker_commit))]
+#[tactic(auto, unfolding(crate::specs::Grammar::worker_commit))]
 fn worker_commit(alloc: Global, words: &[&[u8]]) -> Result<WorkerAct, LineError>
     ensures { Gives (λ a. a) result (worker_commit (map (λ x. x.now) words.now)) }
 {
@@ -37,7 +38,7 @@ fn worker_commit(alloc: Global, words: &[&[u8]]) -> Result<WorkerAct, LineError>
 }
 
 // What a worker's line of a desk's first word says.
-#[tactic(auto, unfolding(crate::specs::Session::worker_act))]
+#[tactic(auto, unfolding(crate::specs::Grammar::worker_act))]
 fn worker_desk(alloc: Global, act: DeskAct, words: &[&[u8]]) -> Result<WorkerAct, LineError>
     ensures { Gives (λ a. a) result (worker_act (verbs.Desk act) (map (λ x. x.now) words.now)) }
 {
@@ -58,7 +59,7 @@ fn worker_desk(alloc: Global, act: DeskAct, words: &[&[u8]]) -> Result<WorkerAct
 }
 
 /// What a worker is asked by a line of this first word.
-#[tactic(auto, unfolding(crate::specs::Session::worker_act))]
+#[tactic(auto, unfolding(crate::specs::Grammar::worker_act))]
 pub(crate) fn worker_act(alloc: Global, verb: Verb, words: &[&[u8]]) -> Result<WorkerAct, LineError>
     ensures { Gives (λ a. a) result (worker_act verb (map (λ x. x.now) words.now)) }
 {
@@ -82,7 +83,7 @@ fn is_named(verb: Verb) -> bool
 
 impl Head {
     // The place of the worker of this name in memory.
-    fn find(&self, name: &[u8]) -> Option<usize>
+    fn find_worker(&self, name: &[u8]) -> Option<usize>
         ensures found { result
             ≡ position (λ w. bytes_eq (string_bytes w.name) name.now) self.now.workers.items }
         ensures within { IfSome result (λ i. i < vec_len self.now.workers) }
@@ -97,7 +98,7 @@ impl Head {
         ensures found { result ≡ worker_at name.now (head_view self.now) }
         ensures within { IfSome result (λ i. i < vec_len self.now.workers) }
     {
-        self.find(name)
+        self.find_worker(name)
     }
 
     /// The worker that the words after a first word name.
@@ -115,7 +116,7 @@ impl Head {
     }
 
     /// `worker NAME STAGE`
-    #[tactic(auto, unfolding(crate::specs::Session::worker_line))]
+    #[tactic(auto, unfolding(crate::specs::Grammar::worker_line))]
     pub(crate) fn worker_line(
         &mut self,
         alloc: Global,
@@ -125,10 +126,7 @@ impl Head {
             (worker_line (words.entry.0.now, words.entry.1.now) (head_view self.old)) }
         ensures kept { OnErr result (head_view self.new ≡ head_view self.old) }
     {
-        let name = self.script.new_name(alloc, words.0)?;
-        if self.worker_at(words.0).is_some() {
-            return Err(LineFault::BadName.into());
-        }
+        let name = self.new_name(alloc, words.0)?;
         let stage = stage_at(words.1)?;
         if self.workers.len() >= MAX_WORKERS {
             return Err(LineFault::BadLimits.into());

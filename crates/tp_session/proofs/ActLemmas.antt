@@ -1,9 +1,9 @@
 -- What an act leaves: what holds of what is held, and what is there.
-use Rattle.std.proofs.Common.{◌≡◌, ◌∙◌, ℕ, ◌+◌, ◌≤◌, ◌<◌, ◌||◌, Bool, List, All, Option, Some, refl, sym, ap, subst, arith, length, map, is_some, slice_set, slice_get, get_or, take, drop, ◌++◌}
+use Rattle.std.proofs.Common.{◌≡◌, ◌∙◌, ℕ, ◌+◌, ◌≤◌, ◌<◌, ◌||◌, Bool, List, All, Option, Some, None, refl, sym, ap, subst, arith, length, map, is_some, slice_set, slice_get, get_or, take, drop, ◌++◌}
 use Rattle.std.specs.List.{list_any}
 use Rattle.std.specs.declared.alloc.Global.{Global}
 use Rattle.std.specs.declared.dyn_box.DynBox.{DynBox}
-use Rattle.std.proofs.lemmas.List.{append-nil, drop_all, length-set, take_all}
+use Rattle.std.proofs.lemmas.List.{append-nil, drop-set-lt, drop_all, length-set, take_all}
 use Rattle.std.proofs.lemmas.Option.{slice_get-get_or}
 use Rattle.tp_model.specs.Steps.{AreLimits}
 use Rattle.tp_model.specs.declared.types.Work.{Work}
@@ -13,7 +13,7 @@ use Rattle.tp_manager.specs.Accounts.{AreAll, Gathers}
 use Rattle.tp_manager.specs.Bounds.{gather_steps}
 use Rattle.tp_manager.specs.Shown.{IsKeptBy, IsOf, KeeperShown, ManagerShown, PassShown}
 use Rattle.tp_workers.specs.Free.{IsFreePass}
-use Rattle.tp_script.specs.Script.{script_view}
+use Rattle.tp_script.specs.Script.{head_view}
 use Rattle.tp_script.specs.declared.head.Head.{Head}
 use Rattle.tp_script.specs.declared.head.WorkerAct.{WorkerAct}
 use Rattle.tp_script.specs.declared.head.WorkerLine.{WorkerLine}
@@ -47,9 +47,9 @@ module _ {X : Type 0} {F : X → Type 0} (behaviour : DynBox X Global F → Beha
   -- what holds goes on holding, with the same manager
   pub held_on : (head : Head) (old new : Held X F) → IsHeld behaviour registers pending head old → new.managed.manager ≡ old.managed.manager
       → IsKeptBy new.managed.manager new.managed.keeper → AreAll new.managed.keeper new.managed.passes.items → Ready new
-      → length new.managed.passes.items ≡ length old.managed.passes.items → length new.servers.items ≡ length old.servers.items → length new.works.items ≡ length old.works.items
+      → length new.managed.passes.items ≡ length old.managed.passes.items → length new.servers.items ≡ length old.servers.items → length new.works.items ≡ length old.works.items → All (λ (w : Option Work). w ≡ None) (drop (length head.workers.items) new.works.items)
       → units_held (length new.servers.items) new.managed.passes.items ≡ map unit_of new.works.items → IsHeld behaviour registers pending head new
-  held_on head old new held same kept all ready passes servers works in_hand = record {
+  held_on head old new held same kept all ready passes servers works racers in_hand = record {
     managed = record {
       keeper = kept;
       limits = subst (λ (m : ManagerShown). AreLimits m.limits) (sym same) held.managed.limits;
@@ -59,7 +59,8 @@ module _ {X : Type 0} {F : X → Type 0} (behaviour : DynBox X Global F → Beha
     };
     ready = ready;
     each_server = servers ∙ held.each_server;
-    each_worker = works ∙ held.each_worker;
+    each_worker = omega (arith, works, held.each_worker);
+    racers = racers;
     parts = omega (arith, passes, servers, works, held.parts);
     in_hand = in_hand;
   }
@@ -67,14 +68,14 @@ module _ {X : Type 0} {F : X → Type 0} (behaviour : DynBox X Global F → Beha
   -- the same of what lies in these lists
   pub held_of : (head : Head) (old new : Held X F) (qs : List PassShown) (ss : List (DynBox X Global F)) (os : List (Place X F)) → IsHeld behaviour registers pending head old → new.managed.manager ≡ old.managed.manager
       → new.managed.passes.items ≡ qs → new.servers.items ≡ ss → new.places.items ≡ os → IsKeptBy old.managed.manager new.managed.keeper → AreAll new.managed.keeper qs → AreReady behaviour registers pending old.managed.manager qs ss os
-      → length qs ≡ length old.managed.passes.items → length ss ≡ length old.servers.items → length new.works.items ≡ length old.works.items → units_held (length ss) qs ≡ map unit_of new.works.items → IsHeld behaviour registers pending head new
+      → length qs ≡ length old.managed.passes.items → length ss ≡ length old.servers.items → new.works.items ≡ old.works.items → units_held (length ss) qs ≡ map unit_of new.works.items → IsHeld behaviour registers pending head new
   held_of head old new qs ss os held same passes servers places kept all ready long many works in_hand =
       held_on head old new held same (subst (λ m. IsKeptBy m new.managed.keeper) (sym same) kept) (subst (AreAll new.managed.keeper) (sym passes) all)
       (subst (λ m. AreReady behaviour registers pending m new.managed.passes.items new.servers.items new.places.items) (sym same)
       (subst (λ ps. AreReady behaviour registers pending old.managed.manager ps new.servers.items new.places.items) (sym passes)
       (subst (λ x. AreReady behaviour registers pending old.managed.manager qs x new.places.items) (sym servers)
       (subst (λ x. AreReady behaviour registers pending old.managed.manager qs ss x) (sym places) ready))))
-      (ap length passes ∙ long) (ap length servers ∙ many) works
+      (ap length passes ∙ long) (ap length servers ∙ many) (ap length works) (subst (λ (zs : List (Option Work)). All (λ w. w ≡ None) (drop (length head.workers.items) zs)) (sym works) held.racers)
       (ap (λ x. units_held (length x) new.managed.passes.items) servers ∙ (ap (units_held (length ss)) passes ∙ in_hand))
 
   pub at_of : (new : Held X F) (qs : List PassShown) (ss : List (DynBox X Global F)) (os : List (Place X F)) (s : Scene) → new.managed.passes.items ≡ qs → new.servers.items ≡ ss → new.places.items ≡ os → IsScene behaviour registers pending qs ss os s → IsAt new s
@@ -84,10 +85,10 @@ module _ {X : Type 0} {F : X → Type 0} (behaviour : DynBox X Global F → Beha
 
   -- ---- a command
 
-  pub command_leads : (head : Head) (c : Command) (old new : Held X F) (text : List ℕ) → new.managed.manager ≡ old.managed.manager → new.works.items ≡ old.works.items
-      → (a : Scene) × (b : Scene) × IsAt old a × PerformsAll old.managed.manager (script_view head.script) c 0 old.managed.keeper a text new.managed.keeper b × IsAt new b
-      → Leads behaviour registers pending (λ x y. CommandTold (script_view head.script) c x text y) old new
-  command_leads head c old new text same works t = record {
+  pub command_leads : (head : Head) (c : Command) (raced : ℕ) (old new : Held X F) (text : List ℕ) → new.managed.manager ≡ old.managed.manager → new.works.items ≡ old.works.items
+      → (a : Scene) × (b : Scene) × IsAt old a × PerformsAll old.managed.manager (head_view head) c raced old.managed.keeper a text new.managed.keeper b × IsAt new b
+      → Leads behaviour registers pending (λ x y. CommandTold (head_view head) c raced x text y) old new
+  command_leads head c raced old new text same works t = record {
     before = live_of behaviour registers pending old t.0;
     after = live_of behaviour registers pending new t.1;
     was = is_live behaviour registers pending old t.0 t.2;
@@ -165,6 +166,7 @@ module _ {X : Type 0} {F : X → Type 0} (behaviour : DynBox X Global F → Beha
         (subst (λ os. AreReady behaviour registers pending old.managed.manager (slice_set old.managed.passes.items at p) old.servers.items os) (sym places)
         (ready_set behaviour registers pending old.managed.manager w p old.servers.items old.places.items at old.managed.passes.items at_is some is.own held.ready)))))
         numbered (ap length servers) (ap length works ∙ length-set old.works.items w work)
+        (subst (λ (zs : List (Option Work)). All (λ x. x ≡ None) (drop (length head.workers.items) zs)) (sym works) (subst (All (λ (x : Option Work). x ≡ None)) (sym (drop-set-lt (length head.workers.items) old.works.items w work within)) held.racers))
         (ap (λ ss. units_held (length ss) new.managed.passes.items) servers ∙ (ap (units_held (length old.servers.items)) passes
         ∙ (held_set behaviour registers pending (length old.servers.items) w at p work old.managed.passes.items old.works.items at_is some is.held held.in_hand ∙ ap (map unit_of) (sym works))))
 
@@ -215,7 +217,7 @@ module _ {X : Type 0} {F : X → Type 0} (behaviour : DynBox X Global F → Beha
         (subst (λ ss. AreReady behaviour registers pending old.managed.manager (slice_set old.managed.passes.items 0 p) ss new.places.items) (sym servers)
         (subst (λ os. AreReady behaviour registers pending old.managed.manager (slice_set old.managed.passes.items 0 p) old.servers.items os) (sym places)
         (ready_first behaviour registers pending old.managed.manager p old.servers.items old.places.items old.managed.passes.items some_client free held.ready)))))
-        (ap length passes ∙ length-set old.managed.passes.items 0 p) (ap length servers) (ap length works)
+        (ap length passes ∙ length-set old.managed.passes.items 0 p) (ap length servers) (ap length works) (subst (λ (zs : List (Option Work)). All (λ x. x ≡ None) (drop (length head.workers.items) zs)) (sym works) held.racers)
         (ap (λ ss. units_held (length ss) new.managed.passes.items) servers ∙ (ap (units_held (length old.servers.items)) passes
         ∙ (held_first behaviour registers pending (length old.servers.items) p old.managed.passes.items ∙ (held.in_hand ∙ ap (map unit_of) (sym works)))))
 

@@ -13,7 +13,7 @@ use Rattle.tp_rollover.specs.Survivors.{AreSurvivors}
 use Rattle.tp_rollover.specs.declared.managed.Managed.{Managed}
 use Rattle.tp_rollover.specs.declared.moved.RollFault.{RollFault}
 use Rattle.tp_rollover.specs.declared.survivors.Survivor.{Survivor}
-use Rattle.tp_script.specs.Session.{HeadView}
+use Rattle.tp_script.specs.Script.{HeadView}
 use Rattle.tp_script.specs.declared.head.Head.{Head}
 use Rattle.tp_commands.specs.declared.place.Place.{Place}
 use Rattle.tp_commands.specs.Acting.{places_shown, work_in}
@@ -71,6 +71,7 @@ module _ {X : Type 0} {F : X → Type 0} (behaviour : DynBox X Global F → Beha
       ready = subst (λ (z : ManagerShown). AreReady behaviour registers pending z m.passes.items old.servers.items old.places.items) (sym stays.manager) ready;
       each_server = held.each_server;
       each_worker = held.each_worker;
+      racers = held.racers;
       parts = is.parts ∙ (ap (λ (z : ManagerShown). z.limits.parts) stays.manager ∙ (sym held.managed.parts ∙ held.parts));
       in_hand = same_held (length old.servers.items) old.managed.passes.items m.passes.items looks ∙ held.in_hand;
     }

@@ -2,7 +2,8 @@
 use Rattle.std.proofs.Common.{◌≡◌, ◌∙◌, ℕ, ◌+◌, true, false, List, [], ◌∷◌, ◌++◌, Option, Some, None, Ok, refl, sym, ap, subst, arith, append-nil, append_assoc, length}
 use Rattle.std.proofs.lemmas.List.{length-append}
 use Rattle.tp_report.specs.Written.{AppendsFront}
-use Rattle.tp_script.specs.Session.{HeadView, body_at, head_at, head_view}
+use Rattle.tp_script.specs.Script.{HeadView, head_view}
+use Rattle.tp_script.specs.Grammar.{body_at, head_at}
 use Rattle.tp_script.specs.declared.head.Head.{Head}
 use Rattle.tp_session.specs.Conversed.{HeadRead, TakesHeadLine}
 use Rattle.tp_session.specs.Heard.{Hears, HearsFront, IsAllOf, Next, Tells}

@@ -12,13 +12,13 @@ use Rattle.tp_manager.specs.Shown.{ManagerShown, PassShown}
 use Rattle.tp_rollover.specs.Managed.{IsNewPass}
 use Rattle.tp_rollover.specs.declared.managed.Managed.{Managed}
 use Rattle.tp_script.specs.Script.{server_view}
-use Rattle.tp_script.specs.Session.{head_view, worker_view}
+use Rattle.tp_script.specs.Script.{head_view, worker_view}
 use Rattle.tp_script.specs.declared.head.Head.{Head}
 use Rattle.tp_script.specs.declared.script.ScriptServer.{ScriptServer}
 use Rattle.tp_commands.specs.Acting.{new_places, places_shown}
 use Rattle.tp_commands.specs.Places.{AllLie, workers}
 use Rattle.tp_workers.specs.Free.{IsFreePass}
-use Rattle.tp_perform.specs.Reported.{IsNewPlace}
+use Rattle.tp_perform.specs.Scenes.{IsNewPlace}
 use Rattle.tp_perform.specs.Scenes.{passes_in}
 use Rattle.tp_perform.specs.Told.{AreReady, after_servers}
 use Rattle.tp_perform.proofs.Beginnings.{all_new, new_behaviours, new_registers, recipes_shown, registers_shown}
@@ -33,18 +33,18 @@ pub as_many : {A B C : Type 0} (f : A → C) (g : B → C) (xs : List A) (ys : L
 as_many f g xs ys same = sym (length-map xs f) ∙ (ap length same ∙ length-map ys g)
 
 -- the client's pass, and one for each server
-pub enough : (head : Head) (m : Managed) (n : ℕ) → IsNewManaged (limits_of (head_view head)) m → n ≡ length head.script.servers.items → 1 + n ≤ length m.passes.items
-enough head m n new count =
-    let limit : length m.passes.items ≡ (limits_of (head_view head)).parts = new.managed.parts ∙ ap (λ l. l.parts) new.limits in
-    let first : length (head_view head).script.servers ≡ length head.script.servers.items = length-map head.script.servers.items server_view in
+pub enough : (head : Head) (racers : ℕ) (m : Managed) (n : ℕ) → IsNewManaged (limits_of (head_view head) racers) m → n ≡ length head.servers.items → 1 + n ≤ length m.passes.items
+enough head racers m n new count =
+    let limit : length m.passes.items ≡ (limits_of (head_view head) racers).parts = new.managed.parts ∙ ap (λ l. l.parts) new.limits in
+    let first : length (head_view head).servers ≡ length head.servers.items = length-map head.servers.items server_view in
     omega (arith, limit, first, count)
 
 module _ {X : Type 0} {F : X → Type 0} (behaviour : DynBox X Global F → Behaviour) (registers : DynBox X Global F → List ℕ) (pending : DynBox X Global F → Option Pending)
-    (head : Head) (h : Held X F) (new : IsNewManaged (limits_of (head_view head)) h.managed)
-    (recipes : map behaviour h.servers.items ≡ map (λ (x : ScriptServer). behaviour_of x.recipe) head.script.servers.items) (begun : map registers h.servers.items ≡ map (λ (x : ScriptServer). x.registers) head.script.servers.items)
+    (head : Head) (racers : ℕ) (h : Held X F) (new : IsNewManaged (limits_of (head_view head) racers) h.managed)
+    (recipes : map behaviour h.servers.items ≡ map (λ (x : ScriptServer). behaviour_of x.recipe) head.servers.items) (begun : map registers h.servers.items ≡ map (λ (x : ScriptServer). x.registers) head.servers.items)
     (lie : AllLie behaviour registers pending (workers (length h.servers.items) h.managed.passes.items) h.servers.items h.places.items)
     (shown : places_shown behaviour registers pending (workers (length h.servers.items) h.managed.passes.items) h.servers.items h.places.items ≡ new_places behaviour registers pending (workers (length h.servers.items) h.managed.passes.items) h.servers.items)
-    (many : length h.works.items ≡ length head.workers.items) (idle : All (λ (w : Option Work). w ≡ None) h.works.items) where
+    (many : length h.works.items ≡ length head.workers.items + racers) (idle : All (λ (w : Option Work). w ≡ None) h.works.items) where
   abbrev ps : List PassShown
   ps = h.managed.passes.items
 
@@ -54,15 +54,15 @@ module _ {X : Type 0} {F : X → Type 0} (behaviour : DynBox X Global F → Beha
   abbrev m : ManagerShown
   m = h.managed.manager
 
-  count : n ≡ length head.script.servers.items
-  count = as_many behaviour (λ (x : ScriptServer). behaviour_of x.recipe) h.servers.items head.script.servers.items recipes
+  count : n ≡ length head.servers.items
+  count = as_many behaviour (λ (x : ScriptServer). behaviour_of x.recipe) h.servers.items head.servers.items recipes
 
-  limit : length ps ≡ (limits_of (head_view head)).parts
+  limit : length ps ≡ (limits_of (head_view head) racers).parts
   limit = new.managed.parts ∙ ap (λ l. l.parts) new.limits
 
   parts : length ps ≡ 1 + n + length h.works.items
   parts =
-      let first : length (head_view head).script.servers ≡ length head.script.servers.items = length-map head.script.servers.items server_view in
+      let first : length (head_view head).servers ≡ length head.servers.items = length-map head.servers.items server_view in
       let second : length (head_view head).workers ≡ length head.workers.items = length-map head.workers.items worker_view in
       omega (arith, limit, first, second, count, many)
 
@@ -79,12 +79,13 @@ module _ {X : Type 0} {F : X → Type 0} (behaviour : DynBox X Global F → Beha
         managed = new.managed;
         ready = ready;
         each_server = count;
-        each_worker = many;
+        each_worker = omega (arith, many);
+        racers = All-drop (λ (w : Option Work). w ≡ None) (length head.workers.items) h.works.items idle;
         parts = parts;
         in_hand = none_in_hand (after_servers n ps) h.works.items rest (All-drop (λ (p : PassShown). p.open_unit ≡ None) n (drop 1 ps) (All-drop (λ (p : PassShown). p.open_unit ≡ None) 1 ps new.free)) idle;
       }
 
-  pub begins : (l : Live) → IsLive behaviour registers pending h l → LiveBegins (head_view head) l
+  pub begins : (l : Live) → IsLive behaviour registers pending h l → LiveBegins (head_view head) racers l
   begins l is =
       let whole : passes_in l.stand.scene ≡ ps = all_in behaviour registers pending m ps h.servers.items h.places.items l.stand.scene ready is.scene in
       let places = is.scene.1 ∙ shown in
@@ -99,8 +100,8 @@ module _ {X : Type 0} {F : X → Type 0} (behaviour : DynBox X Global F → Beha
           new = subst (All IsNewPass) (sym whole) new.new;
         };
         desks = subst (All IsNewPlace) (sym places) (all_new behaviour registers pending (workers n ps) h.servers.items);
-        recipes = ap (map (λ p. p.desk.behaviour)) places ∙ (new_behaviours behaviour registers pending (workers n ps) h.servers.items long ∙ (recipes ∙ recipes_shown head.script.servers.items));
-        registers = ap (map (λ p. p.desk.registers)) places ∙ (new_registers behaviour registers pending (workers n ps) h.servers.items long ∙ (begun ∙ registers_shown head.script.servers.items));
-        each_worker = ap length is.works ∙ (many ∙ sym (length-map head.workers.items worker_view));
+        recipes = ap (map (λ p. p.desk.behaviour)) places ∙ (new_behaviours behaviour registers pending (workers n ps) h.servers.items long ∙ (recipes ∙ recipes_shown head.servers.items));
+        registers = ap (map (λ p. p.desk.registers)) places ∙ (new_registers behaviour registers pending (workers n ps) h.servers.items long ∙ (begun ∙ registers_shown head.servers.items));
+        each_worker = ap length is.works ∙ (many ∙ ap (λ k. k + racers) (sym (length-map head.workers.items worker_view)));
         idle = subst (All (λ (w : Option Work). w ≡ None)) (sym is.works) idle;
       }

@@ -2,6 +2,7 @@ pub mod ActLemmas
 pub mod AliveLemmas
 pub mod AttendLemmas
 pub mod BeginLemmas
+pub mod CloseLemmas
 pub mod CommandLemmas
 pub mod DumpLemmas
 pub mod EndLemmas
@@ -12,8 +13,9 @@ pub mod LineLemmas
 pub mod LiveLemmas
 pub mod OpenLemmas
 pub mod PassLemmas
+pub mod PerformLemmas
+pub mod RaceLemmas
 pub mod ReadingLemmas
-pub mod ScriptLemmas
 pub mod SessionLemmas
 pub mod SpendLemmas
 pub mod TellLemmas

@@ -3,8 +3,10 @@ use Rattle.std.proofs.Common.{◌≡◌, ◌∙◌, ℕ, ◌+◌, ◌<◌, List,
 use Rattle.std.proofs.lemmas.Bool.{cases_lt, lt-leb}
 use Rattle.std.proofs.lemmas.List.{length-take, take_all}
 use Rattle.tp_script.specs.LineWords.{◌>>=◌}
-use Rattle.tp_script.specs.Session.{HeadView, body_at, body_words, head_at, head_view, head_words, line_words}
+use Rattle.tp_script.specs.Script.{HeadView, head_view}
+use Rattle.tp_script.specs.Grammar.{body_at, body_words, head_at, head_words, line_words}
 use Rattle.tp_script.specs.declared.fault.LineFault.TheVariants.{TooLong}
+use Rattle.tp_script.specs.declared.head.Driver.TheVariants as drivers
 use Rattle.tp_script.specs.declared.head.Head.{Head}
 use Rattle.tp_session.specs.Live.{Live}
 use Rattle.tp_session.specs.Told.{BodyLines, HeadLine, HeadLines, LineTold}
@@ -43,8 +45,8 @@ kept_words line = elim (cases_lt 200 (length line)) [
 
 pub kept_head : (kept line : List ℕ) (h : HeadView) → kept ≡ take MAX_KEPT line → head_at kept h ≡ head_at line h
 unfolding head_at
-kept_head kept line h is = ap (λ r. r >>= λ ws. head_words ws h) (ap line_words is ∙ kept_words line)
+kept_head kept line h is = ap (λ r. r >>= λ ws. head_words drivers.Session ws h) (ap line_words is ∙ kept_words line)
 
 pub kept_body : (kept line : List ℕ) (h : HeadView) → kept ≡ take MAX_KEPT line → body_at kept h ≡ body_at line h
 unfolding body_at
-kept_body kept line h is = ap (λ r. r >>= λ ws. body_words ws h) (ap line_words is ∙ kept_words line)
+kept_body kept line h is = ap (λ r. r >>= λ ws. body_words drivers.Session ws h) (ap line_words is ∙ kept_words line)

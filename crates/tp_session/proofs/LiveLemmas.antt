@@ -56,6 +56,10 @@ module _ {X : Type 0} {F : X → Type 0} (behaviour : DynBox X Global F → Beha
       leads = both p.before p.after q.after p.leads (subst (λ l. S l q.after) (one_live h' q.before p.after q.was p.is) q.leads);
     }
 
+  -- the one and then the other
+  pub leads_both : (R S : Live → Live → Type 0) (h h' h'' : Held X F) → Leads behaviour registers pending R h h' → Leads behaviour registers pending S h' h'' → Leads behaviour registers pending (λ a b. (m : Live) × R a m × S m b) h h''
+  leads_both R S h h' h'' p q = leads_then R S (λ a b. (m : Live) × R a m × S m b) h h' h'' (λ a m b r s. (m, r, s)) p q
+
   module _ (R S : Live → Live → Type 0) (h h' : Held X F) where
     pub leads_so : ((a b : Live) → R a b → S a b) → Leads behaviour registers pending R h h' → Leads behaviour registers pending S h h'
     leads_so so p = record { before = p.before; after = p.after; was = p.was; leads = so p.before p.after p.leads; is = p.is }

@@ -4,7 +4,7 @@ use Rattle.std.specs.Prelude.{IfSome}
 use Rattle.std.specs.Io.KnownBytes.{Appends}
 use Rattle.tp_report.specs.Written.{AppendsFront}
 use Rattle.tp_report.proofs.Devices.{front_none}
-use Rattle.tp_script.specs.Session.{HeadView, head_view, no_head}
+use Rattle.tp_script.specs.Script.{HeadView, head_view, no_head}
 use Rattle.tp_script.specs.declared.head.Act.{Act}
 use Rattle.tp_script.specs.declared.head.Head.{Head}
 use Rattle.tp_perform.specs.Ending.{final_lines}
@@ -64,10 +64,10 @@ front_before head past before come a c prior front = inl (subst (AppendsFront a 
 pub front_nothing : (head : Head) (past : ℕ) (before : Option Act) (come a : Option (List ℕ)) (prior : List ℕ) → BodyFront head past before come (λ text. AppendsFront a a (prior ++ text))
 front_nothing head past before come a prior = front_before head past before come a a prior (front_none a prior)
 
-module _ (head : Head) (past : ℕ) (before : Option Act) (come a b c : Option (List ℕ)) (answers prior : List ℕ) (first last : Live) (begins : LiveBegins (head_view head) first) where
+module _ (head : Head) (past : ℕ) (before : Option Act) (come a b c : Option (List ℕ)) (answers prior : List ℕ) (first last : Live) (begins : LiveBegins (head_view head) 0 first) where
   -- the final lines of these servers are told too
   module _ (registers : List (List ℕ)) (ends : LiveEnds last registers) (finals : List ℕ)
-      (are : final_lines (head_view head).script.servers registers (length (head_view head).script.servers) ≡ finals)
+      (are : final_lines (head_view head).servers registers (length (head_view head).servers) ≡ finals)
       (told : BodyTold head past before (IsAllOf come) first last (λ text. Tells a b answers (prior ++ text))) where
     whole : (Wrote : List ℕ → Type 0) → ((text : List ℕ) → Tells a b answers (prior ++ text) → Wrote (text ++ finals)) → BodyWhole head past before come Wrote
     whole Wrote so = record {

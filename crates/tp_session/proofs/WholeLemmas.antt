@@ -1,6 +1,6 @@
 -- A whole session, put together from its head and what stands behind it.
 use Rattle.std.proofs.Common.{◌≡◌, ◌∙◌, ℕ, List, [], ◌∷◌, ◌++◌, Option, Some, None, refl, sym, ap, subst, append-nil, append_assoc}
-use Rattle.tp_script.specs.Session.{head_view, no_head}
+use Rattle.tp_script.specs.Script.{head_view, no_head}
 use Rattle.tp_script.specs.declared.head.Act.{Act}
 use Rattle.tp_script.specs.declared.head.Head.{Head}
 use Rattle.tp_session.specs.Conversed.{BodyPart, BodyWhole, HeadRead, Session, SessionPart}

@@ -16,14 +16,14 @@ use Rattle.tp_report.specs.Written.{AppendsFront}
 use Rattle.tp_report.specs.declared.fault.Exit.{Exit}
 use Rattle.tp_report.specs.declared.fault.Exit.TheVariants as exits
 use Rattle.tp_report.specs.declared.fault.Fault.{Fault}
-use Rattle.tp_script.specs.Session.{HeadView, head_at, head_view, no_head}
+use Rattle.tp_script.specs.Grammar.{head_at}
+use Rattle.tp_script.specs.Script.{HeadView, head_view, no_head}
 use Rattle.tp_script.specs.declared.fault.LineFault.{LineFault}
 use Rattle.tp_script.specs.declared.head.Act.{Act}
 use Rattle.tp_script.specs.declared.head.Head.{Head}
 use Rattle.tp_commands.specs.Acting.{AllEnded, IsSteadyPlace}
 use Rattle.tp_perform.specs.Ending.{final_lines}
-use Rattle.tp_perform.specs.Reported.{IsNewPlace}
-use Rattle.tp_perform.specs.Scenes.{Stand, passes_in}
+use Rattle.tp_perform.specs.Scenes.{IsNewPlace, Stand, passes_in}
 use Rattle.tp_session.specs.Hands.{GivesUp, hands}
 use Rattle.tp_session.specs.Heard.{Hears, HearsFront, IsAllOf, IsSilent, heard}
 use Rattle.tp_session.specs.Live.{Live}
@@ -53,14 +53,14 @@ HeadRead (Some first) come left old new Told = (line : List ℕ) × IsCommand li
 
 -- ---- what is made
 
--- the limits of a session: a pass for the client, and one for each server and each worker
-abbrev pub limits_of : HeadView → Limits
-limits_of h = record {
-  parts = 1 + length h.script.servers + length h.workers;
-  rows = h.script.settings.rows;
-  units = h.script.settings.units;
-  attempts = h.script.settings.attempts;
-  spare = h.script.settings.spare;
+-- the limits: a pass for the client, one for each server and each worker, and so many for races
+abbrev pub limits_of : HeadView → ℕ → Limits
+limits_of h racers = record {
+  parts = 1 + length h.servers + length h.workers + racers;
+  rows = h.settings.rows;
+  units = h.settings.units;
+  attempts = h.settings.attempts;
+  spare = h.settings.spare;
 }
 
 -- a new manager with these limits, and all its passes, in order of number: none of them has done anything
@@ -81,15 +81,15 @@ pub record IsNewManaged (l : Limits) (m : Managed) : Type 0 where
   pub new : All IsNewPass m.passes.items
 
 -- what is there before the first command: a new manager, new desks, of which each has the recipe and the
--- registers of its line, and workers that have nothing in hand
-pub record LiveBegins (h : HeadView) (first : Live) : Type 0 where
-  pub new : IsNew (limits_of h) first.stand
+-- registers of its line, and workers and racers that have nothing in hand
+pub record LiveBegins (h : HeadView) (racers : ℕ) (first : Live) : Type 0 where
+  pub new : IsNew (limits_of h racers) first.stand
   pub desks : All IsNewPlace first.stand.scene.places
   pub recipes :
-      map (λ p. p.desk.behaviour) first.stand.scene.places ≡ map (λ x. behaviour_of x.recipe) h.script.servers
+      map (λ p. p.desk.behaviour) first.stand.scene.places ≡ map (λ x. behaviour_of x.recipe) h.servers
   pub registers :
-      map (λ p. p.desk.registers) first.stand.scene.places ≡ map (λ x. x.registers) h.script.servers
-  pub each_worker : length first.works ≡ length h.workers
+      map (λ p. p.desk.registers) first.stand.scene.places ≡ map (λ x. x.registers) h.servers
+  pub each_worker : length first.works ≡ length h.workers + racers
   pub idle : All (λ work. work ≡ None) first.works
 
 -- ---- the end
@@ -106,7 +106,7 @@ pub record LiveEnds (last : Live) (registers : List (List ℕ)) : Type 0 where
 
 -- the final lines: one for each server of the head, with the registers that are left
 abbrev pub finals_of : HeadView → List (List ℕ) → List ℕ
-finals_of h registers = final_lines h.script.servers registers (length h.script.servers)
+finals_of h registers = final_lines h.servers registers (length h.servers)
 
 -- ---- behind the head, to the end
 
@@ -115,7 +115,7 @@ finals_of h registers = final_lines h.script.servers registers (length h.script.
 pub record BodyWhole (head : Head) (past : ℕ) (begun : Option Act) (come : Option (List ℕ))
     (Told : List ℕ → Type 0) : Type 0 where
   pub first : Live
-  pub begins : LiveBegins (head_view head) first
+  pub begins : LiveBegins (head_view head) 0 first
   pub last : Live
   pub registers : List (List ℕ)
   pub ends : LiveEnds last registers
@@ -126,7 +126,7 @@ pub record BodyWhole (head : Head) (past : ℕ) (begun : Option Act) (come : Opt
 pub record BodyPart (head : Head) (past : ℕ) (begun : Option Act) (come : Option (List ℕ))
     (Told : List ℕ → Type 0) : Type 0 where
   pub first : Live
-  pub begins : LiveBegins (head_view head) first
+  pub begins : LiveBegins (head_view head) 0 first
   pub last : Live
   pub body : BodyTold head past begun (HearsFront come) first last Told
 
@@ -154,7 +154,7 @@ pub record Session (bytes : List ℕ) (Told : List ℕ → Type 0) : Type 0 wher
   pub behind : List (List ℕ)
   pub lines_are : heard bytes ≡ taken ++ behind
   pub first : Live
-  pub begins : LiveBegins (head_view head) first
+  pub begins : LiveBegins (head_view head) 0 first
   pub text : List ℕ
   pub last : Live
   pub body : CommandLines head (length taken) behind first text last
@@ -172,7 +172,7 @@ pub record SessionPart (bytes : List ℕ) (Told : List ℕ → Type 0) : Type 0 
   pub others : List (List ℕ)
   pub lines_are : heard bytes ≡ taken ++ (behind ++ others)
   pub first : Live
-  pub begins : LiveBegins (head_view head) first
+  pub begins : LiveBegins (head_view head) 0 first
   pub text : List ℕ
   pub last : Live
   pub body : CommandLines head (length taken) behind first text last

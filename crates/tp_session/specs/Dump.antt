@@ -16,7 +16,7 @@ use Rattle.tp_server.specs.declared.recipe.Recipe.{Recipe}
 use Rattle.tp_report.specs.Answer.{line}
 use Rattle.tp_script.specs.Fault.{◌<>◌}
 use Rattle.tp_script.specs.Script.{ServerView, SettingsView}
-use Rattle.tp_script.specs.Session.{HeadView, WorkerView}
+use Rattle.tp_script.specs.Script.{HeadView, WorkerView}
 use Rattle.tp_script.specs.declared.script.Kind.{Kind}
 use Rattle.tp_script.specs.declared.script.Kind.TheVariants as kind
 use Rattle.tp_session.specs.Answers.{body_text}
@@ -141,8 +141,8 @@ drop_lines servers dropped (suc n) =
 -- which this is alive. Behind `restore` stand the commands.
 abbrev pub dump_lines : HeadView → List (List ℕ) → List Bool → List Survivor → List (List ℕ)
 dump_lines h registers dropped survivors =
-    let servers = h.script.servers in
-    settings_lines h.script.settings ++ map server_line servers
+    let servers = h.servers in
+    settings_lines h.settings ++ map server_line servers
     ++ all_starts servers registers (length servers) ++ map worker_text h.workers
     ++ map alive_text survivors ++ (codes "restore" ∷ drop_lines servers dropped (length servers))
 

@@ -5,7 +5,8 @@ use Rattle.std.specs.declared.dyn_box.DynBox.{DynBox}
 use Rattle.tp_server.specs.Behaviour.{Behaviour}
 use Rattle.tp_server.specs.Pending.{Pending}
 use Rattle.tp_manager.specs.Shown.{PassShown}
-use Rattle.tp_script.specs.Session.{body_at, head_view}
+use Rattle.tp_script.specs.Grammar.{body_at}
+use Rattle.tp_script.specs.Script.{head_view}
 use Rattle.tp_script.specs.declared.head.Act.{Act}
 use Rattle.tp_script.specs.declared.head.Head.{Head}
 use Rattle.tp_perform.specs.Told.{began_of}

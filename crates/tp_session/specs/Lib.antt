@@ -7,4 +7,4 @@ pub mod Heard
 pub mod Reading
 pub mod Told
 pub mod Conversed
-pub mod Scripts
+pub mod Performed

@@ -1,6 +1,6 @@
--- What the lines of a session are told.
-use Rattle.std.specs.Prelude.{◌≡◌, ◌+◌, ◌||◌, ◌==◌, ◌⊎◌, if◌then◌else◌, ℕ, Bool, true, false, List, Option}
-use Rattle.std.specs.Prelude.{None, Some, is_some, length, map}
+-- What lines are told.
+use Rattle.std.specs.Prelude.{◌≡◌, ◌+◌, ◌≤◌, ◌||◌, ◌==◌, ◌⊎◌, if◌then◌else◌, ℕ, Bool, true, false, List, All}
+use Rattle.std.specs.Prelude.{Option, None, Some, drop, is_some, length, map}
 use Rattle.std.specs.Prelude.{slice_get, slice_set, string_bytes}
 use Rattle.std.specs.List.{list_any}
 use Rattle.std.specs.declared.alloc.Global.{Global}
@@ -21,9 +21,8 @@ use Rattle.tp_rollover.specs.declared.moved.RollFault.{RollFault}
 use Rattle.tp_rollover.specs.declared.survivors.Survivor.{Survivor}
 use Rattle.tp_report.specs.Answer.{account_text, answer_text, line}
 use Rattle.tp_report.specs.declared.answer.Answer.TheVariants as answer
-use Rattle.tp_script.specs.Passes.{is_rollover}
-use Rattle.tp_script.specs.Script.{ScriptView, script_view}
-use Rattle.tp_script.specs.Session.{HeadView, head_view}
+use Rattle.tp_script.specs.Passes.{is_rollover, races}
+use Rattle.tp_script.specs.Script.{HeadView, head_view}
 use Rattle.tp_script.specs.declared.head.AliveLine.{AliveLine}
 use Rattle.tp_script.specs.declared.head.Act.{Act}
 use Rattle.tp_script.specs.declared.head.Act.TheVariants as acts
@@ -42,8 +41,8 @@ use Rattle.tp_session.specs.Hands.{Hand, WorkerDoes, unit_of}
 use Rattle.tp_session.specs.declared.hand.WorkerAnswer.{WorkerAnswer}
 use Rattle.tp_session.specs.declared.held.Held.{Held}
 
--- what is there between two lines: the manager with its keeper and all passes, of which those of the workers
--- come last, and what each worker has in hand
+-- what is there between two lines: the manager with its keeper and all passes, of which those of the workers and
+-- then those of races come last, and what each of these has in hand
 pub record Live : Type 0 where
   pub stand : Stand
   pub works : List (Option Work)
@@ -63,9 +62,10 @@ pub record LiveGathers (old new : Live) : Type 0 where
   pub gathered : Gathered old.stand.manager old.stand.keeper new.stand.keeper old.stand.scene new.stand.scene
   pub works : new.works ≡ old.works
 
--- the line is that of a script's command, and the workers have what they had
-pub record CommandTold (s : ScriptView) (c : Command) (old : Live) (text : List ℕ) (new : Live) : Type 0 where
-  pub performs : PerformsAll old.stand.manager s c 0 old.stand.keeper old.stand.scene text
+-- the line is that of the command, and the workers have what they had; a race takes passes behind so many others
+pub record CommandTold (h : HeadView) (c : Command) (raced : ℕ) (old : Live) (text : List ℕ) (new : Live)
+    : Type 0 where
+  pub performs : PerformsAll old.stand.manager h c raced old.stand.keeper old.stand.scene text
       new.stand.keeper new.stand.scene
   pub manager : new.stand.manager ≡ old.stand.manager
   pub works : new.works ≡ old.works
@@ -76,9 +76,9 @@ pub record RolloverTold (old : Live) (text : List ℕ) (new : Live) : Type 0 whe
   pub rolls : RollsOn old.stand text new.stand
   pub works : new.works ≡ old.works
 
-abbrev pub TellsBy : Bool → ScriptView → Command → Live → List ℕ → Live → Type 0
-TellsBy true s c = RolloverTold
-TellsBy false s c = CommandTold s c
+abbrev pub TellsBy : Bool → HeadView → Command → Live → List ℕ → Live → Type 0
+TellsBy true h c = RolloverTold
+TellsBy false h c = CommandTold h c 0
 
 -- a worker did what it was asked, and all else is as it was
 pub record WorkerDid (it : WorkerLine) (act : WorkerAct) (at : ℕ) (old : Live) (answer : WorkerAnswer)
@@ -145,7 +145,7 @@ survivor_of limit a = record {
 
 -- what all `alive` lines of a head describe, in their order
 abbrev pub survivors_of : HeadView → List Survivor
-survivors_of h = map (survivor_of h.script.settings.attempts) h.alive
+survivors_of h = map (survivor_of h.settings.attempts) h.alive
 
 -- This stands again in another manager, and the line tells what each element is called there. Or it was
 -- refused, and nothing has changed.
@@ -209,24 +209,39 @@ pub record DumpTold (h : HeadView) (old : Live) (text : List ℕ) (new : Live) :
 
 -- the line of what is asked for
 abbrev pub TellsAct : Head → Act → Live → List ℕ → Live → Type 0
-TellsAct head (acts.Command c) old text new = TellsBy (is_rollover c) (script_view head.script) c old text new
+TellsAct head (acts.Command c) old text new = TellsBy (is_rollover c) (head_view head) c old text new
 TellsAct head (acts.Worker at act) old text new = WorkerTold head.workers.items act at old text new
 TellsAct head acts.Account old text new = AccountTold old text new
 TellsAct head acts.Dump old text new = DumpTold (head_view head) old text new
 TellsAct head acts.Restore old text new = RestoreTold (head_view head) old text new
+
+-- a race, by the passes behind those of the workers and of the races before it, which took so many
+abbrev pub RaceTold : Head → ℕ → Act → Live → List ℕ → Live → Type 0
+RaceTold head raced (acts.Command c) old text new =
+    CommandTold (head_view head) c (length head.workers.items + raced) old text new
+RaceTold head raced other old text new = ⊥
+
+-- the line of what a script asks for
+abbrev pub TellsRaced : Bool → Head → ℕ → Act → Live → List ℕ → Live → Type 0
+TellsRaced true head raced a = RaceTold head raced a
+TellsRaced false head raced a = TellsAct head a
+
+abbrev pub ActTold : Head → ℕ → Act → Live → List ℕ → Live → Type 0
+ActTold head raced a = TellsRaced (races a) head raced a
 
 -- ---- what is held in memory
 
 module _ {X : Type 0} {F : X → Type 0} (behaviour : DynBox X Global F → Behaviour)
     (registers : DynBox X Global F → List ℕ) (pending : DynBox X Global F → Option Pending) where
   -- What holds between two lines: of all passes the client's is free, with the servers' their desks lie
-  -- aside, and each worker's has the unit open that the worker has in hand.
+  -- aside, each worker's has the unit open that the worker has in hand, and those of races are free.
   pub record IsHeld (head : Head) (h : Held X F) : Type 0 where
     pub managed : IsManaged h.managed
     pub ready : AreReady behaviour registers pending h.managed.manager h.managed.passes.items h.servers.items
         h.places.items
-    pub each_server : length h.servers.items ≡ length head.script.servers.items
-    pub each_worker : length h.works.items ≡ length head.workers.items
+    pub each_server : length h.servers.items ≡ length head.servers.items
+    pub each_worker : length head.workers.items ≤ length h.works.items
+    pub racers : All (λ work. work ≡ None) (drop (length head.workers.items) h.works.items)
     pub parts : length h.managed.passes.items ≡ 1 + length h.servers.items + length h.works.items
     pub in_hand : units_held (length h.servers.items) h.managed.passes.items ≡ map unit_of h.works.items
 

@@ -1,7 +1,8 @@
 -- What the lines of a session are answered, one after another.
 use Rattle.std.specs.Prelude.{◌≡◌, ℕ, ◌+◌, List, [], ◌∷◌, ◌++◌, Option, Some, None, Result, Ok, Err}
 use Rattle.std.specs.Option.{option_map}
-use Rattle.tp_script.specs.Session.{HeadView, body_at, head_at, head_view}
+use Rattle.tp_script.specs.Script.{HeadView, head_view}
+use Rattle.tp_script.specs.Grammar.{body_at, head_at}
 use Rattle.tp_script.specs.declared.fault.LineFault.{LineFault}
 use Rattle.tp_script.specs.declared.head.Act.{Act}
 use Rattle.tp_script.specs.declared.head.Head.{Head}

@@ -5,8 +5,8 @@ ghost use Rattle.std.specs.List.{list_any};
 ghost use Rattle.tp_commands.specs.Acting.{work_in};
 ghost use Rattle.tp_script.specs.Passes.{is_race, is_rollover};
 ghost use Rattle.tp_script.specs.Ranges.{IsInRange};
-ghost use Rattle.tp_script.specs.Script.{script_view};
-ghost use Rattle.tp_script.specs.Session.{IsActInRange};
+ghost use Rattle.tp_script.specs.Script.{head_view};
+ghost use Rattle.tp_script.specs.Ranges.{IsActInRange};
 ghost use Rattle.tp_workers.specs.Free.{IsFreePass};
 ghost use Rattle.tp_session.specs.Left.{Acted, OrSame, Reaches, began_in};
 ghost use Rattle.tp_session.specs.Live.{AccountTold, ClientCounts, CommandTold, IsHeld, Leads, LiveGathers};
@@ -35,17 +35,17 @@ fn command_told(
     command: Command,
 ) -> Result<String, AllocError>
     requires held { IsHeld behaviour registers pending head.now held.old }
-    requires in_range { IsInRange (vec_len head.now.script.servers) command }
+    requires in_range { IsInRange (vec_len head.now.servers) command }
     requires no_race { is_race command ≡ false }
     requires no_rollover { is_rollover command ≡ false }
     ensures held { IsHeld behaviour registers pending head.now held.new }
     ensures began { began_in registers held.new ≡ began_in registers held.old }
     ensures tells { IfOk result (λ text. Leads behaviour registers pending (λ old new.
-        CommandTold (script_view head.now.script) command old (string_bytes text) new) held.old held.new) }
+        CommandTold (head_view head.now) command 0 old (string_bytes text) new) held.old held.new) }
 {
     perform_next(
         alloc,
-        &head.script,
+        head,
         &held.managed.manager,
         &mut held.managed.keeper,
         held.managed.passes.as_mut_slice(),
@@ -80,13 +80,13 @@ fn told_by(
     command: Command,
 ) -> Result<String, AllocError>
     requires held { IsHeld behaviour registers pending head.now held.old }
-    requires in_range { IsInRange (vec_len head.now.script.servers) command }
+    requires in_range { IsInRange (vec_len head.now.servers) command }
     requires no_race { is_race command ≡ false }
     ensures held { IsHeld behaviour registers pending head.now held.new }
     ensures went { Reaches behaviour registers pending (OrSame (λ old new. (text : List ℕ)
-        × TellsBy (is_rollover command) (script_view head.now.script) command old text new)) held.old held.new }
+        × TellsBy (is_rollover command) (head_view head.now) command old text new)) held.old held.new }
     ensures tells { IfOk result (λ text. Leads behaviour registers pending (λ old new.
-        TellsBy (is_rollover command) (script_view head.now.script) command old (string_bytes text) new)
+        TellsBy (is_rollover command) (head_view head.now) command old (string_bytes text) new)
         held.old held.new) }
 {
     if command.is_rollover() {
@@ -109,7 +109,12 @@ pub(crate) fn gather(head: &Head, held: &mut Held)
 }
 
 /// Has a worker do what is asked.
-fn worker_does(head: &Head, held: &mut Held, worker: usize, act: &WorkerAct) -> WorkerAnswer
+pub(crate) fn worker_does(
+    head: &Head,
+    held: &mut Held,
+    worker: usize,
+    act: &WorkerAct,
+) -> WorkerAnswer
     requires held { IsHeld behaviour registers pending head.now held.old }
     requires within { worker < vec_len head.now.workers }
     ensures held { IsHeld behaviour registers pending head.now held.new }
@@ -247,7 +252,7 @@ pub fn act_line(
     act: &Act,
 ) -> Result<String, AllocError>
     requires held { IsHeld behaviour registers pending head.now held.old }
-    requires in_range { IsActInRange (vec_len head.now.script.servers) (vec_len head.now.workers) act.now }
+    requires in_range { IsActInRange (vec_len head.now.servers) (vec_len head.now.workers) act.now }
     ensures held { IsHeld behaviour registers pending head.now held.new }
     ensures went { Reaches behaviour registers pending (Acted head.now act.now) held.old held.new }
     ensures tells { IfOk result (λ text. Leads behaviour registers pending (λ old new.

@@ -2,7 +2,9 @@
 ghost use Rattle.std.specs.Prelude.{◌≡◌, ◌+◌, ◌<◌, ◌^◌, ◌++◌, ◌⊎◌, List, ℕ, None, Some, IfSome, IsErrOf};
 ghost use Rattle.std.specs.Prelude.{IsTrue, OnErr, OnOk, vec_len};
 ghost use Rattle.tp_report.specs.Written.{AppendsFront};
-ghost use Rattle.tp_script.specs.Session.{IsActInRange, body_at, head_view};
+ghost use Rattle.tp_script.specs.Ranges.{IsActInRange};
+ghost use Rattle.tp_script.specs.Grammar.{body_at};
+ghost use Rattle.tp_script.specs.Script.{head_view};
 ghost use Rattle.tp_session.specs.Answers.{refused_line};
 ghost use Rattle.tp_session.specs.Heard.{HearsFront, IsAllOf, IsSilent, Tells};
 ghost use Rattle.tp_session.specs.Left.{Acted, BodyDone, LineDone, Reaches};
@@ -53,7 +55,7 @@ fn answer(
     lines: &mut Lines,
 ) -> Result<(), Fault>
     requires held { IsHeld behaviour registers pending head.now held.old }
-    requires in_range { IsActInRange (vec_len head.now.script.servers) (vec_len head.now.workers) act.now }
+    requires in_range { IsActInRange (vec_len head.now.servers) (vec_len head.now.workers) act.now }
     ensures held { IsHeld behaviour registers pending head.now held.new }
     ensures went { Reaches behaviour registers pending (Acted head.now act.now) held.old held.new }
     ensures left { lines.new.left ≡ lines.old.left }
@@ -157,7 +159,7 @@ fn answer_from<R: Source, W: Sink>(
     requires held { IsHeld behaviour registers pending head.now held.old }
     requires asked { R.asked reader.old + lines.old.left < 2 ^ 64 }
     requires in_range { IsActInRange
-        (vec_len head.now.script.servers) (vec_len head.now.workers) first.now.act }
+        (vec_len head.now.servers) (vec_len head.now.workers) first.now.act }
     requires few { first.now.past + room lines.old + 2 < 2 ^ 64 }
     ensures held { IsHeld behaviour registers pending head.now held.new }
     ensures went { Reaches behaviour registers pending
@@ -198,7 +200,7 @@ pub(crate) fn answer_all<R: Source, W: Sink>(
     requires held { IsHeld behaviour registers pending head.now held.old }
     requires asked { R.asked reader.old + lines.old.left < 2 ^ 64 }
     requires in_range { IfSome (begun first) (IsActInRange
-        (vec_len head.now.script.servers) (vec_len head.now.workers)) }
+        (vec_len head.now.servers) (vec_len head.now.workers)) }
     requires few { past_of first + room lines.old + 2 < 2 ^ 64 }
     requires ended { first ≡ None → IsSilent (to_come lines.old (R.rest reader.old)) }
     ensures held { IsHeld behaviour registers pending head.now held.new }

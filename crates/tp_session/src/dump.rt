@@ -2,7 +2,7 @@
 ghost use Rattle.std.specs.Prelude.{◌≡◌, ◌⊎◌, IfErr, IfOk, length, map, string_bytes};
 ghost use Rattle.tp_rollover.specs.Managed.{IsUnsurveyed};
 ghost use Rattle.tp_perform.specs.Scenes.{passes_in};
-ghost use Rattle.tp_script.specs.Session.{head_view};
+ghost use Rattle.tp_script.specs.Script.{head_view};
 ghost use Rattle.tp_session.specs.Dump.{dump_lines, dump_text};
 ghost use Rattle.tp_session.specs.Left.{began_in};
 ghost use Rattle.tp_session.specs.Live.{DumpTold, FoundAlive, IsHeld, Leads, LiveLooks, Surveyed, TellsDump};
@@ -31,20 +31,20 @@ fn dump_text(
     places: &[Place],
     survivors: &[Survivor],
 ) -> Result<String, AllocError>
-    requires each_server { length servers.now ≡ length head.now.script.servers.items }
+    requires each_server { length servers.now ≡ length head.now.servers.items }
     requires each_place { length places.now ≡ length servers.now }
     ensures { IfOk result (λ text. string_bytes text ≡ dump_text (dump_lines (head_view head.now)
         (map (λ server. registers server) servers.now) (map (λ place. place.is_dropped) places.now)
         survivors.now)) }
 {
     let mut lines = Vec::new(alloc);
-    add_settings(alloc, &head.script.settings, &mut lines)?;
-    add_servers(alloc, head.script.servers.as_slice(), &mut lines)?;
-    add_starts(alloc, &head.script, servers, &mut lines)?;
+    add_settings(alloc, &head.settings, &mut lines)?;
+    add_servers(alloc, head.servers.as_slice(), &mut lines)?;
+    add_starts(alloc, head, servers, &mut lines)?;
     add_workers(alloc, head.workers.as_slice(), &mut lines)?;
     add_alive(alloc, survivors, &mut lines)?;
     add_text(alloc, "restore", &mut lines)?;
-    add_drops(alloc, &head.script, places, &mut lines)?;
+    add_drops(alloc, head, places, &mut lines)?;
     told(alloc, lines.as_slice())
 }
 

@@ -2,8 +2,8 @@
 ghost use Rattle.std.specs.Prelude.{◌≡◌, ◌++◌, ◌∷◌, ◌<◌, [], Some, IfOk, OnOk, length, map, slice_get};
 ghost use Rattle.std.specs.Prelude.{string_bytes};
 ghost use Rattle.std.specs.Fmt.{WritesOnOk};
-ghost use Rattle.tp_script.specs.Script.{script_view, settings_view};
-ghost use Rattle.tp_script.specs.Session.{worker_view};
+ghost use Rattle.tp_script.specs.Script.{head_view, settings_view};
+ghost use Rattle.tp_script.specs.Script.{worker_view};
 ghost use Rattle.tp_session.specs.Dump.{alive_text, all_starts, attempts_of, draft_text, drop_lines, drop_of};
 ghost use Rattle.tp_session.specs.Dump.{dump_by, dump_text, root_text, server_starts, settings_lines, start_lines};
 ghost use Rattle.tp_session.specs.Dump.{starts_of, worker_text};
@@ -16,7 +16,7 @@ use tp_commands::Place;
 use tp_model::types::{Body, Status};
 use tp_perform::finals::registers_of;
 use tp_rollover::Survivor;
-use tp_script::{Script, Settings, WorkerLine};
+use tp_script::{Head, Settings, WorkerLine};
 use tp_server::Server;
 
 /// Adds a line of this text.
@@ -90,21 +90,21 @@ fn add_registers(
 /// The same of the server at a place.
 fn add_server_starts(
     alloc: Global,
-    script: &Script,
+    head: &Head,
     servers: &[Box<dyn Server + Send>],
     at: usize,
     lines: &mut Vec<String>,
 ) -> Result<(), AllocError>
     requires within { at < length servers.now }
-    requires all { length servers.now ≡ length script.now.servers.items }
+    requires all { length servers.now ≡ length head.now.servers.items }
     ensures { OnOk result (map string_bytes lines.new.items ≡ map string_bytes lines.old.items
-        ++ server_starts (slice_get (script_view script.now).servers at)
+        ++ server_starts (slice_get (head_view head.now).servers at)
         (slice_get (map (λ server. registers server) servers.now) at)) }
 {
     let values = registers_of(alloc, &servers[at])?;
     add_registers(
         alloc,
-        script.servers[at].name.as_str(),
+        head.servers[at].name.as_str(),
         values.as_slice(),
         lines,
     )
@@ -113,17 +113,17 @@ fn add_server_starts(
 /// Adds the lines of all registers that aren't 0.
 pub(crate) fn add_starts(
     alloc: Global,
-    script: &Script,
+    head: &Head,
     servers: &[Box<dyn Server + Send>],
     lines: &mut Vec<String>,
 ) -> Result<(), AllocError>
-    requires all { length servers.now ≡ length script.now.servers.items }
+    requires all { length servers.now ≡ length head.now.servers.items }
     ensures { OnOk result (map string_bytes lines.new.items ≡ map string_bytes lines.old.items
-        ++ all_starts (script_view script.now).servers
+        ++ all_starts (head_view head.now).servers
         (map (λ server. registers server) servers.now) (length servers.now)) }
 {
     for at in 0..servers.len() {
-        add_server_starts(alloc, script, servers, at, lines)?;
+        add_server_starts(alloc, head, servers, at, lines)?;
     }
     Ok(())
 }
@@ -218,21 +218,21 @@ pub(crate) fn add_alive(
 /// Adds the line of a drop, where the desk at this place was dropped.
 fn add_drop(
     alloc: Global,
-    script: &Script,
+    head: &Head,
     places: &[Place],
     at: usize,
     lines: &mut Vec<String>,
 ) -> Result<(), AllocError>
     requires within { at < length places.now }
-    requires all { length places.now ≡ length script.now.servers.items }
+    requires all { length places.now ≡ length head.now.servers.items }
     ensures { OnOk result (map string_bytes lines.new.items ≡ map string_bytes lines.old.items
-        ++ drop_of (slice_get (script_view script.now).servers at)
+        ++ drop_of (slice_get (head_view head.now).servers at)
         (slice_get (map (λ place. place.is_dropped) places.now) at)) }
 {
     if !places[at].is_dropped {
         return Ok(());
     }
-    let name = script.servers[at].name.as_str();
+    let name = head.servers[at].name.as_str();
     lines.push(format!(in alloc; "drop {name}")?)?;
     Ok(())
 }
@@ -240,17 +240,17 @@ fn add_drop(
 /// Adds those of all desks that were dropped.
 pub(crate) fn add_drops(
     alloc: Global,
-    script: &Script,
+    head: &Head,
     places: &[Place],
     lines: &mut Vec<String>,
 ) -> Result<(), AllocError>
-    requires all { length places.now ≡ length script.now.servers.items }
+    requires all { length places.now ≡ length head.now.servers.items }
     ensures { OnOk result (map string_bytes lines.new.items ≡ map string_bytes lines.old.items
-        ++ drop_lines (script_view script.now).servers
+        ++ drop_lines (head_view head.now).servers
         (map (λ place. place.is_dropped) places.now) (length places.now)) }
 {
     for at in 0..places.len() {
-        add_drop(alloc, script, places, at, lines)?;
+        add_drop(alloc, head, places, at, lines)?;
     }
     Ok(())
 }

@@ -1,18 +1,22 @@
-//! The end of a session: open units are aborted, and the final lines told.
+//! The end of a script or a session: open units are aborted, and the final lines told.
 ghost use Rattle.std.specs.List.{AllZip};
 ghost use Rattle.std.specs.Prelude.{◌≡◌, ◌+◌, ◌<◌, ◌++◌, None, All, IsErrOf, IsTrue, OnErr, OnOk, length, map};
 ghost use Rattle.std.specs.Prelude.{slice_get};
 ghost use Rattle.std.specs.Io.KnownBytes.{Appends};
 ghost use Rattle.tp_report.specs.Written.{AppendsFront};
-ghost use Rattle.tp_script.specs.Script.{script_view};
+ghost use Rattle.tp_script.specs.Script.{head_view};
 ghost use Rattle.tp_perform.specs.Ending.{final_line, final_lines};
 ghost use Rattle.tp_workers.specs.Free.{IsFreePass};
 ghost use Rattle.tp_commands.specs.Acting.{AllEnded, places_shown};
 ghost use Rattle.tp_commands.specs.Places.{AllLeft, firsts, workers};
-ghost use Rattle.tp_perform.specs.Told.{AreReady, after_servers, units_held};
+ghost use Rattle.tp_perform.specs.Told.{AllLeftAt, AreReady, after_servers, units_held};
+ghost use Rattle.tp_session.specs.Conversed.{LiveEnds};
+ghost use Rattle.tp_session.specs.Left.{began_at, began_in};
+ghost use Rattle.tp_session.specs.Live.{IsHeld, IsLive, Live};
 ghost use Rattle.tp_session.specs.Hands.{AllHold, GivesUp, hands, unit_of};
 
 use crate::hand::give_up;
+use crate::held::Held;
 use crate::reading::Lines;
 use std::alloc::Global;
 use tp_commands::{Place, end_all};
@@ -20,7 +24,7 @@ use tp_manager::{Manager, Pass};
 use tp_model::types::Work;
 use tp_perform::finals::line_of;
 use tp_report::{Fault, Sink};
-use tp_script::Script;
+use tp_script::Head;
 use tp_server::Server;
 
 /// Has each worker give up what it has in hand.
@@ -69,23 +73,44 @@ pub(crate) fn end_passes(
     give_up_all(manager, rest, works);
 }
 
+/// Ends all desks, and has each worker give up what it has in hand.
+pub(crate) fn end_held(head: &Head, held: &mut Held)
+    requires held { IsHeld behaviour registers pending head.now held.old }
+    ensures free { All (IsFreePass held.new.managed.manager) held.new.managed.passes.items }
+    ensures clear { All (λ server. pending server ≡ None) held.new.servers.items }
+    ensures each_server { length held.new.servers.items ≡ length held.old.servers.items }
+    ensures left { (last : Live) → began_at last ≡ began_in registers held.old
+        → AllLeftAt behaviour registers last.stand.scene.places
+        (workers (length held.old.servers.items) held.new.managed.passes.items) held.new.servers.items }
+    ensures ends { (last : Live) → IsLive behaviour registers pending held.old last
+        → LiveEnds last (map (λ server. registers server) held.new.servers.items) }
+{
+    end_passes(
+        &held.managed.manager,
+        held.managed.passes.as_mut_slice(),
+        held.servers.as_mut_slice(),
+        held.places.as_mut_slice(),
+        held.works.as_mut_slice(),
+    );
+}
+
 /// Tells the final line of the server at a place.
 fn tell_final(
     alloc: Global,
-    script: &Script,
+    head: &Head,
     servers: &[Box<dyn Server + Send>],
     i: usize,
     lines: &mut Lines,
 ) -> Result<(), Fault>
     requires within { i < length servers.now }
-    requires all { length servers.now ≡ length script.now.servers.items }
+    requires all { length servers.now ≡ length head.now.servers.items }
     ensures told { OnOk result (lines.new.answers.items ≡ lines.old.answers.items
-        ++ final_line (slice_get (script_view script.now).servers i)
+        ++ final_line (slice_get (head_view head.now).servers i)
         (slice_get (map (λ server. registers server) servers.now) i)) }
     ensures no_write { ¬ (IsErrOf result Fault.Write) }
     ensures no_read { ¬ (IsErrOf result Fault.Read) }
 {
-    match line_of(alloc, script, servers, i) {
+    match line_of(alloc, head, servers, i) {
         Ok(text) => match lines.tell(text.as_bytes()) {
             Ok(()) => Ok(()),
             Err(_) => Err(Fault::NoMemory),
@@ -94,26 +119,44 @@ fn tell_final(
     }
 }
 
-/// Tells the final line of each server, and writes all that was told.
+/// Tells the final line of each server.
+pub(crate) fn tell_finals(
+    alloc: Global,
+    head: &Head,
+    servers: &[Box<dyn Server + Send>],
+    lines: &mut Lines,
+) -> Result<(), Fault>
+    requires all { length servers.now ≡ length head.now.servers.items }
+    ensures told { OnOk result (lines.new.answers.items ≡ lines.old.answers.items
+        ++ final_lines (head_view head.now).servers
+        (map (λ server. registers server) servers.now) (length servers.now)) }
+    ensures no_write { ¬ (IsErrOf result Fault.Write) }
+    ensures no_read { ¬ (IsErrOf result Fault.Read) }
+{
+    for i in 0..servers.len() {
+        tell_final(alloc, head, servers, i, lines)?;
+    }
+    Ok(())
+}
+
+/// The same, and writes all that was told.
 pub(crate) fn finals<W: Sink>(
     alloc: Global,
-    script: &Script,
+    head: &Head,
     servers: &[Box<dyn Server + Send>],
     lines: &mut Lines,
     writer: &mut W,
 ) -> Result<(), Fault>
-    requires all { length servers.now ≡ length script.now.servers.items }
+    requires all { length servers.now ≡ length head.now.servers.items }
     ensures told { OnOk result (Appends (W.contents writer.old) (W.contents writer.new)
-        (lines.old.answers.items ++ final_lines (script_view script.now).servers
+        (lines.old.answers.items ++ final_lines (head_view head.now).servers
         (map (λ server. registers server) servers.now) (length servers.now))) }
     ensures front { OnErr result (AppendsFront (W.contents writer.old) (W.contents writer.new)
-        (lines.old.answers.items ++ final_lines (script_view script.now).servers
+        (lines.old.answers.items ++ final_lines (head_view head.now).servers
         (map (λ server. registers server) servers.now) (length servers.now))) }
     ensures write { IsErrOf result Fault.Write → IsTrue (W.has_failed writer.new) }
     ensures no_read { ¬ (IsErrOf result Fault.Read) }
 {
-    for i in 0..servers.len() {
-        tell_final(alloc, script, servers, i, lines)?;
-    }
+    tell_finals(alloc, head, servers, lines)?;
     lines.flush(writer)
 }

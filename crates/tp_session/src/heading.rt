@@ -2,7 +2,9 @@
 ghost use Rattle.std.specs.Prelude.{◌≡◌, ◌+◌, ◌<◌, ◌^◌, ◌++◌, ◌⊎◌, ℕ, List, IfOk, IfSome, IsErrOf};
 ghost use Rattle.std.specs.Prelude.{IsTrue, OnErr, OnOk, vec_len};
 ghost use Rattle.tp_report.specs.Written.{AppendsFront};
-ghost use Rattle.tp_script.specs.Session.{HeadView, IsActInRange, head_at, head_view};
+ghost use Rattle.tp_script.specs.Script.{HeadView, head_view};
+ghost use Rattle.tp_script.specs.Ranges.{IsActInRange};
+ghost use Rattle.tp_script.specs.Grammar.{head_at};
 ghost use Rattle.tp_session.specs.Conversed.{HeadRead, TakesHeadLine};
 ghost use Rattle.tp_session.specs.Heard.{HearsFront, Tells};
 ghost use Rattle.tp_session.specs.Reading.{IsLong, IsOver, Spends, room, to_come, unused};
@@ -26,7 +28,7 @@ fn take_line(
     ensures left { lines.new.left ≡ lines.old.left }
     ensures unused { unused lines.new ≡ unused lines.old }
     ensures in_range { IfOk result (λ command. IfSome command (IsActInRange
-        (vec_len head.new.script.servers) (vec_len head.new.workers))) }
+        (vec_len head.new.servers) (vec_len head.new.workers))) }
     ensures takes { IfOk result (λ command. TakesHeadLine command number
         (head_at lines.old.line.items (head_view head.old)) (head_view head.old)
         lines.old.answers.items (head_view head.new) lines.new.answers.items) }
@@ -59,7 +61,7 @@ pub(crate) fn read_head<R: Source, W: Sink>(
     ensures spends { OnOk result
         (Spends 1 lines.old (R.rest reader.old) lines.new (R.rest reader.new)) }
     ensures in_range { IfOk result (λ first. IfSome (begun first) (IsActInRange
-        (vec_len head.new.script.servers) (vec_len head.new.workers))) }
+        (vec_len head.new.servers) (vec_len head.new.workers))) }
     ensures head { IfOk result (λ first. HeadRead first
         (to_come lines.old (R.rest reader.old)) (to_come lines.new (R.rest reader.new))
         (head_view head.old) (head_view head.new)

@@ -1,10 +1,11 @@
-//! Live sessions over the shared manager: each line of a reader is answered before the next one is asked for.
-//! And scripts, of which those that are sessions are checked whole.
+//! Scripts and live sessions over the shared manager: a script is read and checked whole, and then performed; of
+//! a session each line is answered before the next one is asked for.
 #![tactic(auto)]
 
 mod acts;
 mod answering;
 mod answers;
+mod closing;
 mod dump;
 mod dump_lines;
 mod dump_servers;
@@ -14,6 +15,8 @@ mod hand;
 mod heading;
 mod held;
 mod making;
+mod performing;
+mod racing;
 mod reading;
 mod restoring;
 mod scripts;
@@ -25,6 +28,8 @@ pub use answers::{refused_line, worker_line};
 pub use first::First;
 pub use hand::{WorkerAnswer, give_up, worker_act};
 pub use held::Held;
+pub use performing::perform;
+pub use racing::act_told;
 pub use reading::{Lines, MAX_ASKED, MAX_KEPT};
-pub use scripts::{run, run_to_end};
+pub use scripts::{run, run_to_end, serve};
 pub use session::{answer_to_end, converse, converse_to_end};

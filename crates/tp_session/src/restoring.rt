@@ -3,7 +3,7 @@ ghost use Rattle.std.specs.Prelude.{◌≡◌, List, ℕ, IfErr, IfOk, map, stri
 ghost use Rattle.tp_report.specs.Answer.{line};
 ghost use Rattle.tp_perform.specs.Restore.{Restored};
 ghost use Rattle.tp_perform.specs.Rollover.{RollRefused, roll_refused_text};
-ghost use Rattle.tp_script.specs.Session.{head_view};
+ghost use Rattle.tp_script.specs.Script.{head_view};
 ghost use Rattle.tp_session.specs.Left.{OrSame, Reaches};
 ghost use Rattle.tp_session.specs.Live.{HoldsUnits, IsHeld, Leads, RestoreTold, status_at, survivor_of};
 ghost use Rattle.tp_session.specs.Live.{survivors_of};
@@ -117,7 +117,7 @@ pub(crate) fn restore_told(
     ensures tells { IfOk result (λ text. Leads behaviour registers pending (λ old new.
         RestoreTold (head_view head.now) old (string_bytes text) new) held.old held.new) }
 {
-    let limit = head.script.settings.attempts;
+    let limit = head.settings.attempts;
     let survivors = survivors_of(alloc, limit, head.alive.as_slice())?;
     stand_again(alloc, head, held, survivors.as_slice())
 }

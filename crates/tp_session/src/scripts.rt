@@ -1,22 +1,39 @@
-//! The whole run of a script, from the reader's bytes to the writer's. One that is a session, by its first
-//! words, is checked whole, and then performed as the session that its lines are.
-ghost use Rattle.std.specs.Prelude.{◌≡◌, ◌+◌, ◌^◌, ◌<◌, ◌≤◌, Result, Ok, IfSome, IsErrOf, IsTrue, true};
+//! The whole run of a script, from the reader's bytes to the writer's.
+ghost use Rattle.std.specs.Prelude.{◌≡◌, ◌+◌, ◌++◌, ◌^◌, ◌<◌, ◌≤◌, None, Result, All, IfSome, IsErrOf, IsTrue};
+ghost use Rattle.std.specs.Prelude.{OnErr, OnOk, length, map};
+ghost use Rattle.std.specs.Io.KnownBytes.{Appends};
 ghost use Rattle.tp_report.specs.Faults.{TellsFault, exit_status};
+ghost use Rattle.tp_report.specs.Written.{AppendsFront};
 ghost use Rattle.tp_report.specs.declared.fault.Exit.{Exit};
 ghost use Rattle.tp_report.specs.declared.fault.Fault.{Fault};
-ghost use Rattle.tp_script.specs.Workers.{checked};
+ghost use Rattle.tp_script.specs.Passes.{racing};
+ghost use Rattle.tp_script.specs.Script.{head_view};
+ghost use Rattle.tp_script.specs.Whole.{script};
 ghost use Rattle.tp_script.specs.declared.source.TheConstants.{MAX_READS};
-ghost use Rattle.tp_session.specs.Scripts.{ChecksAndConverses, Ran};
+ghost use Rattle.tp_server.specs.Behaviour.{behaviour_of};
+ghost use Rattle.tp_session.specs.Conversed.{IsNewManaged, limits_of};
+ghost use Rattle.tp_session.specs.Performed.{Ran, Report, ReportFront, closing_text, finals_text};
 
-use crate::session::converse;
+use crate::ending::tell_finals;
+use crate::held::Held;
+use crate::making::{first_places, no_works};
+use crate::performing::perform;
+use crate::reading::Lines;
+use crate::session::limits_of;
 use std::alloc::Global;
 use std::thread::Threads;
-use tp_report::{Exit, Fault, Sink, exit_status, fault_of, write_fault, write_refusal};
-use tp_script::{BytesSource, ReadFault, Source, check_lines, is_session, read_all};
+use tp_manager::MakeFault;
+use tp_model::types::Account;
+use tp_perform::boxes::{eager, lazy, put};
+use tp_report::{
+    Answer, Exit, Fault, Sink, exit_status, fault_of, line, write_fault, write_refusal,
+};
+use tp_rollover::Managed;
+use tp_script::{Kind, ReadFault, Script, Source, read_script};
+use tp_server::Server;
 
-/// Reads a script and performs it over the shared manager. One that isn't a session is reported
-/// as `tp_perform::run` does. One that is (`is_session`) is checked whole, and then its lines are answered as
-/// those of a session. The reader is asked at most 100,000 times.
+/// Reads a script, performs it over the shared manager with a desk for each server, and writes its report: a
+/// line for each act, the final lines, and the closing account. The reader is asked at most 100,000 times.
 pub fn run<T: Threads + Sync, R: Source, W: Sink>(
     rt: &T,
     alloc: Global,
@@ -26,15 +43,21 @@ pub fn run<T: Threads + Sync, R: Source, W: Sink>(
     requires { R.asked reader.old + MAX_READS < 2 ^ 64 }
     ensures asked { R.asked reader.new ≤ R.asked reader.old + MAX_READS }
     ensures ran { IfSome (R.rest reader.old)
-        (λ bytes. Ran result bytes (W.contents writer.old) (W.contents writer.new)) }
+        (λ bytes. Ran result (script bytes) (W.contents writer.old) (W.contents writer.new)) }
     ensures read { IsErrOf result Fault.Read → IsTrue (R.has_failed reader.new) }
     ensures write { IsErrOf result Fault.Write → IsTrue (W.has_failed writer.new) }
 {
-    match read_all(alloc, reader) {
-        Ok(bytes) => run_bytes(rt, alloc, bytes.as_slice(), writer),
+    match read_script(alloc, reader) {
+        Ok(script) => match serve(rt, alloc, &script, writer) {
+            Ok(()) => Ok(Exit::Done),
+            Err(fault) => Err(fault),
+        },
+        Err(ReadFault::Script(refused)) => match write_refusal(alloc, refused, writer) {
+            Ok(()) => Ok(Exit::Refused),
+            Err(fault) => Err(fault_of(fault)),
+        },
         Err(ReadFault::NoMemory) => Err(Fault::NoMemory),
         Err(ReadFault::Read) => Err(Fault::Read),
-        Err(ReadFault::Script(_)) => unreachable!(),
     }
 }
 
@@ -50,7 +73,7 @@ pub fn run_to_end<T: Threads + Sync, R: Source, W: Sink, E: Sink>(
     ensures asked { R.asked reader.new ≤ R.asked reader.old + MAX_READS }
     ensures ended { (outcome : Result Exit Fault)
         × IfSome (R.rest reader.old)
-        (λ bytes. Ran outcome bytes (W.contents writer.old) (W.contents writer.new))
+        (λ bytes. Ran outcome (script bytes) (W.contents writer.old) (W.contents writer.new))
         × (IsErrOf outcome Fault.Read → IsTrue (R.has_failed reader.new))
         × (IsErrOf outcome Fault.Write → IsTrue (W.has_failed writer.new))
         × (result ≡ exit_status outcome)
@@ -61,44 +84,140 @@ pub fn run_to_end<T: Threads + Sync, R: Source, W: Sink, E: Sink>(
     exit_status(outcome)
 }
 
-/// Performs the script that these bytes are.
-fn run_bytes<T: Threads + Sync, W: Sink>(
+/// Makes the manager that a script needs, performs it, and writes its report.
+pub fn serve<T: Threads + Sync, W: Sink>(
     rt: &T,
     alloc: Global,
-    bytes: &[u8],
+    script: &Script,
     writer: &mut W,
-) -> Result<Exit, Fault>
-    ensures ran { Ran result bytes.now (W.contents writer.old) (W.contents writer.new) }
-    ensures no_read { ¬ (IsErrOf result Fault.Read) }
+) -> Result<(), Fault>
+    ensures told { OnOk result (Report script.now (Appends (W.contents writer.old) (W.contents writer.new))) }
+    ensures front { OnErr result
+        (ReportFront script.now (AppendsFront (W.contents writer.old) (W.contents writer.new))) }
     ensures write { IsErrOf result Fault.Write → IsTrue (W.has_failed writer.new) }
+    ensures no_read { ¬ (IsErrOf result Fault.Read) }
 {
-    match is_session(alloc, bytes) {
-        Ok(true) => run_as_session(alloc, bytes, writer),
-        Ok(false) => tp_perform::run(rt, alloc, &mut BytesSource::new(bytes), writer),
-        Err(_) => Err(Fault::NoMemory),
+    match Managed::new(alloc, limits_of(&script.head, script.racers())) {
+        Ok(managed) => serve_by(rt, alloc, script, managed, writer),
+        Err(MakeFault::NoMemory) => Err(Fault::NoMemory),
+        Err(MakeFault::BadLimits) => unreachable!(),
+        Err(MakeFault::NoPart) => unreachable!(),
     }
 }
 
-/// Checks all lines of a script that is a session, and then performs it.
-fn run_as_session<W: Sink>(alloc: Global, bytes: &[u8], writer: &mut W) -> Result<Exit, Fault>
-    ensures ran { ChecksAndConverses result (checked bytes.now) bytes.now
-        (W.contents writer.old) (W.contents writer.new) }
-    ensures no_read { ¬ (IsErrOf result Fault.Read) }
+/// Makes the boxed servers.
+fn serve_by<T: Threads + Sync, W: Sink>(
+    rt: &T,
+    alloc: Global,
+    script: &Script,
+    managed: Managed,
+    writer: &mut W,
+) -> Result<(), Fault>
+    requires new { IsNewManaged (limits_of (head_view script.now.head) (racing script.now.acts.items)) managed }
+    ensures told { OnOk result (Report script.now (Appends (W.contents writer.old) (W.contents writer.new))) }
+    ensures front { OnErr result
+        (ReportFront script.now (AppendsFront (W.contents writer.old) (W.contents writer.new))) }
     ensures write { IsErrOf result Fault.Write → IsTrue (W.has_failed writer.new) }
+    ensures no_read { ¬ (IsErrOf result Fault.Read) }
 {
-    match check_lines(alloc, bytes) {
-        Ok(()) => match converse(alloc, &mut BytesSource::new(bytes), writer) {
-            Ok(()) => Ok(Exit::Done),
-            Err(Fault::NoMemory) => Err(Fault::NoMemory),
-            Err(Fault::Write) => Err(Fault::Write),
-            // Bytes in memory don't fail, and are too few for so many reads.
-            Err(Fault::Read) => unreachable!(),
-        },
-        Err(ReadFault::Script(refused)) => match write_refusal(alloc, refused, writer) {
-            Ok(()) => Ok(Exit::Refused),
-            Err(fault) => Err(fault_of(fault)),
-        },
-        Err(ReadFault::NoMemory) => Err(Fault::NoMemory),
-        Err(ReadFault::Read) => unreachable!(),
+    let mut servers: Vec<Box<dyn Server + Send>> = Vec::new(alloc);
+    for server in &script.head.servers {
+        match server.kind {
+            Kind::Eager => put(&mut servers, Box::new(alloc, eager(server)?)?)?,
+            Kind::Lazy => put(&mut servers, Box::new(alloc, lazy(server)?)?)?,
+        }
     }
+    serve_with(rt, alloc, script, managed, servers, writer)
+}
+
+/// Performs the script with these servers, and writes the rest of its report.
+fn serve_with<T: Threads + Sync, W: Sink>(
+    rt: &T,
+    alloc: Global,
+    script: &Script,
+    managed: Managed,
+    servers: Vec<Box<dyn Server + Send>>,
+    writer: &mut W,
+) -> Result<(), Fault>
+    requires new { IsNewManaged (limits_of (head_view script.now.head) (racing script.now.acts.items)) managed }
+    requires behaviours { map (λ server. behaviour server) servers.items
+        ≡ map (λ line. behaviour_of line.recipe) script.now.head.servers.items }
+    requires registers { map (λ server. registers server) servers.items
+        ≡ map (λ line. line.registers) script.now.head.servers.items }
+    requires clear { All (λ server. pending server ≡ None) servers.items }
+    ensures told { OnOk result (Report script.now (Appends (W.contents writer.old) (W.contents writer.new))) }
+    ensures front { OnErr result
+        (ReportFront script.now (AppendsFront (W.contents writer.old) (W.contents writer.new))) }
+    ensures write { IsErrOf result Fault.Write → IsTrue (W.has_failed writer.new) }
+    ensures no_read { ¬ (IsErrOf result Fault.Read) }
+{
+    let works = no_works(
+        alloc,
+        script.head.workers.len() + usize::from(script.racers()),
+    )?;
+    let places = first_places(managed.passes.as_slice(), servers.as_slice());
+    let mut held = Held {
+        managed,
+        servers,
+        places,
+        works,
+    };
+    let account = perform(rt, alloc, script, &mut held, writer)?;
+    write_end(alloc, script, held.servers.as_slice(), account, writer)
+}
+
+/// Tells the account, where it was taken.
+fn tell_account(alloc: Global, account: Option<Account>, lines: &mut Lines) -> Result<(), Fault>
+    ensures told { OnOk result (lines.new.answers.items ≡ lines.old.answers.items ++ closing_text account) }
+    ensures no_write { ¬ (IsErrOf result Fault.Write) }
+    ensures no_read { ¬ (IsErrOf result Fault.Read) }
+{
+    let Some(account) = account else {
+        return Ok(());
+    };
+    let text = line(alloc, Answer::Account(account.total))?;
+    lines.tell(text.as_bytes())?;
+    Ok(())
+}
+
+/// Tells the final lines, unless there was a race, and then the account.
+fn tell_end(
+    alloc: Global,
+    script: &Script,
+    servers: &[Box<dyn Server + Send>],
+    account: Option<Account>,
+    lines: &mut Lines,
+) -> Result<(), Fault>
+    requires all { length servers.now ≡ length script.now.head.servers.items }
+    ensures told { OnOk result (lines.new.answers.items ≡ lines.old.answers.items
+        ++ (finals_text script.now (map (λ server. registers server) servers.now) ++ closing_text account)) }
+    ensures no_write { ¬ (IsErrOf result Fault.Write) }
+    ensures no_read { ¬ (IsErrOf result Fault.Read) }
+{
+    if script.has_race() {
+        return tell_account(alloc, account, lines);
+    }
+    tell_finals(alloc, &script.head, servers, lines)?;
+    tell_account(alloc, account, lines)
+}
+
+/// Writes them.
+fn write_end<W: Sink>(
+    alloc: Global,
+    script: &Script,
+    servers: &[Box<dyn Server + Send>],
+    account: Option<Account>,
+    writer: &mut W,
+) -> Result<(), Fault>
+    requires all { length servers.now ≡ length script.now.head.servers.items }
+    ensures told { OnOk result (Appends (W.contents writer.old) (W.contents writer.new)
+        (finals_text script.now (map (λ server. registers server) servers.now) ++ closing_text account)) }
+    ensures front { OnErr result (AppendsFront (W.contents writer.old) (W.contents writer.new)
+        (finals_text script.now (map (λ server. registers server) servers.now) ++ closing_text account)) }
+    ensures write { IsErrOf result Fault.Write → IsTrue (W.has_failed writer.new) }
+    ensures no_read { ¬ (IsErrOf result Fault.Read) }
+{
+    let mut lines = Lines::new(alloc);
+    tell_end(alloc, script, servers, account, &mut lines)?;
+    lines.flush(writer)
 }

@@ -3,13 +3,15 @@
 ghost use Rattle.std.specs.Prelude.{◌≡◌, ◌+◌, ◌*◌, ◌<◌, ◌≤◌, ◌^◌, ◌++◌, ◌⊎◌, None, All, IfSome, IsErrOf, IsTrue};
 ghost use Rattle.std.specs.Prelude.{OnErr, OnOk, Result, length, map, vec_len};
 ghost use Rattle.std.specs.Io.KnownBytes.{Appends};
+ghost use Rattle.tp_model.specs.declared.types.TheConstants.{MAX_PASSES};
 ghost use Rattle.tp_workers.specs.Free.{IsFreePass};
 ghost use Rattle.tp_server.specs.Behaviour.{behaviour_of};
 ghost use Rattle.tp_report.specs.Faults.{TellsFault, exit_status};
 ghost use Rattle.tp_report.specs.Written.{AppendsFront};
 ghost use Rattle.tp_report.specs.declared.fault.Exit.{Exit};
 ghost use Rattle.tp_report.specs.declared.fault.Fault.{Fault};
-ghost use Rattle.tp_script.specs.Session.{IsActInRange, head_view};
+ghost use Rattle.tp_script.specs.Ranges.{IsActInRange};
+ghost use Rattle.tp_script.specs.Script.{head_view};
 ghost use Rattle.tp_session.specs.Conversed.{BodyFront, BodyWhole, Conversed, ConversedAs, ConversedFront};
 ghost use Rattle.tp_session.specs.Conversed.{IsNewManaged, LiveEnds, limits_of};
 ghost use Rattle.tp_session.specs.Heard.{HearsFront, IsAllOf, IsSilent, Tells};
@@ -22,7 +24,7 @@ ghost use Rattle.tp_session.specs.Told.{BodyTold, begun, past_of};
 ghost use Rattle.tp_session.specs.declared.reading.TheConstants.{MAX_ASKED};
 
 use crate::answering::answer_all;
-use crate::ending::{end_passes, finals};
+use crate::ending::{end_held, finals};
 use crate::first::First;
 use crate::heading::read_head;
 use crate::held::Held;
@@ -31,7 +33,7 @@ use crate::reading::{Lines, MAX_ASKED};
 use std::alloc::Global;
 use tp_manager::MakeFault;
 use tp_model::types::Limits;
-use tp_perform::serve::{eager, lazy, put};
+use tp_perform::boxes::{eager, lazy, put};
 use tp_report::{Exit, Fault, Sink, exit_status, write_fault};
 use tp_rollover::Managed;
 use tp_script::{Head, Kind, Source};
@@ -87,18 +89,19 @@ pub fn converse_to_end<R: Source, W: Sink, E: Sink>(
     exit_status(outcome)
 }
 
-/// The limits of the manager that a session needs.
-fn limits_of(head: &Head) -> Limits
-    ensures { result ≡ limits_of (head_view head.now) }
+/// The limits of the manager that a head needs, with so many passes for races.
+pub(crate) fn limits_of(head: &Head, racers: u16) -> Limits
+    requires { racers ≤ MAX_PASSES }
+    ensures { result ≡ limits_of (head_view head.now) racers }
 {
-    let servers = head.script.servers.len() as u16;
+    let servers = head.servers.len() as u16;
     let workers = head.workers.len() as u16;
     Limits {
-        parts: 1 + servers + workers,
-        rows: head.script.settings.rows,
-        units: head.script.settings.units,
-        attempts: head.script.settings.attempts,
-        spare: head.script.settings.spare,
+        parts: 1 + servers + workers + racers,
+        rows: head.settings.rows,
+        units: head.settings.units,
+        attempts: head.settings.attempts,
+        spare: head.settings.spare,
     }
 }
 
@@ -113,7 +116,7 @@ fn hold<R: Source, W: Sink>(
 ) -> Result<(), Fault>
     requires asked { R.asked reader.old + lines.old.left < 2 ^ 64 }
     requires in_range { IfSome (begun first) (IsActInRange
-        (vec_len head.now.script.servers) (vec_len head.now.workers)) }
+        (vec_len head.now.servers) (vec_len head.now.workers)) }
     requires few { past_of first + room lines.old + 2 < 2 ^ 64 }
     requires ended { first ≡ None → IsSilent (to_come lines.old (R.rest reader.old)) }
     ensures told { OnOk result (BodyWhole head.now (past_of first) (begun first)
@@ -129,7 +132,7 @@ fn hold<R: Source, W: Sink>(
     ensures long { IsErrOf result Fault.Read
         → IsTrue (R.has_failed reader.new) ⊎ IsLong lines.old (R.rest reader.old) }
 {
-    match Managed::new(alloc, limits_of(head)) {
+    match Managed::new(alloc, limits_of(head, 0)) {
         Ok(managed) => with_managed(alloc, head, first, managed, lines, reader, writer),
         Err(MakeFault::NoMemory) => Err(Fault::NoMemory),
         Err(MakeFault::BadLimits) => unreachable!(),
@@ -147,10 +150,10 @@ fn with_managed<R: Source, W: Sink>(
     reader: &mut R,
     writer: &mut W,
 ) -> Result<(), Fault>
-    requires new { IsNewManaged (limits_of (head_view head.now)) managed }
+    requires new { IsNewManaged (limits_of (head_view head.now) 0) managed }
     requires asked { R.asked reader.old + lines.old.left < 2 ^ 64 }
     requires in_range { IfSome (begun first) (IsActInRange
-        (vec_len head.now.script.servers) (vec_len head.now.workers)) }
+        (vec_len head.now.servers) (vec_len head.now.workers)) }
     requires few { past_of first + room lines.old + 2 < 2 ^ 64 }
     requires ended { first ≡ None → IsSilent (to_come lines.old (R.rest reader.old)) }
     ensures told { OnOk result (BodyWhole head.now (past_of first) (begun first)
@@ -167,7 +170,7 @@ fn with_managed<R: Source, W: Sink>(
         → IsTrue (R.has_failed reader.new) ⊎ IsLong lines.old (R.rest reader.old) }
 {
     let mut servers: Vec<Box<dyn Server + Send>> = Vec::new(alloc);
-    for server in &head.script.servers {
+    for server in &head.servers {
         match server.kind {
             Kind::Eager => put(&mut servers, Box::new(alloc, eager(server)?)?)?,
             Kind::Lazy => put(&mut servers, Box::new(alloc, lazy(server)?)?)?,
@@ -187,15 +190,15 @@ fn with_servers<R: Source, W: Sink>(
     reader: &mut R,
     writer: &mut W,
 ) -> Result<(), Fault>
-    requires new { IsNewManaged (limits_of (head_view head.now)) managed }
+    requires new { IsNewManaged (limits_of (head_view head.now) 0) managed }
     requires behaviours { map (λ server. behaviour server) servers.items
-        ≡ map (λ line. behaviour_of line.recipe) head.now.script.servers.items }
+        ≡ map (λ line. behaviour_of line.recipe) head.now.servers.items }
     requires registers { map (λ server. registers server) servers.items
-        ≡ map (λ line. line.registers) head.now.script.servers.items }
+        ≡ map (λ line. line.registers) head.now.servers.items }
     requires clear { All (λ server. pending server ≡ None) servers.items }
     requires asked { R.asked reader.old + lines.old.left < 2 ^ 64 }
     requires in_range { IfSome (begun first) (IsActInRange
-        (vec_len head.now.script.servers) (vec_len head.now.workers)) }
+        (vec_len head.now.servers) (vec_len head.now.workers)) }
     requires few { past_of first + room lines.old + 2 < 2 ^ 64 }
     requires ended { first ≡ None → IsSilent (to_come lines.old (R.rest reader.old)) }
     ensures told { OnOk result (BodyWhole head.now (past_of first) (begun first)
@@ -220,7 +223,7 @@ fn with_servers<R: Source, W: Sink>(
         works,
     };
     answer_to_end(alloc, head, &mut held, first, lines, reader, writer)?;
-    finals(alloc, &head.script, held.servers.as_slice(), lines, writer)
+    finals(alloc, head, held.servers.as_slice(), lines, writer)
 }
 
 /// Answers the lines behind the head. At the end, and after a fault, the desks are ended, and the workers give
@@ -239,7 +242,7 @@ pub fn answer_to_end<R: Source, W: Sink>(
     requires held { IsHeld behaviour registers pending head.now held.old }
     requires asked { R.asked reader.old + lines.old.left < 2 ^ 64 }
     requires in_range { IfSome (begun first) (IsActInRange
-        (vec_len head.now.script.servers) (vec_len head.now.workers)) }
+        (vec_len head.now.servers) (vec_len head.now.workers)) }
     requires few { past_of first + room lines.old + 2 < 2 ^ 64 }
     requires ended { first ≡ None → IsSilent (to_come lines.old (R.rest reader.old)) }
     ensures free { All (IsFreePass held.new.managed.manager) held.new.managed.passes.items }
@@ -270,12 +273,6 @@ pub fn answer_to_end<R: Source, W: Sink>(
         → IsTrue (R.has_failed reader.new) ⊎ IsLong lines.old (R.rest reader.old) }
 {
     let done = answer_all(alloc, head, held, first, lines, reader, writer);
-    end_passes(
-        &held.managed.manager,
-        held.managed.passes.as_mut_slice(),
-        held.servers.as_mut_slice(),
-        held.places.as_mut_slice(),
-        held.works.as_mut_slice(),
-    );
+    end_held(head, held);
     done
 }

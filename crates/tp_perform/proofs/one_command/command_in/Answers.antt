@@ -3,7 +3,7 @@ use Rattle.std.specs.Prelude.{string_bytes}
 use Rattle.std.proofs.lemmas.List.Elements.{All-nil}
 use Rattle.std.proofs.lemmas.Result.{IfOk-weaker}
 use Rattle.tp_manager.specs.Shown.{IsOf}
-use Rattle.tp_script.specs.Script.{script_view}
+use Rattle.tp_script.specs.Script.{head_view}
 use Rattle.tp_perform.proofs.Chains.{all_steady, needs_none, performs}
 use Rattle.tp_perform.proofs.Slices.{client_free, held_after, lie_workers, numbers_after, own_workers, ready_after, scene_after, scene_before}
 use Rattle.tp_perform.proofs.one_command.command_in.Goals as goal
@@ -51,7 +51,7 @@ returns-clause-tells g c =
       scene_before (λ b. (goal.Server-dyn g (b.vtable, b.value)).behaviour b.value) (λ b. (goal.Server-dyn g (b.vtable, b.value)).registers b.value) (λ b. (goal.Server-dyn g (b.vtable, b.value)).pending b.value) c.args.manager.now c.args.passes.now c.in-Some.client.now c.in-Some.others.now c.split_at_mut-workers.result.0.now c.split_at_mut-workers.result.1.now [] c.split_at_mut-workers.result.1.now [] c.split_at_mut-workers.result.1.now
           c.args.servers.now c.args.places.now c.in-Some.ensures.cases.0 c.split_at_mut-workers.ensures.value c.split_at_mut-workers.ensures.front_len refl refl c.requires.ready
           c.command_line.new.client c.command_line.new.passes [] c.command_line.new.servers c.command_line.new.places c.command_line.ensures.client c.command_line.ensures.own c.command_line.ensures.lie (All-nil (IsOf c.args.manager.now)),
-      performs c.args.manager.now (script_view c.args.script.now) 0 c.args.command c.in-Some.client.now c.command_line.new.client _ _ [] c.split_at_mut-workers.result.1.now [] c.split_at_mut-workers.result.1.now
+      performs c.args.manager.now (head_view c.args.head.now) 0 c.args.command c.in-Some.client.now c.command_line.new.client _ _ [] c.split_at_mut-workers.result.1.now [] c.split_at_mut-workers.result.1.now
           [] (string_bytes text) refl refl (needs_none c.args.command c.requires.no_race) tells
           (all_steady (λ b. (goal.Server-dyn g (b.vtable, b.value)).behaviour b.value) (λ b. (goal.Server-dyn g (b.vtable, b.value)).registers b.value) (λ b. (goal.Server-dyn g (b.vtable, b.value)).pending b.value) _ _ _ c.command_line.ensures.lie),
       scene_after (λ b. (goal.Server-dyn g (b.vtable, b.value)).behaviour b.value) (λ b. (goal.Server-dyn g (b.vtable, b.value)).registers b.value) (λ b. (goal.Server-dyn g (b.vtable, b.value)).pending b.value) c.args.manager.now c.args.passes.now c.in-Some.client.now c.in-Some.others.now c.split_at_mut-workers.result.0.now c.split_at_mut-workers.result.1.now [] c.split_at_mut-workers.result.1.now [] c.split_at_mut-workers.result.1.now

@@ -1,6 +1,6 @@
 use Rattle.std.proofs.Common.{◌∙◌, length, subst, sym}
 use Rattle.std.specs.Prelude.{string_bytes}
-use Rattle.tp_script.specs.Script.{script_view}
+use Rattle.tp_script.specs.Script.{head_view}
 use Rattle.tp_perform.specs.Told.{PerformsBy}
 use Rattle.tp_perform.proofs.Everyone.{all_kept, all_same}
 use Rattle.tp_perform.proofs.Gatherings.{gathered, held_gathered, numbers_gathered, ready_gathered}
@@ -20,7 +20,7 @@ returns-in_ok-line-in-None-clause-tells g c =
     let t = c.in_ok-line-in-None.ensures.tells in
     let b = gathered (λ b. (goal.Server-dyn g (b.vtable, b.value)).behaviour b.value) (λ b. (goal.Server-dyn g (b.vtable, b.value)).registers b.value) (λ b. (goal.Server-dyn g (b.vtable, b.value)).pending b.value) c.args.manager.now c.args.keeper.now c.gather.new.self c.command_in.new.passes c.gather.new.passes c.command_in.new.servers c.command_in.new.places c.in_ok-line-in-None.ensures.ready c.gather.ensures.gathers c.gather.ensures.all c.gather.ensures.keeper.1 c.gather.ensures.own t.1 t.4 in
     let none = sym c.order_of.ensures ∙ c.in-None.is in
-    (t.0, b.0, t.2, subst (λ o. PerformsBy o c.args.manager.now (script_view c.args.script.now) c.args.command 0 c.args.keeper.now t.0 (string_bytes c.in_ok-line-in-None.line) c.gather.new.self b.0) (sym none) (t.1, t.3, b.1), b.2)
+    (t.0, b.0, t.2, subst (λ o. PerformsBy o c.args.manager.now (head_view c.args.head.now) c.args.command 0 c.args.keeper.now t.0 (string_bytes c.in_ok-line-in-None.line) c.gather.new.self b.0) (sym none) (t.1, t.3, b.1), b.2)
 
 pub returns-in_ok-line-in-None-clause-held : goal.returns-in_ok-line-in-None-clause-held
 returns-in_ok-line-in-None-clause-held g c = held_gathered (λ b. (goal.Server-dyn g (b.vtable, b.value)).behaviour b.value) (λ b. (goal.Server-dyn g (b.vtable, b.value)).registers b.value) (λ b. (goal.Server-dyn g (b.vtable, b.value)).pending b.value) c.args.manager.now c.args.keeper.now c.gather.new.self c.command_in.new.passes c.gather.new.passes c.command_in.new.servers c.command_in.new.places c.in_ok-line-in-None.ensures.ready c.gather.ensures.gathers c.gather.ensures.all c.gather.ensures.keeper.1 c.gather.ensures.own (length c.args.servers.now) ∙ c.in_ok-line-in-None.ensures.held

@@ -1,12 +1,14 @@
-use Rattle.std.proofs.Common.{◌∙◌, refl}
+use Rattle.std.proofs.Common.{◌∙◌, ℕ, All, refl, sym, subst, length, take, drop}
 use Rattle.std.proofs.lemmas.List.Elements.{All-weaker}
 use Rattle.tp_manager.specs.Shown.{IsOf}
 use Rattle.tp_workers.specs.Free.{IsFreePass}
 use Rattle.std.specs.Prelude.{string_bytes}
 use Rattle.std.proofs.lemmas.Result.{IfOk-weaker}
-use Rattle.tp_script.specs.Script.{script_view}
+use Rattle.tp_script.specs.Script.{head_view}
 use Rattle.tp_perform.proofs.Chains.{all_steady, performs}
-use Rattle.tp_perform.proofs.Slices.{client_free, here_free, lie_workers, numbers_after, own_workers, racers_after, ready_after, scene_after, scene_before}
+use Rattle.tp_perform.proofs.Slices.{client_free, held_after, here_free, lie_workers, numbers_after, own_workers, ready_after, scene_after, scene_before}
+use Rattle.tp_perform.proofs.Races.{none_open}
+use Rattle.tp_perform.specs.Told.{after_servers}
 use Rattle.tp_perform.proofs.race_lines.race_in.Goals as goal
 
 pub race_line-requires-clause-own : goal.race_line-requires-clause-own
@@ -21,8 +23,10 @@ race_line-requires-clause-lie g c κs within =
 
 pub race_line-requires-clause-racers : goal.race_line-requires-clause-racers
 race_line-requires-clause-racers g c κs within =
+    let needed = c.split_at_mut-here.ensures.front_len ∙ (c.from.ensures ∙ c.racers.ensures) in
+    let free = subst (λ (k : ℕ × ℕ). All (IsFreePass c.args.manager.now) (take k.0 (drop k.1 (after_servers (length c.args.servers.now) c.args.passes.now)))) (λ i. (sym needed i, sym c.split_at_mut-before.ensures.front_len i)) c.requires.free in
     here_free (λ b. (goal.Server-dyn g (b.vtable, b.value)).behaviour b.value) (λ b. (goal.Server-dyn g (b.vtable, b.value)).registers b.value) (λ b. (goal.Server-dyn g (b.vtable, b.value)).pending b.value) c.args.manager.now c.args.passes.now c.in-Some.client.now c.in-Some.others.now c.split_at_mut-workers.result.0.now c.split_at_mut-workers.result.1.now c.split_at_mut-before.result.0.now c.split_at_mut-before.result.1.now c.split_at_mut-here.result.0.now c.split_at_mut-here.result.1.now
-    c.args.servers.now c.args.places.now c.in-Some.ensures.cases.0 c.split_at_mut-workers.ensures.value c.split_at_mut-workers.ensures.front_len c.split_at_mut-before.ensures.value c.split_at_mut-here.ensures.value c.requires.ready c.requires.free
+    c.args.servers.now c.args.places.now c.in-Some.ensures.cases.0 c.split_at_mut-workers.ensures.value c.split_at_mut-workers.ensures.front_len c.split_at_mut-before.ensures.value c.split_at_mut-here.ensures.value c.requires.ready free
 
 pub returns-clause-ready : goal.returns-clause-ready
 returns-clause-ready g c =
@@ -49,7 +53,7 @@ returns-clause-tells g c =
           c.args.servers.now c.args.places.now c.in-Some.ensures.cases.0 c.split_at_mut-workers.ensures.value c.split_at_mut-workers.ensures.front_len c.split_at_mut-before.ensures.value c.split_at_mut-here.ensures.value c.requires.ready
           c.in-Some.client.now c.race_line.new.passes c.race_line.new.racers c.race_line.new.servers c.race_line.new.places (client_free (λ b. (goal.Server-dyn g (b.vtable, b.value)).behaviour b.value) (λ b. (goal.Server-dyn g (b.vtable, b.value)).registers b.value) (λ b. (goal.Server-dyn g (b.vtable, b.value)).pending b.value) c.args.manager.now c.args.passes.now c.in-Some.client.now c.in-Some.others.now c.split_at_mut-workers.result.0.now c.split_at_mut-workers.result.1.now c.split_at_mut-before.result.0.now c.split_at_mut-before.result.1.now c.split_at_mut-here.result.0.now c.split_at_mut-here.result.1.now
           c.args.servers.now c.args.places.now c.in-Some.ensures.cases.0 c.split_at_mut-workers.ensures.value c.split_at_mut-workers.ensures.front_len c.split_at_mut-before.ensures.value c.split_at_mut-here.ensures.value c.requires.ready) c.race_line.ensures.own c.race_line.ensures.lie (All-weaker (IsFreePass c.args.manager.now) (IsOf c.args.manager.now) (λ p is. is.own) _ c.race_line.ensures.racers),
-      performs c.args.manager.now (script_view c.args.script.now) c.args.raced c.args.command c.in-Some.client.now c.in-Some.client.now _ _ c.split_at_mut-before.result.0.now c.split_at_mut-before.result.1.now c.split_at_mut-here.result.0.now c.split_at_mut-here.result.1.now
+      performs c.args.manager.now (head_view c.args.head.now) c.args.raced c.args.command c.in-Some.client.now c.in-Some.client.now _ _ c.split_at_mut-before.result.0.now c.split_at_mut-before.result.1.now c.split_at_mut-here.result.0.now c.split_at_mut-here.result.1.now
           c.race_line.new.racers (string_bytes text) c.split_at_mut-here.ensures.value c.split_at_mut-before.ensures.front_len needed tells
           (all_steady (λ b. (goal.Server-dyn g (b.vtable, b.value)).behaviour b.value) (λ b. (goal.Server-dyn g (b.vtable, b.value)).registers b.value) (λ b. (goal.Server-dyn g (b.vtable, b.value)).pending b.value) _ _ _ c.race_line.ensures.lie),
       scene_after (λ b. (goal.Server-dyn g (b.vtable, b.value)).behaviour b.value) (λ b. (goal.Server-dyn g (b.vtable, b.value)).registers b.value) (λ b. (goal.Server-dyn g (b.vtable, b.value)).pending b.value) c.args.manager.now c.args.passes.now c.in-Some.client.now c.in-Some.others.now c.split_at_mut-workers.result.0.now c.split_at_mut-workers.result.1.now c.split_at_mut-before.result.0.now c.split_at_mut-before.result.1.now c.split_at_mut-here.result.0.now c.split_at_mut-here.result.1.now
@@ -58,10 +62,12 @@ returns-clause-tells g c =
           c.args.servers.now c.args.places.now c.in-Some.ensures.cases.0 c.split_at_mut-workers.ensures.value c.split_at_mut-workers.ensures.front_len c.split_at_mut-before.ensures.value c.split_at_mut-here.ensures.value c.requires.ready) c.race_line.ensures.own c.race_line.ensures.lie (All-weaker (IsFreePass c.args.manager.now) (IsOf c.args.manager.now) (λ p is. is.own) _ c.race_line.ensures.racers),
     )) c.race_line.ensures.tells
 
-pub returns-clause-free : goal.returns-clause-free
-returns-clause-free g c =
-    racers_after (λ b. (goal.Server-dyn g (b.vtable, b.value)).behaviour b.value) (λ b. (goal.Server-dyn g (b.vtable, b.value)).registers b.value) (λ b. (goal.Server-dyn g (b.vtable, b.value)).pending b.value) c.args.manager.now c.args.passes.now c.in-Some.client.now c.in-Some.others.now c.split_at_mut-workers.result.0.now c.split_at_mut-workers.result.1.now c.split_at_mut-before.result.0.now c.split_at_mut-before.result.1.now c.split_at_mut-here.result.0.now c.split_at_mut-here.result.1.now
+pub returns-clause-held : goal.returns-clause-held
+returns-clause-held g c =
+    let needed = c.split_at_mut-here.ensures.front_len ∙ (c.from.ensures ∙ c.racers.ensures) in
+    let free = subst (λ (k : ℕ × ℕ). All (IsFreePass c.args.manager.now) (take k.0 (drop k.1 (after_servers (length c.args.servers.now) c.args.passes.now)))) (λ i. (sym needed i, sym c.split_at_mut-before.ensures.front_len i)) c.requires.free in
+    held_after (λ b. (goal.Server-dyn g (b.vtable, b.value)).behaviour b.value) (λ b. (goal.Server-dyn g (b.vtable, b.value)).registers b.value) (λ b. (goal.Server-dyn g (b.vtable, b.value)).pending b.value) c.args.manager.now c.args.passes.now c.in-Some.client.now c.in-Some.others.now c.split_at_mut-workers.result.0.now c.split_at_mut-workers.result.1.now c.split_at_mut-before.result.0.now c.split_at_mut-before.result.1.now c.split_at_mut-here.result.0.now c.split_at_mut-here.result.1.now
     c.args.servers.now c.args.places.now c.in-Some.ensures.cases.0 c.split_at_mut-workers.ensures.value c.split_at_mut-workers.ensures.front_len c.split_at_mut-before.ensures.value c.split_at_mut-here.ensures.value c.requires.ready
     c.in-Some.client.now c.race_line.new.passes c.race_line.new.racers c.race_line.new.servers c.race_line.new.places (client_free (λ b. (goal.Server-dyn g (b.vtable, b.value)).behaviour b.value) (λ b. (goal.Server-dyn g (b.vtable, b.value)).registers b.value) (λ b. (goal.Server-dyn g (b.vtable, b.value)).pending b.value) c.args.manager.now c.args.passes.now c.in-Some.client.now c.in-Some.others.now c.split_at_mut-workers.result.0.now c.split_at_mut-workers.result.1.now c.split_at_mut-before.result.0.now c.split_at_mut-before.result.1.now c.split_at_mut-here.result.0.now c.split_at_mut-here.result.1.now
     c.args.servers.now c.args.places.now c.in-Some.ensures.cases.0 c.split_at_mut-workers.ensures.value c.split_at_mut-workers.ensures.front_len c.split_at_mut-before.ensures.value c.split_at_mut-here.ensures.value c.requires.ready) c.race_line.ensures.own c.race_line.ensures.lie (All-weaker (IsFreePass c.args.manager.now) (IsOf c.args.manager.now) (λ p is. is.own) _ c.race_line.ensures.racers)
-    c.race_line.auto.servers c.requires.free c.race_line.ensures.racers
+    c.race_line.auto.servers (none_open c.args.manager.now c.split_at_mut-here.result.0.now c.race_line.new.racers c.race_line.ensures.racers_numbered (here_free (λ b. (goal.Server-dyn g (b.vtable, b.value)).behaviour b.value) (λ b. (goal.Server-dyn g (b.vtable, b.value)).registers b.value) (λ b. (goal.Server-dyn g (b.vtable, b.value)).pending b.value) c.args.manager.now c.args.passes.now c.in-Some.client.now c.in-Some.others.now c.split_at_mut-workers.result.0.now c.split_at_mut-workers.result.1.now c.split_at_mut-before.result.0.now c.split_at_mut-before.result.1.now c.split_at_mut-here.result.0.now c.split_at_mut-here.result.1.now c.args.servers.now c.args.places.now c.in-Some.ensures.cases.0 c.split_at_mut-workers.ensures.value c.split_at_mut-workers.ensures.front_len c.split_at_mut-before.ensures.value c.split_at_mut-here.ensures.value c.requires.ready free) c.race_line.ensures.racers)

@@ -1,4 +1,4 @@
-use Rattle.tp_script.specs.Grammar.{script}
+use Rattle.tp_script.specs.Whole.{script}
 use Rattle.tp_reference.specs.PlainReport.{report_of_read}
 use Rattle.tp_report.proofs.Devices.{front_none, if_some}
 use Rattle.tp_reference.proofs.plain.run_plain.Goals as goal

@@ -6,11 +6,11 @@ use Rattle.tp_reference.specs.PlainRunning.{state, IsSetUp}
 use Rattle.tp_reference.proofs.plain_report.write_plain_report.Given as goal
 
 -- what is written, and what the commands from here on write, is the report
-abbrev pub invariant-loop-command : goal.invariant-loop-command
-invariant-loop-command g l =
+abbrev pub invariant-loop-act : goal.invariant-loop-act
+invariant-loop-act g l =
     record {
       written :
           IsWrittenUpTo (g.W.Sink.contents l.fn.sink) (g.W.Sink.contents l.sink) (report_of (script_view l.script))
-          (reports (map server_view l.script.servers.items) l.script.account (drop l.command-index l.script.commands.items) (state l.run));
-      ready : IsSetUp (map server_view l.script.servers.items) l.run;
+          (reports (map server_view l.script.head.servers.items) l.script.account (drop l.act-index l.script.acts.items) (state l.run));
+      ready : IsSetUp (map server_view l.script.head.servers.items) l.run;
     }

@@ -1,7 +1,7 @@
 use Rattle.std.proofs.Common.{◌≡◌, [], List, ℕ, drop, map, ◌∙◌, ap, refl, arith, Bor, length}
 use Rattle.std.proofs.lemmas.List.{drop_more, drop_all}
 use Rattle.tp_script.specs.Text.{lines}
-use Rattle.tp_script.specs.Grammar.{lines_from, no_lines}
+use Rattle.tp_script.specs.Whole.{lines_from, no_lines}
 use Rattle.tp_script.specs.Script.{script_view}
 use Rattle.tp_script.proofs.LinesLemmas.{lines_go_on, lines_end, lines_done, script_is, script_past}
 use Rattle.tp_script.proofs.parse.parse.Goals as goal

@@ -1,6 +1,6 @@
 use Rattle.std.proofs.Common.{◌≡◌, ◌+◌, drop, map}
 use Rattle.tp_script.specs.Text.{lines}
-use Rattle.tp_script.specs.Grammar.{lines_from, no_lines}
+use Rattle.tp_script.specs.Whole.{lines_from, no_lines}
 use Rattle.tp_script.specs.Script.{script_view}
 use Rattle.tp_script.proofs.parse.parse.Given as goal
 

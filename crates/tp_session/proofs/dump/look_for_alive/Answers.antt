@@ -1,7 +1,7 @@
 use Rattle.std.proofs.Common.{inr, sym}
 use Rattle.std.specs.Prelude.{string_bytes}
 use Rattle.std.proofs.lemmas.Result.{IfOk-weaker}
-use Rattle.tp_script.specs.Session.{head_view}
+use Rattle.tp_script.specs.Script.{head_view}
 use Rattle.tp_commands.proofs.Lies.{lie_servers}
 use Rattle.tp_session.proofs.AliveLemmas.{surveyed_leads}
 use Rattle.tp_session.proofs.LiveLemmas.{leads_so}

@@ -10,7 +10,7 @@ returns-then-not-places-at g c =
 
 pub returns : goal.returns
 returns g c =
-    let within : c.args.at < length c.args.script.now.servers.items = omega (arith, c.requires.within, c.requires.all) in
-    drop_one _ _ (server_view c.index.result.now) _ _ _ (seen_at server_view c.args.script.now.servers.items c.args.at c.index.result.now within c.index.ensures)
+    let within : c.args.at < length c.args.head.now.servers.items = omega (arith, c.requires.within, c.requires.all) in
+    drop_one _ _ (server_view c.index.result.now) _ _ _ (seen_at server_view c.args.head.now.servers.items c.args.at c.index.result.now within c.index.ensures)
     (flag_at (λ p. p.is_dropped) c.args.places.now c.args.at c.index-places-at.result _ c.requires.within c.if-not-places-at.false)
     (rw c.as_str-name.ensures.value at c.in_ok-format.ensures.ok) (pushed string_bytes _ _ c.in_ok-format.field-0 c.in_ok-push.ensures.items)

@@ -1,6 +1,6 @@
 use Rattle.std.proofs.Common.{◌≡◌, ◌++◌, map, take}
 use Rattle.std.specs.Prelude.{string_bytes}
-use Rattle.tp_script.specs.Session.{worker_view}
+use Rattle.tp_script.specs.Script.{worker_view}
 use Rattle.tp_session.specs.Dump.{worker_text}
 use Rattle.tp_session.proofs.dump_lines.add_workers.Given as goal
 

@@ -1,6 +1,6 @@
 use Rattle.std.proofs.Common.{◌∙◌, ap, arith, length}
 use Rattle.tp_report.proofs.Devices.{always_err}
-use Rattle.tp_script.specs.Session.{head_view}
+use Rattle.tp_script.specs.Script.{head_view}
 use Rattle.tp_session.proofs.AttendLemmas.{come_same, head_command, head_end, head_front, head_next}
 use Rattle.tp_session.proofs.SpendLemmas.{spends_same, spends_then}
 use Rattle.tp_session.proofs.ToldLemmas.{told_so_far}

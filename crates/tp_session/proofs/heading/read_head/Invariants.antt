@@ -1,5 +1,5 @@
 use Rattle.std.proofs.Common.{◌≡◌, ◌+◌, ◌≤◌, ◌++◌, length}
-use Rattle.tp_script.specs.Session.{head_view}
+use Rattle.tp_script.specs.Script.{head_view}
 use Rattle.tp_session.specs.Heard.{Hears, Tells}
 use Rattle.tp_session.specs.Reading.{Spends, room, to_come}
 use Rattle.tp_session.specs.Told.{HeadTold}

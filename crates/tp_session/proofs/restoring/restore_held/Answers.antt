@@ -18,6 +18,7 @@ returns-clause-held g c =
       ready = subst (λ x. AreReady (λ b. (goal.Server-dyn g (b.vtable, b.value)).behaviour b.value) (λ b. (goal.Server-dyn g (b.vtable, b.value)).registers b.value) (λ b. (goal.Server-dyn g (b.vtable, b.value)).pending b.value) c.restore.new.managed.manager c.restore.new.managed.passes.items c.args.held.now.servers.items x) (sym (refilled (length c.args.held.now.places.items) c.args.held.now.places.items c.restore.new.places refl os)) (rw c.as_slice.ensures.value at e.ready);
       each_server = c.requires.held.each_server;
       each_worker = c.requires.held.each_worker;
+      racers = c.requires.held.racers;
       parts = e.managed.parts ∙ (ap (λ l. l.parts) e.limits ∙ (sym c.requires.held.managed.parts ∙ c.requires.held.parts));
       in_hand = (rw c.as_slice.ensures.value at e.held) ∙ c.requires.held.in_hand;
     }

@@ -4,7 +4,7 @@ use Rattle.tp_report.proofs.Devices.{always_err}
 use Rattle.tp_session.proofs.SessionLemmas.{front_nothing}
 use Rattle.tp_perform.proofs.Pushes.{extended, renamed}
 use Rattle.tp_server.specs.Behaviour.{Behaviour, behaviour_of}
-use Rattle.tp_perform.specs.contracts.serve.put.{dyn-1-ghosts}
+use Rattle.tp_perform.specs.contracts.boxes.put.{dyn-1-ghosts}
 use denote.Param.Object.{read_made}
 use Rattle.tp_session.proofs.session.with_managed.OwnLists.{own-1, lawful-own-1}
 use Rattle.tp_session.proofs.session.with_managed.Hidden.{sends-own-1}
