@@ -13,6 +13,18 @@
  *   tests neither.
  * - What a call writes, it writes where it answers COVETRIVET_OK, and nowhere else.
  *
+ * What becomes of an element:
+ *
+ * - It waits until a claim takes it into a unit of work, which holds it then. A commit consumes it. An abort, a
+ *   release, or a commit that answers FULL is an attempt that failed: the element waits again, and after
+ *   `attempts` of these it is parked. A requeue gives it as many anew, three times at most.
+ * - A kill, a cancel, and of a reply a collect, kills it. What is consumed or killed stays so.
+ * - The outputs that units made of a client's element, and of these, are its family, and its id is their root.
+ *
+ * No call waits: who finds IDLE or NONE asks again later. Rows and units of work are used once, and what is
+ * finished gives none back. So FULL of a submit or a commit, and NO_UNIT of a claim, mean that it is time for
+ * covetrivet_roll_over: each thread hands its caller back, one of them rolls over, and each opens one again.
+ *
  * Each function but covetrivet_close and covetrivet_give_up answers one of the codes below. Each may be
  * called in any state of its handles: what it cannot do has a code. Memory is taken by make, open and
  * roll_over alone. */
@@ -53,8 +65,8 @@ typedef struct covetrivet_limits {
 /* An element. Nothing of it ever changes. */
 typedef struct covetrivet_element {
   uint64_t body[4];
-  uint32_t id;   /* from 0 on, below the capacity */
-  uint32_t root; /* the id of the client's element that it goes back to */
+  uint32_t id;   /* from 0 on, below the capacity; a rollover gives a new one */
+  uint32_t root; /* the id of the client's element that it goes back to; that one's own is its id */
   uint32_t by;   /* the unit of work that made it; COVETRIVET_BY_CLIENT where a client submitted it */
   uint8_t stage; /* 1 to 14, or COVETRIVET_REPLIES */
 } covetrivet_element;
@@ -112,12 +124,12 @@ typedef struct covetrivet_left {
   uint16_t units;
 } covetrivet_left;
 
-/* How many elements there are of each kind of status. */
+/* How many elements there are of each kind of status. Replies that were collected are killed. */
 typedef struct covetrivet_counts {
   uint32_t waiting, held, consumed, parked, killed;
 } covetrivet_counts;
 
-/* One element that a rollover carried over: its id and its root's before and after. */
+/* One element that a rollover carried over: its id and its root's, in the old manager and in the new one. */
 typedef struct covetrivet_moved {
   uint32_t old_id, new_id, old_root, new_root;
 } covetrivet_moved;
@@ -135,13 +147,13 @@ enum {
   COVETRIVET_NOT_THERE = 7,      /* no such element was born */
   COVETRIVET_WAS_CONSUMED = 8,   /* a unit that took the element has committed */
   COVETRIVET_ALREADY_KILLED = 9, /* it was killed before, or collected */
-  COVETRIVET_FULL = 10,          /* no row and no spare block is left; a commit's unit is aborted */
+  COVETRIVET_FULL = 10,          /* no row and no spare block is left; of a commit: its unit is aborted */
   COVETRIVET_NOT_PARKED = 11,
   COVETRIVET_NO_ROUND = 12,      /* it is parked, and has had its three further rounds */
   COVETRIVET_NOT_HELD = 13,
   COVETRIVET_NOT_WAITING = 14,   /* it is held, parked, consumed or killed */
   COVETRIVET_NO_UNIT = 15,       /* the caller has used its units of work */
-  COVETRIVET_IDLE = 16,          /* nothing was found to wait */
+  COVETRIVET_IDLE = 16,          /* nothing of the stage was found to wait */
   COVETRIVET_LOST = 17,          /* another caller had aborted the unit of work: none of it is seen */
   COVETRIVET_NONE = 18,          /* there is none */
   COVETRIVET_BUSY = 19,          /* the caller has a unit of work open */
@@ -167,7 +179,8 @@ void covetrivet_give_up(covetrivet_manager *manager);
 uint32_t covetrivet_open(covetrivet_manager *manager, covetrivet_caller *caller);
 
 /* Hands a caller back: it is at home again, in any order, and its handle is closed. It must be of this
- * manager, which nothing tests. NO_MEMORY only where it is not. */
+ * manager, which nothing tests. NO_MEMORY only where it is not. A unit of work that it has open stays so, and
+ * whoever opens the caller next has it. */
 uint32_t covetrivet_hand_back(covetrivet_manager *manager, covetrivet_caller *caller);
 
 /* Closes a caller for good: its rows and units of work are lost, and account, gather and roll_over answer
@@ -187,14 +200,18 @@ uint32_t covetrivet_account(covetrivet_manager *manager, uint8_t stage, covetriv
 /* All callers look until all have seen one history. NOT_ALL. */
 uint32_t covetrivet_gather(covetrivet_manager *manager);
 
-/* What waits or is parked, each element once, goes on in a new manager with these limits, and nothing else
- * does. The handle leads to the new manager then, all of whose callers are at home. How many elements that
- * are. NOT_ALL, BUSY (a caller has a unit open), BAD_LIMITS (also where `attempts` differs), FULL (the new
- * limits have not the rows or units), NO_MEMORY: where it is refused the old manager stands as it did. */
+/* What waits or is parked, replies too, goes on in a new manager with these limits, each element once, and
+ * nothing else does. The handle leads to the new manager then, all of whose callers are at home. How many
+ * elements that are. Their order, bodies, stages, attempts and rounds are as they were, and their ids are not:
+ * see covetrivet_moved_at. Where an element's root had been consumed, the new root is one that was made and
+ * consumed in the rollover. It took a row and a unit of work, as each such one, and account counts them.
+ * NOT_ALL, BUSY (a caller has a unit open), BAD_LIMITS (also where `attempts` differs), FULL (the new limits
+ * have not the rows or units), NO_MEMORY: where it is refused the old manager stands as it did. */
 uint32_t covetrivet_roll_over(covetrivet_manager *manager, const covetrivet_limits *limits, size_t *count);
 
 /* The element that the last rollover carried over in this place, from 0 on, by ascending ids. NONE behind the
- * last. */
+ * last. Of one family all have one old root, and one new root: a client whose request is old_root goes on with
+ * new_root. A request of which nothing is named has nothing left that waits or is parked. */
 uint32_t covetrivet_moved_at(covetrivet_manager *manager, size_t place, covetrivet_moved *moved);
 
 /* ---- of a client ---- */
@@ -208,26 +225,30 @@ uint32_t covetrivet_read(covetrivet_caller *caller, uint32_t id, covetrivet_look
 /* How many further rounds of attempts it was given, 0 to 3. NOT_THERE. */
 uint32_t covetrivet_rounds(covetrivet_caller *caller, uint32_t id, uint8_t *rounds);
 
-/* The least id from `from` on: of a reply to the request with this root that waits; of an element that is
- * parked; of an element of the request's family, with its status. NONE. */
+/* The least id from `from` on: of a waiting reply to the request with this root; of an element that is parked;
+ * of an element of the request's family, with its status. NONE. */
 uint32_t covetrivet_reply(covetrivet_caller *caller, uint32_t root, uint32_t from, uint32_t *id);
 uint32_t covetrivet_next_error(covetrivet_caller *caller, uint32_t from, uint32_t *id);
 uint32_t covetrivet_family(covetrivet_caller *caller, uint32_t root, uint32_t from, covetrivet_look *look);
 
-/* Takes a reply, once: with this id, or the least to a request that waits. The caller has no unit open.
- * NOT_THERE, BAD_STAGE (no reply), ALREADY_KILLED, BUSY; NONE, BUSY. */
+/* Takes a reply, once, by killing it: the one with this id, or the waiting one with the least id to the request
+ * with this root. The caller has no unit open. NOT_THERE, BAD_STAGE (no reply), ALREADY_KILLED, BUSY of the
+ * first; NONE, BUSY of the second. */
 uint32_t covetrivet_collect(covetrivet_caller *caller, uint32_t id, covetrivet_element *element);
 uint32_t covetrivet_collect_next(covetrivet_caller *caller, uint32_t root, covetrivet_element *element);
 
-/* Gives a parked element another round of attempts. Which, 1 to 3. NOT_THERE, NOT_PARKED, NO_ROUND. */
+/* Gives a parked element another round of attempts: it waits again, with none so far. Which, 1 to 3. NOT_THERE,
+ * NOT_PARKED, NO_ROUND. */
 uint32_t covetrivet_requeue(covetrivet_caller *caller, uint32_t id, uint8_t *round);
 
 /* Kills an element. How many units of work that held it were aborted. NOT_THERE, WAS_CONSUMED,
  * ALREADY_KILLED, BUSY. A refused kill may have aborted units. */
 uint32_t covetrivet_kill(covetrivet_caller *caller, uint32_t id, uint8_t *aborted);
 
-/* Cancels a request: kills each element of its family that is no reply and not finished. How many. NOT_THERE,
- * BUSY. */
+/* Cancels a request: kills each element of its family that is no reply and neither consumed nor killed, and
+ * aborts the units of work that hold one: these answer LOST. How many it killed; with 0 all were finished, and
+ * replies may be there. Nothing of the family but its replies is taken, committed or made any more. NOT_THERE
+ * (no client's element has this id), BUSY. */
 uint32_t covetrivet_cancel(covetrivet_caller *caller, uint32_t root, uint32_t *killed);
 
 /* Aborts the unit of work that holds an element. Which that was. NOT_THERE, NOT_HELD, BUSY. */
@@ -235,18 +256,21 @@ uint32_t covetrivet_release(covetrivet_caller *caller, uint32_t id, covetrivet_r
 
 /* ---- of a server ---- */
 
-/* Takes an element of a stage, 1 to 14, into a new unit of work: the first that waits; the next in turn; the
- * one with this id. BAD_STAGE, BUSY, NO_UNIT; IDLE of the first two; NOT_THERE, NOT_WAITING of the last. */
+/* Takes an element of a stage, 1 to 14, into a new unit of work: of those that wait the one with the least id;
+ * the one that comes next, as in a circle, behind the one that this caller took last by claim_next, so that one
+ * that is given up again and again lets others pass; the one with this id. The caller has no unit open.
+ * BAD_STAGE, BUSY, NO_UNIT; IDLE of the first two; NOT_THERE, NOT_WAITING of the last. */
 uint32_t covetrivet_claim(covetrivet_caller *caller, uint8_t stage, covetrivet_work *work);
 uint32_t covetrivet_claim_next(covetrivet_caller *caller, uint8_t stage, covetrivet_work *work);
 uint32_t covetrivet_claim_id(covetrivet_caller *caller, uint32_t id, covetrivet_work *work);
 
-/* Gives up the open unit of work: its element waits again, or is parked. NO_OPEN, LOST. */
+/* Gives up the open unit of work: its element waits again, or is parked. After LOST too none is open. NO_OPEN,
+ * LOST. */
 uint32_t covetrivet_abort(covetrivet_caller *caller);
 
-/* Commits the open unit of work: in one step its element is consumed and the drafts are born. At most four,
- * and `drafts` may be null where there is none. LOST, FULL, after which the unit is ended; NO_OPEN,
- * TOO_MANY, BAD_DRAFT, which change nothing. */
+/* Commits the open unit of work: in one step its element is consumed and the drafts are born, in rows of this
+ * caller. At most four, and `drafts` may be null where there is none. LOST, which uses up the drafts' rows, and
+ * FULL, after which none is open; NO_OPEN, TOO_MANY, BAD_DRAFT, which change nothing. */
 uint32_t covetrivet_commit(covetrivet_caller *caller, const covetrivet_draft *drafts, size_t count,
                            covetrivet_born *born);
 

@@ -8,7 +8,7 @@ use crate::work::Work;
 /// One thread's way to act on a manager. It may go to another thread, and goes on where its manager was given up.
 ///
 /// A caller that is dropped is lost to the account and to rollovers: hand it back by
-/// [`Manager::hand_back`](crate::Manager::hand_back).
+/// [`Manager::hand_back`](crate::Manager::hand_back). So lend it to a function that may return early, as by `?`.
 pub struct Caller {
     pub(crate) handle: Handle,
     pub(crate) manager: u64,
@@ -52,7 +52,7 @@ impl Caller {
         written(|rounds| unsafe { sys::covetrivet_rounds(&mut self.handle, id, rounds) })
     }
 
-    /// The least id from this one on of a reply to the request with this root that waits.
+    /// The least id from this one on of a waiting reply to the request with this root.
     pub fn reply(&mut self, root: u32, from: u32) -> Option<u32> {
         found(sys::NONE, |id| unsafe { sys::covetrivet_reply(&mut self.handle, root, from, id) }).ok()?
     }
@@ -69,19 +69,20 @@ impl Caller {
         look.map(|it| Look::of(&it))
     }
 
-    /// Takes the reply with this id, once. `NotThere`, `BadStage`, `AlreadyKilled`, `Busy`.
+    /// Takes the reply with this id, once, by killing it. `NotThere`, `BadStage`, `AlreadyKilled`, `Busy`.
     pub fn collect(&mut self, id: u32) -> Result<Element, Error> {
         written(|reply| unsafe { sys::covetrivet_collect(&mut self.handle, id, reply) }).map(|it| Element::of(&it))
     }
 
-    /// Takes the least reply to a request that waits, once, if there is one. `Busy`.
+    /// Takes the waiting reply with the least id to the request with this root, once, if there is one. `Busy`.
     pub fn collect_next(&mut self, root: u32) -> Result<Option<Element>, Error> {
         let reply: Option<sys::Element> =
             found(sys::NONE, |reply| unsafe { sys::covetrivet_collect_next(&mut self.handle, root, reply) })?;
         Ok(reply.map(|it| Element::of(&it)))
     }
 
-    /// Gives a parked element another round of attempts. Which, 1 to 3. `NotThere`, `NotParked`, `NoRound`.
+    /// Gives a parked element another round of attempts: it waits again, with none so far. Which, 1 to 3. `NotThere`,
+    /// `NotParked`, `NoRound`.
     pub fn requeue(&mut self, id: u32) -> Result<u8, Error> {
         written(|round| unsafe { sys::covetrivet_requeue(&mut self.handle, id, round) })
     }
@@ -92,8 +93,9 @@ impl Caller {
         written(|aborted| unsafe { sys::covetrivet_kill(&mut self.handle, id, aborted) })
     }
 
-    /// Cancels a request: kills each element of its family that is no reply and not finished. How many. `NotThere`,
-    /// `Busy`.
+    /// Cancels a request: kills each element of its family that is no reply and neither consumed nor killed, and
+    /// aborts the units of work that hold one. How many it killed; with 0 all were finished, and replies may be
+    /// there. `NotThere`, `Busy`.
     pub fn cancel(&mut self, root: u32) -> Result<u32, Error> {
         written(|killed| unsafe { sys::covetrivet_cancel(&mut self.handle, root, killed) })
     }
@@ -103,13 +105,15 @@ impl Caller {
         written(|released| unsafe { sys::covetrivet_release(&mut self.handle, id, released) })
     }
 
-    /// Takes the first element of a stage, 1 to 14, that waits, if there is one. `BadStage`, `NoUnit`, `Busy`.
+    /// Takes the element of a stage, 1 to 14, that waits and has the least id, if there is one. `BadStage`, `NoUnit`,
+    /// `Busy`.
     pub fn claim(&mut self, stage: u8) -> Result<Option<Work<'_>>, Error> {
         let work = found(sys::IDLE, |work| unsafe { sys::covetrivet_claim(&mut self.handle, stage, work) })?;
         Ok(work.map(|it| Work::of(self, &it)))
     }
 
-    /// Takes the next element of a stage in turn, so that each other one that waits has its turn first.
+    /// Takes the one that comes next, as in a circle, behind the one that this caller took last so. One that is given up
+    /// again and again lets others pass. Otherwise as [`claim`](Caller::claim).
     pub fn claim_next(&mut self, stage: u8) -> Result<Option<Work<'_>>, Error> {
         let work = found(sys::IDLE, |work| unsafe { sys::covetrivet_claim_next(&mut self.handle, stage, work) })?;
         Ok(work.map(|it| Work::of(self, &it)))

@@ -19,8 +19,31 @@
 //! # Ok::<(), covetrivet::Error>(())
 //! ```
 //!
-//! A manager makes at most as many elements as its rows, and then goes on by a rollover into a new one
-//! ([`Manager::roll_over`]). Its calls are proved in Rattle; docs/C.md of the repository says what is trusted besides,
+//! No call waits: who finds nothing asks again later. Rows and units of work are used once, and what is finished gives
+//! none back. So [`Error::Full`] and [`Error::NoUnit`] mean that it is time for a rollover ([`Manager::roll_over`]).
+//! Each thread hands its caller back ([`Manager::hand_back`]) and waits, say for a `Condvar`; one of them rolls over
+//! and exchanges the ids that the program keeps; and each opens a caller again. docs/C.md of the repository has more.
+//!
+//! ```
+//! use covetrivet::{Draft, Error, Limits, Manager};
+//!
+//! let manager = Manager::new(Limits { parts: 1, rows: 2, units: 2, spare: 0, attempts: 3 })?;
+//! let mut caller = manager.open()?;
+//! let order = caller.submit(1, [7, 0, 0, 0])?;
+//! caller.claim(1)?.unwrap().commit(&[Draft::new(2, [8, 0, 0, 0])])?;
+//! assert_eq!(caller.submit(1, [9, 0, 0, 0]), Err(Error::Full));
+//!
+//! manager.hand_back(caller).map_err(|(_, error)| error)?;
+//! let moved = manager.succeed()?;
+//! // (the request's first element was consumed, so its family has a new root, which is consumed too)
+//! assert_eq!((moved.len(), moved[0].old_root, manager.account()?.total.consumed), (1, order, 1));
+//!
+//! let mut caller = manager.open()?;
+//! assert_eq!(caller.claim(2)?.unwrap().element().root, moved[0].new_root);
+//! # Ok::<(), covetrivet::Error>(())
+//! ```
+//!
+//! The calls are proved in Rattle; docs/C.md of the repository says what is trusted besides,
 //! and this crate keeps to what is listed there: the handles are never null, never copied, and used by one thread at
 //! a time.
 

@@ -42,7 +42,7 @@ impl Manager {
         Ok(Caller::of(caller, self.id))
     }
 
-    /// Takes a caller home again. It comes back where it is of another manager (`OtherManager`).
+    /// Takes a caller home again, in any order. It comes back where it is of another manager (`OtherManager`).
     pub fn hand_back(&self, mut caller: Caller) -> Result<(), (Caller, Error)> {
         if caller.manager != self.id {
             return Err((caller, Error::OtherManager));
@@ -71,7 +71,7 @@ impl Manager {
     }
 
     /// How many elements there are of each kind of status, in all and by stage, after one history that all callers have
-    /// then seen. `NotAll` unless all are at home.
+    /// then seen. Replies that were collected are killed. `NotAll` unless all are at home.
     pub fn account(&self) -> Result<Account, Error> {
         let mut handle = self.handle();
         let mut account = Account::default();
@@ -91,9 +91,15 @@ impl Manager {
         told(unsafe { sys::covetrivet_gather(&mut self.handle()) }, ())
     }
 
-    /// What waits or is parked goes on in a new manager with these limits, each element once, and nothing else does.
-    /// This is the new manager then, all of whose callers are at home. What was carried over, by ascending ids.
-    /// `NotAll`, `Busy`, `BadLimits`, `Full`, `NoMemory`, where the old one stands as it did.
+    /// What waits or is parked, replies too, goes on in a new manager with these limits, each element once, and nothing
+    /// else does. This is the new manager then, all of whose callers are at home. What was carried over, by ascending
+    /// ids: their order, bodies, stages, attempts and rounds are as they were, and their ids are not.
+    ///
+    /// Where an element's root had been consumed, its new root is one that was made and consumed in the rollover. It
+    /// took a row and a unit of work, as each such one, and the account counts them.
+    ///
+    /// `NotAll`, `Busy`, `BadLimits` (also where `attempts` differs), `Full`, `NoMemory`, where the old one stands as
+    /// it did.
     pub fn roll_over(&self, limits: Limits) -> Result<Vec<Moved>, Error> {
         let mut handle = self.handle();
         let mut count = 0;

@@ -142,7 +142,9 @@ pub struct Account {
     pub stages: [Counts; 15],
 }
 
-/// One element that a rollover carried over: its id and its root's before and after.
+/// One element that a rollover carried over: its id and its root's, in the old manager and in the new one.
+///
+/// All of one family have one old root, and one new root: who kept the old one as a request goes on with the new one.
 #[repr(C)]
 #[derive(Clone, Copy, Debug, Default, PartialEq, Eq)]
 pub struct Moved {

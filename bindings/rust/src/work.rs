@@ -42,14 +42,15 @@ impl<'a> Work<'a> {
         self.attempt
     }
 
-    /// The caller, for what it may do meanwhile: submit, read, look. The rest answers `Busy`.
+    /// The caller, for what it may do meanwhile: submit, read, look, requeue. The rest answers `Busy`, but
+    /// [`Caller::abort`] ends this work.
     pub fn caller(&mut self) -> &mut Caller {
         self.caller
     }
 
-    /// Consumes the element and makes these outputs, at most four, in one step. Their ids. It is over where this is
-    /// refused as `Lost` or `Full`, and goes on being held where as `TooMany` or `BadDraft`: then it is dropped, and
-    /// so aborted.
+    /// Consumes the element and makes these outputs, at most four, in one step. Their ids. Refused as `Lost` or `Full`
+    /// it is over: after `Full` the element waits again or is parked. Refused as `TooMany` or `BadDraft` it is dropped,
+    /// and so aborted.
     pub fn commit(mut self, drafts: &[Draft]) -> Result<Range<u32>, Error> {
         let mut born = sys::Born::default();
         // SAFETY: the handle is a caller's and open; the drafts are a slice.
