@@ -1,7 +1,7 @@
 -- What contracts say of a manager with the passes that are at home.
-use Rattle.std.specs.Prelude.{◌≡◌, ◌≢◌, ◌⊎◌, ◌≤◌, ℕ, zero, suc, All, List, [], length}
+use Rattle.std.specs.Prelude.{◌≡◌, ◌≢◌, ◌⊎◌, ℕ, nat_le, zero, suc, All, List, [], length}
 use Rattle.std.specs.Arc.{arc_value}
-use Rattle.std.specs.List.{AllZip, insert, slice_index_or}
+use Rattle.std.specs.List.{AllZip, insert, prefix_len, slice_index_or}
 use Rattle.tp_model.specs.declared.types.Account.{Account}
 use Rattle.tp_model.specs.declared.types.Counts.{Counts}
 use Rattle.tp_model.specs.declared.types.Limits.{Limits}
@@ -49,11 +49,13 @@ IsUnlent passes (faults.Refused refusals.NoMemory) = Unit {0}
 IsUnlent passes (faults.Refused other) = ⊥
 IsUnlent passes other = ⊥
 
--- the pass is at home too
-pub record TakesHome (pass : PassShown) (olds news : List PassShown) : Type 0 where
-  pub place : ℕ
-  pub inside : place ≤ length olds
-  pub news_are : news ≡ insert olds place pass
+-- how many first passes have no higher number than this
+abbrev pub place_in : List PassShown → ℕ → ℕ
+place_in passes number = prefix_len (λ (p : PassShown). nat_le p.number number) passes
+
+-- the pass is at home too, in order of number where the others were
+abbrev pub TakesHome : PassShown → List PassShown → List PassShown → Type 0
+TakesHome pass olds news = news ≡ insert olds (place_in olds pass.number) pass
 
 -- in at most as many steps as a gathering takes, all have seen one history
 abbrev pub HasGathered : Limits → KeeperShown → KeeperShown → List PassShown → List PassShown → Type 0
