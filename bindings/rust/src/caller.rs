@@ -15,6 +15,7 @@ pub struct Caller {
 }
 
 /// What the library writes where its code is 0.
+#[inline]
 fn written<T: Default>(call: impl FnOnce(&mut T) -> u32) -> Result<T, Error> {
     let mut value = T::default();
     let code = call(&mut value);
@@ -22,6 +23,7 @@ fn written<T: Default>(call: impl FnOnce(&mut T) -> u32) -> Result<T, Error> {
 }
 
 /// The same, and nothing where this code says that there is none.
+#[inline]
 fn found<T: Default>(none: u32, call: impl FnOnce(&mut T) -> u32) -> Result<Option<T>, Error> {
     let mut value = T::default();
     match call(&mut value) {
@@ -32,32 +34,40 @@ fn found<T: Default>(none: u32, call: impl FnOnce(&mut T) -> u32) -> Result<Opti
 
 // SAFETY of all below: the handle is a caller's and open, it is used by `&mut`, and what is written to is a local
 // value.
+//
+// What threads call most is inlined into other crates: else the copies of its answer cost some 5 nanoseconds.
 impl Caller {
+    #[inline]
     pub(crate) fn of(handle: Handle, manager: u64) -> Caller {
         Caller { handle, manager }
     }
 
     /// Puts an element into the queue of a stage, 1 to 14. Its id. `BadStage`, `Full`.
+    #[inline]
     pub fn submit(&mut self, stage: u8, body: Body) -> Result<u32, Error> {
         written(|id| unsafe { sys::covetrivet_submit(&mut self.handle, stage, &body, id) })
     }
 
     /// The element with this id, and how it stands. `NotThere`.
+    #[inline]
     pub fn read(&mut self, id: u32) -> Result<Look, Error> {
         written(|look| unsafe { sys::covetrivet_read(&mut self.handle, id, look) }).map(|it| Look::of(&it))
     }
 
     /// How many further rounds of attempts it was given, 0 to 3. `NotThere`.
+    #[inline]
     pub fn rounds(&mut self, id: u32) -> Result<u8, Error> {
         written(|rounds| unsafe { sys::covetrivet_rounds(&mut self.handle, id, rounds) })
     }
 
     /// The least id from this one on of a waiting reply to the request with this root.
+    #[inline]
     pub fn reply(&mut self, root: u32, from: u32) -> Option<u32> {
         found(sys::NONE, |id| unsafe { sys::covetrivet_reply(&mut self.handle, root, from, id) }).ok()?
     }
 
     /// The least id from this one on of an element that is parked.
+    #[inline]
     pub fn next_error(&mut self, from: u32) -> Option<u32> {
         found(sys::NONE, |id| unsafe { sys::covetrivet_next_error(&mut self.handle, from, id) }).ok()?
     }
@@ -70,11 +80,13 @@ impl Caller {
     }
 
     /// Takes the reply with this id, once, by killing it. `NotThere`, `BadStage`, `AlreadyKilled`, `Busy`.
+    #[inline]
     pub fn collect(&mut self, id: u32) -> Result<Element, Error> {
         written(|reply| unsafe { sys::covetrivet_collect(&mut self.handle, id, reply) }).map(|it| Element::of(&it))
     }
 
     /// Takes the waiting reply with the least id to the request with this root, once, if there is one. `Busy`.
+    #[inline]
     pub fn collect_next(&mut self, root: u32) -> Result<Option<Element>, Error> {
         let reply: Option<sys::Element> =
             found(sys::NONE, |reply| unsafe { sys::covetrivet_collect_next(&mut self.handle, root, reply) })?;
@@ -89,6 +101,7 @@ impl Caller {
 
     /// Kills an element. How many units of work that held it were aborted. `NotThere`, `Consumed`, `AlreadyKilled`,
     /// `Busy`.
+    #[inline]
     pub fn kill(&mut self, id: u32) -> Result<u8, Error> {
         written(|aborted| unsafe { sys::covetrivet_kill(&mut self.handle, id, aborted) })
     }
@@ -107,6 +120,7 @@ impl Caller {
 
     /// Takes the element of a stage, 1 to 14, that waits and has the least id, if there is one. `BadStage`, `NoUnit`,
     /// `Busy`.
+    #[inline]
     pub fn claim(&mut self, stage: u8) -> Result<Option<Work<'_>>, Error> {
         let work = found(sys::IDLE, |work| unsafe { sys::covetrivet_claim(&mut self.handle, stage, work) })?;
         Ok(work.map(|it| Work::of(self, &it)))
@@ -114,18 +128,21 @@ impl Caller {
 
     /// Takes the one that comes next, as in a circle, behind the one that this caller took last so. One that is given up
     /// again and again lets others pass. Otherwise as [`claim`](Caller::claim).
+    #[inline]
     pub fn claim_next(&mut self, stage: u8) -> Result<Option<Work<'_>>, Error> {
         let work = found(sys::IDLE, |work| unsafe { sys::covetrivet_claim_next(&mut self.handle, stage, work) })?;
         Ok(work.map(|it| Work::of(self, &it)))
     }
 
     /// Takes the element with this id. `NotThere`, `BadStage`, `NotWaiting`, `NoUnit`, `Busy`.
+    #[inline]
     pub fn claim_id(&mut self, id: u32) -> Result<Work<'_>, Error> {
         let work = written(|work| unsafe { sys::covetrivet_claim_id(&mut self.handle, id, work) })?;
         Ok(Work::of(self, &work))
     }
 
     /// Gives up the open unit of work, as of [`Work`] that was forgotten. `NoOpen`, `Lost`.
+    #[inline]
     pub fn abort(&mut self) -> Result<(), Error> {
         told(unsafe { sys::covetrivet_abort(&mut self.handle) }, ())
     }

@@ -112,6 +112,7 @@ impl fmt::Display for Error {
 impl std::error::Error for Error {}
 
 /// The value where the code is 0, and else the error that it stands for.
+#[inline]
 pub(crate) fn told<T>(code: u32, value: T) -> Result<T, Error> {
     if code == crate::sys::OK {
         Ok(value)

@@ -39,6 +39,7 @@ pub struct Element {
 }
 
 impl Element {
+    #[inline]
     pub(crate) fn of(it: &sys::Element) -> Element {
         Element {
             id: it.id,
@@ -73,6 +74,7 @@ pub struct Look {
 }
 
 impl Look {
+    #[inline]
     pub(crate) fn of(it: &sys::Look) -> Look {
         let (unit, attempts) = (it.status.unit, it.status.attempts);
         Look {
@@ -98,11 +100,13 @@ pub struct Draft {
 
 impl Draft {
     /// An output for a stage, 1 to 14, or for [`REPLIES`]. A commit refuses another stage as `BadDraft`.
+    #[inline]
     pub fn new(stage: u8, body: Body) -> Draft {
         Draft { body, stage }
     }
 
     /// A reply to the client.
+    #[inline]
     pub fn reply(body: Body) -> Draft {
         Draft::new(REPLIES, body)
     }

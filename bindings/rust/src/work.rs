@@ -17,6 +17,7 @@ pub struct Work<'a> {
 }
 
 impl<'a> Work<'a> {
+    #[inline]
     pub(crate) fn of(caller: &'a mut Caller, work: &sys::Work) -> Work<'a> {
         Work {
             caller,
@@ -28,22 +29,26 @@ impl<'a> Work<'a> {
     }
 
     /// The element that it holds.
+    #[inline]
     pub fn element(&self) -> &Element {
         &self.element
     }
 
     /// Its own number.
+    #[inline]
     pub fn unit(&self) -> u16 {
         self.unit
     }
 
     /// The how manieth of the element's round it is, from 1 on.
+    #[inline]
     pub fn attempt(&self) -> u8 {
         self.attempt
     }
 
     /// The caller, for what it may do meanwhile: submit, read, look, requeue. The rest answers `Busy`, but
     /// [`Caller::abort`] ends this work.
+    #[inline]
     pub fn caller(&mut self) -> &mut Caller {
         self.caller
     }
@@ -51,6 +56,7 @@ impl<'a> Work<'a> {
     /// Consumes the element and makes these outputs, at most four, in one step. Their ids. Refused as `Lost` or `Full`
     /// it is over: after `Full` the element waits again or is parked. Refused as `TooMany` or `BadDraft` it is dropped,
     /// and so aborted.
+    #[inline]
     pub fn commit(mut self, drafts: &[Draft]) -> Result<Range<u32>, Error> {
         let mut born = sys::Born::default();
         // SAFETY: the handle is a caller's and open; the drafts are a slice.
@@ -63,6 +69,7 @@ impl<'a> Work<'a> {
     }
 
     /// Gives it up: the element waits again, or is parked. `Lost` where another caller had aborted it.
+    #[inline]
     pub fn abort(mut self) -> Result<(), Error> {
         self.is_open = false;
         self.caller.abort()
@@ -70,6 +77,7 @@ impl<'a> Work<'a> {
 }
 
 impl Drop for Work<'_> {
+    #[inline]
     fn drop(&mut self) {
         if self.is_open {
             // (where another caller was quicker it is aborted too)
