@@ -126,8 +126,8 @@ impl Caller {
         Ok(work.map(|it| Work::of(self, &it)))
     }
 
-    /// Takes the one that comes next, as in a circle, behind the one that this caller took last so. One that is given up
-    /// again and again lets others pass. Otherwise as [`claim`](Caller::claim).
+    /// Takes the one that comes next, as in a circle, behind the one that this caller took last so. One that is given
+    /// up again and again lets others pass. Otherwise as [`claim`](Caller::claim).
     #[inline]
     pub fn claim_next(&mut self, stage: u8) -> Result<Option<Work<'_>>, Error> {
         let work = found(sys::IDLE, |work| unsafe { sys::covetrivet_claim_next(&mut self.handle, stage, work) })?;

@@ -25,11 +25,11 @@ from types import TracebackType
 from typing import Any
 
 from covetrivet import library_shapes as shapes
-from covetrivet.answers import Counts, Draft, Look, Released, Reply, RolledOver
+from covetrivet.answers import Counts, Draft, Look, Released, Reply
 from covetrivet.faults import NoLibrary
 from covetrivet.library_answers import (
     IDLE, NONE, REFUSALS, Account, BadDraft, ClosedHandle, Limits, NoPart, NotAll, OpenHandle, OtherManager,
-    Room, TooMany,
+    RolledOver, Room, TooMany,
 )  # fmt: skip
 from covetrivet.refusals import Full, Lost, Refusal
 
@@ -129,8 +129,8 @@ class Manager(Handle):
         self._ask("gather")
 
     def rollover(self, limits: Limits | None = None) -> RolledOver:
-        """What waits or is parked goes on in a new manager, with the same limits or these. This is the new
-        one then.
+        """What waits or is parked, replies too, goes on in a new manager, with the same limits or these. This
+        is the new one then, in which elements and requests have other ids.
 
         NotAll where not all callers are at home, Busy where one has a unit open, BadLimits also where
         `attempts` differs, Full where these limits are too small, NoMemory: it stands as it did.
@@ -139,7 +139,8 @@ class Manager(Handle):
             given = shapes.limits_of("roll_over", limits or self.limits())
             count = self._number("roll_over", given)
             moved = [self._ask("moved_at", place) for place in range(count)]
-        return RolledOver({it.old_id: it.new_id for it in moved})
+        roots = {it.old_root: it.new_root for it in moved}
+        return RolledOver({it.old_id: it.new_id for it in moved}, roots)
 
     def close(self) -> None:
         """Gives up the manager. Callers that are open go on."""
@@ -189,7 +190,7 @@ class Caller(Handle):
         return self._number("rounds", element)
 
     def reply(self, root: int, start: int = 0) -> int | None:
-        """The least id from `start` on of a reply to this request that waits."""
+        """The least id from `start` on of a waiting reply to this request."""
         found = self._ask("reply", root, start, none=NONE)
         return None if found is None else int(found.value)
 
@@ -213,7 +214,7 @@ class Caller(Handle):
         return Reply(it.id, shapes.words_of(it))
 
     def collect_next(self, root: int) -> Reply | None:
-        """Takes the least reply to this request that waits, once, if there is one. Busy."""
+        """Takes the waiting reply with the least id to this request, once, if there is one. Busy."""
         it = self._ask("collect_next", root, none=NONE)
         return None if it is None else Reply(it.id, shapes.words_of(it))
 
@@ -228,7 +229,7 @@ class Caller(Handle):
         return self._number("kill", element)
 
     def cancel(self, root: int) -> int:
-        """Kills each element of a request that is no reply and not finished. How many. Busy."""
+        """Kills each element of a request but replies and what is finished. How many. Busy."""
         return self._number("cancel", root)
 
     def release(self, element: int) -> Released:
@@ -239,11 +240,15 @@ class Caller(Handle):
     # ---- of a server
 
     def claim(self, stage: int) -> Work | None:
-        """Takes the first element of a stage, 1 to 14, that waits, if any does. BadStage, Busy, NoUnit."""
+        """Takes the waiting element with the least id of a stage, 1 to 14, if there is one. BadStage, Busy,
+        NoUnit.
+        """
         return self._claim("claim", stage)
 
     def claim_next(self, stage: int) -> Work | None:
-        """Takes the next element of a stage in turn, if there is one. BadStage, Busy, NoUnit."""
+        """Takes the next one behind that which this caller took last so, as in a circle. BadStage, Busy,
+        NoUnit.
+        """
         return self._claim("claim_next", stage)
 
     def claim_id(self, element: int) -> Work:

@@ -3,7 +3,7 @@ from __future__ import annotations
 
 from dataclasses import dataclass
 
-from covetrivet import refusals
+from covetrivet import answers, refusals
 from covetrivet.answers import Counts
 from covetrivet.refusals import Refusal
 
@@ -34,6 +34,15 @@ class NotAll(Refusal):
 
 class OtherManager(Refusal):
     """The caller is of another manager, or should meet itself."""
+
+
+@dataclass(frozen=True)
+class RolledOver(answers.RolledOver):
+    """The root of each request of which something is alive too, by its old one. A root that was consumed has
+    another one in its place, which the rollover made and consumed: the account counts it.
+    """
+
+    roots: dict[int, int]
 
 
 # The codes of include/covetrivet.h that are no refusals, and those that are.

@@ -261,6 +261,21 @@ class Calls(unittest.TestCase):
             self.assertIsInstance(manager.rollover(Limits(3, 16, 8, 2, 1)), answers.RolledOver)
             self.assertEqual(manager.limits(), Limits(3, 16, 8, 2, 1))
 
+    def test_a_request_goes_on(self) -> None:
+        with Manager(parts=1, rows=4, units=4) as manager:
+            with manager.open() as me:
+                order = me.submit(1, 5)
+                me.claim_id(order).commit(Draft(2, 6))
+            roots = manager.rollover().roots
+            self.assertEqual(list(roots), [order])
+            # the root was consumed, and has another one in its place
+            self.assertEqual(manager.account().total, Counts(1, 0, 1, 0, 0))
+            with manager.open() as me:
+                worked(me.claim(2)).commit(Draft(15, 7))
+                reply = me.collect_next(roots[order])
+            assert reply is not None
+            self.assertEqual(reply.words[0], 7)
+
     def test_a_forked_process(self) -> None:
         with Manager(parts=1) as manager, manager.open() as me:
             root = me.submit(1)
