@@ -48,10 +48,15 @@ extern "C" {
 
 /* A manager, with the callers that nobody has. */
 typedef struct covetrivet_manager { void *at; } covetrivet_manager;
-/* A caller. It goes on where its manager was given up. */
-typedef struct covetrivet_caller { void *at; } covetrivet_caller;
+/* A caller. It goes on where its manager was given up. Each call writes to its handle, so what follows in it,
+ * which nothing uses, keeps the handles of several threads from sharing a line of the cache in an array. */
+typedef struct covetrivet_caller { void *at; uint64_t apart[15]; } covetrivet_caller;
 /* What a handle is before it is opened. */
+#ifdef __cplusplus
+#define COVETRIVET_CLOSED { }
+#else
 #define COVETRIVET_CLOSED { 0 }
+#endif
 
 /* The limits of a manager. */
 typedef struct covetrivet_limits {

@@ -9,6 +9,8 @@ use crate::work::Work;
 ///
 /// A caller that is dropped is lost to the account and to rollovers: hand it back by
 /// [`Manager::hand_back`](crate::Manager::hand_back). So lend it to a function that may return early, as by `?`.
+// Each call writes to the handle: callers of several threads that lie side by side share no line of the cache.
+#[repr(align(128))]
 pub struct Caller {
     pub(crate) handle: Handle,
     pub(crate) manager: u64,

@@ -4,7 +4,8 @@ use crate::types::{Counts, Draft, Limits, Moved, Released, Room};
 use std::ffi::c_void;
 use std::ptr::null_mut;
 
-/// A handle: null, or what leads to something of the library. It is never copied.
+/// A handle: null, or what leads to something of the library. It is never copied. (What follows in the header's
+/// caller is not used.)
 #[repr(C)]
 pub struct Handle {
     at: *mut c_void,
