@@ -40,6 +40,7 @@ impl Manager {
     }
 
     /// Commits the open unit of work with drafts for which the pass has rows left.
+    #[inline(always)]
     fn close(&self, pass: &mut Pass, drafts: &[Draft]) -> Outcome
         requires own { IsOf self.now pass.old }
         requires busy { IsSome pass.old.open_unit }
@@ -83,6 +84,7 @@ impl Manager {
     /// block that it draws where too few are left to it. `Full` where all blocks are drawn: the unit is
     /// aborted, and no row is used. `Lost` where another caller had aborted the unit: the rows of the drafts
     /// are used up. Whatever the answer, the pass has no unit open any more.
+    #[inline(always)]
     pub fn commit(&self, pass: &mut Pass, drafts: &[Draft]) -> Outcome
         requires own { IsOf self.now pass.old }
         requires busy { IsSome pass.old.open_unit }

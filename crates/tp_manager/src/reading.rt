@@ -13,6 +13,7 @@ use tp_model::types::{Look, Refusal};
 impl Manager {
     /// The element with this id, and its status. `NotThere` where none is born, so also for an id from the
     /// capacity on.
+    #[inline(always)]
     pub fn read(&self, pass: &mut Pass, id: u32) -> Result<Look, Refusal>
         requires own { IsOf self.now pass.old }
         ensures own { IsOf self.now pass.new }

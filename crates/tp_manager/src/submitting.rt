@@ -10,6 +10,7 @@ use tp_model::types::{Body, MAX_STAGE, Refusal};
 
 impl Manager {
     /// Puts a client's element into the pass's next row. The answer is its id.
+    #[inline(always)]
     fn submit_next(&self, pass: &mut Pass, stage: u8, body: Body) -> u32
         requires own { IsOf self.now pass.old }
         requires stage { IsServerStage stage }
@@ -32,6 +33,7 @@ impl Manager {
     /// Puts a client's element with this body into the queue of a stage. The answer is its id, which is also
     /// its root. `BadStage` unless the stage is 1 to 14, which changes nothing, and then `Full` where the
     /// pass has used its rows and all spare blocks are drawn.
+    #[inline(always)]
     pub fn submit(&self, pass: &mut Pass, stage: u8, body: Body) -> Result<u32, Refusal>
         requires own { IsOf self.now pass.old }
         ensures own { IsOf self.now pass.new }
