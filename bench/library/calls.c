@@ -39,13 +39,13 @@ static uint64_t submits(covetrivet_caller *me, uint8_t stage, int n) {
   }
   return done;
 }
-static uint64_t turns(covetrivet_caller *me, uint8_t stage, int n, int bare) {
+static uint64_t turns(covetrivet_caller *me, uint8_t stage, int n, int bare, int next) {
   uint64_t done = 0;
   for (int k = 0; k < n; k++) {
     covetrivet_work work;
     covetrivet_born born;
     covetrivet_draft draft;
-    if (covetrivet_claim(me, stage, &work)) continue;
+    if (next ? covetrivet_claim_next(me, stage, &work) : covetrivet_claim(me, stage, &work)) continue;
     memcpy(draft.body, work.element.body, sizeof draft.body);
     draft.stage = COVETRIVET_REPLIES;
     done += covetrivet_commit(me, &draft, !bare, &born) == COVETRIVET_OK;
@@ -79,13 +79,14 @@ static void small(void) {
   }
   show("kill_waiting", 0, t, now(), ROWS);
   drop();
-  for (int bare = 0; bare < 2; bare++) {
+  for (int kind = 0; kind < 3; kind++) {
+    static const char *const names[] = { "turn", "turn_bare", "turn_next" };
     make(2, 7);
     submits(&callers[0], 1, ROWS);
     for (int k = 0; k < 16; k++) {
       t = now();
-      turns(&callers[1], 1, 16, bare);
-      show(bare ? "turn_bare" : "turn", k * 16, t, now(), 16);
+      turns(&callers[1], 1, 16, kind > 0, kind == 2);
+      show(names[kind], k * 16, t, now(), 16);
     }
     drop();
   }
@@ -105,7 +106,7 @@ static void *race_one(void *at) {
   if (it->kind == 2)
     for (int k = 0; k < 4; k++) it->done += submits(&callers[it->number * 4 + k], 1, ROWS);
   else
-    it->done = turns(&callers[4 + it->number], (uint8_t)(it->own ? 1 + it->number : 1), ROWS, it->kind);
+    it->done = turns(&callers[4 + it->number], (uint8_t)(it->own ? 1 + it->number : 1), ROWS, it->kind, 0);
   it->ended = now();
   return NULL;
 }
