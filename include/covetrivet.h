@@ -19,15 +19,16 @@
  *   release, or a commit that answers FULL is an attempt that failed: the element waits again, and after
  *   `attempts` of these it is parked. A requeue gives it as many anew, three times at most.
  * - A kill, a cancel, and of a reply a collect, kills it. What is consumed or killed stays so.
- * - The outputs that units made of a client's element, and of these, are its family, and its id is their root.
+ * - A client's element is the root of its family: of itself, and of all outputs that units made of it, and of
+ *   these.
  *
  * No call waits: who finds IDLE or NONE asks again later. Rows and units of work are used once, and what is
  * finished gives none back. So FULL of a submit or a commit, and NO_UNIT of a claim, mean that it is time for
  * covetrivet_roll_over: each thread hands its caller back, one of them rolls over, and each opens one again.
  *
- * Each function but covetrivet_close and covetrivet_give_up answers one of the codes below. Each may be
- * called in any state of its handles: what it cannot do has a code. Memory is taken by make, open and
- * roll_over alone. */
+ * Each function answers one of the codes below, but for covetrivet_close and covetrivet_give_up, and for
+ * covetrivet_version and covetrivet_size. Each may be called in any state of its handles: what it cannot do has
+ * a code. Memory is taken by make, open and roll_over alone. */
 #ifndef COVETRIVET_H
 #define COVETRIVET_H
 
