@@ -43,6 +43,8 @@ impl Manager {
     }
 
     /// Takes a caller home again, in any order. It comes back where it is of another manager (`OtherManager`).
+    // (a caller fills two lines of the cache, and seldom comes back)
+    #[allow(clippy::result_large_err)]
     pub fn hand_back(&self, mut caller: Caller) -> Result<(), (Caller, Error)> {
         if caller.manager != self.id {
             return Err((caller, Error::OtherManager));
