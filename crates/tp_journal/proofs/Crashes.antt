@@ -1,0 +1,255 @@
+-- What a crash leaves as a batch is appended, and what is recovered of that.
+use Rattle.std.proofs.Common.{◌≡◌, ◌⊎◌, inl, inr, ⊎_elim, ℕ, zero, suc, ◌+◌, ◌-◌, ◌<◌, ◌≤◌, ◌^◌, List, [], ◌∷◌, ◌++◌, get_or, length, drop, replicate, refl, sym, ◌∙◌, ap, subst, arith, append_assoc, length-append}
+use Rattle.std.specs.Prelude.{All}
+use Rattle.std.proofs.lemmas.List.Elements.{All-append, All-cons, All-head, All-nil, All-tail, All-get_or, All-replicate}
+use Rattle.std.proofs.lemmas.List.{append-nil, drop_at, nil_from_length}
+use Rattle.std.proofs.lemmas.Bool.Decides.{nat_tests}
+use Rattle.tp_journal.specs.Device.{EachMixed}
+use Rattle.tp_journal.specs.Laws.{KeepsBatches, TellsNoCrash}
+use Rattle.tp_journal.specs.Text.{HasSealed, HasTorn, IsBatch, IsDamage, IsFrontOf, IsPlain, IsSealed, IsSet, IsText, end_line, first_line, text_of, with_end}
+use Rattle.tp_journal.proofs.Damages.{IsZero}
+use Rattle.tp_journal.proofs.Ends.{end-is, sealed-text}
+use Rattle.tp_journal.proofs.Kept.{appended-sealed, sealed-front}
+use Rattle.tp_journal.proofs.Seals.{front-length}
+use Rattle.tp_journal.proofs.Texts.{text-append}
+
+set-not-zero : (b : ℕ) → IsSet b → b ≡ 0 → ⊥
+set-not-zero b set is = grind (arith, nat_tests)
+
+plain-not-end : (b : ℕ) → IsPlain b → b ≡ 23 → ⊥
+plain-not-end b plain is = grind (arith, nat_tests)
+
+text-of-zero : (b : ℕ) (bs : List ℕ) → b ≡ 0 → text_of (b ∷ bs) ≡ []
+text-of-zero b bs is = rw is refl
+
+text-of-set : (b : ℕ) (bs : List ℕ) → IsSet b → text_of (b ∷ bs) ≡ b ∷ text_of bs
+text-of-set b bs is = rw is refl
+
+text-of-zeros : (n : ℕ) → text_of (replicate n 0) ≡ []
+text-of-zeros zero = refl
+text-of-zeros (suc n) = refl
+
+nothing : (bytes none : List ℕ) → none ≡ [] → IsFrontOf bytes none
+nothing bytes none is = record { rest = bytes; whole = ap (λ (l : List ℕ). l ++ bytes) (sym is) }
+
+-- ---- bytes that were written over zeros
+
+torn-front : (n : ℕ) (bytes rest : List ℕ) → IsText bytes → EachMixed (replicate n 0) bytes rest → IsFrontOf bytes (text_of rest)
+torn-front n [] rest set mixed = nothing [] (text_of rest) (ap text_of mixed ∙ text-of-zeros n)
+torn-front zero (b ∷ bytes) rest set mixed = nothing (b ∷ bytes) (text_of rest) (ap text_of mixed)
+torn-front (suc n) (b ∷ bytes) [] set mixed = absurd mixed
+torn-front (suc n) (b ∷ bytes) (c ∷ rest) set mixed = ⊎_elim
+    (λ zero_is. nothing (b ∷ bytes) (text_of (c ∷ rest)) (text-of-zero c rest zero_is))
+    (λ same.
+    let more = torn-front n bytes rest (All-tail IsSet b bytes set) mixed.1 in
+    record {
+      rest = more.rest;
+      whole = ap (λ (l : List ℕ). b ∷ l) more.whole ∙ ap (λ (l : List ℕ). l ++ more.rest) (ap (λ (x : ℕ). x ∷ text_of rest) (sym same) ∙ sym (text-of-set c rest (subst IsSet (sym same) (All-head IsSet b bytes set))));
+    })
+    mixed.0
+
+-- a byte that isn't 0 was written
+torn-byte : (n : ℕ) (bytes rest : List ℕ) (k : ℕ) → EachMixed (replicate n 0) bytes rest → (get_or rest k 0 ≡ 0) ⊎ (get_or bytes k 0 ≡ get_or rest k 0)
+torn-byte n [] rest k mixed = inl (ap (λ (l : List ℕ). get_or l k 0) mixed ∙ zeros n k)
+  where
+    zeros : (n k : ℕ) → get_or (replicate {A = ℕ} n 0) k 0 ≡ 0
+    zeros zero k = refl
+    zeros (suc n) zero = refl
+    zeros (suc n) (suc k) = zeros n k
+torn-byte zero (b ∷ bytes) rest k mixed = inl (ap (λ (l : List ℕ). get_or l k 0) mixed)
+torn-byte (suc n) (b ∷ bytes) [] k mixed = absurd mixed
+torn-byte (suc n) (b ∷ bytes) (c ∷ rest) zero mixed = ⊎_elim (λ is. inl is) (λ same. inr (sym same)) mixed.0
+torn-byte (suc n) (b ∷ bytes) (c ∷ rest) (suc k) mixed = torn-byte n bytes rest k mixed.1
+
+torn-behind : (n : ℕ) (bytes rest : List ℕ) → EachMixed (replicate n 0) bytes rest → All IsZero (drop (length bytes) rest)
+torn-behind n [] rest mixed = subst (All IsZero) (sym mixed) (All-replicate IsZero n 0 refl)
+torn-behind zero (b ∷ bytes) rest mixed = subst (λ (l : List ℕ). All IsZero (drop (suc (length bytes)) l)) (sym mixed) (All-nil IsZero)
+torn-behind (suc n) (b ∷ bytes) [] mixed = All-nil IsZero
+torn-behind (suc n) (b ∷ bytes) (c ∷ rest) mixed = torn-behind n bytes rest mixed.1
+
+-- ---- where the end of a batch is
+
+only-end : (front : List ℕ) (k : ℕ) → All IsPlain front → get_or (front ++ 23 ∷ 10 ∷ []) k 0 ≡ 23 → k ≡ length front
+only-end [] zero plain is = refl
+only-end [] (suc zero) plain is = absurd (omega (arith, is))
+only-end [] (suc (suc k)) plain is = absurd (omega (arith, is))
+only-end (x ∷ front) zero plain is = absurd (plain-not-end x (All-head IsPlain x front plain) is)
+only-end (x ∷ front) (suc k) plain is = ap suc (only-end front k (All-tail IsPlain x front plain) is)
+
+at-seam : (xs ys : List ℕ) (k : ℕ) → get_or (xs ++ ys) (length xs + k) 0 ≡ get_or ys k 0
+at-seam [] ys k =
+    let e : 0 + k ≡ k = omega arith in
+    ap (λ (n : ℕ). get_or ys n 0) e
+at-seam (x ∷ xs) ys k =
+    let e : suc (length xs) + k ≡ suc (length xs + k) = omega arith in
+    ap (λ (n : ℕ). get_or (x ∷ (xs ++ ys)) n 0) e ∙ at-seam xs ys k
+
+before-seam : (xs ys : List ℕ) (k : ℕ) → k < length xs → get_or (xs ++ ys) k 0 ≡ get_or xs k 0
+before-seam [] ys k lt = absurd (omega (arith, lt))
+before-seam (x ∷ xs) ys zero lt = refl
+before-seam (x ∷ xs) ys (suc k) lt = before-seam xs ys k (omega (arith, lt))
+
+-- two fronts of a text
+longer-front : (a b x y : List ℕ) → a ++ x ≡ b ++ y → length a ≤ length b → (more : List ℕ) × (b ≡ a ++ more) × (x ≡ more ++ y)
+longer-front [] b x y is le = (b, refl, is)
+longer-front (c ∷ a) [] x y is le = absurd (omega (arith, le))
+longer-front (c ∷ a) (d ∷ b) x y is le =
+    let further = longer-front a b x y (ap rest_of is) (omega (arith, le)) in
+    (further.0, ap (λ (z : ℕ). z ∷ b) (sym (ap first_of is)) ∙ ap (λ (l : List ℕ). c ∷ l) further.1, further.2)
+  where
+    first_of : List ℕ → ℕ
+    first_of [] = 0
+    first_of (z ∷ zs) = z
+
+    rest_of : List ℕ → List ℕ
+    rest_of [] = []
+    rest_of (z ∷ zs) = zs
+
+-- the last bytes of a sealed text
+last-line : (t : List ℕ) → length t < 2 ^ 64 → IsSealed t → (2 ≤ length t) × (get_or t (length t - 1) 0 ≡ 10) × ((t ≡ first_line) ⊎ (get_or t (length t - 2) 0 ≡ 23))
+last-line t short (inl is) = (omega (arith, ap length is), ap (λ (l : List ℕ). get_or l (length l - 1) 0) is, inl is)
+last-line t short (inr (inner, front, is)) =
+    let end = end-is inner (omega (arith, short, ap length is, length-append inner (end_line inner))) in
+    let whole : t ≡ (inner ++ end.0) ++ 23 ∷ 10 ∷ [] = is ∙ ap (λ (l : List ℕ). inner ++ l) end.2 ∙ sym (append_assoc inner end.0 (23 ∷ 10 ∷ [])) in
+    let long : length t ≡ length (inner ++ end.0) + 2 = omega (arith, ap length whole, length-append (inner ++ end.0) (23 ∷ 10 ∷ [])) in
+    let one : length t - 1 ≡ length (inner ++ end.0) + 1 = omega (arith, long) in
+    let two : length t - 2 ≡ length (inner ++ end.0) + 0 = omega (arith, long) in (
+      omega (arith, long),
+      ap (λ (l : List ℕ). get_or l (length t - 1) 0) whole ∙ ap (λ (n : ℕ). get_or ((inner ++ end.0) ++ 23 ∷ 10 ∷ []) n 0) one ∙ at-seam (inner ++ end.0) (23 ∷ 10 ∷ []) 1,
+      inr (ap (λ (l : List ℕ). get_or l (length t - 2) 0) whole ∙ ap (λ (n : ℕ). get_or ((inner ++ end.0) ++ 23 ∷ 10 ∷ []) n 0) two ∙ at-seam (inner ++ end.0) (23 ∷ 10 ∷ []) 0),
+    )
+
+module _ (text batch file : List ℕ) (short : length (with_end (text ++ batch)) < 2 ^ 64) (is_text : IsText text) (is_sealed : IsSealed text) (is_batch : IsBatch batch) (torn : HasTorn text (batch ++ end_line (text ++ batch)) file) where
+  abbrev bytes : List ℕ
+  bytes = batch ++ end_line (text ++ batch)
+
+  inner-short : length (text ++ batch) < 2 ^ 64
+  inner-short = omega (arith, short, length-append (text ++ batch) (end_line (text ++ batch)))
+
+  end : (front : List ℕ) × All IsPlain front × (end_line (text ++ batch) ≡ front ++ 23 ∷ 10 ∷ [])
+  end = end-is (text ++ batch) inner-short
+
+  abbrev body : List ℕ
+  body = batch ++ end.0
+
+  body-plain : All IsPlain body
+  body-plain = All-append IsPlain batch end.0 is_batch.plain end.1
+
+  bytes-are : bytes ≡ body ++ 23 ∷ 10 ∷ []
+  bytes-are = ap (λ (l : List ℕ). batch ++ l) end.2 ∙ sym (append_assoc batch end.0 (23 ∷ 10 ∷ []))
+
+  bytes-long : length bytes ≡ length body + 2
+  bytes-long = omega (arith, ap length bytes-are, length-append body (23 ∷ 10 ∷ []))
+
+  all-is : text ++ bytes ≡ with_end (text ++ batch)
+  all-is = sym (append_assoc text batch (end_line (text ++ batch)))
+
+  here : text_of file ≡ text ++ text_of torn.rest
+  here = ap text_of torn.file_is ∙ text-append text torn.rest is_text
+
+  written : IsFrontOf bytes (text_of torn.rest)
+  written = torn-front torn.free bytes torn.rest (sealed-text batch (text ++ batch) is_batch.plain inner-short) torn.torn
+
+  first-long : 23 ≤ length text
+  first-long = front-length text first_line (sealed-front text is_sealed)
+
+  -- what is found is the text, or all of it
+  pub either : (found : List ℕ) → HasSealed (text_of file) found → (found ≡ text) ⊎ (found ≡ with_end (text ++ batch))
+  either found h = from (longer-front text found (text_of torn.rest) h.front.rest (sym here ∙ h.front.whole) (h.longest text (record { rest = text_of torn.rest; whole = here }) is_sealed))
+    where
+      ends : (more : List ℕ) → found ≡ text ++ more → text_of torn.rest ≡ more ++ h.front.rest → 1 ≤ length more → found ≡ with_end (text ++ batch)
+      ends more is rest_is some =
+          let bytes_split : bytes ≡ more ++ (h.front.rest ++ written.rest) = written.whole ∙ ap (λ (l : List ℕ). l ++ written.rest) rest_is ∙ append_assoc more h.front.rest written.rest in
+          let long : length found ≡ length text + length more = omega (arith, ap length is, length-append text more) in
+          let no_longer : length more ≤ length bytes = omega (arith, ap length bytes_split, length-append more (h.front.rest ++ written.rest)) in
+          let all_long : length text + length bytes < 2 ^ 64 = omega (arith, short, ap length all-is, length-append text bytes) in
+          let last = last-line found (omega (arith, all_long, no_longer, long)) h.is_sealed in
+          let text_last = last-line text (omega (arith, all_long)) is_sealed in
+          ⊎_elim
+          (λ first. absurd (omega (arith, ap length first, long, some, first-long)))
+          (λ mark. ⊎_elim
+          (λ one.
+          absurd (omega (arith, text_last.1, mark, sym (before-seam text more (length text - 1) (omega (arith, first-long))), ap (λ (l : List ℕ). get_or l (length found - 2) 0) is, ap (λ (n : ℕ). get_or (text ++ more) n 0) {x = length found - 2} {y = length text - 1} (omega (arith, long, one)))))
+          (λ several.
+          let k : ℕ = length more - 2 in
+          let seam : length text + k ≡ length found - 2 = omega (arith, long, several) in
+          let mark_in : get_or more k 0 ≡ 23 = sym (at-seam text more k) ∙ ap (λ (n : ℕ). get_or (text ++ more) n 0) seam ∙ ap (λ (l : List ℕ). get_or l (length found - 2) 0) (sym is) ∙ mark in
+          let mark_at : get_or (body ++ 23 ∷ 10 ∷ []) k 0 ≡ 23 = ap (λ (l : List ℕ). get_or l k 0) (sym bytes-are ∙ bytes_split) ∙ before-seam more (h.front.rest ++ written.rest) k (omega (arith, several)) ∙ mark_in in
+          let place : k ≡ length body = only-end body k body-plain mark_at in
+          let none : h.front.rest ++ written.rest ≡ [] = nil_from_length (h.front.rest ++ written.rest) (omega (arith, place, several, bytes-long, ap length bytes_split, length-append more (h.front.rest ++ written.rest))) in
+          is ∙ ap (λ (l : List ℕ). text ++ l) (sym (append-nil more) ∙ ap (λ (l : List ℕ). more ++ l) (sym none) ∙ sym bytes_split) ∙ all-is)
+          (one-or-more (length more) some))
+          last.2
+        where
+          one-or-more : (n : ℕ) → 1 ≤ n → (n ≡ 1) ⊎ (2 ≤ n)
+          one-or-more zero le = absurd (omega (arith, le))
+          one-or-more (suc zero) le = inl refl
+          one-or-more (suc (suc n)) le = inr (omega arith)
+
+      from : (more : List ℕ) × (found ≡ text ++ more) × (text_of torn.rest ≡ more ++ h.front.rest) → (found ≡ text) ⊎ (found ≡ with_end (text ++ batch))
+      from ([], is, rest_is) = inl (is ∙ append-nil text)
+      from (x ∷ more, is, rest_is) = inr (ends (x ∷ more) is rest_is (omega arith))
+
+  pub untold : (found : List ℕ) → HasSealed (text_of file) found → IsDamage (drop (length found) file) → ⊥
+  untold found h d = ⊎_elim at-text at-all (either found h)
+    where
+      end-byte : (rest : List ℕ) (d : IsDamage rest) → get_or rest (length d.front) 0 ≡ 23
+      end-byte rest d =
+          let e : length d.front ≡ length d.front + 0 = omega arith in
+          ap (λ (l : List ℕ). get_or l (length d.front) 0) d.split ∙ ap (λ (n : ℕ). get_or (d.front ++ 23 ∷ 10 ∷ d.back) n 0) e ∙ at-seam d.front (23 ∷ 10 ∷ d.back) 0
+
+      behind : drop (length text) file ≡ torn.rest
+      behind = ap (drop (length text)) torn.file_is ∙ drop_at text torn.rest (length text) refl
+
+      at-all : found ≡ with_end (text ++ batch) → ⊥
+      at-all is =
+          let rest_is : drop (length found) file ≡ drop (length bytes) torn.rest = ap (λ (n : ℕ). drop n file) (ap length (is ∙ sym all-is) ∙ length-append text bytes) ∙ ap (drop (length text + length bytes)) torn.file_is ∙ dropped text torn.rest (length bytes) in
+          let zeros : All IsZero (drop (length found) file) = subst (All IsZero) (sym rest_is) (torn-behind torn.free bytes torn.rest torn.torn) in
+          let inside : length d.front < length (drop (length found) file) = omega (arith, ap length d.split, length-append d.front (23 ∷ 10 ∷ d.back)) in
+          omega (arith, end-byte (drop (length found) file) d, All-get_or IsZero (drop (length found) file) (length d.front) 0 inside zeros)
+        where
+          dropped : (xs ys : List ℕ) (n : ℕ) → drop (length xs + n) (xs ++ ys) ≡ drop n ys
+          dropped [] ys n =
+              let e : 0 + n ≡ n = omega arith in
+              ap (λ (m : ℕ). drop m ys) e
+          dropped (x ∷ xs) ys n =
+              let e : suc (length xs) + n ≡ suc (length xs + n) = omega arith in
+              ap (λ (m : ℕ). drop m (x ∷ (xs ++ ys))) e ∙ dropped xs ys n
+
+      at-text : found ≡ text → ⊥
+      at-text is = told (subst IsDamage (ap (λ (t : List ℕ). drop (length t) file) is ∙ behind) d)
+        where
+          told : IsDamage torn.rest → ⊥
+          told e = ⊎_elim whole some e.told
+            where
+              place : length e.front ≡ length body
+              place = ⊎_elim
+                  (λ zero_is. absurd (omega (arith, end-byte torn.rest e, zero_is)))
+                  (λ same. only-end body (length e.front) body-plain (ap (λ (l : List ℕ). get_or l (length e.front) 0) (sym bytes-are) ∙ same ∙ end-byte torn.rest e))
+                  (torn-byte torn.free bytes torn.rest (length e.front) torn.torn)
+
+              split : torn.rest ≡ (e.front ++ 23 ∷ 10 ∷ []) ++ e.back
+              split = e.split ∙ sym (append_assoc e.front (23 ∷ 10 ∷ []) e.back)
+
+              long : length (e.front ++ 23 ∷ 10 ∷ []) ≡ length bytes
+              long = omega (arith, place, bytes-long, length-append e.front (23 ∷ 10 ∷ []))
+
+              some : (All IsZero e.back → ⊥) → ⊥
+              some not_zero = not_zero (subst (All IsZero) (ap (drop (length bytes)) split ∙ drop_at (e.front ++ 23 ∷ 10 ∷ []) e.back (length bytes) long) (torn-behind torn.free bytes torn.rest torn.torn))
+
+              whole : IsText e.front → ⊥
+              whole text_is =
+                  let set : IsText (e.front ++ 23 ∷ 10 ∷ []) = All-append IsSet e.front (23 ∷ 10 ∷ []) text_is (All-cons IsSet 23 (10 ∷ []) refl (All-cons IsSet 10 [] refl (All-nil IsSet))) in
+                  let read : text_of torn.rest ≡ (e.front ++ 23 ∷ 10 ∷ []) ++ text_of e.back = ap text_of split ∙ text-append (e.front ++ 23 ∷ 10 ∷ []) e.back set in
+                  let all_there : length bytes ≤ length (text_of torn.rest) = omega (arith, ap length read, long, length-append (e.front ++ 23 ∷ 10 ∷ []) (text_of e.back)) in
+                  let same : text_of torn.rest ≡ bytes = sym (append-nil (text_of torn.rest)) ∙ ap (λ (l : List ℕ). text_of torn.rest ++ l) (sym (nil_from_length written.rest (omega (arith, all_there, ap length written.whole, length-append (text_of torn.rest) written.rest)))) ∙ sym written.whole in
+                  let sealed_all : IsFrontOf (text_of file) (with_end (text ++ batch)) = record { rest = []; whole = here ∙ ap (λ (l : List ℕ). text ++ l) same ∙ all-is ∙ sym (append-nil (with_end (text ++ batch))) } in
+                  omega (arith, h.longest (with_end (text ++ batch)) sealed_all (appended-sealed text batch is_sealed), ap length is, ap length all-is, length-append text bytes, bytes-long)
+
+pub keeps_batches : KeepsBatches
+keeps_batches text batch file recovered short is_text is_sealed is_batch torn (inl none) =
+    absurd (omega (arith, front-length text first_line (sealed-front text is_sealed), ap length (sym none.0 ∙ torn.file_is), length-append text torn.rest))
+keeps_batches text batch file recovered short is_text is_sealed is_batch torn (inr found) = either text batch file short is_text is_sealed is_batch torn recovered found.0
+
+pub tells_no_crash : TellsNoCrash
+tells_no_crash text batch file longest short is_text is_sealed is_batch torn found damage = untold text batch file short is_text is_sealed is_batch torn longest found damage

@@ -1,0 +1,9 @@
+mod Texts
+mod Moments
+mod Ends
+mod Seals
+mod Damages
+mod Kept
+mod Histories
+mod Crashes
+mod Faults

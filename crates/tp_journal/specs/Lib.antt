@@ -1,0 +1,6 @@
+pub mod Device
+pub mod Event
+pub mod History
+pub mod Journal
+pub mod Laws
+pub mod Text

@@ -1,0 +1,27 @@
+//! A journal: batches of lines in a file, each on the disk before it is acknowledged.
+//!
+//! Its file has a text, and behind it bytes 0 that are on the disk before anything is written over them. So what a
+//! crash leaves of a write is a front of what was written, up to the first 0. Each batch ends with a line that has
+//! the number of bytes before it and their digest, so what is recovered is the acknowledged batches, or these and
+//! the one that was being appended.
+#![tactic(auto)]
+
+mod append;
+mod batch;
+mod damage;
+mod device;
+mod file;
+mod journal;
+mod laws;
+mod record;
+mod recovery;
+mod sealing;
+mod writing;
+mod zeros;
+
+pub use batch::Refusal;
+pub use device::{Device, Failed};
+pub use file::{FileDevice, Paths};
+pub use journal::{AppendError, Journal};
+pub use laws::{kept_batches, no_crash_told};
+pub use recovery::{Found, OpenError, recover};
