@@ -7,12 +7,15 @@
 //! Exit status 0: done. 1: a fault, with its line on standard error. 64: not one word.
 #![tactic(auto)]
 
+ghost use Rattle.std.specs.Prelude.{◌≤◌, length};
+ghost use Rattle.tp_journal.specs.Journal.{IsOpen};
+
 use anyhow::Result;
 use std::alloc::Global;
 use std::io::{Read, Write};
 use std::process::ExitCode;
 use std::{env, io};
-use tp_journal::{AppendError, FileDevice, Journal, Paths, recover};
+use tp_journal::{AppendError, Device, FileDevice, Journal, Paths, recover};
 
 /// How many bytes are read at once.
 const CHUNK: usize = 65_536;
@@ -58,11 +61,13 @@ fn main(rt: HostRuntime) -> Result<ExitCode> {
 }
 
 /// Appends what is read, up to the last end of a line, until all is read or the journal takes no more.
-fn take_batches(
+fn take_batches<D: Device>(
     rt: &HostRuntime,
     alloc: Global,
-    journal: &mut Journal<FileDevice<'_>>,
-) -> Result<ExitCode> {
+    journal: &mut Journal<D>,
+) -> Result<ExitCode>
+    requires { IsOpen D.seen D.may_leave journal.old }
+{
     let mut input = rt.reader();
     let mut chunk = Vec::new(alloc);
     let mut buffer = [0; CHUNK];
@@ -71,27 +76,76 @@ fn take_batches(
         if count == 0 {
             break;
         }
-        chunk.extend_from_slice(&buffer[..count])?;
-        let Some(place) = chunk.iter().rposition(|byte| *byte == b'\n') else {
-            continue;
-        };
-        let rest = chunk[place + 1..].to_vec(alloc)?;
-        chunk.truncate(place + 1);
-        let lines = chunk.iter().filter(|byte| **byte == b'\n').count();
-        let answer = if chunk[0] == b'!' {
-            journal.replace(alloc, &chunk)
-        } else {
-            journal.append(alloc, &chunk)
-        };
-        match answer {
-            Ok(()) => println!(rt; "acknowledged {lines}")?,
-            Err(AppendError::Refused(_)) => println!(rt; "refused")?,
-            Err(error) => {
-                eprintln!(rt; "{error:?}")?;
-                return Ok(ExitCode::from(1));
-            }
+        chunk.extend_from_slice(buffer.get(..count).unwrap_or(&[]))?;
+        if !take_lines(rt, alloc, journal, &mut chunk)? {
+            return Ok(ExitCode::from(1));
         }
-        chunk = rest;
     }
     Ok(ExitCode::from(0))
+}
+
+/// Takes the whole lines out of what was read, and says whether the journal goes on.
+fn take_lines<D: Device>(
+    rt: &HostRuntime,
+    alloc: Global,
+    journal: &mut Journal<D>,
+    chunk: &mut Vec<u8>,
+) -> Result<bool>
+    requires { IsOpen D.seen D.may_leave journal.old }
+    ensures { IsOpen D.seen D.may_leave journal.new }
+{
+    let count = lines_len(chunk);
+    if count == 0 {
+        return Ok(true);
+    }
+    let rest = chunk[count..].to_vec(alloc)?;
+    let answer = take(alloc, journal, &chunk[..count]);
+    let goes_on = tell(rt, &chunk[..count], answer)?;
+    *chunk = rest;
+    Ok(goes_on)
+}
+
+/// How many bytes the whole lines have.
+fn lines_len(bytes: &[u8]) -> usize
+    ensures { result ≤ length bytes.now }
+{
+    match bytes.iter().rposition(|byte| *byte == b'\n') {
+        Some(place) => place + 1,
+        None => 0,
+    }
+}
+
+/// Appends lines, or puts them in the place of all that was appended.
+fn take<D: Device>(
+    alloc: Global,
+    journal: &mut Journal<D>,
+    lines: &[u8],
+) -> std::result::Result<(), AppendError>
+    requires { IsOpen D.seen D.may_leave journal.old }
+    ensures { IsOpen D.seen D.may_leave journal.new }
+{
+    if lines.first() == Some(&b'!') {
+        return journal.replace(alloc, lines);
+    }
+    journal.append(alloc, lines)
+}
+
+/// Tells what became of lines, and whether the journal goes on.
+fn tell(
+    rt: &HostRuntime,
+    lines: &[u8],
+    answer: std::result::Result<(), AppendError>,
+) -> Result<bool> {
+    match answer {
+        Ok(()) => {
+            let count = lines.iter().filter(|byte| **byte == b'\n').count();
+            println!(rt; "acknowledged {count}")?;
+        }
+        Err(AppendError::Refused(_)) => println!(rt; "refused")?,
+        Err(error) => {
+            eprintln!(rt; "{error:?}")?;
+            return Ok(false);
+        }
+    }
+    Ok(true)
 }

@@ -16,6 +16,8 @@ mod laws;
 mod record;
 mod recovery;
 mod sealing;
+#[cfg(test)]
+mod tests;
 mod writing;
 mod zeros;
 
