@@ -5,13 +5,13 @@ use Rattle.std.proofs.lemmas.List.Elements.{All-append, All-cons, All-head, All-
 use Rattle.std.proofs.lemmas.List.{append-nil, drop_at, nil_from_length}
 use Rattle.std.proofs.lemmas.Bool.Decides.{nat_tests}
 use Rattle.tp_journal.specs.Device.{EachMixed}
-use Rattle.tp_journal.specs.Laws.{KeepsBatches, TellsNoCrash}
+use Rattle.tp_journal.specs.Laws.{KeepsBatches, KeepsText, TellsNoCrash}
 use Rattle.tp_journal.specs.Text.{HasSealed, HasTorn, IsBatch, IsDamage, IsFrontOf, IsPlain, IsSealed, IsSet, IsText, end_line, first_line, text_of, with_end}
 use Rattle.tp_journal.proofs.Damages.{IsZero}
 use Rattle.tp_journal.proofs.Ends.{end-is, sealed-text}
 use Rattle.tp_journal.proofs.Kept.{appended-sealed, sealed-front}
 use Rattle.tp_journal.proofs.Seals.{front-length}
-use Rattle.tp_journal.proofs.Texts.{text-append}
+use Rattle.tp_journal.proofs.Texts.{rest-text, text-append}
 
 set-not-zero : (b : ℕ) → IsSet b → b ≡ 0 → ⊥
 set-not-zero b set is = grind (arith, nat_tests)
@@ -253,3 +253,13 @@ keeps_batches text batch file recovered short is_text is_sealed is_batch torn (i
 
 pub tells_no_crash : TellsNoCrash
 tells_no_crash text batch file longest short is_text is_sealed is_batch torn found damage = untold text batch file short is_text is_sealed is_batch torn longest found damage
+
+pub keeps_text : KeepsText
+keeps_text text file recovered is_sealed rest (inl none) =
+    absurd (omega (arith, front-length text first_line (sealed-front text is_sealed), ap length (sym none.0 ∙ rest.file_is), length-append text (replicate rest.free 0)))
+keeps_text text file recovered is_sealed rest (inr found) =
+    let h = found.0 in
+    let whole : text ≡ recovered ++ h.front.rest = sym (rest-text text file rest) ∙ h.front.whole in
+    let all : length text ≤ length recovered = h.longest text (record { rest = []; whole = rest-text text file rest ∙ sym (append-nil text) }) is_sealed in
+    let none : h.front.rest ≡ [] = nil_from_length h.front.rest (omega (arith, all, ap length whole, length-append recovered h.front.rest)) in
+    sym (whole ∙ ap (λ (l : List ℕ). recovered ++ l) none ∙ append-nil recovered)

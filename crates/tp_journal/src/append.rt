@@ -3,7 +3,8 @@ ghost use Rattle.std.specs.Prelude.{◌≡◌, ◌⊎◌, ◌+◌, ◌<◌, ◌�
 ghost use Rattle.tp_journal.specs.declared.batch.Refusal.{Refusal};
 ghost use Rattle.tp_journal.specs.Device.{HasCause, LeavesOnly, Only};
 ghost use Rattle.tp_journal.specs.Journal.{IsOpen, IsSettled};
-ghost use Rattle.tp_journal.specs.Text.{HasTorn, IsAtRest, IsBatch, IsText, end_line, first_line, text_of, with_end};
+ghost use Rattle.tp_journal.specs.Text.{HasTorn, IsAtRest, IsBatch, IsText};
+ghost use Rattle.tp_journal.specs.Text.{end_line, first_line, text_of, with_end};
 
 use crate::recovery::STEP;
 use crate::sealing::{FIRST_LINE, hasher_of, seal};
@@ -29,7 +30,8 @@ impl<D: Device> Journal<D> {
             → LeavesOnly D.moment D.left_since self.old.device self.new.device
             (HasTorn (text_of (D.seen self.old.device))
             (batch.now ++ end_line (text_of (D.seen self.old.device) ++ batch.now))) }
-        ensures poisoned { self.old.poisoned ≡ true → (self.new ≡ self.old) × IsErrOf result AppendError.Poisoned }
+        ensures poisoned { self.old.poisoned ≡ true
+            → (self.new ≡ self.old) × IsErrOf result AppendError.Poisoned }
         ensures later { D.faults self.old.device ≤ D.faults self.new.device }
         ensures failed { IsErrOf result AppendError.Failed
             → (self.new.poisoned ≡ true) × (D.faults self.old.device < D.faults self.new.device) }
@@ -54,7 +56,7 @@ impl<D: Device> Journal<D> {
         }
     }
 
-    /// Puts the first line and one batch with its end in the place of the text: a crash leaves the one or the other.
+    /// Puts the first line and one batch with its end in the place of the text: a crash leaves either text.
     pub fn replace(&mut self, alloc: Global, batch: &[u8]) -> Result<(), AppendError>
         requires open { IsOpen D.seen D.may_leave self.old }
         ensures open { IsOpen D.seen D.may_leave self.new }
@@ -65,8 +67,10 @@ impl<D: Device> Journal<D> {
             → (self.new ≡ self.old) × (IsBatch batch.now → ⊥) }
         ensures any_moment { self.old.poisoned ≡ false
             → LeavesOnly D.moment D.left_since self.old.device self.new.device
-            (λ c. IsAtRest (text_of (D.seen self.old.device)) c ⊎ IsAtRest (with_end (first_line ++ batch.now)) c) }
-        ensures poisoned { self.old.poisoned ≡ true → (self.new ≡ self.old) × IsErrOf result AppendError.Poisoned }
+            (λ c. IsAtRest (text_of (D.seen self.old.device)) c
+            ⊎ IsAtRest (with_end (first_line ++ batch.now)) c) }
+        ensures poisoned { self.old.poisoned ≡ true
+            → (self.new ≡ self.old) × IsErrOf result AppendError.Poisoned }
         ensures later { D.faults self.old.device ≤ D.faults self.new.device }
         ensures failed { IsErrOf result AppendError.Failed
             → (self.new.poisoned ≡ true) × (D.faults self.old.device < D.faults self.new.device) }
@@ -97,7 +101,8 @@ impl<D: Device> Journal<D> {
         requires settled { IsSettled D.seen D.may_leave self.old }
         requires text { IsText bytes.now }
         requires short { self.old.len ≤ MAX_LEN }
-        ensures rest { OnOk result (IsAtRest (text_of (D.seen self.old.device) ++ bytes.now) (D.seen self.new.device)) }
+        ensures rest { OnOk result (IsAtRest (text_of (D.seen self.old.device) ++ bytes.now)
+            (D.seen self.new.device)) }
         ensures durable { OnOk result (Only (D.seen self.new.device) (D.may_leave self.new.device)) }
         ensures len { OnOk result (self.new.len ≡ length (D.seen self.new.device)) }
         ensures any_moment { LeavesOnly D.moment D.left_since self.old.device self.new.device

@@ -74,7 +74,7 @@ pub trait Device {
             (may_leave self.new) }
         ensures cause { HasCause (faults self.old) (faults self.new) result };
 
-    /// Puts the spare file in the place of the file, on the disk too. A crash meanwhile leaves the one or the other.
+    /// Puts the spare file in the place of the file, on the disk too. A crash meanwhile leaves either.
     fn swap(&mut self) -> Result<(), Failed>
         ensures swapped { OnOk result (seen self.new ≡ spare self.old) }
         ensures durable { OnOk result ((c : List ℕ) → may_leave self.new c → spare_leaves self.old c) }
@@ -84,7 +84,8 @@ pub trait Device {
         ensures cause { HasCause (faults self.old) (faults self.new) result };
 
     /// This moment is one of those since an earlier one.
-    ghost counts_now: { (file : Self) (t : ℕ) (c : List ℕ) → t ≤ moment file → may_leave file c → left_since file t c };
+    ghost counts_now: { (file : Self) (t : ℕ) (c : List ℕ) → t ≤ moment file → may_leave file c
+        → left_since file t c };
 
     /// Since this moment there is no other.
     ghost only_now: { (file : Self) (c : List ℕ) → left_since file (moment file) c → may_leave file c };

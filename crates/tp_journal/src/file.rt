@@ -36,7 +36,7 @@ pub struct Paths<'a> {
 }
 
 impl<'a> FileDevice<'a> {
-    /// Opens a file, or makes an empty one, and returns it with its bytes. `ResourceBusy` where another has it open.
+    /// Opens a file, or makes an empty one, with its bytes. `ResourceBusy` where another has it open.
     pub fn open(
         rt: &'a HostRuntime,
         alloc: Global,

@@ -2,7 +2,8 @@
 ghost use Rattle.std.specs.Prelude.{◌≡◌, ◌⊎◌, ◌<◌, ◌≤◌, List, ℕ, All, drop, length, take, IfOk, OnOk, IsErrOf};
 ghost use Rattle.tp_journal.specs.Device.{LeavesOnly};
 ghost use Rattle.tp_journal.specs.Journal.{LeavesRecovered, Stands};
-ghost use Rattle.tp_journal.specs.Text.{HasDamage, HasSealed, IsAtRest, IsDamage, IsFrontOf, IsRecovered, IsSealed, IsText, first_line, text_of};
+ghost use Rattle.tp_journal.specs.Text.{HasDamage, HasSealed, IsAtRest, IsDamage, IsFrontOf, IsRecovered};
+ghost use Rattle.tp_journal.specs.Text.{IsSealed, IsText, first_line, text_of};
 ghost use Rattle.tp_journal.specs.declared.recovery.OpenError.TheVariants.{Memory};
 
 use crate::damage::is_damaged;
@@ -29,7 +30,7 @@ pub enum OpenError {
     Foreign,
     /// The file is a journal of another version.
     Version,
-    /// What was acknowledged isn't there any more as it was written. This many bytes from the first on still are.
+    /// What was acknowledged isn't there as it was written. Of so many bytes from the first on it is.
     Damaged(usize),
 }
 

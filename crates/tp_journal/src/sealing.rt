@@ -1,5 +1,6 @@
 //! The line that ends a text, and the longest front of a text that has its end.
-ghost use Rattle.std.specs.Prelude.{◌≡◌, ◌⊎◌, ◌+◌, ◌<◌, ◌≤◌, ◌^◌, ◌++◌, ℕ, List, drop, get_or, length, take, IfOk, OnOk, IsErrOf};
+ghost use Rattle.std.specs.Prelude.{◌≡◌, ◌⊎◌, ◌+◌, ◌<◌, ◌≤◌, ◌^◌, ◌++◌, ℕ, List, drop, get_or, length, take};
+ghost use Rattle.std.specs.Prelude.{IfOk, OnOk, IsErrOf};
 ghost use Rattle.tp_journal.specs.declared.batch.Refusal.{Refusal};
 ghost use Rattle.sha2.specs.Hashers.{Holds256};
 ghost use Rattle.tp_journal.specs.Text.{HasSealed, IsBatch, IsFrontOf, end_line, first_line, with_end};
