@@ -15,7 +15,7 @@ use std::alloc::Global;
 use std::io::{Read, Write};
 use std::process::ExitCode;
 use std::{env, io};
-use tp_journal::{AppendError, Device, FileDevice, Journal, Paths, recover};
+use tp_journal::{AppendError, Device, FileDevice, Journal, OpenError, Paths, recover};
 
 /// How many bytes are read at once.
 const CHUNK: usize = 65_536;
@@ -49,6 +49,10 @@ fn main(rt: HostRuntime) -> Result<ExitCode> {
     };
     let found = match recover(alloc, &mut device, &bytes) {
         Ok(found) => found,
+        Err(OpenError::Damaged(count)) => {
+            eprintln!(rt; "Damaged from line {} on", line_behind(&bytes, count))?;
+            return Ok(ExitCode::from(1));
+        }
         Err(error) => {
             eprintln!(rt; "{error:?}")?;
             return Ok(ExitCode::from(1));
@@ -58,6 +62,15 @@ fn main(rt: HostRuntime) -> Result<ExitCode> {
     println!(rt; "ready {}", found.cut)?;
     let mut journal = Journal::new(device, &found);
     take_batches(&rt, alloc, &mut journal)
+}
+
+/// Which line begins behind so many bytes.
+fn line_behind(bytes: &[u8], count: usize) -> usize {
+    let good = bytes.get(..count).unwrap_or(&[]);
+    good.iter()
+        .filter(|byte| **byte == b'\n')
+        .count()
+        .saturating_add(1)
 }
 
 /// Appends what is read, up to the last end of a line, until all is read or the journal takes no more.
