@@ -1,7 +1,7 @@
 -- A journal and its device.
-use Rattle.std.specs.Prelude.{◌≡◌, ◌⊎◌, ℕ, List, ◌++◌, length, false}
+use Rattle.std.specs.Prelude.{◌≡◌, ◌⊎◌, ℕ, List, length, false}
 use Rattle.tp_journal.specs.Device.{Only}
-use Rattle.tp_journal.specs.Text.{HasTorn, IsAtRest, IsRecovered, IsSealed, end_line, text_of}
+use Rattle.tp_journal.specs.Text.{IsAtRest, IsRecovered, IsSealed, text_of}
 use Rattle.tp_journal.specs.declared.journal.Journal.{Journal}
 use Rattle.sha2.specs.Hashers.{Holds256}
 
@@ -25,10 +25,6 @@ IsSettled seen may_leave journal = Keeps seen may_leave (text_of (seen journal.d
 -- the same, unless it is poisoned
 abbrev pub IsOpen : {D : Type 0} → (D → List ℕ) → (D → List ℕ → Type 0) → Journal D → Type 0
 IsOpen seen may_leave journal = journal.poisoned ≡ false → IsSettled seen may_leave journal
-
--- a crash leaves this text, with nothing, some or all of a batch and its end behind it
-abbrev pub LeavesTorn : List ℕ → List ℕ → List ℕ → Type 0
-LeavesTorn text batch file = IsSealed text × HasTorn text (batch ++ end_line (text ++ batch)) file
 
 -- a crash leaves a file as it was, or one of what is recovered of it
 abbrev pub LeavesRecovered : List ℕ → (List ℕ → Type 0) → List ℕ → Type 0
