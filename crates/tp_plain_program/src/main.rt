@@ -2,7 +2,8 @@
 //! standard output. What the tests hold the program against.
 //!
 //! Exit status 0: done. 1: a fault, with its line on standard error. 2: the script was refused, and the
-//! report is the line that says so. 3: there is a race or a rollover in the script, so that it wasn't run.
+//! report is the line that says so. 3: there is a worker, a race, a rollover, a dump or a restore in the
+//! script, so that it wasn't run.
 #![tactic(auto)]
 
 use std::io;
