@@ -21,6 +21,8 @@ the ids that it tells last.
 `dump` returns all that there is as lines, with which a new session goes on: `Session(session.dump().lines)`.
 A session with a log is gone on from by `Session.from_log`.
 
+`connect` returns the session that a server has (`covetrivet serve`), which many processes share.
+
 `covetrivet.library` has the manager in this process, for its threads, by the C library.
 
 docs/LIVE.md says what each line of a session does. It needs Python 3.10, a Unix, and the standard library
@@ -37,17 +39,21 @@ from covetrivet.commands import (
     drain_next, drop, dump, errors, family, kill, prepare, read, release, reply, requeue, rollover,
     submit, take, total, turn,
 )  # fmt: skip
-from covetrivet.faults import LogFault, NoProgram, SessionBroken, SessionClosed, SessionEnded, SessionFault
+from covetrivet.faults import (
+    Disconnected, LogFault, NoProgram, SessionBroken, SessionClosed, SessionEnded, SessionFault,
+)  # fmt: skip
 from covetrivet.program import version
+from covetrivet.remote import connect
 from covetrivet.session import Session
 
 __all__ = [
-    "Account", "Batch", "Cancelled", "Command", "Counts", "Done", "Draft", "Dumped", "Heard", "Killed",
-    "Later", "LogFault", "Look", "Member", "NoProgram", "NotUnderstood", "Released", "Reply", "Requeued",
-    "RolledOver", "Session", "SessionBroken", "SessionClosed", "SessionEnded", "SessionFault",
-    "Submitted", "Work", "abort", "account", "balance", "cancel", "claim", "claim_next", "collect",
-    "commit", "count", "drain", "drain_next", "drop", "dump", "errors", "family", "kill", "prepare",
-    "read", "refusals", "release", "reply", "requeue", "rollover", "submit", "take", "total", "turn",
+    "Account", "Batch", "Cancelled", "Command", "Counts", "Disconnected", "Done", "Draft", "Dumped",
+    "Heard", "Killed", "Later", "LogFault", "Look", "Member", "NoProgram", "NotUnderstood", "Released",
+    "Reply", "Requeued", "RolledOver", "Session", "SessionBroken", "SessionClosed", "SessionEnded",
+    "SessionFault", "Submitted", "Work", "abort", "account", "balance", "cancel", "claim", "claim_next",
+    "collect", "commit", "connect", "count", "drain", "drain_next", "drop", "dump", "errors", "family",
+    "kill", "prepare", "read", "refusals", "release", "reply", "requeue", "rollover", "submit", "take",
+    "total", "turn",
 ]  # fmt: skip
 
 __version__ = version()

@@ -1,5 +1,5 @@
-"""The command `covetrivet`, or `python3 -m covetrivet`: runs the program of sessions, and tells what its
-lines are.
+"""The command `covetrivet`, or `python3 -m covetrivet`: runs the program of sessions, tells what its lines
+are, and shares a session among processes.
 """
 from __future__ import annotations
 
@@ -11,6 +11,7 @@ from covetrivet import NoProgram, program
 
 HELP = """\
 covetrivet [SESSION]    answers a session line by line, of a file or its input
+covetrivet serve, call, top     one session for many processes (each: --help)
 covetrivet --help, --version    COVETRIVET_PROGRAM names the program of sessions
 Head     rows N  units N  limit N  spare N   (to 256, 1024, 7, 256; these first)
          worker NAME STAGE       NAME is 1 to 8 letters, STAGE 1 to 14
@@ -31,8 +32,23 @@ All      rollover           rolled over N OLD:NEW ..  used rows are free again
          dump               dumped N, and N lines: a session that goes on there
          restore            the first command behind alive lines
 Refused  refused [line L:] K WHY [U]; NAME busy, none, nounit, lost, full, ended
-Each command has one answer, in order. Nothing is durable. More: docs/LIVE.md
+Each command has one answer, in order. Nothing is durable. More: docs/LIVE.md,
+docs/SERVICE.md
 """
+
+
+SHARED = ("serve", "call", "top")
+
+
+def shared(command: str, words: Sequence[str]) -> int:
+    """Runs a command of a session that processes share."""
+    if command == "serve":
+        from covetrivet.serve import serve as run
+    elif command == "call":
+        from covetrivet.call import call as run
+    else:
+        from covetrivet.top import top as run
+    return run(words)
 
 
 def fail(status: int, why: object) -> int:
@@ -45,6 +61,8 @@ def main(words: Sequence[str] | None = None) -> int:
     program.
     """
     given = list(sys.argv[1:] if words is None else words)
+    if given[:1] and given[0] in SHARED:
+        return shared(given[0], given[1:])
     if given in (["--help"], ["-h"]):
         print(HELP, end="")
         return 0

@@ -54,6 +54,12 @@ class SessionEnded(SessionFault):
         return f"the program ended {how}; on standard error it wrote: {self.said.strip() or 'nothing'}"
 
 
+class Disconnected(SessionFault):
+    """The server has let the connection go, or has ended. The text is what it said. What was sent and not
+    answered may have been done or not.
+    """
+
+
 def name_of_signal(number: int) -> str:
     try:
         return signal.Signals(number).name

@@ -10,6 +10,9 @@ OF_HEAD = ("rows", "units", "limit", "spare", "server", "start", "worker", "aliv
 QUIET = ("read", "reply", "family", "errors", "count", "balance", "sum", "account", "dump")
 LONGEST_LINE = 200
 LINES_AT_ONCE = 1000
+# What a server says besides answers begins so. No answer does: a name has at most eight letters.
+NOTICE = "covetrivet: "
+WITHOUT_ANSWER = re.compile(b"#[ -~]*| *")
 
 
 def checked(line: str) -> str:
@@ -28,6 +31,13 @@ def is_empty(line: str) -> bool:
 def is_answered(line: str) -> bool:
     """Whether a line behind the head has an answer. A comment that is too long has one: it is refused."""
     return not is_empty(line) or len(line) > LONGEST_LINE
+
+
+def is_asked(line: bytes) -> bool:
+    """Whether any bytes between two line ends have an answer, behind the head. A comment has one that is too
+    long, or has a byte that no line has: it is refused.
+    """
+    return len(line) > LONGEST_LINE or not WITHOUT_ANSWER.fullmatch(line)
 
 
 def is_for_logs(line: str) -> bool:

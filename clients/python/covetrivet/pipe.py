@@ -1,57 +1,24 @@
-"""The program as a child process: lines go in, and answers come out in their order."""
+"""The program as a child process, over its three streams."""
 from __future__ import annotations
 
 import contextlib
 import os
-import re
 import select
 import subprocess
 import sys
 import time
 from collections.abc import Sequence
 
-from covetrivet.answers import NotUnderstood
 from covetrivet.faults import NoProgram, SessionEnded
 from covetrivet.program import cant_start
+from covetrivet.wire import Wire, time_left
 
 KEPT_OF_ERRORS = 4096
 SECONDS_TO_END, SECONDS_TO_CLEAN_UP = 10, 1
 
 
-class Answers:
-    """What the program has written, by answers. That of a dump has as many lines more as its first one
-    counts.
-    """
-
-    def __init__(self) -> None:
-        self.rest = b""
-        self.come: list[list[str]] = []
-        self.due = 0
-
-    def add(self, some: bytes) -> None:
-        *lines, self.rest = (self.rest + some).split(b"\n")
-        for line in (it.decode("ascii") for it in lines):
-            if self.due:
-                self.come[-1].append(line)
-                self.due -= 1
-            else:
-                self.come.append([line])
-                counted = re.fullmatch(r"dumped (\d+)", line)
-                self.due = int(counted[1]) if counted else 0
-
-    def whole(self) -> int:
-        return len(self.come) - (self.due > 0)
-
-    def take(self, many: int) -> list[str]:
-        """Returns the first answers, in which a line end stands between the lines of one."""
-        taken, self.come = self.come[:many], self.come[many:]
-        return ["\n".join(it) for it in taken]
-
-
-class Pipe:
-    """The program's process, and its three streams. One thread at a time uses it: a session has a lock for
-    that.
-    """
+class Pipe(Wire):
+    """The program's process, and its streams."""
 
     def __init__(self, program: Sequence[str]) -> None:
         try:
@@ -62,76 +29,19 @@ class Pipe:
             )
         except OSError as fault:
             raise NoProgram(cant_start(program[0], fault)) from fault
-        self.answers = Answers()
         self.said = b""
         self.ended: SessionEnded | None = None
         streams = self.process.stdin, self.process.stdout, self.process.stderr
         self.streams = [it for it in streams if it is not None]
-        self.input, self.output, self.errors = (it.fileno() for it in self.streams)
-        for it in (self.input, self.output, self.errors):
-            os.set_blocking(it, False)
-        self.poll = select.poll()
-        self.poll.register(self.output, select.POLLIN)
+        given, told, self.errors = (it.fileno() for it in self.streams)
+        super().__init__(given, told)
+        os.set_blocking(self.errors, False)
         self.poll.register(self.errors, select.POLLIN)
 
-    def exchange(self, sent: bytes, wanted: int, seconds: float | None) -> list[str]:
-        """Sends these bytes and returns so many answers. It reads while it writes.
-
-        SessionEnded where the program ends before it has answered. TimeoutError where the answers aren't
-        there in time. NotUnderstood where there are answers before.
-        """
-        self.look()
-        self.refuse_more()
-        left = memoryview(sent)
-        until = None if seconds is None else time.monotonic() + seconds
-        self.poll.register(self.input, select.POLLOUT)
-        while left or self.answers.whole() < wanted:
-            if not left:
-                self.forget(self.input)
-            for descriptor, _events in self.poll.poll(time_left(until, seconds)):
-                if descriptor == self.input:
-                    left = left[self.write(left) :]
-                elif descriptor == self.errors:
-                    self.pass_on_errors()
-                else:
-                    self.look()
-        self.forget(self.input)
-        return self.answers.take(wanted)
-
-    def refuse_more(self) -> None:
-        """NotUnderstood where there are answers that nothing asked for: the next ones would be mistaken."""
-        if self.answers.come or self.answers.rest:
-            raise NotUnderstood(f"the program has answered what it wasn't asked: {self.answers.take(1)}")
-
-    def look(self) -> None:
-        """Reads what there is. SessionEnded where the program has ended."""
-        if not self.read():
-            self.ended = self.end(SECONDS_TO_END)
-            raise self.ended
-
-    def forget(self, descriptor: int) -> None:
-        with contextlib.suppress(KeyError):
-            self.poll.unregister(descriptor)
-
-    def write(self, left: memoryview) -> int:
-        """Writes some, and returns how much. What a program that has ended was to be sent counts as written:
-        what it answered is read.
-        """
-        try:
-            return os.write(self.input, left)
-        except BlockingIOError:
-            return 0
-        except BrokenPipeError:
-            return len(left)
-
-    def read(self) -> bool:
-        """Reads some of the answers. False where there are no more."""
-        try:
-            some = os.read(self.output, 65536)
-        except BlockingIOError:
-            return True
-        self.answers.add(some)
-        return bool(some)
+    def ended_by(self) -> SessionEnded:
+        """Waits until the program has ended, and returns how it did."""
+        self.ended = self.end(SECONDS_TO_END)
+        return self.ended
 
     def pass_on_errors(self) -> bool:
         """Shows what the program has written on standard error, and keeps the end of it. False where there is
@@ -189,13 +99,3 @@ class Pipe:
     def close_streams(self) -> None:
         for stream in self.streams:
             stream.close()
-
-
-def time_left(until: float | None, seconds: float | None) -> float | None:
-    """Returns the milliseconds until then. TimeoutError where there are none left."""
-    if until is None:
-        return None
-    left = until - time.monotonic()
-    if left <= 0:
-        raise TimeoutError(f"the program has not answered in {seconds} seconds")
-    return left * 1000

@@ -21,6 +21,7 @@ from covetrivet.log import Log
 from covetrivet.pipe import Pipe
 from covetrivet.program import find
 from covetrivet.refusals import Refusal
+from covetrivet.wire import Wire
 
 T = TypeVar("T")
 P = ParamSpec("P")
@@ -77,7 +78,7 @@ class Session:
         self._goes_on = False
         self._gate = gate.Gate()
         self._log: Log | None = None
-        self._pipe: Pipe | None = None
+        self._wire: Wire | None = None
         self._ids: Ids | None = Ids() if on_full else None
         # what was restored, by its id in the head: its id from then on
         self.moved: dict[int, int] = {}
@@ -104,9 +105,7 @@ class Session:
         if self._gate.closed != gate.NOT_BEGUN:
             raise SessionClosed("a session has one `with` block, and this one has had it")
         try:
-            program = find(self._program)
-            lines = self._opened()
-            self._pipe = Pipe(program)
+            self._wire, lines = self._started()
             self._gate.closed = None
             OPEN.add(self)
             self._gate.whole(lambda: self._begin(lines))
@@ -114,6 +113,12 @@ class Session:
             self._let_go()
             raise
         return self
+
+    def _started(self) -> tuple[Wire, list[str]]:
+        """Returns the program, started, and the lines to begin with."""
+        program = find(self._program)
+        lines = self._opened()
+        return Pipe(program), lines
 
     def _opened(self) -> list[str]:
         """Returns the lines to begin with, which are in the log, or will be."""
@@ -200,8 +205,8 @@ class Session:
             if self._gate.is_inside:
                 raise SessionBroken("an exchange isn't over: session.process.kill() ends it")
             try:
-                if self._pipe and not self._gate.broken:
-                    for line in self._pipe.finish(self._seconds):
+                if self._wire and not self._gate.broken:
+                    for line in self._wire.finish(self._seconds):
                         _final, name, *values = line.split()
                         self.finals[name] = tuple(int(it) for it in values)
             finally:
@@ -210,8 +215,8 @@ class Session:
     def _let_go(self) -> None:
         self._gate.closed = gate.CLOSED
         OPEN.discard(self)
-        if self._pipe:
-            self._pipe.let_go()
+        if self._wire:
+            self._wire.let_go()
         if self._log:
             self._log.close()
 
@@ -219,17 +224,17 @@ class Session:
         """In a forked process, closes its copies of what is open: else the program's input would end only
         with this process.
         """
-        if self._pipe:
-            self._pipe.close_streams()
+        if self._wire:
+            self._wire.close_streams()
         if self._log:
             self._log.close()
 
     @property
     def process(self) -> subprocess.Popen[bytes]:
-        """The program's process. SessionClosed where the session has not begun."""
-        if self._pipe is None:
-            raise SessionClosed(gate.NOT_BEGUN)
-        return self._pipe.process
+        """The program's process. SessionClosed where the session has not begun, or is a server's."""
+        if not isinstance(self._wire, Pipe):
+            raise SessionClosed("the session's process is another one's" if self._wire else gate.NOT_BEGUN)
+        return self._wire.process
 
     # ---- calls
 
@@ -285,15 +290,15 @@ class Session:
         """Sends lines and returns their answers, one for each unless another number is given. There are no
         more of them, unless lines of a head are refused.
         """
-        if self._pipe is None:
+        if self._wire is None:
             raise SessionClosed(gate.NOT_BEGUN)
         if self._log and is_logged:
             self._log.write(filter(is_for_logs, lines))
         sent = b"".join(it.encode("ascii") + b"\n" for it in lines)
         seconds = self._seconds if wanted is None else None
-        answers = self._pipe.exchange(sent, len(lines) if wanted is None else wanted, seconds)
+        answers = self._wire.exchange(sent, len(lines) if wanted is None else wanted, seconds)
         if not is_head:
-            self._pipe.refuse_more()
+            self._wire.refuse_more()
         return answers
 
     def _do(self, command: Command[T]) -> T:

@@ -8,6 +8,7 @@ from __future__ import annotations
 
 import os
 import shutil
+import signal
 import subprocess
 import sys
 import tempfile
@@ -16,13 +17,22 @@ from pathlib import Path
 
 TESTS = Path(__file__).resolve().parent
 SECONDS = 40
+# The files of tests, by their classes; of all others it is test_faults.py.
+MODULES = {
+    "Logs": "test_logs",
+    "ServeAnswers": "test_serve",
+    "ServeBounds": "test_serve",
+    "ServeEnds": "test_serve_ends",
+    "ServePlaces": "test_serve_ends",
+    "ServeOrphans": "test_serve_ends",
+    "ServeCalls": "test_serve_calls",
+    "ServeSessions": "test_serve_calls",
+}
 
 
 @dataclass(frozen=True)
 class Error:
-    """What stands in a file, what would stand there instead, and the test that must find it: one of
-    test_logs.py, where it is of the class Logs, or of test_faults.py.
-    """
+    """What stands in a file, what would stand there instead, and the test that must find it."""
 
     file: str
     old: str
@@ -37,8 +47,8 @@ ERRORS = [
     Error("gate.py", "if self.broken:", "if False:", "Exchanges.test_a_batch_that_is_interrupted"),
     Error("gate.py", "if self.closed:", "if False:", "Closed.test_a_closed_session_writes_nowhere"),
     Error("gate.py", "os.getpid() == self.owner", "True", "Closed.test_a_forked_process"),
-    Error("session.py", "self._pipe.close_streams()", "pass", "Closed.test_a_forked_process"),
-    Error("pipe.py", "if self.answers.come or", "if", "Exchanges.test_more_answers_than_were_asked_for"),
+    Error("session.py", "self._wire.close_streams()", "pass", "Closed.test_a_forked_process"),
+    Error("wire.py", "if self.answers.come or", "if", "Exchanges.test_more_answers_than_were_asked_for"),
     Error("commands.py", '"[!-~]+"', '"(?s).*"', "Words.test_a_word_is_one_word"),
     Error("lines.py", '"[ -~]*"', '"(?s).*"', "Words.test_a_line_of_a_head_is_one_line"),
     Error("commands.py", '"aborted E"', '"aborted N"', "Lasting.test_aborts_and_what_is_lost"),
@@ -67,21 +77,163 @@ ERRORS = [
     Error("log.py", "fcntl.LOCK_EX |", "fcntl.LOCK_SH |", "Logs.test_a_log_is_no_other_sessions"),
     Error("session.py", "log.discard()", "log.put_in_place()", "Logs.test_a_log_with_no_room_to_roll"),
     Error("session.py", 'self._log.write(["rollover"])', "pass", "Logs.test_ids_last_in_a_log"),
+    Error(
+        "relay.py",
+        "self.asked.popleft()",
+        "self.asked.pop()",
+        "ServeAnswers.test_two_clients_that_interleave",
+    ),
+    Error(
+        "relay.py",
+        "is_wrong or len(answers) > known",
+        "is_wrong",
+        "ServeEnds.test_the_session_ends_by_a_fault",
+    ),
+    Error(
+        "lines.py",
+        "len(line) > LONGEST_LINE or not W",
+        "not W",
+        "ServeBounds.test_a_line_that_is_too_long",
+    ),
+    Error("lines.py", '"#[ -~]*| *"', '"#.*| *"', "ServeAnswers.test_any_bytes"),
+    Error("lines.py", '"#[ -~]*| *"', '" *"', "ServeAnswers.test_two_clients_that_interleave"),
+    Error(
+        "connection.py",
+        "it[: LONGEST_LINE + 1]",
+        "it[:LONGEST_LINE]",
+        "ServeBounds.test_a_line_that_is_too_long",
+    ),
+    Error(
+        "connection.py",
+        "self.pending[: LONGEST_LINE + 1]",
+        "self.pending",
+        "ServeBounds.test_a_line_that_is_too_long",
+    ),
+    Error(
+        "connection.py",
+        "self.host.limits.lines - self",
+        "1 << 30 - 0 * self",
+        "ServeBounds.test_lines_that_are_not_answered",
+    ),
+    Error(
+        "connection.py",
+        "0 if self.is_behind else ",
+        "",
+        "ServeBounds.test_a_client_that_reads_slowly_stays",
+    ),
+    Error("connection.py", "if self.unread() > ", "if -1 > ", "ServeBounds.test_a_slow_client_is_let_go"),
+    Error(
+        "connection.py",
+        'self.let_go("slow")',
+        "pass",
+        "ServeBounds.test_a_client_that_reads_nothing_is_let_go",
+    ),
+    Error(
+        "connection.py",
+        " and has_read == self.had_read",
+        "",
+        "ServeBounds.test_a_client_that_reads_slowly_stays",
+    ),
+    Error(
+        "connection.py",
+        "self.has_said_all = True",
+        "self.has_said_all, self.pending = True, self.pending + b'\\n'",
+        "ServeAnswers.test_a_torn_last_line_is_not_performed",
+    ),
+    Error(
+        "server.py",
+        "elif many >= self.limits.connections",
+        "elif many < 0",
+        "ServeBounds.test_too_many_connections",
+    ),
+    Error("server.py", "it.hold()", "pass", "ServeEnds.test_lines_that_wait_are_not_performed"),
+    Error(
+        "server.py",
+        "idle(SECONDS_TO_ANSWER)",
+        "idle(0.01)",
+        "ServeEnds.test_lines_that_wait_are_not_performed",
+    ),
+    Error(
+        "server.py",
+        'it.dismiss(" ".join(why.split()))',
+        "it.dismiss(None)",
+        "ServeEnds.test_the_session_is_killed",
+    ),
+    Error(
+        "server.py",
+        "and unit.caller.is_gone",
+        "and False",
+        "ServeOrphans.test_the_claim_was_not_answered",
+    ),
+    Error(
+        "relay.py",
+        "self.wake()\n        self.f",
+        "self.f",
+        "ServeEnds.test_the_session_is_killed_while_the_server_ends",
+    ),
+    Error("place.py", "0o777 & ~self.mode", "0o077", "ServeBounds.test_who_may_connect"),
+    Error(
+        "place.py",
+        "if not stat.S_ISSOCK",
+        "if False and stat.S_ISSOCK",
+        "ServePlaces.test_a_place_that_another_program_has",
+    ),
+    Error("place.py", "fcntl.flock(", "max(0, ", "ServePlaces.test_a_place_that_is_taken"),
+    Error(
+        "place.py",
+        'raise PlaceTaken(f"somebody listens on {self.path}")',
+        "os.unlink(self.path)",
+        "ServePlaces.test_a_place_that_another_program_has",
+    ),
+    Error(
+        "place.py",
+        "os.unlink(self.path)\n                return",
+        "raise",
+        "ServePlaces.test_a_stale_socket",
+    ),
+    Error(
+        "holders.py",
+        "if self.is_named(unit.name)",
+        "if False",
+        "ServeOrphans.test_a_line_of_another_is_under_way",
+    ),
+    Error(
+        "holders.py",
+        "if not self.holders.is_open(unit)",
+        "if False",
+        "ServeOrphans.test_units_of_others_are_left_alone",
+    ),
+    Error("holders.py", "del self.units[name]", "pass", "ServeOrphans.test_units_of_others_are_left_alone"),
+    Error("call.py", "or answered < self.asked", "", "ServeCalls.test_a_server_that_is_lost"),
+    Error(
+        "remote.py",
+        "goes_on = bool(come)",
+        "goes_on = False",
+        "ServeSessions.test_an_answer_before_the_end",
+    ),
+    Error("tally.py", "if found:", "if False:", "ServeCalls.test_metrics"),
 ]
 
 
 def passes(folder: str, test: str) -> bool:
     """Whether the test passes on the package in the folder."""
     environment = {**os.environ, "PYTHONPATH": f"{folder}:{TESTS}", "PYTHONDONTWRITEBYTECODE": "1"}
-    module = "test_logs" if test.startswith("Logs.") else "test_faults"
+    environment["COVETRIVET_TEST_SECONDS"] = "6"
+    module = MODULES.get(test.partition(".")[0], "test_faults")
     command = [sys.executable, "-m", "unittest", "-q", f"{module}.{test}"]
     with subprocess.Popen(
-        command, cwd=folder, env=environment, stdout=subprocess.DEVNULL, stderr=subprocess.DEVNULL
+        command,
+        cwd=folder,
+        env=environment,
+        stdout=subprocess.DEVNULL,
+        stderr=subprocess.DEVNULL,
+        start_new_session=True,
     ) as run:
         try:
             return run.wait(SECONDS) == 0
         except subprocess.TimeoutExpired:
-            run.kill()
+            # (with the servers that it has)
+            os.killpg(run.pid, signal.SIGKILL)
             return False
 
 
@@ -96,7 +248,8 @@ def main() -> int:
             if not passes(folder, test):
                 print(f"{test} doesn't pass on the client as it is")
                 wrong += 1
-        for it in ERRORS:
+        # (a test that fails in any case would find nothing)
+        for it in ERRORS if not wrong else []:
             text = (copy / it.file).read_text(encoding="utf-8")
             (copy / it.file).write_text(text.replace(it.old, it.new), encoding="utf-8")
             if it.old not in text or passes(folder, it.test):

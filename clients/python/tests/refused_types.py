@@ -3,7 +3,7 @@ them.
 """
 from __future__ import annotations
 
-from covetrivet import Batch, Session, Submitted, Work, claim, library, submit
+from covetrivet import Batch, Session, Submitted, Work, claim, connect, library, submit
 
 
 def refused(session: Session, batch: Batch, caller: library.Caller) -> None:
@@ -17,6 +17,7 @@ def refused(session: Session, batch: Batch, caller: library.Caller) -> None:
     submitted: Submitted = batch.add(claim("packer")).value
     words: int = batch.add(submit(1)).value
     Session(["rows 8"], on_full="wait")
+    connect(5)
     caller.submit("1")
     caller.commit(7)
     claimed: library.Work = caller.claim(1)

@@ -1,0 +1,92 @@
+"""Which worker has a unit of work open, by which caller, and since when: as the lines and answers tell."""
+from __future__ import annotations
+
+import re
+import time
+from collections.abc import Callable
+from dataclasses import dataclass, field
+
+from covetrivet.relay import Asked, Caller
+
+BEGINS = ("claim", "take", "next")
+REFUSED = re.compile(r"refused (?:line \d+: )?\d+ (\w+)")
+
+
+@dataclass(eq=False)
+class Unit:
+    """A unit of work that a worker's caller, or that of a server's desk, has open."""
+
+    name: str
+    caller: Caller
+    since: float = field(default_factory=time.monotonic)
+
+
+class Holders:
+    """The open units, by the name of their worker or server. Anyone may end a unit, whoever began it."""
+
+    def __init__(self) -> None:
+        self.units: dict[str, Unit] = {}
+
+    def hear(self, asked: Asked, answer: str) -> Unit | None:
+        """Takes note of an answer. Returns the unit that it says is open from now on."""
+        name = asked.name
+        said, _, rest = answer.partition(" ")
+        if said != name or REFUSED.match(answer):
+            return None
+        if asked.verb in BEGINS and rest.startswith("work "):
+            unit = self.units[name] = Unit(name, asked.caller)
+            return unit
+        if name in self.units and ends(asked.verb, rest):
+            del self.units[name]
+        return None
+
+    def of(self, caller: Caller) -> list[Unit]:
+        return [it for it in self.units.values() if it.caller is caller]
+
+    def is_open(self, unit: Unit) -> bool:
+        return self.units.get(unit.name) is unit
+
+
+def ends(verb: str, said: str) -> bool:
+    """Whether a unit is over with this answer, behind the name. Work that a server declined is aborted."""
+    return verb in ("commit", "abort", "drop") or verb == "prepare" and said.startswith("refused ")
+
+
+class Orphans:
+    """Aborts the units of callers that are gone, `seconds` later; with None it keeps them.
+
+    It is a caller too: `ask` sends its lines. `is_named` says whether a line that isn't answered names a
+    worker: that line may end the unit, and begin another.
+    """
+
+    def __init__(
+        self,
+        holders: Holders,
+        seconds: float | None,
+        later: Callable[[float, Callable[[], None]], object],
+        ask: Callable[[Caller, list[bytes]], None],
+        is_named: Callable[[str], bool],
+    ) -> None:
+        self.holders, self.seconds = holders, seconds
+        self.later, self.ask, self.is_named = later, ask, is_named
+        self.aborted = 0
+
+    def left(self, unit: Unit) -> None:
+        """The unit's caller is gone."""
+        if self.seconds is not None:
+            self.later(self.seconds, lambda: self.abort(unit))
+
+    def abort(self, unit: Unit) -> None:
+        if not self.holders.is_open(unit):
+            return
+        if self.is_named(unit.name):
+            self.later(0.01, lambda: self.abort(unit))
+            return
+        self.aborted += 1
+        self.ask(self, [f"abort {unit.name}".encode("ascii")])
+
+    def answered(self, answer: str) -> None:
+        """The answer is heard by the holders alone."""
+
+    def all_taken(self) -> None:
+        """Nothing is left to do."""

@@ -1,0 +1,147 @@
+"""The program of a session in an event loop: lines of many callers go in, and each answer goes to its own.
+
+The program answers each line by one answer, in order. So the callers of the lines that aren't answered stand
+in a queue, and the first one has the next answer.
+"""
+from __future__ import annotations
+
+import asyncio
+import time
+from collections import deque
+from collections.abc import Callable, Sequence
+from typing import NamedTuple, Protocol
+
+from covetrivet.faults import SessionEnded
+from covetrivet.pipe import Pipe
+
+
+class Caller(Protocol):
+    """Whoever sends lines."""
+
+    def answered(self, answer: str) -> None:
+        """Takes the answer to the first line that had none. One of several lines has line ends in it."""
+
+    def all_taken(self) -> None:
+        """Comes behind the answers that came together."""
+
+
+class Asked(NamedTuple):
+    """A line that isn't answered: whose it is, its first two words, and when it came."""
+
+    caller: Caller
+    verb: str
+    name: str
+    since: float
+
+
+def words_of(line: bytes) -> tuple[str, str]:
+    """Returns the first two words of a line, which may be of any bytes."""
+    words = [*line.decode("latin-1").split(None, 2), "", ""]
+    return words[0], words[1]
+
+
+class Relay:
+    """The program's input and output, for many callers.
+
+    Each answer is told to `hear` too, before its caller has it. `on_end` is told how the program has ended.
+    """
+
+    def __init__(
+        self, pipe: Pipe, hear: Callable[[Asked, str, float], None], on_end: Callable[[SessionEnded], None]
+    ) -> None:
+        self.pipe, self.hear, self.on_end = pipe, hear, on_end
+        self.loop = asyncio.get_running_loop()
+        self.asked: deque[Asked] = deque()
+        self.new: list[bytes] = []
+        self.left = memoryview(b"")
+        self.is_blocked = self.is_over = False
+        self.when_idle: asyncio.Future[None] | None = None
+        self.loop.add_reader(pipe.output, self.read)
+        self.loop.add_reader(pipe.errors, self.read_errors)
+
+    def ask(self, caller: Caller, lines: Sequence[bytes]) -> None:
+        """Has these lines performed, each of which has an answer, behind all before. What comes in one round
+        of the event loop is written at once. Once the program has ended nothing is done.
+        """
+        if self.is_over:
+            return
+        if not self.new and not self.is_blocked:
+            self.loop.call_soon(self.write)
+        now = time.monotonic()
+        self.asked.extend([Asked(caller, *words_of(it), now) for it in lines])
+        self.new += lines
+
+    def write(self) -> None:
+        """Writes what there is, as far as the program takes it."""
+        self.forget_input()
+        while (self.left or self.new) and not self.is_over:
+            if not self.left:
+                self.left = memoryview(b"\n".join([*self.new, b""]))
+                self.new = []
+            written = self.pipe.write(self.left)
+            self.left = self.left[written:]
+            if not written:
+                self.is_blocked = True
+                self.loop.add_writer(self.pipe.input, self.write)
+                return
+
+    def forget_input(self) -> None:
+        if self.is_blocked:
+            self.loop.remove_writer(self.pipe.input)
+            self.is_blocked = False
+
+    def read(self) -> None:
+        """Reads answers, and hands them out. A program that answers more than it is asked is ended: the next
+        answers would be given to wrong callers.
+        """
+        is_wrong = False
+        try:
+            goes_on = self.pipe.read()
+        except UnicodeDecodeError:
+            goes_on, is_wrong = False, True
+        answers = self.pipe.answers.take(self.pipe.answers.whole())
+        known = len(self.asked)
+        self.hand_out(answers[:known])
+        if is_wrong or len(answers) > known:
+            self.pipe.process.kill()
+            goes_on = False
+        if not goes_on:
+            self.leave()
+            self.on_end(self.pipe.ended_by())
+
+    def hand_out(self, answers: list[str]) -> None:
+        now = time.monotonic()
+        callers: dict[Caller, None] = {}
+        for answer in answers:
+            it = self.asked.popleft()
+            self.hear(it, answer, now - it.since)
+            it.caller.answered(answer)
+            callers[it.caller] = None
+        for caller in callers:
+            caller.all_taken()
+        if not self.asked:
+            self.wake()
+
+    def wake(self) -> None:
+        if self.when_idle and not self.when_idle.done():
+            self.when_idle.set_result(None)
+
+    def read_errors(self) -> None:
+        if not self.pipe.pass_on_errors():
+            self.loop.remove_reader(self.pipe.errors)
+
+    async def idle(self, seconds: float) -> bool:
+        """Waits until all is answered. False where it isn't so many seconds later, or never will be."""
+        if self.asked:
+            self.when_idle = self.loop.create_future()
+            await asyncio.wait([self.when_idle], timeout=seconds)
+            self.when_idle = None
+        return not self.asked
+
+    def leave(self) -> None:
+        """Lets go of the streams, which are the session's."""
+        self.is_over = True
+        self.wake()
+        self.forget_input()
+        self.loop.remove_reader(self.pipe.output)
+        self.loop.remove_reader(self.pipe.errors)

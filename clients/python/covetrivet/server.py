@@ -1,0 +1,153 @@
+"""One session for many processes of a machine: each connects to a socket, sends lines, and is answered."""
+from __future__ import annotations
+
+import asyncio
+import contextlib
+import signal
+from collections.abc import Callable
+
+from covetrivet.connection import Connection, Limits
+from covetrivet.faults import SessionEnded
+from covetrivet.holders import Holders, Orphans
+from covetrivet.metrics import LONGEST_REQUEST, Metrics
+from covetrivet.pipe import Pipe
+from covetrivet.place import Place
+from covetrivet.relay import Asked, Caller, Relay
+from covetrivet.tally import Tally, shown, shown_counts, shown_units
+
+SECONDS_TO_ANSWER, SECONDS_TO_READ, SECONDS_TO_COUNT = 10, 5, 1
+
+
+class Once:
+    """A caller of one line."""
+
+    def __init__(self) -> None:
+        self.answer: asyncio.Future[str] = asyncio.get_running_loop().create_future()
+
+    def answered(self, answer: str) -> None:
+        if not self.answer.done():
+            self.answer.set_result(answer)
+
+    def all_taken(self) -> None:
+        """Nothing is left to do."""
+
+
+class Server:
+    """The server, within an event loop. Units of clients that are gone are aborted `orphans` seconds later,
+    or kept.
+    """
+
+    def __init__(self, pipe: Pipe, limits: Limits, orphans: float | None) -> None:
+        self.limits = limits
+        self.loop = asyncio.get_running_loop()
+        self.connections: set[Connection] = set()
+        self.holders, self.tally = Holders(), Tally()
+        self.relay = Relay(pipe, self.hear, self.session_ended)
+        self.orphans = Orphans(self.holders, orphans, self.loop.call_later, self.ask, self.is_named)
+        self.fault: SessionEnded | None = None
+        self.is_over = asyncio.Event()
+        self.is_empty = asyncio.Event()
+
+    # ---- what its connections tell
+
+    def joined(self, connection: Connection) -> None:
+        self.tally.connected += 1
+        many = len(self.connections)
+        self.connections.add(connection)
+        if self.is_over.is_set():
+            connection.dismiss("the server ends")
+        elif many >= self.limits.connections:
+            self.lets_go("connections")
+            connection.dismiss(f"{many} connections are open, which is all there may be")
+
+    def left(self, connection: Connection) -> None:
+        self.connections.discard(connection)
+        for unit in self.holders.of(connection):
+            self.orphans.left(unit)
+        if not self.connections:
+            self.is_empty.set()
+
+    def lets_go(self, why: str) -> None:
+        self.tally.let_go[why] += 1
+
+    def ask(self, caller: Caller, lines: list[bytes]) -> None:
+        self.relay.ask(caller, lines)
+
+    # ---- what the session tells
+
+    def hear(self, asked: Asked, answer: str, seconds: float) -> None:
+        self.tally.hear(asked, answer, seconds)
+        unit = self.holders.hear(asked, answer)
+        if unit and isinstance(unit.caller, Connection) and unit.caller.is_gone:
+            self.orphans.left(unit)
+
+    def is_named(self, name: str) -> bool:
+        """Whether a line that isn't answered has this second word."""
+        return any(it.name == name for it in self.relay.asked)
+
+    def session_ended(self, fault: SessionEnded) -> None:
+        self.fault = fault
+        self.is_over.set()
+
+    # ---- its run
+
+    async def run(self, place: Place, metrics: Place | None, ready: Callable[[], None]) -> None:
+        """Serves until SIGTERM, SIGINT or the end of the session, whose fault is in `fault` then."""
+        for it in (signal.SIGTERM, signal.SIGINT):
+            self.loop.add_signal_handler(it, self.is_over.set)
+        backlog = max(self.limits.connections, 100)
+        answer = Metrics(self.tell).answer
+        servers: list[asyncio.AbstractServer] = []
+        if metrics:
+            bound = metrics.bind()
+            servers.append(await asyncio.start_unix_server(answer, sock=bound, limit=LONGEST_REQUEST))
+        bound = place.bind()
+        make = self.loop.create_unix_server(lambda: Connection(self), sock=bound, backlog=backlog)
+        servers.append(await make)
+        ticking = self.loop.create_task(self.tick())
+        try:
+            ready()
+            await self.is_over.wait()
+        finally:
+            for server in servers:
+                server.close()
+            await self.end()
+            ticking.cancel()
+
+    async def tick(self) -> None:
+        while True:
+            await asyncio.sleep(1)
+            for it in list(self.connections):
+                it.tick()
+
+    async def end(self) -> None:
+        """Has what was handed over answered, and the answers read, as far as that comes in time."""
+        for it in self.connections:
+            it.hold()
+        if not self.fault and not await self.relay.idle(SECONDS_TO_ANSWER):
+            self.relay.pipe.process.kill()
+            self.fault = self.fault or self.relay.pipe.ended_by()
+        self.relay.leave()
+        why = f"the session is lost: {self.fault}" if self.fault else "the server ends"
+        for it in list(self.connections):
+            it.dismiss(" ".join(why.split()))
+        if self.connections:
+            self.is_empty.clear()
+            with contextlib.suppress(asyncio.TimeoutError):
+                await asyncio.wait_for(self.is_empty.wait(), SECONDS_TO_READ)
+        for it in list(self.connections):
+            it.let_go("slow")
+
+    async def tell(self) -> str:
+        """Returns the counts, and those of the session, which is asked for them."""
+        lines = [*shown("connections", "gauge", {"": len(self.connections)}), *self.tally.lines()]
+        in_flight = len(self.relay.asked)
+        lines += shown("lines_in_flight", "gauge", {"": in_flight})
+        lines += shown("lines_total", "counter", {"": self.tally.answers.total() + in_flight})
+        lines += shown("orphans_aborted_total", "counter", {"": self.orphans.aborted})
+        lines += shown_units(self.holders.units.values())
+        once = Once()
+        self.ask(once, [b"count"])
+        with contextlib.suppress(asyncio.TimeoutError):
+            lines += shown_counts(await asyncio.wait_for(once.answer, SECONDS_TO_COUNT))
+        return "\n".join([*lines, ""])

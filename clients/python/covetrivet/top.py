@@ -1,0 +1,99 @@
+"""`covetrivet top`: what a server's session has, and what the server counts, again and again."""
+from __future__ import annotations
+
+import re
+import sys
+import time
+from collections.abc import Iterable, Iterator, Sequence
+
+from covetrivet.answers import Counts
+from covetrivet.call import NO_SERVER
+from covetrivet.remote import connect, connected
+from covetrivet.faults import Disconnected, SessionFault
+from covetrivet.options import watching
+from covetrivet.session import Session
+
+STATUSES = "waiting", "held", "consumed", "parked", "killed"
+SHOWN_PARKED, SECONDS = 10, 10
+Metrics = dict[str, float]
+
+
+def metrics_of(path: str) -> Metrics:
+    """Returns a server's metrics by their names, with their labels. Disconnected where none can be had."""
+    with connected(path) as it:
+        it.settimeout(SECONDS)
+        try:
+            it.sendall(b"GET /metrics HTTP/1.0\r\n\r\n")
+            text = b"".join(iter(lambda: it.recv(65536), b"")).decode("ascii")
+        except OSError as fault:
+            raise Disconnected(f"{path} tells no metrics: {fault}") from fault
+    found = re.findall(r"(?m)^covetrivet_(\S+) (\S+)$", text)
+    if not found:
+        raise Disconnected(f"{path} tells no metrics")
+    return {name: float(value) for name, value in found}
+
+
+def of_session(counts: Counts, before: Counts | None, seconds: float, parked: Sequence[int]) -> Iterator[str]:
+    """Yields the lines about the elements, and how many a second changed their status to each."""
+    for it in STATUSES:
+        now, rate = getattr(counts, it), ""
+        if before and seconds > 0:
+            rate = f"{(now - getattr(before, it)) / seconds:+12.1f}/s"
+        yield f"{it:10}{now:10}{rate}"
+    if parked:
+        more = " .." if len(parked) > SHOWN_PARKED else ""
+        yield f"parked: {' '.join(map(str, parked[:SHOWN_PARKED]))}{more}"
+
+
+def of_server(now: Metrics, before: Metrics | None, seconds: float) -> Iterator[str]:
+    """Yields the lines about the server."""
+    count, total = "answer_seconds_count", "answer_seconds_sum"
+    was = before or {}
+    lines, spent = now[count] - was.get(count, 0), now[total] - was.get(total, 0)
+    rate = f", {lines / seconds:.0f} lines a second" if before and seconds > 0 else f", {lines:.0f} lines"
+    mean = f", {spent / lines * 1e6:.0f} us each" if lines else ""
+    yield f"connections {now['connections']:.0f}, lines in flight {now['lines_in_flight']:.0f}{rate}{mean}"
+    refused = [(it[16:-2], int(value)) for it, value in now.items() if it.startswith("refusals_total{")]
+    if refused:
+        yield "refused: " + ", ".join(f"{why.partition(chr(34))[2]} {many}" for why, many in refused)
+    for it, age in now.items():
+        if it.startswith("unit_open_seconds{"):
+            yield f"in hand for {age:.1f} s: {it.split(chr(34))[1]}"
+
+
+def show(lines: Iterable[str], again: bool) -> None:
+    if again and sys.stdout.isatty():
+        print("\033[H\033[J", end="")
+    print("\n".join(lines), flush=True)
+
+
+def watch(session: Session, metrics: str | None, seconds: float | None) -> None:
+    counted: Counts | None = None
+    heard: Metrics | None = None
+    then = time.monotonic()
+    while True:
+        counts, parked = session.count(), session.errors()
+        now = metrics_of(metrics) if metrics else None
+        at = time.monotonic()
+        lines = [*of_session(counts, counted, at - then, parked)]
+        if now:
+            lines += of_server(now, heard, at - then)
+        show(lines, seconds is not None)
+        if seconds is None:
+            return
+        counted, heard, then = counts, now, at
+        time.sleep(seconds)
+
+
+def top(words: Sequence[str]) -> int:
+    """Returns the exit status: 0 after it was interrupted or shown once, 69 without a server."""
+    options = watching(words)
+    try:
+        with connect(options.socket, SECONDS) as session:
+            watch(session, options.metrics, options.seconds)
+    except KeyboardInterrupt:
+        return 0
+    except (SessionFault, TimeoutError) as why:
+        print(f"covetrivet: {why}", file=sys.stderr)
+        return NO_SERVER
+    return 0

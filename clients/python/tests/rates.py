@@ -1,0 +1,76 @@
+#!/usr/bin/env python3
+"""Measures a server, by hand: rates.py [SECONDS]. How many lines a second are answered, and after how long.
+
+Each client sends so many lines at once and waits for their answers. All clients of a row are in one process,
+so where there are many it takes a processor too.
+"""
+from __future__ import annotations
+
+import contextlib
+import selectors
+import socket
+import sys
+import time
+
+from covetrivet import Session, submit
+from serving import WIDE, Client, Serving
+
+ROWS = (1, 1), (1, 10), (1, 64), (10, 1), (100, 1), (100, 10), (1000, 1)
+
+
+class Asking:
+    """A client, how many answers it has since it sent lines, and when that was."""
+
+    def __init__(self, it: socket.socket) -> None:
+        self.socket = it
+
+    def send(self, sent: bytes) -> None:
+        self.come, self.since = 0, time.perf_counter()
+        self.socket.send(sent)
+
+
+def measure(path: str, clients: int, at_once: int, seconds: float) -> tuple[float, list[float]]:
+    """Returns the lines a second, and how long each exchange took, sorted."""
+    sent = b"read 0\n" * at_once
+    took: list[float] = []
+    with contextlib.ExitStack() as stack, selectors.DefaultSelector() as selector:
+        for _ in range(clients):
+            it = socket.socket(socket.AF_UNIX)
+            it.connect(path)
+            stack.callback(it.close)
+            client = Asking(it)
+            selector.register(it, selectors.EVENT_READ, client)
+            client.send(sent)
+        begun = time.perf_counter()
+        while time.perf_counter() < begun + seconds:
+            for key, _ in selector.select():
+                client = key.data
+                client.come += client.socket.recv(65536).count(b"\n")
+                if client.come == at_once:
+                    took.append(time.perf_counter() - client.since)
+                    client.send(sent)
+        spent = time.perf_counter() - begun
+    return len(took) * at_once / spent, sorted(took)
+
+
+def main() -> None:
+    seconds = float(sys.argv[1]) if len(sys.argv) > 1 else 3.0
+    with Session(WIDE) as session:
+        session.submit(1, 5)
+        begun, many = time.perf_counter(), 0
+        while time.perf_counter() < begun + seconds:
+            session.read(0)
+            many += 1
+        print(f"a session of one's own, a call each: {many / (time.perf_counter() - begun):.0f} a second")
+    with Serving(WIDE, "--connections", "1000") as server:
+        with Client(server.path) as it:
+            it.ask(submit(1, 5).line)
+        for clients, at_once in ROWS:
+            rate, took = measure(server.path, clients, at_once, seconds)
+            half, most = took[len(took) // 2] * 1e6, took[len(took) * 99 // 100] * 1e6
+            said = f"{clients} clients, {at_once} at once: {rate:.0f} a second"
+            print(f"{said}; half in {half:.0f} us, 99 of 100 in {most:.0f} us", flush=True)
+
+
+if __name__ == "__main__":
+    main()
