@@ -152,7 +152,7 @@ class ServeBounds(unittest.TestCase):
             stuck, other = server.clients(2)
             stuck.socket.settimeout(0.5)
             with self.assertRaises(TimeoutError):
-                while True:
+                for _ in range(1000):
                     stuck.send(*["count"] * 1000)
             self.assertEqual(server.counted('let_go_total{why="slow"}'), 0)
             begun = time.monotonic()
@@ -190,7 +190,7 @@ class ServeBounds(unittest.TestCase):
             for it in stuck:
                 it.socket.settimeout(0.01)
                 with self.assertRaises(TimeoutError):
-                    while True:
+                    for _ in range(1000):
                         it.send(*["count"] * 500)
             for _ in range(3):
                 for it in others:
