@@ -22,7 +22,7 @@ Client   submit STAGE W0 W1 [W2 [W3]]                   submitted ID
          reply ROOT  collect ROOT  family ROOT          replies ROOT ID:W0:W1 ..
          read ID  errors  count  account                one line each
 Worker   claim NAME         NAME work ID unit U attempt N root R body W0:..:W3
-         take NAME ID       the same of this element; NAME idle where none waits
+         take NAME ID       the same of this element; NAME refused ID WHY
          commit NAME OUT .. NAME done ID unit U outputs FIRST COUNT
          abort NAME         NAME aborted ID
          OUT is STAGE:W0:W1[:W2[:W3]], four at most; STAGE 15 is a reply's
@@ -31,7 +31,7 @@ Server   turn NAME   claim, next, take, prepare, commit, abort, drop NAME
 All      rollover           rolled over N OLD:NEW ..  used rows are free again
          dump               dumped N, and N lines: a session that goes on there
          restore            the first command behind alive lines
-Refused  refused [line L:] K WHY [U]; NAME busy, none, nounit, lost, full, ended
+Refused  refused [line L:] K WHY [U]; NAME idle, busy, none, nounit, lost, full
 Each command has one answer, in order. Nothing is durable. More: docs/LIVE.md,
 docs/SERVICE.md
 """
