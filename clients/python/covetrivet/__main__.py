@@ -31,7 +31,8 @@ Server   turn NAME   claim, next, take, prepare, commit, abort, drop NAME
 All      rollover           rolled over N OLD:NEW ..  used rows are free again
          dump               dumped N, and N lines: a session that goes on there
          restore            the first command behind alive lines
-Refused  refused [line L:] K WHY [U]; NAME idle, busy, none, nounit, lost, full
+Refused  refused [line L:] K WHY [U]
+         NAME idle, busy, none, nounit, lost, full or ended
 Each command has one answer, in order. Nothing is durable. More: docs/LIVE.md,
 docs/SERVICE.md
 """
