@@ -33,8 +33,7 @@ All      rollover           rolled over N OLD:NEW ..  used rows are free again
          restore            the first command behind alive lines
 Refused  refused [line L:] K WHY [U]
          NAME idle, busy, none, nounit, lost, full or ended
-Each command has one answer, in order. Nothing is durable. More: docs/LIVE.md,
-docs/SERVICE.md
+One answer each, in order. Nothing is durable. More: docs/LIVE.md, SERVICE.md
 """
 
 
