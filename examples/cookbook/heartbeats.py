@@ -1,0 +1,76 @@
+#!/usr/bin/env python3
+"""Time limits for workers: the caller keeps when it heard of each last, and takes away the work of a late one.
+
+The clock is the caller's. Ann is late once, and dies once; Bob says in time that he is at it.
+"""
+from __future__ import annotations
+
+import sys
+from contextlib import suppress
+from pathlib import Path
+
+# (the package need not be installed: it is the checkout's)
+sys.path.insert(0, str(Path(__file__).resolve().parents[2] / "clients/python"))
+from covetrivet import Draft, Session, refusals  # noqa: E402
+
+HEAD = ["rows 8", "units 8", "worker ann 1", "worker bob 1"]
+REPLIES = 15
+SECONDS = 30
+Held = dict[str, tuple[int, int]]  # by a worker's name: its element, and when it was heard of last
+
+
+def claim(session: Session, held: Held, name: str, now: int) -> None:
+    if work := session.claim(name):
+        held[name] = work.element, now
+        print(now, name, "has", work.element, "attempt", work.attempt)
+
+
+def beat(held: Held, name: str, now: int) -> None:
+    if name in held:
+        held[name] = held[name][0], now
+
+
+def release_late(session: Session, held: Held, now: int) -> None:
+    for name in [it for it, (_, since) in held.items() if now - since > SECONDS]:
+        element, _ = held.pop(name)
+        with suppress(refusals.NotHeld):  # it was cancelled
+            print(now, "released", session.release(element).element, "of", name)
+
+
+def commit(session: Session, held: Held, name: str, now: int) -> None:
+    held.pop(name, None)
+    try:
+        print(now, name, "did", session.commit(name, Draft(REPLIES)).element)
+    except refusals.Lost as lost:
+        print(now, name, "is too late for", lost.element)
+
+
+def bury(session: Session, name: str) -> None:
+    """Ends the unit of a worker that is dead, so that its name is free."""
+    with suppress(refusals.AlreadyAborted, refusals.NoneOpen):
+        session.abort(name)
+
+
+def main() -> None:
+    held: Held = {}
+    with Session(HEAD) as session:
+        session.submit(1, 5)
+        session.submit(1, 6)
+        claim(session, held, "ann", 0)
+        claim(session, held, "bob", 0)
+        beat(held, "bob", 20)
+        release_late(session, held, 40)
+        commit(session, held, "bob", 41)
+        claim(session, held, "bob", 41)
+        commit(session, held, "ann", 50)
+        commit(session, held, "bob", 51)
+        session.submit(1, 7)
+        claim(session, held, "ann", 60)
+        release_late(session, held, 100)
+        bury(session, "ann")
+        claim(session, held, "ann", 100)
+        commit(session, held, "ann", 110)
+
+
+if __name__ == "__main__":
+    main()
