@@ -1,5 +1,7 @@
 #!/usr/bin/env python3
 """A backlog larger than a manager: it stays outside, and few orders at a time are in the session.
+
+Each order has two replies, its price and a receipt. So the clerk's rows are used up before the client's.
 """
 from __future__ import annotations
 
@@ -27,18 +29,19 @@ def refill(session: Session, backlog: Iterator[str], inside: deque[int]) -> None
 def main() -> None:
     backlog = (f"{price}\n" for price in range(1000))  # as the lines of a file
     inside: deque[int] = deque()
-    paid = 0
+    paid = attempts = 0
     with Session(HEAD, on_full="rollover") as session:
         refill(session, backlog, inside)
         while inside:
             if work := session.claim("clerk"):
+                attempts = max(attempts, work.attempt)
                 with suppress(refusals.Full):  # the session has rolled over, and the order waits again
-                    session.commit("clerk", Draft(REPLIES, *work.words))
-            for reply in session.collect(inside[0]):
-                paid += reply.words[0]
+                    session.commit("clerk", Draft(REPLIES, *work.words), Draft(REPLIES, 1))
+            if replies := session.collect(inside[0]):
+                paid += replies[0].words[0]
                 inside.popleft()
             refill(session, backlog, inside)
-        print("paid", paid, "with more than ten rollovers:", session.rollovers > 10)
+        print("paid", paid, "rollovers", session.rollovers, "most attempts", attempts)
 
 
 if __name__ == "__main__":

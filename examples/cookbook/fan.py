@@ -16,9 +16,9 @@ PRICES = {7: (20, 30, 40), 8: (10, 15)}
 
 
 def left(session: Session, order: int) -> int:
-    """Returns how many parts of an order aren't packed: they wait, are in hand, or are parked."""
-    parts = [it.state for it in session.family(order) if it.stage == PARTS]
-    return sum(state in ("waiting", "held", "parked") for state in parts)
+    """Returns how much of an order isn't done: it waits, is in hand, or is parked."""
+    states = [it.state for it in session.family(order) if it.stage != REPLIES]
+    return sum(state in ("waiting", "held", "parked") for state in states)
 
 
 def main() -> None:

@@ -1,5 +1,5 @@
 #!/usr/bin/env python3
-"""Time limits for workers: the caller keeps when it heard of each last, and takes away the work of a late one.
+"""Time limits for workers: the caller keeps when it heard of each last, and takes work from a late one.
 
 The clock is the caller's. Ann is late once, and dies once; Bob says in time that he is at it.
 """
@@ -67,6 +67,10 @@ def main() -> None:
         session.submit(1, 7)
         claim(session, held, "ann", 60)
         release_late(session, held, 100)
+        try:
+            session.dump()
+        except refusals.Busy:
+            print("her unit is still open")
         bury(session, "ann")
         claim(session, held, "ann", 100)
         commit(session, held, "ann", 110)

@@ -1,7 +1,8 @@
 #!/usr/bin/env python3
 """Retries with backoff: what can't be sent now waits in a stage of its own, with the time when it is due.
 
-The clock is the caller's. Customer 7 is there at once, 8 from second 25 on, and 9 is cancelled meanwhile.
+The clock is the caller's. Customer 7 is there at once, 8 from second 25 on, and 9 is cancelled meanwhile. A
+fourth order isn't due before second 20.
 """
 from __future__ import annotations
 
@@ -15,7 +16,7 @@ from covetrivet import Draft, Session, refusals  # noqa: E402
 
 HEAD = ["rows 32", "units 32", "worker sender 1", "worker mover 2"]
 READY, LATER, REPLIES = 1, 2, 15
-THERE_FROM = {7: 0, 8: 25, 9: 1000}
+THERE_FROM = {5: 0, 7: 0, 8: 25, 9: 1000}
 
 
 def send(session: Session, later: list[tuple[int, int]], now: int) -> None:
@@ -53,12 +54,14 @@ def dumped(session: Session) -> list[tuple[int, int]]:
 def main() -> None:
     later: list[tuple[int, int]] = []
     with Session(HEAD) as session:
-        orders = [session.submit(READY, customer).element for customer in THERE_FROM]
+        orders = [session.submit(READY, customer).element for customer in (7, 8, 9)]
+        orders.append(session.submit(LATER, 5, 0, 20).element)
+        later.append((20, orders[3]))
         for now in (0, 10, 20, 30):
             move(session, later, now)
             send(session, later, now)
             if now == 10:
-                print("a dump tells", dumped(session), "and so it is:", dumped(session) == sorted(later))
+                print("a dump tells:", dumped(session), dumped(session) == sorted(later))
                 print("cancelled:", session.cancel(orders[2]).killed)
         for order in orders:
             replies = [it.words for it in session.collect(order)]
