@@ -1,7 +1,8 @@
 #!/usr/bin/env python3
 """Time limits for workers: the caller keeps when it heard of each last, and takes work from a late one.
 
-The clock is the caller's. Ann is late once, and dies once; Bob says in time that he is at it.
+The clock is the caller's. Bob says in time that he is at it. Ann is late once. Then she is taken for dead,
+and another one works under her name when her commit comes.
 """
 from __future__ import annotations
 
@@ -11,18 +12,22 @@ from pathlib import Path
 
 # (the package need not be installed: it is the checkout's)
 sys.path.insert(0, str(Path(__file__).resolve().parents[2] / "clients/python"))
-from covetrivet import Draft, Session, refusals  # noqa: E402
+from covetrivet import Draft, Session, Work, refusals  # noqa: E402
 
 HEAD = ["rows 8", "units 8", "worker ann 1", "worker bob 1"]
 REPLIES = 15
 SECONDS = 30
-Held = dict[str, tuple[int, int]]  # by a worker's name: its element, and when it was heard of last
+Held = dict[str, tuple[Work, int]]  # by a worker's name: its work, and when it was heard of last
 
 
-def claim(session: Session, held: Held, name: str, now: int) -> None:
-    if work := session.claim(name):
-        held[name] = work.element, now
-        print(now, name, "has", work.element, "attempt", work.attempt)
+def claim(session: Session, held: Held, name: str, now: int) -> int:
+    """Returns the unit that the worker is given, or 0."""
+    work = session.claim(name)
+    if not work:
+        return 0
+    held[name] = work, now
+    print(now, name, "has", work.element, "attempt", work.attempt)
+    return work.unit
 
 
 def beat(held: Held, name: str, now: int) -> None:
@@ -32,17 +37,19 @@ def beat(held: Held, name: str, now: int) -> None:
 
 def release_late(session: Session, held: Held, now: int) -> None:
     for name in [it for it, (_, since) in held.items() if now - since > SECONDS]:
-        element, _ = held.pop(name)
+        work, _ = held.pop(name)
         with suppress(refusals.NotHeld):  # it was cancelled
-            print(now, "released", session.release(element).element, "of", name)
+            print(now, "released", session.release(work.element).element, "of", name)
 
 
-def commit(session: Session, held: Held, name: str, now: int) -> None:
-    held.pop(name, None)
-    try:
-        print(now, name, "did", session.commit(name, Draft(REPLIES)).element)
-    except refusals.Lost as lost:
-        print(now, name, "is too late for", lost.element)
+def commit(session: Session, held: Held, name: str, unit: int, now: int) -> None:
+    """Commits the unit that the worker was given, unless its name has another one by now."""
+    if name not in held or held[name][0].unit == unit:
+        held.pop(name, None)
+        with suppress(refusals.Lost, refusals.NoneOpen):
+            print(now, name, "did", session.commit(name, Draft(REPLIES)).element)
+            return
+    print(now, name, "is too late with unit", unit)
 
 
 def bury(session: Session, name: str) -> None:
@@ -56,24 +63,25 @@ def main() -> None:
     with Session(HEAD) as session:
         session.submit(1, 5)
         session.submit(1, 6)
-        claim(session, held, "ann", 0)
-        claim(session, held, "bob", 0)
+        of_ann, of_bob = claim(session, held, "ann", 0), claim(session, held, "bob", 0)
         beat(held, "bob", 20)
         release_late(session, held, 40)
-        commit(session, held, "bob", 41)
-        claim(session, held, "bob", 41)
-        commit(session, held, "ann", 50)
-        commit(session, held, "bob", 51)
+        commit(session, held, "bob", of_bob, 41)
+        of_bob = claim(session, held, "bob", 41)
+        commit(session, held, "ann", of_ann, 50)
+        commit(session, held, "bob", of_bob, 51)
+
         session.submit(1, 7)
-        claim(session, held, "ann", 60)
+        of_dead = claim(session, held, "ann", 60)
         release_late(session, held, 100)
         try:
             session.dump()
         except refusals.Busy:
             print("her unit is still open")
         bury(session, "ann")
-        claim(session, held, "ann", 100)
-        commit(session, held, "ann", 110)
+        of_ann = claim(session, held, "ann", 100)
+        commit(session, held, "ann", of_dead, 105)
+        commit(session, held, "ann", of_ann, 110)
 
 
 if __name__ == "__main__":

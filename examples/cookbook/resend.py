@@ -62,6 +62,7 @@ def main() -> None:
                 print("sent again:", number)
                 session.submit(1, number, 10 * number)
             work_off(session)
+            session.shorten_log()
             for number, order in requests(session).items():
                 replied[number] = session.reply(order)[0].words[1]
                 session.collect(order)
