@@ -1,23 +1,27 @@
 -- What the calls of a history, the last one first, have made of a file and of its spare file.
-use Rattle.std.specs.Prelude.{◌≡◌, ◌⊎◌, ◌≤◌, ℕ, ◌+◌, ◌==◌, ◌&&◌, ◌||◌, if◌then◌else◌, Bool, true, false, List, [], ◌∷◌, ◌++◌, length, take, drop, replicate}
+use Rattle.std.specs.Prelude.{◌≡◌, ◌⊎◌, ◌≤◌, ℕ, ◌+◌, ◌==◌, ◌&&◌, ◌||◌, if◌then◌else◌, Bool, true, false}
+use Rattle.std.specs.Prelude.{List, [], ◌∷◌, ◌++◌, length, take, drop, replicate}
 use Rattle.std.proofs.Common.{inl, inr}
 use Rattle.std.proofs.Math.Nat.{not-suc-le_self}
 use Rattle.tp_journal.specs.Device.{Grown, Mixed}
 use Rattle.tp_journal.specs.Event.{Event}
+use Rattle.tp_journal.specs.declared.record.TheConstants.{GROWN, OPENED, SPARE_SYNCED, SPARE_WRITTEN}
+use Rattle.tp_journal.specs.declared.record.TheConstants.{SWAPPED, SYNCED, WRITTEN}
 
 -- the bytes of the spare file
 abbrev pub spare_after : List Event → List ℕ
 spare_after [] = []
-spare_after ((call, number, ok, bytes) ∷ past) = if call == 4 then bytes else spare_after past
+spare_after ((call, number, ok, bytes) ∷ past) = if call == SPARE_WRITTEN then bytes else spare_after past
 
 -- the bytes of the file
 abbrev pub seen_after : List Event → List ℕ
 seen_after [] = []
 seen_after ((call, number, ok, bytes) ∷ past) =
-    if call == 0 then bytes
-    else if (call == 1) && ok then take number (seen_after past) ++ bytes ++ drop (number + length bytes) (seen_after past)
-    else if (call == 2) && ok then seen_after past ++ replicate number 0
-    else if (call == 6) && ok then spare_after past
+    if call == OPENED then bytes
+    else if (call == WRITTEN) && ok then
+    take number (seen_after past) ++ bytes ++ drop (number + length bytes) (seen_after past)
+    else if (call == GROWN) && ok then seen_after past ++ replicate number 0
+    else if (call == SWAPPED) && ok then spare_after past
     else seen_after past
 
 -- how many calls have failed
@@ -33,17 +37,19 @@ Either false A B = B
 abbrev pub spare_leaves_after : List Event → List ℕ → Type 0
 spare_leaves_after [] c = Unit {0}
 spare_leaves_after ((call, number, ok, bytes) ∷ past) c =
-    Either ((call == 5) && ok) (c ≡ spare_after past) (Either ((call == 4) || (call == 6)) (Unit {0}) (spare_leaves_after past c))
+    Either ((call == SPARE_SYNCED) && ok) (c ≡ spare_after past)
+    (Either ((call == SPARE_WRITTEN) || (call == SWAPPED)) (Unit {0}) (spare_leaves_after past c))
 
 -- what a crash leaves of the file
 abbrev pub leaves_after : List Event → List ℕ → Type 0
 leaves_after [] c = ⊥
 leaves_after ((call, number, ok, bytes) ∷ past) c =
-    Either (call == 0) (c ≡ bytes)
-    (Either (call == 1) ((d : List ℕ) × leaves_after past d × Mixed number bytes d c)
-    (Either (call == 2) ((d : List ℕ) × leaves_after past d × Grown number d c)
-    (Either (call == 3) (leaves_after past c × Either ok (c ≡ seen_after past) (Unit {0}))
-    (Either (call == 6) (Either ok (spare_leaves_after past c) (leaves_after past c ⊎ spare_leaves_after past c))
+    Either (call == OPENED) (c ≡ bytes)
+    (Either (call == WRITTEN) ((d : List ℕ) × leaves_after past d × Mixed number bytes d c)
+    (Either (call == GROWN) ((d : List ℕ) × leaves_after past d × Grown number d c)
+    (Either (call == SYNCED) (leaves_after past c × Either ok (c ≡ seen_after past) (Unit {0}))
+    (Either (call == SWAPPED)
+    (Either ok (spare_leaves_after past c) (leaves_after past c ⊎ spare_leaves_after past c))
     (leaves_after past c)))))
 
 -- what a crash at some moment from that one on might have left
@@ -51,11 +57,13 @@ abbrev pub left_after : List Event → ℕ → List ℕ → Type 0
 left_after [] t c = leaves_after [] c
 left_after (e ∷ past) t c = leaves_after (e ∷ past) c ⊎ ((t ≤ length past) × left_after past t c)
 
-pub counts_after : (events : List Event) (t : ℕ) (c : List ℕ) → t ≤ length events → leaves_after events c → left_after events t c
+pub counts_after : (events : List Event) (t : ℕ) (c : List ℕ) → t ≤ length events → leaves_after events c
+    → left_after events t c
 counts_after [] t c le now = now
 counts_after (e ∷ past) t c le now = inl now
 
-pub only_after : (events : List Event) (c : List ℕ) → left_after events (length events) c → leaves_after events c
+pub only_after : (events : List Event) (c : List ℕ) → left_after events (length events) c
+    → leaves_after events c
 only_after [] c left = left
 only_after (e ∷ past) c (inl now) = now
 only_after (e ∷ past) c (inr was) = absurd (not-suc-le_self (length past) was.0)

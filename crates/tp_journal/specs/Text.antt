@@ -1,5 +1,6 @@
 -- Texts, and the files that have them.
-use Rattle.std.specs.Prelude.{◌≡◌, ◌⊎◌, ◌≤◌, ℕ, List, [], ◌∷◌, ◌++◌, length, drop, replicate, if◌then◌else◌, ◌==◌, ◌||◌, false, Bool, All, codes, decimal}
+use Rattle.std.specs.Prelude.{◌≡◌, ◌⊎◌, ◌≤◌, ℕ, List, [], ◌∷◌, ◌++◌, length, drop, replicate, All, codes}
+use Rattle.std.specs.Prelude.{if◌then◌else◌, ◌==◌, ◌||◌, false, Bool, decimal}
 use Rattle.tp_journal.specs.Device.{EachMixed}
 use Rattle.hex.specs.Hex.{encode_lower}
 use Rattle.sha2.specs.Sha256.{sha256}
@@ -51,7 +52,8 @@ with_end text = text ++ end_line text
 
 -- a text that has the first line, and after that ends with its own end
 abbrev pub IsSealed : List ℕ → Type 0
-IsSealed text = (text ≡ first_line) ⊎ ((inner : List ℕ) × IsFrontOf inner first_line × (text ≡ with_end inner))
+IsSealed text =
+    (text ≡ first_line) ⊎ ((inner : List ℕ) × IsFrontOf inner first_line × (text ≡ with_end inner))
 
 -- the longest front of a text that is sealed
 pub record HasSealed (text sealed : List ℕ) : Type 0 where
@@ -72,8 +74,8 @@ pub record HasTorn (text bytes file : List ℕ) : Type 0 where
   pub file_is : file ≡ text ++ rest
   pub torn : EachMixed (replicate free 0) bytes rest
 
--- What is behind the sealed text is no torn batch: an end of a batch stands in it with nothing missing before it, or with
--- something behind it.
+-- What is behind the sealed text is no torn batch: an end of a batch stands in it with nothing missing before
+-- it, or with something behind it.
 pub record IsDamage (rest : List ℕ) : Type 0 where
   pub front : List ℕ
   pub back : List ℕ
@@ -89,4 +91,6 @@ pub record HasDamage (file : List ℕ) (count : ℕ) : Type 0 where
 
 -- what is recovered of a file
 abbrev pub IsRecovered : List ℕ → List ℕ → Type 0
-IsRecovered file text = ((file ≡ []) × (text ≡ first_line)) ⊎ (HasSealed (text_of file) text × (IsDamage (drop (length text) file) → ⊥))
+IsRecovered file text =
+    ((file ≡ []) × (text ≡ first_line))
+    ⊎ (HasSealed (text_of file) text × (IsDamage (drop (length text) file) → ⊥))
