@@ -6,23 +6,40 @@
 //
 // BATCH lines are sent at once, and then their answers are read; 1 is a round trip for each. Prints the least of five runs. A worker
 // has one element at a time, so claims and commits are sent for as many as there are workers: BATCH, and at most 20.
+// With the words --journal FILE each run begins a journal: what is there of this name is removed. A PROGRAM unix:PATH is a server at this
+// socket, whose session has the workers already.
 use std::env;
-use std::io::{self, BufRead, BufReader, Error, Write};
-use std::process::{Child, ChildStdin, ChildStdout, Command, Stdio};
+use std::fs;
+use std::io::{self, BufRead, BufReader, Error, Read, Write};
+use std::os::unix::net::UnixStream;
+use std::process::{Child, Command, Stdio};
 use std::time::Instant;
 
 struct Peer {
-    child: Child,
-    to: Option<ChildStdin>,
-    from: BufReader<ChildStdout>,
+    child: Option<Child>,
+    to: Option<Box<dyn Write>>,
+    from: BufReader<Box<dyn Read>>,
 }
 
 impl Peer {
     fn start(words: &[String]) -> io::Result<Peer> {
+        if let Some(path) = words[0].strip_prefix("unix:") {
+            let socket = UnixStream::connect(path)?;
+            let to: Box<dyn Write> = Box::new(socket.try_clone()?);
+            return Ok(Peer { child: None, to: Some(to), from: BufReader::new(Box::new(socket)) });
+        }
+        let journal = words.iter().position(|word| word == "--journal").and_then(|at| words.get(at + 1));
+        if let Some(file) = journal {
+            let _ = fs::remove_file(file);
+        }
         let mut child = Command::new(&words[0]).args(&words[1..]).stdin(Stdio::piped()).stdout(Stdio::piped()).spawn()?;
-        let to = child.stdin.take();
-        let from = BufReader::new(child.stdout.take().ok_or(Error::other("no output"))?);
-        Ok(Peer { child, to, from })
+        let to: Box<dyn Write> = Box::new(child.stdin.take().ok_or(Error::other("no input"))?);
+        let from: Box<dyn Read> = Box::new(child.stdout.take().ok_or(Error::other("no output"))?);
+        let mut peer = Peer { child: Some(child), to: Some(to), from: BufReader::new(from) };
+        if journal.is_some() {
+            peer.ask("", 1, "recovered 0")?;
+        }
+        Ok(peer)
     }
 
     fn send(&mut self, lines: &str) -> io::Result<()> {
@@ -44,7 +61,7 @@ impl Peer {
 
     fn end(mut self) -> io::Result<()> {
         self.to = None;
-        self.child.wait().map(|_| ())
+        self.child.map_or(Ok(()), |mut child| child.wait().map(|_| ()))
     }
 }
 
@@ -54,6 +71,7 @@ fn measure(which: &str, count: usize, batch: usize, words: &[String]) -> io::Res
     let workers = batch.min(20);
     let names: Vec<String> = (0..workers).map(|at| format!("w{}", char::from(b'a' + at as u8))).collect();
     match which {
+        _ if words[0].starts_with("unix:") => {}
         "echo" => {}
         "read" => {
             peer.send("rows 8\n")?;

@@ -19,7 +19,8 @@ One process owns a session, and all its threads may call it. A manager's rows an
 the ids that it tells last.
 
 `dump` returns all that there is as lines, with which a new session goes on: `Session(session.dump().lines)`.
-A session with a log is gone on from by `Session.from_log`.
+`Session.open` has a session whose lines are in a journal on the disk before they are answered: it goes on
+after a crash. (A session with a log of the client's own is gone on from by `Session.from_log`.)
 
 `connect` returns the session that a server has (`covetrivet serve`), which many processes share.
 
@@ -40,7 +41,8 @@ from covetrivet.commands import (
     submit, take, total, turn,
 )  # fmt: skip
 from covetrivet.faults import (
-    Disconnected, LogFault, NoProgram, SessionBroken, SessionClosed, SessionEnded, SessionFault,
+    Disconnected, JournalFault, LogFault, NoProgram, SessionBroken, SessionClosed, SessionEnded,
+    SessionFault, Unknown,
 )  # fmt: skip
 from covetrivet.program import version
 from covetrivet.remote import connect
@@ -48,12 +50,12 @@ from covetrivet.session import Session
 
 __all__ = [
     "Account", "Batch", "Cancelled", "Command", "Counts", "Disconnected", "Done", "Draft", "Dumped",
-    "Heard", "Killed", "Later", "LogFault", "Look", "Member", "NoProgram", "NotUnderstood", "Released",
-    "Reply", "Requeued", "RolledOver", "Session", "SessionBroken", "SessionClosed", "SessionEnded",
-    "SessionFault", "Submitted", "Work", "abort", "account", "balance", "cancel", "claim", "claim_next",
-    "collect", "commit", "connect", "count", "drain", "drain_next", "drop", "dump", "errors", "family",
-    "kill", "prepare", "read", "refusals", "release", "reply", "requeue", "rollover", "submit", "take",
-    "total", "turn",
+    "Heard", "JournalFault", "Killed", "Later", "LogFault", "Look", "Member", "NoProgram",
+    "NotUnderstood", "Released", "Reply", "Requeued", "RolledOver", "Session", "SessionBroken",
+    "SessionClosed", "SessionEnded", "SessionFault", "Submitted", "Unknown", "Work", "abort", "account",
+    "balance", "cancel", "claim", "claim_next", "collect", "commit", "connect", "count", "drain",
+    "drain_next", "drop", "dump", "errors", "family", "kill", "prepare", "read", "refusals", "release",
+    "reply", "requeue", "rollover", "submit", "take", "total", "turn",
 ]  # fmt: skip
 
 __version__ = version()

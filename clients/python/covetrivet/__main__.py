@@ -11,7 +11,7 @@ from covetrivet import NoProgram, program
 
 HELP = """\
 covetrivet [SESSION]    answers a session line by line, of a file or its input
-covetrivet serve, call, top     one session for many processes (each: --help)
+covetrivet serve, node, call, top   one session for many processes (--help)
 covetrivet --help, --version    COVETRIVET_PROGRAM names the program of sessions
 Head     rows N  units N  limit N  spare N   (to 256, 1024, 7, 256; these first)
          worker NAME STAGE       NAME is 1 to 8 letters, STAGE 1 to 14
@@ -33,17 +33,19 @@ All      rollover           rolled over N OLD:NEW ..  used rows are free again
          restore            the first command behind alive lines
 Refused  refused [line L:] K WHY [U]
          NAME idle, busy, none, nounit, lost, full or ended
-One answer each, in order. Nothing is durable. More: docs/LIVE.md, SERVICE.md
+One answer each, in order. More: docs/LIVE.md, DURABLE.md, SERVICE.md
 """
 
 
-SHARED = ("serve", "call", "top")
+SHARED = ("serve", "node", "call", "top")
 
 
 def shared(command: str, words: Sequence[str]) -> int:
     """Runs a command of a session that processes share."""
     if command == "serve":
         from covetrivet.serve import serve as run
+    elif command == "node":
+        from covetrivet.node import node as run
     elif command == "call":
         from covetrivet.call import call as run
     else:

@@ -6,6 +6,8 @@ from collections.abc import Callable
 from dataclasses import dataclass
 
 from covetrivet import refusals
+from covetrivet.faults import Unknown
+from covetrivet.lines import UNKNOWN
 
 Words = tuple[int, int, int, int]
 
@@ -207,7 +209,11 @@ class Heard:
         return words[len(wanted) :]
 
     def refused(self) -> None:
-        """Raises the refusal that the answer is, by its name, if it is one that any command may have."""
+        """Raises the refusal that the answer is, by its name, if it is one that any command may have; or
+        Unknown.
+        """
+        if self.text == UNKNOWN:
+            raise Unknown(f"the session was lost behind {self.command!r}, which it may have performed")
         found = re.fullmatch(r"refused (?:line \d+: )?\d+ (\w+)(?: (\d+))?", self.text)
         if found:
             kind = refusals.BY_NAME.get(found[1])

@@ -6,6 +6,7 @@ from types import TracebackType
 from typing import Any, Generic, TypeVar
 
 from covetrivet.commands import Command
+from covetrivet.faults import Unknown
 from covetrivet.lines import is_rollover
 from covetrivet.refusals import Refusal
 
@@ -18,7 +19,7 @@ class Later(Generic[T]):
     def __init__(self, command: Command[T]) -> None:
         self.command = command
         self.answers: list[T] = []
-        self.refusal: Refusal | None = None
+        self.refusal: Refusal | Unknown | None = None
 
     @property
     def value(self) -> T:
@@ -35,7 +36,7 @@ class Later(Generic[T]):
         """Takes what this returns, or the refusal that it raises."""
         try:
             self.answers.append(answer())
-        except Refusal as refusal:
+        except (Refusal, Unknown) as refusal:
             self.refusal = refusal
 
 

@@ -25,6 +25,10 @@ class LogFault(SessionFault):
     """A log can't be begun or gone on from. The text says why."""
 
 
+class JournalFault(SessionFault):
+    """A journal can't be opened. The text says why."""
+
+
 class SessionClosed(SessionFault):
     """The session has not begun, has been closed, or is another process's. Nothing was sent."""
 
@@ -37,7 +41,7 @@ class SessionBroken(SessionFault):
 
 class SessionEnded(SessionFault):
     """The program has ended. What was sent and not answered may have been done or not; all of it is gone with
-    the program, unless the session has a log.
+    the program, unless the session has a journal or a log.
 
     `status` is its exit status, a negative one the number of the signal that ended it. `said` is the end of
     what it wrote on standard error.
@@ -52,6 +56,12 @@ class SessionEnded(SessionFault):
         number = -self.status
         how = f"by signal {number} ({name_of_signal(number)})" if number > 0 else f"with status {self.status}"
         return f"the program ended {how}; on standard error it wrote: {self.said.strip() or 'nothing'}"
+
+
+class Unknown(SessionFault):
+    """The server's session was lost before it answered this, and goes on over its journal. It has been
+    performed, or not.
+    """
 
 
 class Disconnected(SessionFault):

@@ -6,7 +6,7 @@ import threading
 from collections.abc import Callable
 from typing import TypeVar
 
-from covetrivet.faults import LogFault, SessionBroken, SessionClosed, SessionEnded
+from covetrivet.faults import LogFault, SessionBroken, SessionClosed, SessionEnded, Unknown
 from covetrivet.refusals import Refusal
 
 T = TypeVar("T")
@@ -45,7 +45,7 @@ class Gate:
             try:
                 self.is_inside = True
                 value = act()
-            except (Refusal, LogFault):
+            except (Refusal, LogFault, Unknown):
                 self.broken = None
                 raise
             except SessionEnded as ended:

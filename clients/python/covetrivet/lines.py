@@ -10,6 +10,8 @@ OF_HEAD = ("rows", "units", "limit", "spare", "server", "start", "worker", "aliv
 QUIET = ("read", "reply", "family", "errors", "count", "balance", "sum", "account", "dump")
 LONGEST_LINE = 200
 LINES_AT_ONCE = 1000
+# What a server answers to a line that its session was lost with: it has been performed, or not.
+UNKNOWN = "unknown"
 # What a server says besides answers begins so. No answer does: a name has at most eight letters.
 NOTICE = "covetrivet: "
 WITHOUT_ANSWER = re.compile(b"#[ -~]*| *")
@@ -46,7 +48,7 @@ def is_for_logs(line: str) -> bool:
 
 
 def is_rollover(line: str) -> bool:
-    return line.split() == ["rollover"]
+    return line.strip(" ") == "rollover" and len(line) <= LONGEST_LINE
 
 
 def is_alive(line: str) -> bool:
@@ -58,6 +60,16 @@ def head_of(lines: Sequence[str]) -> list[str]:
     commands = (at for at, it in enumerate(lines) if not is_empty(it) and it.split()[0] not in OF_HEAD)
     first = next(commands, len(lines))
     return list(lines[:first])
+
+
+def beginning(lines: Sequence[str]) -> tuple[list[str], list[str]]:
+    """Returns the lines up to the first command, and the others. That command is `restore` where the lines
+    restore, else `count`, which they need not have.
+    """
+    head = head_of(lines)
+    others = list(lines[len(head) :])
+    restores = any(map(is_alive, head)) or others[:1] and others[0].split() == ["restore"]
+    return [*head, others.pop(0) if restores else "count"], others
 
 
 def pieces_of(lines: Sequence[str]) -> Iterator[list[str]]:

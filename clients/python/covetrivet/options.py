@@ -29,6 +29,7 @@ class Serving:
     orphans: float | None
     metrics: str | None
     limits: Limits
+    journal: str | None
 
 
 def mode_of(word: str) -> int:
@@ -59,16 +60,82 @@ def many_of(word: str) -> int:
     return int(word)
 
 
+def name_of(word: str) -> str:
+    if not re.fullmatch(r"[!-~]{1,80}", word):
+        raise ValueError(word)
+    return word
+
+
+def prefix_of(word: str) -> str:
+    if not re.fullmatch(r"[\w./-]{0,199}\w", word):
+        raise ValueError(word)
+    return word
+
+
+def members_of(word: str) -> list[str]:
+    members = word.split(",")
+    if not all(re.fullmatch(r"https?://([\w.-]+|\[[0-9a-f:]+\])(:\d{1,5})?", it) for it in members):
+        raise ValueError(word)
+    return members
+
+
 # (argparse shows these names where a word is none)
+name_of.__name__, prefix_of.__name__, members_of.__name__ = "name", "prefix", "list of http://HOST:PORT"
 mode_of.__name__, orphans_of.__name__ = "mode, as 0660", "keep or abort:SECONDS"
 seconds_of.__name__, many_of.__name__ = "number of seconds", "number"
 
 
+@dataclass(frozen=True)
+class Joining(Serving):
+    """What a node is to be, and which log it shares."""
+
+    name: str
+    members: list[str] | None
+    postgres: str | None
+    prefix: str
+    lease: int
+    authority: str | None
+    certificate: str | None
+    key: str | None
+
+
 def serving(words: Sequence[str]) -> Serving:
-    usual = Limits()
     parser = Parser("covetrivet serve", description="One live session for many processes of this machine.")
-    parser.add_argument("--socket", required=True, metavar="PATH", help="where clients connect to")
     parser.add_argument("--head", required=True, metavar="FILE", help="the lines to begin with, as of a dump")
+    what = "each line is in it before it is answered, and the session goes on from it"
+    parser.add_argument("--journal", metavar="FILE", help=what)
+    add_sockets(parser)
+    it = parser.parse_args(words)
+    return Serving(it.socket, it.head, it.mode, it.orphans, it.metrics, limits_of(it), it.journal)
+
+
+def joining(words: Sequence[str]) -> Joining:
+    parser = Parser("covetrivet node", description="One of several machines that have the same session.")
+    parser.add_argument("--name", required=True, type=name_of, help="this node's, as clients are told it")
+    what = "the lines that a log without any begins with"
+    parser.add_argument("--head", required=True, metavar="FILE", help=what)
+    log = parser.add_mutually_exclusive_group(required=True)
+    what = "etcd's members, http://HOST:PORT each, with commas between them"
+    log.add_argument("--etcd", type=members_of, metavar="URL,..", help=what)
+    log.add_argument("--postgres", metavar="CONNECTION", help="or PostgreSQL: as psql is told, in one word")
+    what = "the name of the log, of which there is one for each session (covetrivet)"
+    parser.add_argument("--prefix", type=prefix_of, default="covetrivet", help=what)
+    what = "seconds after which another node may lead, where nothing is heard of this one (3)"
+    parser.add_argument("--lease", type=many_of, default=3, metavar="SECONDS", help=what)
+    for name, what in ("ca", "whom etcd's certificates are of"), ("cert", "this node's"), ("key", "its key"):
+        parser.add_argument(f"--{name}", metavar="FILE", help=f"of https://: {what}")
+    add_sockets(parser)
+    it = parser.parse_args(words)
+    return Joining(
+        it.socket, it.head, it.mode, it.orphans, it.metrics, limits_of(it), None,
+        it.name, it.etcd, it.postgres, it.prefix, it.lease, it.ca, it.cert, it.key,
+    )  # fmt: skip
+
+
+def add_sockets(parser: Parser) -> None:
+    """Adds the options of a server of clients."""
+    usual = Limits()
+    parser.add_argument("--socket", required=True, metavar="PATH", help="where clients connect to")
     parser.add_argument("--mode", type=mode_of, default=0o600, help="the sockets' permissions (0600)")
     what = "units of clients that are gone (keep)"
     parser.add_argument("--orphans", type=orphans_of, metavar="keep|abort:SECONDS", help=what)
@@ -80,9 +147,10 @@ def serving(words: Sequence[str]) -> Serving:
         ("slow", seconds_of, usual.seconds, "seconds in which it reads none of what waits; then too"),
     ):
         parser.add_argument(f"--{name}", type=kind, default=most, metavar="N", help=f"{what} ({most})")
-    it = parser.parse_args(words)
-    limits = Limits(it.connections, it.lines, it.unread, it.slow)
-    return Serving(it.socket, it.head, it.mode, it.orphans, it.metrics, limits)
+
+
+def limits_of(it: argparse.Namespace) -> Limits:
+    return Limits(it.connections, it.lines, it.unread, it.slow)
 
 
 @dataclass(frozen=True)

@@ -38,6 +38,12 @@ class Pipe(Wire):
         os.set_blocking(self.errors, False)
         self.poll.register(self.errors, select.POLLIN)
 
+    def write(self, left: memoryview) -> int:
+        # (whole lines, no more than the system writes as a whole: where this process is killed no line is
+        # torn, which the program would perform at the end of its input)
+        some = left[: select.PIPE_BUF]
+        return super().write(some[: bytes(some).rfind(b"\n") + 1] or some)
+
     def ended_by(self) -> SessionEnded:
         """Waits until the program has ended, and returns how it did."""
         self.ended = self.end(SECONDS_TO_END)

@@ -8,10 +8,11 @@ from __future__ import annotations
 import asyncio
 import time
 from collections import deque
-from collections.abc import Callable, Sequence
+from collections.abc import Callable, Collection, Iterable, Sequence
 from typing import NamedTuple, Protocol
 
-from covetrivet.faults import SessionEnded
+from covetrivet.faults import SessionEnded, SessionFault
+from covetrivet.lines import UNKNOWN
 from covetrivet.pipe import Pipe
 
 
@@ -40,32 +41,71 @@ def words_of(line: bytes) -> tuple[str, str]:
     return words[0], words[1]
 
 
+Hear = Callable[[Asked, str, float], None]
+OnEnd = Callable[[SessionFault], None]
+
+
+class Performer(Protocol):
+    """What performs the lines of many callers, and hands out their answers."""
+
+    def ask(self, caller: Caller, lines: Sequence[bytes]) -> None:
+        """Has these lines performed, each of which has an answer."""
+
+    def unanswered(self) -> Collection[Asked]:
+        """Returns the lines that aren't answered."""
+
+    async def idle(self, seconds: float) -> bool:
+        """Waits until all is answered. False where it isn't so many seconds later, or never will be."""
+
+    def give_up(self) -> SessionFault:
+        """Lets go of what doesn't answer. Returns what is to be said of it."""
+
+    def leave(self) -> None:
+        """Performs nothing any more."""
+
+
+def hand_out(answers: Iterable[tuple[Asked, str]], hear: Hear) -> None:
+    """Tells each caller its answers, and each answer to `hear` before."""
+    now = time.monotonic()
+    callers: dict[Caller, None] = {}
+    for it, answer in answers:
+        hear(it, answer, now - it.since)
+        it.caller.answered(answer)
+        callers[it.caller] = None
+    for caller in callers:
+        caller.all_taken()
+
+
 class Relay:
     """The program's input and output, for many callers.
 
     Each answer is told to `hear` too, before its caller has it. `on_end` is told how the program has ended.
     """
 
-    def __init__(
-        self, pipe: Pipe, hear: Callable[[Asked, str, float], None], on_end: Callable[[SessionEnded], None]
-    ) -> None:
+    def __init__(self, pipe: Pipe, hear: Hear, on_end: OnEnd) -> None:
         self.pipe, self.hear, self.on_end = pipe, hear, on_end
         self.loop = asyncio.get_running_loop()
         self.asked: deque[Asked] = deque()
         self.new: list[bytes] = []
         self.left = memoryview(b"")
-        self.is_blocked = self.is_over = False
+        self.is_blocked = self.is_over = self.is_waiting = False
+        # how many lines were lost with a program that ended, and whether the one that there is has answered
+        self.lost, self.has_answered = 0, True
         self.when_idle: asyncio.Future[None] | None = None
-        self.loop.add_reader(pipe.output, self.read)
-        self.loop.add_reader(pipe.errors, self.read_errors)
+        self.listen()
+
+    def listen(self) -> None:
+        self.loop.add_reader(self.pipe.output, self.read)
+        self.loop.add_reader(self.pipe.errors, self.read_errors)
 
     def ask(self, caller: Caller, lines: Sequence[bytes]) -> None:
         """Has these lines performed, each of which has an answer, behind all before. What comes in one round
-        of the event loop is written at once. Once the program has ended nothing is done.
+        of the event loop is written at once. Once the program has ended nothing is done, unless another one
+        is waited for.
         """
         if self.is_over:
             return
-        if not self.new and not self.is_blocked:
+        if not self.new and not self.is_blocked and not self.is_waiting:
             self.loop.call_soon(self.write)
         now = time.monotonic()
         self.asked.extend([Asked(caller, *words_of(it), now) for it in lines])
@@ -73,6 +113,9 @@ class Relay:
 
     def write(self) -> None:
         """Writes what there is, as far as the program takes it."""
+        if self.is_waiting:
+            # (asked for before the program ended; what has come since is the next one's)
+            return
         self.forget_input()
         while (self.left or self.new) and not self.is_over:
             if not self.left:
@@ -101,7 +144,8 @@ class Relay:
             goes_on, is_wrong = False, True
         answers = self.pipe.answers.take(self.pipe.answers.whole())
         known = len(self.asked)
-        self.hand_out(answers[:known])
+        self.has_answered = self.has_answered or bool(answers)
+        self.hand(answers[:known])
         if is_wrong or len(answers) > known:
             self.pipe.process.kill()
             goes_on = False
@@ -109,18 +153,14 @@ class Relay:
             self.leave()
             self.on_end(self.pipe.ended_by())
 
-    def hand_out(self, answers: list[str]) -> None:
-        now = time.monotonic()
-        callers: dict[Caller, None] = {}
-        for answer in answers:
-            it = self.asked.popleft()
-            self.hear(it, answer, now - it.since)
-            it.caller.answered(answer)
-            callers[it.caller] = None
-        for caller in callers:
-            caller.all_taken()
+    def hand(self, answers: Sequence[str]) -> None:
+        """Hands out the answers to the first lines that had none."""
+        hand_out([(self.asked.popleft(), it) for it in answers], self.hear)
         if not self.asked:
             self.wake()
+
+    def unanswered(self) -> Collection[Asked]:
+        return self.asked
 
     def wake(self) -> None:
         if self.when_idle and not self.when_idle.done():
@@ -137,6 +177,23 @@ class Relay:
             await asyncio.wait([self.when_idle], timeout=seconds)
             self.when_idle = None
         return not self.asked
+
+    def give_up(self) -> SessionEnded:
+        """Ends the program."""
+        self.pipe.process.kill()
+        return self.pipe.ended_by()
+
+    def wait(self) -> None:
+        """Waits for another program. What wasn't answered is lost, and what is asked from now on is not."""
+        self.is_over, self.is_waiting = False, True
+        self.lost, self.new, self.left = len(self.asked), [], memoryview(b"")
+
+    def go_on(self, pipe: Pipe) -> None:
+        """Goes on with another program. Lines that were lost are answered by `unknown`."""
+        self.pipe, self.is_waiting, self.has_answered = pipe, False, False
+        self.listen()
+        self.hand([UNKNOWN] * self.lost)
+        self.write()
 
     def leave(self) -> None:
         """Lets go of the streams, which are the session's."""

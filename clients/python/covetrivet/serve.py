@@ -9,15 +9,17 @@ from collections.abc import Iterator, Sequence
 from pathlib import Path
 
 from covetrivet.answers import NotUnderstood
-from covetrivet.faults import NoProgram, SessionEnded
+from covetrivet.faults import JournalFault, NoProgram, SessionEnded, SessionFault
+from covetrivet.journal import Journaled
 from covetrivet.options import Serving, serving
 from covetrivet.pipe import Pipe
 from covetrivet.place import Place, PlaceTaken
 from covetrivet.refusals import Refusal
+from covetrivet.relay import Relay
 from covetrivet.server import Server
 from covetrivet.session import Session
 
-BAD_HEAD, NO_HEAD, NO_PROGRAM, NO_PLACE = 65, 66, 69, 73
+BAD_HEAD, NO_HEAD, NO_PROGRAM, NO_PLACE, NO_JOURNAL = 65, 66, 69, 73, 74
 FILES_BESIDE = 64
 
 
@@ -31,6 +33,14 @@ class Served(Session):
         self._wire.look()
         self._wire.refuse_more()
         return self._wire
+
+
+class ServedAgain(Served, Journaled):
+    """One with a journal, from which it goes on in another process."""
+
+    def again(self) -> Pipe:
+        say("the session has ended, and goes on over its journal")
+        return super().again()
 
 
 def say(text: object) -> None:
@@ -79,7 +89,7 @@ def lines_of(text: str) -> list[str]:
 
 def hold(options: Serving, head: Sequence[str], place: Place, metrics: Place | None) -> int:
     """Has the session, from its beginning to its end."""
-    session = Served(head)
+    session = ServedAgain(options.journal, head) if options.journal else Served(head)
     try:
         with session:
             fault = asyncio.run(run(session, options, place, metrics))
@@ -88,6 +98,9 @@ def hold(options: Serving, head: Sequence[str], place: Place, metrics: Place | N
     except NoProgram as why:
         say(why)
         return NO_PROGRAM
+    except JournalFault as why:
+        say(why)
+        return NO_JOURNAL
     except (SessionEnded, NotUnderstood) as why:
         say(f"the session is lost: {why}")
         return 1
@@ -103,9 +116,11 @@ def hold(options: Serving, head: Sequence[str], place: Place, metrics: Place | N
 
 async def run(
     session: Served, options: Serving, place: Place, metrics: Place | None
-) -> SessionEnded | None:
+) -> SessionFault | None:
     """Serves. Returns the fault by which the session was lost."""
-    server = Server(session.pipe(), options.limits, options.orphans)
+    again = session.again if isinstance(session, ServedAgain) else None
+    pipe = session.pipe()
+    server = Server(lambda hear, on_end: Relay(pipe, hear, on_end), options.limits, options.orphans, again)
     await server.run(place, metrics, lambda: say(f"serves on {options.socket}"))
     return server.fault
 

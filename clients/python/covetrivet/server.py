@@ -4,18 +4,22 @@ from __future__ import annotations
 import asyncio
 import contextlib
 import signal
-from collections.abc import Callable
+from collections.abc import Callable, Iterable
 
+from covetrivet import commands
+from covetrivet.answers import Counts, Heard
 from covetrivet.connection import Connection, Limits
-from covetrivet.faults import SessionEnded
+from covetrivet.faults import SessionFault
 from covetrivet.holders import Holders, Orphans
+from covetrivet.lines import UNKNOWN
 from covetrivet.metrics import LONGEST_REQUEST, Metrics
 from covetrivet.pipe import Pipe
 from covetrivet.place import Place
-from covetrivet.relay import Asked, Caller, Relay
+from covetrivet.relay import Asked, Caller, Hear, OnEnd, Performer, Relay
 from covetrivet.tally import Tally, shown, shown_counts, shown_units
 
 SECONDS_TO_ANSWER, SECONDS_TO_READ, SECONDS_TO_COUNT = 10, 5, 1
+RESTARTS_IN_VAIN = 3
 
 
 class Once:
@@ -33,18 +37,29 @@ class Once:
 
 
 class Server:
-    """The server, within an event loop. Units of clients that are gone are aborted `orphans` seconds later,
-    or kept.
+    """The server, within an event loop. `make` makes what performs the lines. Units of clients that are gone
+    are aborted `orphans` seconds later, or kept. `again` starts the session's program again once it has
+    ended, where that can go on.
     """
 
-    def __init__(self, pipe: Pipe, limits: Limits, orphans: float | None) -> None:
+    def __init__(
+        self,
+        make: Callable[[Hear, OnEnd], Performer],
+        limits: Limits,
+        orphans: float | None,
+        again: Callable[[], Pipe] | None = None,
+    ) -> None:
         self.limits = limits
         self.loop = asyncio.get_running_loop()
         self.connections: set[Connection] = set()
         self.holders, self.tally = Holders(), Tally()
-        self.relay = Relay(pipe, self.hear, self.session_ended)
+        self.relay = make(self.hear, self.session_ended)
         self.orphans = Orphans(self.holders, orphans, self.loop.call_later, self.ask, self.is_named)
-        self.fault: SessionEnded | None = None
+        self.fault: SessionFault | None = None
+        self.again = again
+        # how often it was started again, and how often in a row it has ended without an answer
+        self.restarts = self.in_vain = 0
+        self.restarting: asyncio.Task[None] | None = None
         self.is_over = asyncio.Event()
         self.is_empty = asyncio.Event()
 
@@ -77,17 +92,40 @@ class Server:
 
     def hear(self, asked: Asked, answer: str, seconds: float) -> None:
         self.tally.hear(asked, answer, seconds)
+        if answer == UNKNOWN:
+            return
         unit = self.holders.hear(asked, answer)
         if unit and isinstance(unit.caller, Connection) and unit.caller.is_gone:
             self.orphans.left(unit)
 
     def is_named(self, name: str) -> bool:
         """Whether a line that isn't answered has this second word."""
-        return any(it.name == name for it in self.relay.asked)
+        return any(it.name == name for it in self.relay.unanswered())
 
-    def session_ended(self, fault: SessionEnded) -> None:
+    def session_ended(self, fault: SessionFault) -> None:
+        relay = self.relay
+        if self.again and isinstance(relay, Relay):
+            self.in_vain = 0 if relay.has_answered else self.in_vain + 1
+            if self.in_vain < RESTARTS_IN_VAIN:
+                relay.wait()
+                self.restarting = self.loop.create_task(self.go_on(self.again, relay))
+                return
+        self.session_is_lost(fault)
+
+    def session_is_lost(self, fault: SessionFault) -> None:
         self.fault = fault
         self.is_over.set()
+
+    async def go_on(self, again: Callable[[], Pipe], relay: Relay) -> None:
+        """Has the session go on in another process."""
+        try:
+            pipe = await self.loop.run_in_executor(None, again)
+        except SessionFault as fault:
+            relay.is_over = True
+            self.session_is_lost(fault)
+            return
+        self.restarts += 1
+        relay.go_on(pipe)
 
     # ---- its run
 
@@ -124,9 +162,11 @@ class Server:
         """Has what was handed over answered, and the answers read, as far as that comes in time."""
         for it in self.connections:
             it.hold()
+        if self.restarting:
+            await self.restarting
         if not self.fault and not await self.relay.idle(SECONDS_TO_ANSWER):
-            self.relay.pipe.process.kill()
-            self.fault = self.fault or self.relay.pipe.ended_by()
+            fault = self.relay.give_up()
+            self.fault = self.fault or fault
         self.relay.leave()
         why = f"the session is lost: {self.fault}" if self.fault else "the server ends"
         for it in list(self.connections):
@@ -141,13 +181,23 @@ class Server:
     async def tell(self) -> str:
         """Returns the counts, and those of the session, which is asked for them."""
         lines = [*shown("connections", "gauge", {"": len(self.connections)}), *self.tally.lines()]
-        in_flight = len(self.relay.asked)
+        in_flight = len(self.relay.unanswered())
         lines += shown("lines_in_flight", "gauge", {"": in_flight})
         lines += shown("lines_total", "counter", {"": self.tally.answers.total() + in_flight})
         lines += shown("orphans_aborted_total", "counter", {"": self.orphans.aborted})
+        lines += shown("session_restarts_total", "counter", {"": self.restarts})
         lines += shown_units(self.holders.units.values())
+        # (where that takes too long, or can't be, they are left out)
+        with contextlib.suppress(asyncio.TimeoutError, TimeoutError):
+            lines += shown_counts(await asyncio.wait_for(self.count(), SECONDS_TO_COUNT))
+        return "\n".join([*lines, *self.more(), ""])
+
+    async def count(self) -> Counts:
+        """Returns the elements by status."""
         once = Once()
         self.ask(once, [b"count"])
-        with contextlib.suppress(asyncio.TimeoutError):
-            lines += shown_counts(await asyncio.wait_for(once.answer, SECONDS_TO_COUNT))
-        return "\n".join([*lines, ""])
+        return commands.count().read(Heard(await once.answer, "count"))
+
+    def more(self) -> Iterable[str]:
+        """Returns what else a server tells of itself."""
+        return ()

@@ -16,7 +16,9 @@ from covetrivet.batch import Batch, Later
 from covetrivet.commands import Command
 from covetrivet.faults import LogFault, SessionBroken, SessionClosed
 from covetrivet.ids import Ids, roots_of
-from covetrivet.lines import checked, head_of, is_alive, is_answered, is_for_logs, is_rollover, pieces_of
+from covetrivet.lines import (
+    beginning, checked, head_of, is_alive, is_answered, is_for_logs, is_rollover, pieces_of,
+)  # fmt: skip
 from covetrivet.log import Log
 from covetrivet.pipe import Pipe
 from covetrivet.program import find
@@ -59,6 +61,8 @@ class Session:
 
     **Logs.** `log` names a file that isn't there yet. Each line is written into it before it is sent.
     Session.from_log goes on from it.
+
+    **Journals.** A session of Session.open survives the end of its program, and of the machine.
     """
 
     def __init__(
@@ -84,6 +88,8 @@ class Session:
         self.moved: dict[int, int] = {}
         # how many there were, those of the lines that it began with among them
         self.rollovers = 0
+        # how many lines a journal had, and how many with those that were sent since
+        self.recovered = self.lines = 0
         # the registers of each server, once the session is closed
         self.finals: dict[str, tuple[int, ...]] = {}
 
@@ -98,6 +104,26 @@ class Session:
         session = cls([], program, path, None, seconds)
         session._goes_on = True
         return session
+
+    @staticmethod
+    def open(
+        path: Path,
+        head: Iterable[str] | None = None,
+        program: Sequence[str] | Path | None = None,
+        seconds: float | None = None,
+    ) -> Session:
+        """Returns a session whose program has each line in the journal in this file, on the disk, before it
+        is answered. It stands where the journal's lines lead to, with work in hand; `recovered` says how many
+        these are. Where there are none it begins with the head; else that isn't sent again.
+
+        `lines` counts the journal's lines and those that were sent since. Where the program or this process
+        ends, the next session's `recovered` is how many of them are kept: all that were answered, and maybe
+        more, in their order. JournalFault where the journal can't be opened, or has no lines and no head is
+        given.
+        """
+        from covetrivet.journal import Journaled
+
+        return Journaled(path, head, program, seconds)
 
     # ---- its beginning and its end
 
@@ -137,29 +163,32 @@ class Session:
         return lines
 
     def _begin(self, lines: list[str]) -> None:
-        """Sends the lines. One of the head has no answer unless it is refused, so a first command tells that
-        none was. A log begins once they are answered.
+        """Sends the lines. A log begins once they are answered."""
+        self._send_beginning(lines, 0)
+        if self._log_path and not self._log:
+            self._log = Log.begun(self._log_path, lines)
+
+    def _send_beginning(self, lines: list[str], known: int) -> None:
+        """Sends the lines but for so many that are known. One of the head has no answer unless it is refused,
+        so a first command tells that none was.
         """
+        first, others = beginning(lines)
         head = head_of(lines)
-        others = lines[len(head) :]
-        restores = any(map(is_alive, head)) or bool(others) and others[0].split() == ["restore"]
-        sent = [*head, others.pop(0) if restores else "count"]
-        (answer,) = self._exchange(sent, 1, is_logged=False, is_head=True)
-        refused = re.fullmatch(r"refused line (\d+): \d+ (\w+)", answer)
-        if refused:
-            raise refusals.BY_NAME[refused[2]](sent[int(refused[1]) - 1])
         before = Ids.of(head)
-        if restores:
-            self._restore(head, before, answer)
-        elif self._ids:
-            self._ids = before or self._ids
-        for piece in pieces_of(others):
+        if known < len(first):
+            (answer,) = self._exchange(first[known:], 1, is_logged=False, is_head=True)
+            refused = re.fullmatch(r"refused line (\d+): \d+ (\w+)", answer)
+            if refused:
+                raise refusals.BY_NAME[refused[2]](first[int(refused[1]) - 1])
+            if first[-1].split() == ["restore"]:
+                self._restore(head, before, answer)
+            elif self._ids:
+                self._ids = before or self._ids
+        for piece in pieces_of(others[max(0, known - len(first)) :]):
             if is_rollover(piece[0]):
                 self._roll_over_again()
             else:
                 self._exchange(piece, sum(map(is_answered, piece)), is_logged=False)
-        if self._log_path and not self._log:
-            self._log = Log.begun(self._log_path, lines)
 
     def _restore(self, head: list[str], before: Ids | None, answer: str) -> None:
         heard = Heard(answer, "restore")
@@ -294,6 +323,7 @@ class Session:
             raise SessionClosed(gate.NOT_BEGUN)
         if self._log and is_logged:
             self._log.write(filter(is_for_logs, lines))
+        self.lines += len(lines)
         sent = b"".join(it.encode("ascii") + b"\n" for it in lines)
         seconds = self._seconds if wanted is None else None
         answers = self._wire.exchange(sent, len(lines) if wanted is None else wanted, seconds)
@@ -358,11 +388,14 @@ class Session:
             (answer,) = self._exchange(["dump"])
             roots = roots_of(self._read(commands.dump(), answer).lines)
         (answer,) = self._exchange(["rollover"])
-        heard = Heard(answer, "rollover")
-        heard.refused()
-        moved = commands.rollover().read(heard).moved
+        Heard(answer, "rollover").refused()
         if self._log and is_logged:
             self._log.write(["rollover"])
+        return self._rolled_over(answer, roots)
+
+    def _rolled_over(self, answer: str, roots: dict[int, int]) -> str:
+        """Takes note of a rollover. Returns its answer, by the ids that the session tells."""
+        moved = commands.rollover().read(Heard(answer, "rollover")).moved
         self.rollovers += 1
         if self._ids is None:
             return answer

@@ -6,6 +6,7 @@ from collections import Counter
 from collections.abc import Iterable
 
 from covetrivet import refusals
+from covetrivet.answers import Counts
 from covetrivet.holders import REFUSED, Unit
 from covetrivet.relay import Asked
 
@@ -76,8 +77,7 @@ def shown_units(units: Iterable[Unit]) -> Iterable[str]:
     return shown("unit_open_seconds", "gauge", ages)
 
 
-def shown_counts(answer: str) -> Iterable[str]:
-    """Yields the lines of an answer to `count`, in which each word is followed by its number."""
-    words = answer.split(" ")
-    values: dict[str, float] = {f'{{status="{it}"}}': int(many) for it, many in zip(words[::2], words[1::2])}
+def shown_counts(counts: Counts) -> Iterable[str]:
+    """Yields the lines of how many elements have each status."""
+    values: dict[str, float] = {f'{{status="{it}"}}': many for it, many in vars(counts).items()}
     return shown("elements", "gauge", values)

@@ -74,6 +74,19 @@ class Wire:
         self.forget(self.input)
         return self.answers.take(wanted)
 
+    def hear(self) -> str:
+        """Returns the first answer, which comes without a line. The fault that ended the other side, where it
+        ends before.
+        """
+        while not self.answers.whole():
+            for descriptor, _events in self.poll.poll():
+                if descriptor == self.output:
+                    self.look()
+                else:
+                    self.pass_on_errors()
+        (answer,) = self.answers.take(1)
+        return answer
+
     def refuse_more(self) -> None:
         """NotUnderstood where there are answers that nothing asked for: the next ones would be mistaken."""
         if self.answers.come or self.answers.rest:

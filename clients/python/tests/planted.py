@@ -20,13 +20,21 @@ SECONDS = 40
 # The files of tests, by their classes; of all others it is test_faults.py.
 MODULES = {
     "Logs": "test_logs",
+    "Journals": "test_journals",
     "ServeAnswers": "test_serve",
     "ServeBounds": "test_serve",
     "ServeEnds": "test_serve_ends",
+    "ServeJournals": "test_serve_journals",
+    "Relays": "test_serve_journals",
     "ServePlaces": "test_serve_ends",
     "ServeOrphans": "test_serve_ends",
     "ServeCalls": "test_serve_calls",
     "ServeSessions": "test_serve_calls",
+    "LastingLines": "test_node",
+    "Replicas": "test_node",
+    "Choices": "test_node",
+    "Members": "test_members",
+    "NodeServers": "test_node_server",
 }
 
 
@@ -211,7 +219,104 @@ ERRORS = [
         "goes_on = False",
         "ServeSessions.test_an_answer_before_the_end",
     ),
+    Error(
+        "journal.py",
+        "if there == wanted[: self.recovered]:",
+        "if False:",
+        "Journals.test_a_beginning_that_was_cut_short",
+    ),
+    Error(
+        "journal.py",
+        "if len(head_of(there)) == len(there):",
+        "if False:",
+        "Journals.test_a_beginning_that_was_cut_short",
+    ),
+    Error(
+        "journal.py",
+        "with Session(lines, self._program, seconds=self._seconds):",
+        "if True:",
+        "Journals.test_a_head_that_is_refused_is_not_kept",
+    ),
+    Error(
+        "pipe.py",
+        "some[: bytes(some).rfind(b\"\\n\") + 1] or some",
+        "left",
+        "Journals.test_no_line_of_a_killed_client_is_torn",
+    ),
+    Error("journal.py", "time.sleep(0.02)", "return", "Journals.test_two_sessions"),
+    Error(
+        "session.py", "self.lines += len(lines)", "pass", "Journals.test_a_session_goes_on"
+    ),
+    Error(
+        "relay.py",
+        "self.hand([UNKNOWN] * self.lost)",
+        "pass",
+        "ServeJournals.test_what_was_not_answered_is_unknown",
+    ),
+    Error(
+        "relay.py",
+        "self.lost, self.new, self.left = len(self.asked), [], memoryview(b\"\")",
+        "self.lost = len(self.asked)",
+        "ServeJournals.test_what_was_not_written_is_unknown",
+    ),
+    Error("relay.py", "if self.is_waiting:\n", "if False:\n", "Relays.test_a_write_that_comes_late"),
+    Error(
+        "server.py",
+        "if self.in_vain < RESTARTS_IN_VAIN:",
+        "if True:",
+        "ServeJournals.test_a_session_that_ends_again_and_again",
+    ),
+    Error(
+        "gate.py",
+        "except (Refusal, LogFault, Unknown):",
+        "except (Refusal, LogFault):",
+        "ServeJournals.test_what_was_not_answered_is_unknown",
+    ),
     Error("tally.py", "if found:", "if False:", "ServeCalls.test_metrics"),
+    Error("lasting.py", " root (\\d+)| unit", "| unit", "LastingLines.test_lines_and_answers"),
+    Error("lasting.py", " [1-9])", " [0-9])", "LastingLines.test_lines_and_answers"),
+    Error("lasting.py", "len(line) <= LONGEST_LINE", "True", "LastingLines.test_ids_that_no_element_has"),
+    Error("replica.py", "if record.digest !=", "if None is", "Replicas.test_records_that_do_not_fit"),
+    Error("replica.py", "if place != self.place", "if False", "Members.test_a_log_with_a_gap"),
+    Error("rollovers.py", "it.asked.caller in callers or ", "", "Choices.test_which_lines_wait"),
+    Error("rollovers.py", "at or 1", "at + 1", "Choices.test_a_rollover_is_a_record_of_its_own"),
+    Error(
+        "member.py",
+        "if not self.log.append(place, record, token):",
+        "if self.log.append(place, record, token) is None:",
+        "Members.test_one_that_was_deposed_answers_nothing",
+    ),
+    Error(
+        "member.py",
+        "if it.reign == self.reign",
+        "if True",
+        "Members.test_one_that_was_deposed_answers_nothing",
+    ),
+    Error(
+        "member.py",
+        "while self.catch_up():",
+        "while False:",
+        "Members.test_what_came_in_the_last_moment_is_performed_first",
+    ),
+    Error(
+        "member.py",
+        "go, wait = held_back(self.pending)",
+        "pass",
+        "Members.test_lines_wait_for_a_rollover",
+    ),
+    Error("node_server.py", "if not self.office.token:", "if False:", "NodeServers.test_who_is_answered"),
+    Error(
+        "node_server.py",
+        "it.dismiss(NO_MORE)",
+        "pass",
+        "NodeServers.test_clients_of_a_leader_that_is_none_any_more",
+    ),
+    Error(
+        "node_server.py",
+        "self.orphans.left(unit)",
+        "pass",
+        "NodeServers.test_units_of_clients_of_an_earlier_leader",
+    ),
 ]
 
 

@@ -1,5 +1,7 @@
 #!/usr/bin/env python3
-"""Measures a server, by hand: rates.py [SECONDS]. How many lines a second are answered, and after how long.
+"""Measures a server, by hand: rates.py [SECONDS [etcd|postgres]]. How many lines a second are answered, and
+after how long. With a second word it is the leader of three nodes, over three members of etcd on this machine
+or a PostgreSQL.
 
 Each client sends so many lines at once and waits for their answers. All clients of a row are in one process,
 so where there are many it takes a processor too.
@@ -13,6 +15,8 @@ import sys
 import time
 
 from covetrivet import Session, submit
+from cluster_faults import begin
+from machines import Machines, comes
 from serving import WIDE, Client, Serving
 
 ROWS = (1, 1), (1, 10), (1, 64), (10, 1), (100, 1), (100, 10), (1000, 1)
@@ -62,14 +66,25 @@ def main() -> None:
             session.read(0)
             many += 1
         print(f"a session of one's own, a call each: {many / (time.perf_counter() - begun):.0f} a second")
+    if len(sys.argv) > 2:
+        with Machines(WIDE, postgres=sys.argv[2] == "postgres") as machines:
+            begin(machines)
+            if not comes(lambda: machines.leader() and machines.metric(3, "place") is not None, 20):
+                raise RuntimeError(machines.log_of("node1"))
+            tell(machines.socket_of(machines.leader() or 1), seconds)
+        return
     with Serving(WIDE, "--connections", "1000") as server:
-        with Client(server.path) as it:
-            it.ask(submit(1, 5).line)
-        for clients, at_once in ROWS:
-            rate, took = measure(server.path, clients, at_once, seconds)
-            half, most = took[len(took) // 2] * 1e6, took[len(took) * 99 // 100] * 1e6
-            said = f"{clients} clients, {at_once} at once: {rate:.0f} a second"
-            print(f"{said}; half in {half:.0f} us, 99 of 100 in {most:.0f} us", flush=True)
+        tell(server.path, seconds)
+
+
+def tell(path: str, seconds: float) -> None:
+    with Client(path) as it:
+        it.ask(submit(1, 5).line)
+    for clients, at_once in ROWS:
+        rate, took = measure(path, clients, at_once, seconds)
+        half, most = took[len(took) // 2] * 1e6, took[len(took) * 99 // 100] * 1e6
+        said = f"{clients} clients, {at_once} at once: {rate:.0f} a second"
+        print(f"{said}; half in {half:.0f} us, 99 of 100 in {most:.0f} us", flush=True)
 
 
 if __name__ == "__main__":

@@ -82,11 +82,13 @@ class Serving:
         script = f"{self.folder}/program"
         with open(script, "w", encoding="utf-8") as file:
             found = " ".join(program.find())
-            file.write(f"#!/bin/sh\necho $$ > {self.folder}/pid\nexec {found}\n")
+            # (a head is tried without the journal first)
+            words = 2 if "--journal" in self.options else 0
+            file.write(f"#!/bin/sh\n[ $# != {words} ] || echo $$ > {self.folder}/pid\nexec {found} \"$@\"\n")
         os.chmod(script, 0o755)
-        words = "serve", "--socket", self.path, "--head", f"{self.folder}/head", "--metrics", self.metrics
+        command = "serve", "--socket", self.path, "--head", f"{self.folder}/head", "--metrics", self.metrics
         self.process = subprocess.Popen(
-            [sys.executable, "-m", "covetrivet", *words, *self.options],
+            [sys.executable, "-m", "covetrivet", *command, *self.options],
             stdout=subprocess.PIPE,
             stderr=subprocess.PIPE,
             text=True,

@@ -61,7 +61,7 @@ gathered_after l h keeper keeper1 keeper2 olds olds1 olds2 parts all all' given 
     omega (arith, f, made)
 
 -- a steady crew meets no other fault
-pub crew_fault : (l : Limits) (passes : List PassShown) (fault : RollFault) → AreFree passes → IsRefusedFor l passes fault → IsCrewFault l fault
+pub crew_fault : (l : Limits) (passes : List PassShown) (fault : RollFault) → AreFree passes → IsRefusedFor l passes fault → IsCrewFault l passes fault
 crew_fault l passes NoMemory free due = tt
 crew_fault l passes BadLimits free due = due
 crew_fault l passes NoPass free due = due

@@ -6,10 +6,11 @@ use Rattle.tp_model.specs.declared.event.Event.{Event}
 use Rattle.tp_model.specs.declared.types.Limits.{Limits}
 use Rattle.tp_manager.specs.Bounds.{gather_steps}
 use Rattle.tp_manager.specs.Shown.{KeeperShown, PassShown}
+use Rattle.tp_plain.specs.OneThread.{start}
 use Rattle.tp_alone.specs.Thread.{Stays}
 use Rattle.tp_rollover.specs.Answers.{Rolls}
 use Rattle.tp_rollover.specs.Bounds.{AllMake, alive_after, survey_steps}
-use Rattle.tp_rollover.specs.Managed.{WasShort}
+use Rattle.tp_rollover.specs.Carries.{WouldNotFit}
 use Rattle.tp_rollover.specs.declared.moved.Moved.{Moved}
 use Rattle.tp_rollover.specs.declared.moved.RollFault.{RollFault}
 use Rattle.tp_rollover.specs.declared.moved.RollFault.TheVariants.{Full, NoMemory, Unequal}
@@ -51,9 +52,9 @@ module _ {X : Type 0} {F : X → Type 0} where
     pub steps : RefusedSteps old.manager.limits point old.keeper old.passes.items new.keeper new.passes.items
 
 -- The faults that a steady crew, whose manager has these limits, can meet: its new manager has the same attempt
--- limit, it has passes, and none of them has a unit open. Full only where the new manager was short.
-abbrev pub IsCrewFault : Limits → RollFault → Type 0
-IsCrewFault l NoMemory = Unit {0}
-IsCrewFault l Full = WasShort l
-IsCrewFault l Unequal = Unit {0}
-IsCrewFault l other = ⊥
+-- limit, it has passes, and none of them has a unit open. Full only where what is alive finds no room.
+abbrev pub IsCrewFault : Limits → List PassShown → RollFault → Type 0
+IsCrewFault l passes NoMemory = Unit {0}
+IsCrewFault l passes Full = WouldNotFit l passes l.parts (start l)
+IsCrewFault l passes Unequal = Unit {0}
+IsCrewFault l passes other = ⊥

@@ -44,7 +44,7 @@ fn succeed_or_gather(
         next.managed.keeper old_passes.old old_passes.new next.managed.passes.items next.moved.items) }
     ensures stays { IfErr result (λ fault. AllZip Stays old_passes.old old_passes.new) }
     ensures shows { IfErr result (λ fault. All Shows old_passes.new) }
-    ensures fault { IfErr result (IsCrewFault old.now.limits) }
+    ensures fault { IfErr result (IsCrewFault old.now.limits old_passes.old) }
     ensures steps { IfOk result (λ next. made_by_all next.managed.keeper next.managed.passes.items
         ≤ most_successor_steps old.now.limits (length next.moved.items)) }
     ensures replayed { IfOk result (λ next. made_by_all next.managed.keeper next.managed.passes.items
@@ -77,7 +77,7 @@ impl Crew {
         ensures limits { self.new.manager.limits ≡ self.old.manager.limits }
         ensures moved { IfOk result (λ moved. CrewRolls self.old self.new moved.items) }
         ensures refused { IfErr result (λ fault. CrewStays self.old self.new) }
-        ensures fault { IfErr result (IsCrewFault self.old.manager.limits) }
+        ensures fault { IfErr result (IsCrewFault self.old.manager.limits self.old.passes.items) }
         ensures steps { IfOk result (λ moved. made_by_all self.new.keeper self.new.passes.items
             ≤ most_successor_steps self.old.manager.limits (length moved.items)) }
         ensures replayed { IfOk result (λ moved. made_by_all self.new.keeper self.new.passes.items

@@ -59,7 +59,7 @@ impl Crew {
             × CrewRolls self.old self.new moved.items)) }
         ensures refused { IfErr result (λ fault. LacksRoom rows units self.old
             × CrewStays self.old self.new) }
-        ensures fault { IfErr result (IsCrewFault self.old.manager.limits) }
+        ensures fault { IfErr result (IsCrewFault self.old.manager.limits self.old.passes.items) }
         ensures steps { IfOk result (λ answer. IfSome answer (λ moved.
             made_by_all self.new.keeper self.new.passes.items
             ≤ most_successor_steps self.old.manager.limits (length moved.items))) }

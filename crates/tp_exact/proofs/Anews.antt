@@ -8,6 +8,7 @@ use Rattle.tp_model.specs.declared.types.Work.{Work}
 use Rattle.tp_plain.specs.OneThread.{State, start}
 use Rattle.tp_manager.specs.Shown.{PassShown}
 use Rattle.tp_rollover.specs.Anew.{made_anew}
+use Rattle.tp_rollover.specs.Carries.{WouldNotFit}
 use Rattle.tp_rollover.specs.Faults.{AreFree}
 use Rattle.tp_rollover.specs.Managed.{IsRefusedFor, IsUnsurveyed}
 use Rattle.tp_rollover.specs.declared.moved.Moved.{Moved}
@@ -20,7 +21,7 @@ use Rattle.tp_script.specs.Script.{ServerView}
 use Rattle.tp_script.specs.Script.{HeadView, head_view}
 use Rattle.tp_script.specs.declared.head.Head.{Head}
 use Rattle.tp_commands.specs.Acting.{DeskShown, PlaceShown}
-use Rattle.tp_perform.specs.Restore.{Restored}
+use Rattle.tp_perform.specs.Restore.{IsUnrestoredFor, Restored}
 use Rattle.tp_perform.specs.Rollover.{BeginsAgain, RollRefused, RolledOver, renamed, roll_refused_text}
 use Rattle.tp_perform.specs.Scenes.{Scene, passes_in}
 use Rattle.tp_reference.specs.declared.plain_desk.PlainDesk.{PlainDesk}
@@ -184,13 +185,37 @@ module _ (head : Head) (old new : Live) (text : List ℕ) (s : SessionState) (is
   failed : (done : List ℕ × SessionState) (why : RollFault) → IsUnforeseen (Some why) → AreFree (passes_in scene) → text ≡ line (roll_refused_text why) → StandsLive h new s → Answered done
   failed done why unforeseen free text_is stands = (Some why, unforeseen, with_open false (Some why) done (none_open free) (text_is, stands))
 
-  refused_for : (done : List ℕ × SessionState) (why : RollFault) → IsRefusedFor l (passes_in scene) why → text ≡ line (roll_refused_text why) → StandsLive h new s → Answered done
-  refused_for done faults.NoMemory due text_is stands = failed done faults.NoMemory tt due text_is stands
-  refused_for done faults.BadLimits due text_is stands = absurd due
-  refused_for done faults.NoPass due text_is stands = absurd due
-  refused_for done faults.Busy due text_is stands = busy done (is_open s) refl due text_is stands
-  refused_for done faults.Full due text_is stands = failed done faults.Full tt due.0 text_is stands
-  refused_for done faults.Unequal due text_is stands = failed done faults.Unequal tt due text_is stands
+  limits_are : k ≡ l
+  limits_are = ap (λ (m : State). m.limits) is.stands.manager
+
+  -- these find no room in another manager, and so it is computed
+  no_room : (told : List Renamed → List ℕ) (survivors : List Survivor) → made_anew l l.parts survivors (start l) ≡ None → AreFree (passes_in scene) → text ≡ line (roll_refused_text faults.Full) → StandsLive h new s
+      → Answered (anew told survivors s)
+  no_room told survivors none free text_is stands =
+      answered (anew told survivors s) free
+      (subst (λ o. IsStep h new text (anew_as told s o)) (sym (ap (λ (z : Limits). made_anew z z.parts survivors (start z)) limits_are ∙ none)) (text_is, stands))
+
+  unfit : WouldNotFit l (passes_in scene) l.parts (start l) → made_anew l l.parts (alive_of s.report.manager) (start l) ≡ None
+  unfit w =
+      let same : thread_of l w.looked w.keeper.seen ≡ s.report.manager = (alone_idle l old.stand.keeper w.keeper (passes_in scene) w.looked old.stand.keeper.seen w.keeper.seen is.stands.together w.stay w.together).1 ∙ sym is.stands.manager in
+      let alive : w.survivors ≡ alive_of s.report.manager = described_so l w.keeper.seen w.survivors w.together.legal w.found ∙ ap alive_of same in
+      subst (λ ss. made_anew l l.parts ss (start l) ≡ None) alive w.full
+
+  unrolled_for : (why : RollFault) → IsRefusedFor l (passes_in scene) why → text ≡ line (roll_refused_text why) → StandsLive h new s → Answered (anew rolled_text (alive_of s.report.manager) s)
+  unrolled_for faults.NoMemory due text_is stands = failed (anew rolled_text (alive_of s.report.manager) s) faults.NoMemory tt due text_is stands
+  unrolled_for faults.BadLimits due text_is stands = absurd due
+  unrolled_for faults.NoPass due text_is stands = absurd due
+  unrolled_for faults.Busy due text_is stands = busy (anew rolled_text (alive_of s.report.manager) s) (is_open s) refl due text_is stands
+  unrolled_for faults.Full due text_is stands = no_room rolled_text (alive_of s.report.manager) (unfit due.1) due.0 text_is stands
+  unrolled_for faults.Unequal due text_is stands = failed (anew rolled_text (alive_of s.report.manager) s) faults.Unequal tt due text_is stands
+
+  unrestored_for : (survivors : List Survivor) (why : RollFault) → IsUnrestoredFor l survivors (passes_in scene) why → text ≡ line (roll_refused_text why) → StandsLive h new s → Answered (anew restored_text survivors s)
+  unrestored_for survivors faults.NoMemory due text_is stands = failed (anew restored_text survivors s) faults.NoMemory tt due text_is stands
+  unrestored_for survivors faults.BadLimits due text_is stands = absurd due
+  unrestored_for survivors faults.NoPass due text_is stands = absurd due
+  unrestored_for survivors faults.Busy due text_is stands = busy (anew restored_text survivors s) (is_open s) refl due text_is stands
+  unrestored_for survivors faults.Full due text_is stands = no_room restored_text survivors due.1 due.0 text_is stands
+  unrestored_for survivors faults.Unequal due text_is stands = failed (anew restored_text survivors s) faults.Unequal tt due text_is stands
 
   unsurveyed_for : (done : List ℕ × SessionState) (why : RollFault) → IsUnsurveyed (passes_in scene) why → text ≡ line (roll_refused_text why) → StandsLive h new s → Answered done
   unsurveyed_for done faults.NoMemory due text_is stands = failed done faults.NoMemory tt due text_is stands
@@ -200,11 +225,11 @@ module _ (head : Head) (old new : Live) (text : List ℕ) (s : SessionState) (is
   unsurveyed_for done faults.Full due text_is stands = absurd due
   unsurveyed_for done faults.Unequal due text_is stands = failed done faults.Unequal tt due text_is stands
 
-  refused : (done : List ℕ × SessionState) → new.works ≡ old.works → RollRefused old.stand text new.stand → Answered done
-  refused done works r =
+  stands_on : (is_due : List PassShown → RollFault → Type 0) → new.works ≡ old.works → RollRefused is_due old.stand text new.stand → StandsLive h new s
+  stands_on is_due works r =
       let between : Live = record { stand = record { manager = old.stand.manager; keeper = r.keeper; scene = r.between }; works = old.works } in
       let gathers : LiveGathers between new = record { manager = r.manager; gathered = r.gathered; works = works } in
-      refused_for done r.why r.due r.text_is (leaves head old s is new text between gathers refl r.looked.passes r.looked.places refl)
+      leaves head old s is new text between gathers refl r.looked.passes r.looked.places refl
 
   -- ---- what is made anew
 
@@ -223,9 +248,6 @@ module _ (head : Head) (old new : Live) (text : List ℕ) (s : SessionState) (is
     works = is.works ∙ sym works;
   }
 
-  limits_are : k ≡ l
-  limits_are = ap (λ (m : State). m.limits) is.stands.manager
-
   made_so : (told : List Renamed → List ℕ) (survivors : List Survivor) (moved : List Moved) (m : State) → made_anew l l.parts survivors (start l) ≡ Some (moved, m) → text ≡ line (told (map renamed moved)) → StandsLive h new (with_manager m)
       → IsStep h new text (anew told survivors s)
   made_so told survivors moved m made text_is stands =
@@ -243,7 +265,7 @@ module _ (head : Head) (old new : Live) (text : List ℕ) (s : SessionState) (is
   pub by_rollover : RolloverTold old text new → Answered (anew rolled_text (alive_of s.report.manager) s)
   by_rollover t = elim t.rolls [
     | inl r ↦ rolled t.works r
-    | inr r ↦ refused (anew rolled_text (alive_of s.report.manager) s) t.works r
+    | inr r ↦ unrolled_for r.why r.due r.text_is (stands_on (IsRefusedFor l) t.works r)
   ]
 
   restored : (moved : List Moved) → new.works ≡ old.works → Restored (survivors_of h) old.stand moved new.stand → text ≡ line (restored_text (map renamed moved)) → Answered (anew restored_text (survivors_of h) s)
@@ -256,7 +278,7 @@ module _ (head : Head) (old new : Live) (text : List ℕ) (s : SessionState) (is
   pub by_restore : RestoreTold h old text new → Answered (anew restored_text (survivors_of h) s)
   by_restore t = elim t.restores [
     | inl r ↦ restored r.0 t.works r.1 r.2
-    | inr r ↦ refused (anew restored_text (survivors_of h) s) t.works r
+    | inr r ↦ unrestored_for (survivors_of h) r.why r.due r.text_is (stands_on (IsUnrestoredFor l (survivors_of h)) t.works r)
   ]
 
   -- ---- a dump

@@ -44,12 +44,11 @@ pub record StandsLive (h : HeadView) (live : Live) (s : SessionState) : Type 0 w
       live.stand.scene s.report
   pub works : s.works ≡ live.works
 
--- A line may be refused so where the lines alone don't say it: `None`, it wasn't; else there was no memory,
--- the new manager was full, or what stood there wasn't what was described.
+-- A line may be refused so where the lines alone don't say it: `None`, it wasn't; else there was no memory, or
+-- what stood there wasn't what was described.
 abbrev pub IsUnforeseen : Option RollFault → Type 0
 IsUnforeseen None = Unit {0}
 IsUnforeseen (Some faults.NoMemory) = Unit {0}
-IsUnforeseen (Some faults.Full) = Unit {0}
 IsUnforeseen (Some faults.Unequal) = Unit {0}
 IsUnforeseen (Some other) = ⊥
 

@@ -11,7 +11,7 @@ use Rattle.hex.specs.Hex.{encode_with, lower_digits, encode_lower}
 use Rattle.sha2.specs.Sha256.{digest_bytes, sha256}
 use Rattle.tp_journal.specs.Text.{IsBatch, IsPlain, IsSet, IsText, end_line}
 
-abbrev IsByte : ℕ → Type 0
+abbrev pub IsByte : ℕ → Type 0
 IsByte b = b < 256
 
 high_first : (k n : ℕ) → All IsByte (bytes_high_first k n)
@@ -27,7 +27,7 @@ unfolding digest_bytes
 digest h zero = All-nil IsByte
 digest h (suc n) = All-append IsByte (digest_bytes h n) (to_be_bytes w32 (slice_index h n)) (digest h n) (high_first 4 (slice_index h n))
 
-sha_bytes : (m : List ℕ) → All IsByte (sha256 m)
+pub sha_bytes : (m : List ℕ) → All IsByte (sha256 m)
 unfolding sha256
 sha_bytes m = digest _ 8
 

@@ -1,9 +1,9 @@
-mod Texts
+pub mod Texts
 mod Moments
-mod Ends
+pub mod Ends
 mod Seals
 mod Damages
-mod Kept
+pub mod Kept
 mod Histories
-mod Crashes
+pub mod Crashes
 mod Faults

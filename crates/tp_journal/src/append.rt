@@ -1,5 +1,5 @@
 //! Batches that are appended, and a text that takes the place of all of them.
-ghost use Rattle.std.specs.Prelude.{◌≡◌, ◌⊎◌, ◌+◌, ◌<◌, ◌≤◌, ◌++◌, true, false, length, OnOk, IsErrOf};
+ghost use Rattle.std.specs.Prelude.{◌≡◌, ◌⊎◌, ◌+◌, ◌<◌, ◌≤◌, ◌^◌, ◌++◌, true, false, length, OnOk, IsErrOf};
 ghost use Rattle.tp_journal.specs.declared.batch.Refusal.{Refusal};
 ghost use Rattle.tp_journal.specs.Device.{HasCause, LeavesOnly, Only};
 ghost use Rattle.tp_journal.specs.Journal.{IsOpen, IsSettled};
@@ -30,6 +30,8 @@ impl<D: Device> Journal<D> {
             → LeavesOnly D.moment D.left_since self.old.device self.new.device
             (HasTorn (text_of (D.seen self.old.device))
             (batch.now ++ end_line (text_of (D.seen self.old.device) ++ batch.now))) }
+        ensures within { self.old.poisoned ≡ false → (self.new.device ≡ self.old.device)
+            ⊎ (length (with_end (text_of (D.seen self.old.device) ++ batch.now)) < 2 ^ 64) }
         ensures poisoned { self.old.poisoned ≡ true
             → (self.new ≡ self.old) × IsErrOf result AppendError.Poisoned }
         ensures later { D.faults self.old.device ≤ D.faults self.new.device }

@@ -26,4 +26,6 @@ pub use device::{Device, Failed};
 pub use file::{FileDevice, Paths};
 pub use journal::{AppendError, Journal};
 pub use laws::{kept_batches, kept_text, no_crash_told};
+pub use record::Record;
 pub use recovery::{Found, OpenError, recover};
+pub use sealing::FIRST_LINE;

@@ -28,8 +28,9 @@ pub(crate) const SPARE_SYNCED: u64 = 5;
 /// The spare file took the place of the file.
 pub(crate) const SWAPPED: u64 = 6;
 
+/// What has happened, the last first.
 #[derive(Drop)]
-pub(crate) struct Record {
+pub struct Record {
     marker: PhantomData<u8>,
     pub ghost events: { List Event },
 }
@@ -39,7 +40,8 @@ impl Model for Record {
 }
 
 impl Record {
-    pub(crate) fn new() -> Record
+    /// Nothing has happened yet.
+    pub fn new() -> Record
         ensures { result.events ≡ [] }
     {
         Record {
@@ -48,7 +50,7 @@ impl Record {
     }
 
     /// The numbers are those of an `Event`: which call, what it was given, and 1 for success.
-    pub(crate) fn note(&mut self, _numbers: &[u64], _bytes: &[u8])
+    pub fn note(&mut self, _numbers: &[u64], _bytes: &[u8])
         ensures { self.new.events ≡ event_of _numbers.now _bytes.now ∷ self.old.events }
     {}
 

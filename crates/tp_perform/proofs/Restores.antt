@@ -1,5 +1,5 @@
 -- What a restore leaves between two commands.
-use Rattle.std.proofs.Common.{◌≡◌, ◌∙◌, ◌≤◌, ◌+◌, ℕ, List, All, None, Some, Option, sym, ap, subst, arith, length, map}
+use Rattle.std.proofs.Common.{◌≡◌, ◌∙◌, ◌≤◌, ◌+◌, ℕ, List, All, Err, None, Some, Option, sym, ap, subst, arith, length, map}
 use Rattle.std.specs.List.{AllZip}
 use Rattle.std.specs.declared.alloc.Global.{Global}
 use Rattle.std.specs.declared.dyn_box.DynBox.{DynBox}
@@ -13,7 +13,8 @@ use Rattle.tp_plain.specs.OneThread.{start}
 use Rattle.tp_alone.specs.Thread.{thread_of}
 use Rattle.tp_rollover.specs.Anew.{made_anew}
 use Rattle.tp_rollover.specs.Faults.{AreFree}
-use Rattle.tp_rollover.specs.Managed.{IsManaged, IsRefusedFor, IsUnrestored, WasShort}
+use Rattle.tp_rollover.specs.Carries.{IsMade}
+use Rattle.tp_rollover.specs.Managed.{IsManaged, IsUnrestored}
 use Rattle.tp_rollover.specs.Survivors.{Restores}
 use Rattle.tp_rollover.specs.declared.managed.Managed.{Managed}
 use Rattle.tp_rollover.specs.declared.moved.Moved.{Moved}
@@ -23,7 +24,7 @@ use Rattle.tp_rollover.specs.declared.survivors.Survivor.{Survivor}
 use Rattle.tp_commands.specs.declared.place.Place.{Place}
 use Rattle.tp_commands.specs.Acting.{places_shown}
 use Rattle.tp_commands.specs.Places.{AllLie, all_firsts, firsts, workers}
-use Rattle.tp_perform.specs.Restore.{Restored}
+use Rattle.tp_perform.specs.Restore.{IsUnrestoredFor, Restored}
 use Rattle.tp_perform.specs.Rollover.{BeginsAgain, stand}
 use Rattle.tp_perform.specs.Scenes.{Scene, passes_in}
 use Rattle.tp_perform.specs.Told.{AreReady, IsScene, units_held}
@@ -32,13 +33,14 @@ use Rattle.tp_perform.proofs.Rollovers.{all_again, as_many_racers, first_free, n
 use Rattle.tp_perform.proofs.Slices.{scene_there}
 
 -- why none was made is why it was refused, where no unit was open
-pub refused_as : (l k : Limits) (passes : List PassShown) (why : RollFault) → AreLimits l → k ≡ l → AreFree passes → IsUnrestored k why → IsRefusedFor l passes why
-refused_as l k passes faults.NoMemory limits same free due = free
-refused_as l k passes faults.BadLimits limits same free due = absurd (due (subst AreLimits (sym same) limits))
-refused_as l k passes faults.NoPass limits same free due = absurd due
-refused_as l k passes faults.Busy limits same free due = absurd due
-refused_as l k passes faults.Full limits same free due = (free, subst WasShort same due)
-refused_as l k passes faults.Unequal limits same free due = free
+pub refused_as : {A C : Type 0} (l k : Limits) (passes : List PassShown) (survivors : List Survivor) (why : RollFault) (value : A → C) (computed : Option C)
+    → AreLimits l → k ≡ l → AreFree passes → (computed ≡ None → made_anew k k.parts survivors (start k) ≡ None) → IsUnrestored k why → IsMade (Err why) value computed → IsUnrestoredFor l survivors passes why
+refused_as l k passes survivors faults.NoMemory value computed limits same free none due made = free
+refused_as l k passes survivors faults.BadLimits value computed limits same free none due made = absurd (due (subst AreLimits (sym same) limits))
+refused_as l k passes survivors faults.NoPass value computed limits same free none due made = absurd due
+refused_as l k passes survivors faults.Busy value computed limits same free none due made = absurd due
+refused_as l k passes survivors faults.Full value computed limits same free none due made = (free, subst (λ (z : Limits). made_anew z z.parts survivors (start z) ≡ None) same (none made))
+refused_as l k passes survivors faults.Unequal value computed limits same free none due made = free
 
 -- what was made of descriptions is what is computed
 abbrev pub IsAnew : Limits → List Survivor → List Moved → List PassShown → KeeperShown → Type 0

@@ -77,8 +77,8 @@ pub gathers_of : (old mid new : Managed) → mid.manager ≡ old.manager → Gat
     → Gathers old.manager.limits (gather_steps old.manager.limits (length mid.passes.items)) mid.keeper new.keeper mid.passes.items new.passes.items
 gathers_of old mid new same gathers = subst (λ (m : ManagerShown). Gathers m.limits (gather_steps m.limits (length mid.passes.items)) mid.keeper new.keeper mid.passes.items new.passes.items) same gathers
 
-pub stands_refused : (old new : Managed) (a b : Scene) (text : List ℕ) → new.manager ≡ old.manager → RollRefused (stand old a) text (record { manager = old.manager; keeper = new.keeper; scene = b }) → RollRefused (stand old a) text (stand new b)
-stands_refused old new a b text same refuses = subst (λ (m : ManagerShown). RollRefused (stand old a) text (record { manager = m; keeper = new.keeper; scene = b })) (sym same) refuses
+pub stands_refused : (is_due : List PassShown → RollFault → Type 0) (old new : Managed) (a b : Scene) (text : List ℕ) → new.manager ≡ old.manager → RollRefused is_due (stand old a) text (record { manager = old.manager; keeper = new.keeper; scene = b }) → RollRefused is_due (stand old a) text (stand new b)
+stands_refused is_due old new a b text same refuses = subst (λ (m : ManagerShown). RollRefused is_due (stand old a) text (record { manager = m; keeper = new.keeper; scene = b })) (sym same) refuses
 
 -- where nothing has changed
 pub stays_still : (old new : Managed) → new ≡ old → StaysManaged old new
@@ -241,11 +241,11 @@ module _ {X : Type 0} {F : X → Type 0} (behaviour : DynBox X Global F → Beha
     pub held_refused : (n : ℕ) → units_held n rs ≡ units_held n ps
     held_refused n = held_gathered behaviour registers pending m kept keeper' qs rs ss os ready_looked gathers all given' own' n ∙ same_held n ps qs looked
 
-    pub refused : (why : RollFault) (text : List ℕ) → 1 ≤ length ps → IsRefusedFor m.limits ps why → text ≡ line (roll_refused_text why)
+    pub refused : (is_due : List PassShown → RollFault → Type 0) (why : RollFault) (text : List ℕ) → 1 ≤ length ps → is_due ps why → text ≡ line (roll_refused_text why)
         → (a : Scene) × (b : Scene) × IsScene behaviour registers pending ps ss os a
-        × RollRefused (record { manager = m; keeper = keeper; scene = a }) text (record { manager = m; keeper = keeper'; scene = b })
+        × RollRefused is_due (record { manager = m; keeper = keeper; scene = a }) text (record { manager = m; keeper = keeper'; scene = b })
         × IsScene behaviour registers pending rs ss os b
-    refused why text some due is =
+    refused is_due why text some due is =
         let a = scene_there behaviour registers pending ps ss os some in
         let c = scene_on behaviour registers pending ps qs ss os a.0 looked a.1 in
         let b = gathered behaviour registers pending m kept keeper' qs rs ss os ready_looked gathers all given' own' c.0 c.1 in
@@ -256,7 +256,7 @@ module _ {X : Type 0} {F : X → Type 0} (behaviour : DynBox X Global F → Beha
           a.1,
           record {
             why = why;
-            due = subst (λ zs. IsRefusedFor m.limits zs why) (sym olds) due;
+            due = subst (λ zs. is_due zs why) (sym olds) due;
             manager = refl;
             keeper = kept;
             given = given;

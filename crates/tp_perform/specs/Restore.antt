@@ -1,13 +1,16 @@
 -- What a restore does between two commands.
-use Rattle.std.specs.Prelude.{◌≡◌, List, All, Some, length}
+use Rattle.std.specs.Prelude.{◌≡◌, List, All, None, Some, length}
 use Rattle.std.specs.List.{AllZip}
-use Rattle.tp_manager.specs.Shown.{IsOf}
+use Rattle.tp_model.specs.declared.types.Limits.{Limits}
+use Rattle.tp_manager.specs.Shown.{IsOf, PassShown}
 use Rattle.tp_plain.specs.OneThread.{start}
 use Rattle.tp_alone.specs.Thread.{thread_of}
 use Rattle.tp_rollover.specs.Anew.{made_anew}
 use Rattle.tp_rollover.specs.Faults.{AreFree}
 use Rattle.tp_rollover.specs.Survivors.{Restores}
 use Rattle.tp_rollover.specs.declared.moved.Moved.{Moved}
+use Rattle.tp_rollover.specs.declared.moved.RollFault.{RollFault}
+use Rattle.tp_rollover.specs.declared.moved.RollFault.TheVariants as faults
 use Rattle.tp_rollover.specs.declared.survivors.Survivor.{Survivor}
 use Rattle.tp_perform.specs.Rollover.{BeginsAgain}
 use Rattle.tp_perform.specs.Scenes.{Stand, passes_in}
@@ -27,3 +30,13 @@ pub record Restored (survivors : List Survivor) (old : Stand) (moved : List Move
   pub own : All (IsOf new.manager) (passes_in new.scene)
   pub places : AllZip BeginsAgain old.scene.places new.scene.places
   pub racers : length new.scene.racers ≡ length old.scene.racers
+
+-- Why what was described doesn't stand again in another manager with these limits: Busy where a pass of this one
+-- has a unit open, and else one of these three, Full exactly where it finds no room there.
+abbrev pub IsUnrestoredFor : Limits → List Survivor → List PassShown → RollFault → Type 0
+IsUnrestoredFor l survivors passes faults.Busy = ¬ AreFree passes
+IsUnrestoredFor l survivors passes faults.NoMemory = AreFree passes
+IsUnrestoredFor l survivors passes faults.Full = AreFree passes
+    × (made_anew l l.parts survivors (start l) ≡ None)
+IsUnrestoredFor l survivors passes faults.Unequal = AreFree passes
+IsUnrestoredFor l survivors passes other = ⊥

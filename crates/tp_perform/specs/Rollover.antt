@@ -70,11 +70,12 @@ pub record OnlyLooked (old new : Scene) : Type 0 where
   pub passes : AllZip Stays (passes_in old) (passes_in new)
   pub places : AllZip OnlyPass old.places new.places
 
--- It was refused: with Busy where a unit was open, and with Full where the new manager was short. The manager
--- is the same, its passes have done nothing but look, and then all have gathered.
-pub record RollRefused (old : Stand) (text : List ℕ) (new : Stand) : Type 0 where
+-- It was refused, with a fault that was due to these passes. The manager is the same, its passes have done
+-- nothing but look, and then all have gathered.
+pub record RollRefused (is_due : List PassShown → RollFault → Type 0) (old : Stand) (text : List ℕ)
+    (new : Stand) : Type 0 where
   pub why : RollFault
-  pub due : IsRefusedFor old.manager.limits (passes_in old.scene) why
+  pub due : is_due (passes_in old.scene) why
   pub manager : new.manager ≡ old.manager
   pub keeper : KeeperShown
   pub given : keeper.given ≡ old.keeper.given
@@ -85,4 +86,5 @@ pub record RollRefused (old : Stand) (text : List ℕ) (new : Stand) : Type 0 wh
 
 -- one or the other
 abbrev pub RollsOn : Stand → List ℕ → Stand → Type 0
-RollsOn old text new = RolledOver old text new ⊎ RollRefused old text new
+RollsOn old text new = RolledOver old text new
+    ⊎ RollRefused (IsRefusedFor old.manager.limits) old text new

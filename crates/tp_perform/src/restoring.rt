@@ -5,9 +5,9 @@ ghost use Rattle.tp_alone.specs.Thread.{thread_of};
 ghost use Rattle.tp_report.specs.Answer.{line};
 ghost use Rattle.tp_rollover.specs.Anew.{made_anew};
 ghost use Rattle.tp_rollover.specs.Faults.{AreFree};
-ghost use Rattle.tp_rollover.specs.Managed.{IsManaged, IsRefusedFor};
+ghost use Rattle.tp_rollover.specs.Managed.{IsManaged};
 ghost use Rattle.tp_rollover.specs.Survivors.{Restores};
-ghost use Rattle.tp_perform.specs.Restore.{Restored};
+ghost use Rattle.tp_perform.specs.Restore.{IsUnrestoredFor, Restored};
 ghost use Rattle.tp_perform.specs.Rollover.{RollRefused, roll_refused_text, stand};
 ghost use Rattle.tp_perform.specs.Scenes.{Scene};
 ghost use Rattle.tp_perform.specs.Told.{AreReady, IsScene, units_held};
@@ -36,7 +36,8 @@ fn take_up(
         made_anew l l.parts survivors.now (start l)
         ≡ Some (moved.items, thread_of l managed.new.passes.items managed.new.keeper.seen)) }
     ensures same { OnErr result (managed.new ≡ managed.old) }
-    ensures fault { IfErr result (IsRefusedFor managed.old.manager.limits managed.old.passes.items) }
+    ensures fault { IfErr result (IsUnrestoredFor managed.old.manager.limits survivors.now
+        managed.old.passes.items) }
 {
     if has_open(&managed.passes) {
         return Err(RollFault::Busy);
@@ -84,7 +85,8 @@ pub fn restore(
         × IsScene behaviour registers pending managed.new.passes.items servers.now places.new new) }
     ensures refused { IfErr result (λ why. (old : Scene) × (new : Scene)
         × IsScene behaviour registers pending managed.old.passes.items servers.now places.old old
-        × RollRefused (stand managed.old old) (line (roll_refused_text why)) (stand managed.new new)
+        × RollRefused (IsUnrestoredFor managed.old.manager.limits survivors.now)
+        (stand managed.old old) (line (roll_refused_text why)) (stand managed.new new)
         × IsScene behaviour registers pending managed.new.passes.items servers.now places.new new) }
 {
     match take_up(alloc, managed, survivors) {

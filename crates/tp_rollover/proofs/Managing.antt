@@ -1,5 +1,5 @@
 -- All passes of a manager.
-use Rattle.std.proofs.Common.{◌≡◌, ℕ, ◌+◌, ◌*◌, ◌≤◌, All, Option, Some, Err, List, [], ◌∷◌, ◌++◌, sym, ◌∙◌, ap, subst, arith, length, ⊎_elim}
+use Rattle.std.proofs.Common.{◌≡◌, ℕ, ◌+◌, ◌*◌, ◌≤◌, All, Option, Some, Err, List, [], ◌∷◌, ◌++◌, sym, ◌∙◌, ap, subst, arith, length, refl, ⊎_elim}
 use Rattle.std.proofs.lemmas.List.{length-append, with_items_is}
 use Rattle.std.specs.Vec.{with_items}
 use Rattle.tp_model.specs.declared.types.Limits.{Limits}
@@ -9,10 +9,10 @@ use Rattle.tp_plain.specs.OneThread.{start}
 use Rattle.tp_manager.specs.Shown.{IsKeptBy, IsOf, KeeperShown, ManagerShown, PassShown}
 use Rattle.tp_alone.specs.Thread.{IsFresh, thread_of}
 use Rattle.tp_rollover.specs.Anew.{made_anew}
-use Rattle.tp_rollover.specs.Carries.{AreFresh, Carries, IsMade}
-use Rattle.tp_rollover.specs.Faults.{AreFree, HasShort, IsDue, IsRestoreDue}
+use Rattle.tp_rollover.specs.Carries.{AreFresh, Carries, IsMade, WouldNotFit}
+use Rattle.tp_rollover.specs.Faults.{AreFree, IsDue, IsRestoreDue}
 use Rattle.tp_rollover.specs.Lone.{lone}
-use Rattle.tp_rollover.specs.Managed.{IsManaged, IsNewPass, IsRefusedFor, IsUnrestored, WasShort}
+use Rattle.tp_rollover.specs.Managed.{IsManaged, IsNewPass, IsRefusedFor, IsUnrestored}
 use Rattle.tp_rollover.specs.declared.managed.Managed.{Managed}
 use Rattle.tp_rollover.specs.declared.moved.Moved.{Moved}
 use Rattle.tp_rollover.specs.declared.moved.RollFault.{RollFault}
@@ -35,22 +35,26 @@ not_empty : (ps : List PassShown) → 1 ≤ length ps → ps ≡ [] → ⊥
 not_empty ps some none = let e = ap length none in omega (arith, some, e)
 
 pub refused_for : (l k : Limits) (olds news news' : List PassShown) (fault : RollFault) → k.attempts ≡ l.attempts → 1 ≤ length olds → 1 ≤ length news → AreFree olds
-    → (HasShort k news' → WasShort l) → IsDue l k olds news news' fault → IsRefusedFor l olds fault
+    → (fault ≡ Full → WouldNotFit l olds l.parts (start l)) → IsDue l k olds news news' fault → IsRefusedFor l olds fault
 refused_for l k olds news news' NoMemory same some some' free short due = free
 refused_for l k olds news news' BadLimits same some some' free short due = due same
 refused_for l k olds news news' NoPass same some some' free short due = ⊎_elim (λ none. not_empty olds some none) (λ none. not_empty news some' none) due.1
 refused_for l k olds news news' Busy same some some' free short due = due.2
-refused_for l k olds news news' Full same some some' free short due = (free, short due.1)
+refused_for l k olds news news' Full same some some' free short due = (free, short refl)
 refused_for l k olds news news' Unequal same some some' free short due = free
 
 -- and those that none of descriptions can be made for
-pub unrestored_for : (l k : Limits) (news news' : List PassShown) (fault : RollFault) → AreLimits l → 1 ≤ length news → (HasShort k news' → WasShort l) → IsRestoreDue k news news' fault → IsUnrestored l fault
-unrestored_for l k news news' NoMemory limits some short due = limits
-unrestored_for l k news news' BadLimits limits some short due = absurd due
-unrestored_for l k news news' NoPass limits some short due = absurd (not_empty news some due)
-unrestored_for l k news news' Busy limits some short due = absurd due
-unrestored_for l k news news' Full limits some short due = short due
-unrestored_for l k news news' Unequal limits some short due = limits
+pub unrestored_for : (l k : Limits) (news news' : List PassShown) (fault : RollFault) → AreLimits l → 1 ≤ length news → IsRestoreDue k news news' fault → IsUnrestored l fault
+unrestored_for l k news news' NoMemory limits some due = limits
+unrestored_for l k news news' BadLimits limits some due = absurd due
+unrestored_for l k news news' NoPass limits some due = absurd (not_empty news some due)
+unrestored_for l k news news' Busy limits some due = absurd due
+unrestored_for l k news news' Full limits some due = limits
+unrestored_for l k news news' Unequal limits some due = limits
+
+-- what doesn't fit into a manager with the same limits, by as many passes
+pub unfit_same : (l k : Limits) (p q : ℕ) (olds : List PassShown) → k ≡ l → q ≡ p → WouldNotFit l olds q (start k) → WouldNotFit l olds p (start l)
+unfit_same l k p q olds same long unfit = subst (λ n. WouldNotFit l olds n (start l)) long (subst (λ z. WouldNotFit l olds q (start z)) same unfit)
 
 -- passes that are new are fresh
 fresh_new : (m : ManagerShown) (p : PassShown) → IsNewPass p → IsOf m p → IsFresh m.limits p
@@ -99,15 +103,6 @@ module _ (m : Managed) (keeper : KeeperShown) (qs : List PassShown) (h : IsManag
 
   pub free_again : AreFree qs → AreFree (with_items m.passes qs).items
   free_again free = subst AreFree (sym again_is) free
-
-  pub was_short : (l : Limits) → m.manager.limits ≡ l → HasShort m.manager.limits qs → WasShort l
-  was_short l same short =
-      record {
-        new = record { manager = m.manager; keeper = keeper; passes = with_items m.passes qs };
-        managed = managed_again;
-        limits = same;
-        short = subst (λ (k : Limits). HasShort k (with_items m.passes qs).items) same (subst (HasShort m.manager.limits) (sym again_is) short);
-      }
 
   -- and what was carried over into it
   pub carries_again : (l : Limits) (p : ℕ) (olds : List PassShown) (moved : List Moved) → m.manager.limits ≡ l → p ≡ l.parts → Carries l olds p (start m.manager.limits) moved (lone m.manager keeper qs)

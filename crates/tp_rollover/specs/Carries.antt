@@ -23,6 +23,17 @@ IsMade (Ok x) value computed = computed ≡ Some (value x)
 IsMade (Err Full) value computed = computed ≡ None
 IsMade (Err other) value computed = Unit {0}
 
+-- The passes of a manager with limits l did nothing but look, and looked together. What was alive then finds
+-- no room in a manager that was this before, by p passes.
+pub record WouldNotFit (l : Limits) (olds : List PassShown) (p : ℕ) (before : State) : Type 0 where
+  pub keeper : KeeperShown
+  pub looked : List PassShown
+  pub together : AreTogether l keeper looked keeper.seen
+  pub stay : AllZip Stays olds looked
+  pub survivors : List Survivor
+  pub found : AreSurvivors l keeper.seen survivors
+  pub full : made_anew l p survivors before ≡ None
+
 -- The passes of a manager with limits l did nothing but look, and looked together. What was alive then was
 -- made anew in a manager that was this before and is that then, by p passes.
 pub record Carries (l : Limits) (olds : List PassShown) (p : ℕ) (before : State) (moved : List Moved)

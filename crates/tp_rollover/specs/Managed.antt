@@ -9,8 +9,8 @@ use Rattle.tp_manager.specs.Shown.{IsKeptBy, IsOf, KeeperShown, PassShown, low_o
 use Rattle.tp_plain.specs.OneThread.{start}
 use Rattle.tp_alone.specs.Thread.{Stays, thread_of}
 use Rattle.tp_rollover.specs.Answers.{Rolls}
-use Rattle.tp_rollover.specs.Carries.{Carries}
-use Rattle.tp_rollover.specs.Faults.{AreFree, HasShort}
+use Rattle.tp_rollover.specs.Carries.{Carries, WouldNotFit}
+use Rattle.tp_rollover.specs.Faults.{AreFree}
 use Rattle.tp_rollover.specs.declared.managed.Managed.{Managed}
 use Rattle.tp_rollover.specs.declared.moved.Moved.{Moved}
 use Rattle.tp_rollover.specs.declared.moved.RollFault.{RollFault}
@@ -59,19 +59,12 @@ pub record StaysManaged (old new : Managed) : Type 0 where
   pub given : new.keeper.given ≡ old.keeper.given
   pub passes : AllZip Stays old.passes.items new.passes.items
 
--- a pass of another manager with these limits, which is given up, was short
-pub record WasShort (l : Limits) : Type 0 where
-  pub new : Managed
-  pub managed : IsManaged new
-  pub limits : new.manager.limits ≡ l
-  pub short : HasShort l new.passes.items
-
 -- Which fault a manager with these limits and passes is refused with: Busy where a unit is open, and else one
--- of these three, Full only where the new manager was short.
+-- of these three, Full only where what is alive finds no room in a new manager.
 abbrev pub IsRefusedFor : Limits → List PassShown → RollFault → Type 0
 IsRefusedFor l passes Busy = ¬ AreFree passes
 IsRefusedFor l passes NoMemory = AreFree passes
-IsRefusedFor l passes Full = AreFree passes × WasShort l
+IsRefusedFor l passes Full = AreFree passes × WouldNotFit l passes l.parts (start l)
 IsRefusedFor l passes Unequal = AreFree passes
 IsRefusedFor l passes other = ⊥
 
@@ -82,10 +75,10 @@ IsUnsurveyed passes NoMemory = AreFree passes
 IsUnsurveyed passes Unequal = AreFree passes
 IsUnsurveyed passes other = ⊥
 
--- why none with these limits is made of descriptions: Full only where one was short
+-- why none with these limits is made of descriptions
 abbrev pub IsUnrestored : Limits → RollFault → Type 0
 IsUnrestored l BadLimits = ¬ AreLimits l
 IsUnrestored l NoMemory = AreLimits l
-IsUnrestored l Full = WasShort l
+IsUnrestored l Full = AreLimits l
 IsUnrestored l Unequal = AreLimits l
 IsUnrestored l other = ⊥

@@ -1,5 +1,6 @@
 //! What is alive in a manager.
-ghost use Rattle.std.specs.Prelude.{◌≡◌, ◌≤◌, ◌++◌, IfOk, IfSome, OnOk, length};
+ghost use Rattle.std.specs.Prelude.{◌≡◌, ◌≤◌, ◌++◌, Err, IfOk, IfSome, OnOk, length};
+ghost use Rattle.tp_rollover.specs.declared.stops.Stop.TheVariants as stops;
 ghost use Rattle.tp_manager.specs.Bounds.{read_steps};
 ghost use Rattle.tp_manager.specs.Shown.{IsOf};
 ghost use Rattle.tp_alone.specs.Thread.{Stays};
@@ -24,6 +25,7 @@ fn alive_at(manager: &Manager, pass: &mut Pass, row: u32) -> Result<Option<u32>,
     ensures told { IfOk result (λ found.
         HoldsAsSeen pass.old pass.new (IsAliveAt manager.now.limits.attempts row found)) }
     ensures itself { IfOk result (λ found. IfSome found (λ id. id ≡ row)) }
+    ensures full { ¬ (result ≡ Err stops.Full) }
 {
     let Some(found) = look(manager, pass, row) else {
         return Ok(None);
@@ -43,6 +45,7 @@ fn alive_at(manager: &Manager, pass: &mut Pass, row: u32) -> Result<Option<u32>,
 /// Puts the id that was found behind the others.
 fn keep(found: &mut Vec<u32>, one: Option<u32>) -> Result<(), Stop>
     ensures kept { OnOk result (found.new.items ≡ found.old.items ++ listed one) }
+    ensures full { ¬ (result ≡ Err stops.Full) }
 {
     match one {
         None => Ok(()),
@@ -80,6 +83,7 @@ pub(crate) fn find_alive(
     ensures stays { Stays pass.old pass.new }
     ensures steps { PassMakes (search_steps manager.now.limits count) pass.old pass.new }
     ensures few { IfOk result (λ found. length found.items ≤ count) }
+    ensures full { ¬ (result ≡ Err stops.Full) }
     ensures once { IfOk result (λ found. Ascending 0 found.items) }
     ensures told { IfOk result (λ found.
         HoldsAsSeen pass.old pass.new (AreAliveOf manager.now.limits count found.items)) }

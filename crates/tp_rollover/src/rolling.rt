@@ -9,7 +9,8 @@ ghost use Rattle.tp_alone.specs.Thread.{Stays};
 ghost use Rattle.tp_rollover.specs.Answers.{IsReadyToKill, Rolls};
 ghost use Rattle.tp_rollover.specs.Bounds.{AllMake, PassesMake, alive_after, most_new_steps, new_steps};
 ghost use Rattle.tp_rollover.specs.Bounds.{old_steps, survey_steps};
-ghost use Rattle.tp_rollover.specs.Carries.{AreFresh, Carries};
+ghost use Rattle.tp_rollover.specs.Carries.{AreFresh, Carries, WouldNotFit};
+ghost use Rattle.tp_rollover.specs.declared.stops.Stop.TheVariants as stops;
 ghost use Rattle.tp_rollover.specs.Lone.{lone};
 ghost use Rattle.tp_rollover.specs.declared.moved.RollFault.TheVariants as faults;
 ghost use Rattle.tp_rollover.specs.Faults.{AreFree, IsDue, LacksPass};
@@ -84,6 +85,8 @@ fn prepare(
     ensures computed { AreFresh new.now.limits new_passes.old → IfOk result (λ moved.
         Carries old.now.limits old_passes.old (length new_passes.old) (start new.now.limits) moved.items
         (lone new.now new_keeper.new new_passes.new)) }
+    ensures would_not_fit { AreFresh new.now.limits new_passes.old → result ≡ Err stops.Full
+        → WouldNotFit old.now.limits old_passes.old (length new_passes.old) (start new.now.limits) }
     ensures ready { IfOk result (λ moved.
         IsReadyToKill old.now.limits new.now.limits old_keeper.new new_keeper.new
         old_passes.old old_passes.new new_passes.new moved.items) }
@@ -119,6 +122,8 @@ pub fn roll_over(
     ensures computed { AreFresh new.now.limits new_passes.old → IfOk result (λ moved.
         Carries old.now.limits old_passes.old (length new_passes.old) (start new.now.limits) moved.items
         (lone new.now new_keeper.new new_passes.new)) }
+    ensures would_not_fit { AreFresh new.now.limits new_passes.old → result ≡ Err faults.Full
+        → WouldNotFit old.now.limits old_passes.old (length new_passes.old) (start new.now.limits) }
     ensures free { IfOk result (λ moved. AreFree new_passes.new) }
     ensures refused { IfErr result (λ fault. AllZip Stays old_passes.old old_passes.new) }
     ensures due { IfErr result (λ fault. IsDue old.now.limits new.now.limits old_passes.old new_passes.old

@@ -12,6 +12,7 @@ ghost use Rattle.tp_rollover.specs.Finding.{AreSurvivorsOf};
 ghost use Rattle.tp_rollover.specs.Survivors.{AreSurvivors};
 ghost use Rattle.tp_rollover.specs.Told.{HoldsAsSeen, ToldFirst};
 ghost use Rattle.tp_rollover.specs.declared.moved.RollFault.TheVariants as faults;
+ghost use Rattle.tp_rollover.specs.declared.stops.Stop.TheVariants as stops;
 
 use crate::alive::{alive_in, find_alive};
 use crate::moved::RollFault;
@@ -33,6 +34,7 @@ fn find_by(
     ensures stays { Stays pass.old pass.new }
     ensures steps { let l = manager.now.limits in
         PassMakes (search_steps l count + count * describe_steps l) pass.old pass.new }
+    ensures full { ¬ (result ≡ Err stops.Full) }
     ensures few { IfOk result (λ found. length found.items ≤ count) }
     ensures told { IfOk result (λ found. HoldsAsSeen pass.old pass.new
         (λ h. AreSurvivorsOf manager.now.limits count h found.items)) }
@@ -53,6 +55,7 @@ fn find(
     ensures stays { AllZip Stays passes.old passes.new }
     ensures steps { let l = manager.now.limits in
         PassesMake (search_steps l count + count * describe_steps l) passes.old passes.new }
+    ensures full { ¬ (result ≡ Err stops.Full) }
     ensures few { IfOk result (λ found. length found.items ≤ count) }
     ensures told { IfOk result (λ found. ToldFirst passes.old passes.new
         (λ h. AreSurvivorsOf manager.now.limits count h found.items)) }
@@ -81,6 +84,7 @@ pub(crate) fn find_all(
     ensures steps { let l = manager.now.limits in
         AllMake (survey_steps l keeper.old.given (alive_after l.attempts keeper.new.seen))
         keeper.old passes.old keeper.new passes.new }
+    ensures full { ¬ (result ≡ Err stops.Full) }
     ensures few { IfOk result (λ found.
         length found.items ≤ alive_after manager.now.limits.attempts keeper.new.seen) }
     ensures found { IfOk result (λ found. AreSurvivors manager.now.limits keeper.new.seen found.items) }

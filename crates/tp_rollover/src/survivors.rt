@@ -1,5 +1,6 @@
 //! What is alive, described so that another manager can go on with it.
-ghost use Rattle.std.specs.Prelude.{◌≡◌, ◌*◌, IfOk, length};
+ghost use Rattle.std.specs.Prelude.{◌≡◌, ◌*◌, Err, IfOk, length};
+ghost use Rattle.tp_rollover.specs.declared.stops.Stop.TheVariants as stops;
 ghost use Rattle.tp_manager.specs.Shown.{IsOf};
 ghost use Rattle.tp_alone.specs.Thread.{Stays};
 ghost use Rattle.tp_rollover.specs.Bounds.{PassMakes, describe_steps};
@@ -40,6 +41,7 @@ fn describe(manager: &Manager, pass: &mut Pass, id: u32) -> Result<Survivor, Sto
     ensures own { IsOf manager.now pass.new }
     ensures stays { Stays pass.old pass.new }
     ensures steps { PassMakes (describe_steps manager.now.limits) pass.old pass.new }
+    ensures full { ¬ (result ≡ Err stops.Full) }
     ensures told { IfOk result (λ found.
         HoldsAsSeen pass.old pass.new (λ h. IsDescribed manager.now.limits.attempts h id found)) }
 {
@@ -81,6 +83,7 @@ pub(crate) fn describe_all(
     ensures stays { Stays pass.old pass.new }
     ensures steps { PassMakes (length ids.now * describe_steps manager.now.limits) pass.old pass.new }
     ensures many { IfOk result (λ found. length found.items ≡ length ids.now) }
+    ensures full { ¬ (result ≡ Err stops.Full) }
     ensures told { IfOk result (λ found. HoldsAsSeen pass.old pass.new
         (λ h. AreDescribed manager.now.limits.attempts h ids.now found.items)) }
 {

@@ -31,7 +31,7 @@ use Rattle.tp_script.specs.declared.head.WorkerAct.{WorkerAct}
 use Rattle.tp_script.specs.declared.head.WorkerLine.{WorkerLine}
 use Rattle.tp_script.specs.declared.script.Command.{Command}
 use Rattle.tp_commands.specs.Asked.{FoundLine, TellsCount}
-use Rattle.tp_perform.specs.Restore.{Restored}
+use Rattle.tp_perform.specs.Restore.{IsUnrestoredFor, Restored}
 use Rattle.tp_perform.specs.Rollover.{OnlyLooked, RollRefused, RollsOn, renamed, roll_refused_text}
 use Rattle.tp_perform.specs.Scenes.{Gathered, Stand, passes_in}
 use Rattle.tp_perform.specs.Told.{AreReady, IsScene, PerformsAll, units_held}
@@ -152,7 +152,7 @@ survivors_of h = map (survivor_of h.settings.attempts) h.alive
 abbrev pub RestoresOn : List Survivor → Stand → List ℕ → Stand → Type 0
 RestoresOn survivors old text new =
     ((moved : List Moved) × Restored survivors old moved new × (text ≡ line (restored_text (map renamed moved))))
-    ⊎ RollRefused old text new
+    ⊎ RollRefused (IsUnrestoredFor old.manager.limits survivors) old text new
 
 -- the line tells what stands again of what the head says is alive, and the workers have what they had
 pub record RestoreTold (h : HeadView) (old : Live) (text : List ℕ) (new : Live) : Type 0 where

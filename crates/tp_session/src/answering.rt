@@ -17,9 +17,10 @@ use crate::answers::refused_line;
 use crate::first::First;
 use crate::held::Held;
 use crate::reading::Lines;
+use crate::wire::Wire;
 use std::alloc::Global;
-use tp_report::{Fault, Sink};
-use tp_script::{Act, Head, LineError, LineFault, Source};
+use tp_report::Fault;
+use tp_script::{Act, Head, LineError, LineFault};
 use tp_server::Server;
 
 /// Tells that a line is faulty.
@@ -107,37 +108,38 @@ pub(crate) fn answer_line(
 }
 
 /// Answers line after line to the end of the input, behind so many lines that were read before.
-pub fn attend<R: Source, W: Sink>(
+pub fn attend<W: Wire>(
     alloc: Global,
     head: &Head,
     held: &mut Held,
     past: u64,
     lines: &mut Lines,
-    reader: &mut R,
-    writer: &mut W,
+    wire: &mut W,
 ) -> Result<(), Fault>
+    requires ready { W.ready wire.old }
     requires held { IsHeld behaviour registers pending head.now held.old }
-    requires asked { R.asked reader.old + lines.old.left < 2 ^ 64 }
+    requires asked { W.asked wire.old + lines.old.left < 2 ^ 64 }
     requires few { past + room lines.old + 1 < 2 ^ 64 }
+    ensures ready { W.ready wire.new }
     ensures held { IsHeld behaviour registers pending head.now held.new }
     ensures went { Reaches behaviour registers pending
-        (BodyDone head.now past None (to_come lines.old (R.rest reader.old))) held.old held.new }
+        (BodyDone head.now past None (to_come lines.old (W.rest wire.old))) held.old held.new }
     ensures told { OnOk result (Leads behaviour registers pending (λ old new.
-        BodyTold head.now past None (IsAllOf (to_come lines.old (R.rest reader.old))) old new
-        (λ text. Tells (W.contents writer.old) (W.contents writer.new)
+        BodyTold head.now past None (IsAllOf (to_come lines.old (W.rest wire.old))) old new
+        (λ text. Tells (W.contents wire.old) (W.contents wire.new)
         lines.new.answers.items (lines.old.answers.items ++ text))) held.old held.new) }
     ensures front { OnErr result (Begins behaviour registers pending (λ old last.
-        BodyTold head.now past None (HearsFront (to_come lines.old (R.rest reader.old))) old last
-        (λ text. AppendsFront (W.contents writer.old) (W.contents writer.new)
+        BodyTold head.now past None (HearsFront (to_come lines.old (W.rest wire.old))) old last
+        (λ text. AppendsFront (W.contents wire.old) (W.contents wire.new)
         (lines.old.answers.items ++ text))) held.old) }
-    ensures write { IsErrOf result Fault.Write → IsTrue (W.has_failed writer.new) }
+    ensures write { IsErrOf result Fault.Write → IsTrue (W.write_failed wire.new) }
     ensures read { IsErrOf result Fault.Read
-        → IsOver (R.has_failed reader.new) (R.asked reader.old + lines.old.left) (R.asked reader.new) }
+        → IsOver (W.read_failed wire.new) (W.asked wire.old + lines.old.left) (W.asked wire.new) }
     ensures long { IsErrOf result Fault.Read
-        → IsTrue (R.has_failed reader.new) ⊎ IsLong lines.old (R.rest reader.old) }
+        → IsTrue (W.read_failed wire.new) ⊎ IsLong lines.old (W.rest wire.old) }
 {
     for number in past..u64::MAX {
-        if !lines.next(reader, writer)? {
+        if !lines.next(wire)? {
             return Ok(());
         }
         answer_line(alloc, head, held, number + 1, lines)?;
@@ -147,86 +149,88 @@ pub fn attend<R: Source, W: Sink>(
 }
 
 /// Answers the first command, and then line after line to the end of the input.
-fn answer_from<R: Source, W: Sink>(
+fn answer_from<W: Wire>(
     alloc: Global,
     head: &Head,
     held: &mut Held,
     first: &First,
     lines: &mut Lines,
-    reader: &mut R,
-    writer: &mut W,
+    wire: &mut W,
 ) -> Result<(), Fault>
+    requires ready { W.ready wire.old }
     requires held { IsHeld behaviour registers pending head.now held.old }
-    requires asked { R.asked reader.old + lines.old.left < 2 ^ 64 }
+    requires asked { W.asked wire.old + lines.old.left < 2 ^ 64 }
     requires in_range { IsActInRange
         (vec_len head.now.servers) (vec_len head.now.workers) first.now.act }
     requires few { first.now.past + room lines.old + 2 < 2 ^ 64 }
+    ensures ready { W.ready wire.new }
     ensures held { IsHeld behaviour registers pending head.now held.new }
     ensures went { Reaches behaviour registers pending
-        (BodyDone head.now first.now.past (Some first.now.act) (to_come lines.old (R.rest reader.old)))
+        (BodyDone head.now first.now.past (Some first.now.act) (to_come lines.old (W.rest wire.old)))
         held.old held.new }
     ensures told { OnOk result (Leads behaviour registers pending (λ old new.
         BodyTold head.now first.now.past (Some first.now.act)
-        (IsAllOf (to_come lines.old (R.rest reader.old))) old new
-        (λ text. Tells (W.contents writer.old) (W.contents writer.new)
+        (IsAllOf (to_come lines.old (W.rest wire.old))) old new
+        (λ text. Tells (W.contents wire.old) (W.contents wire.new)
         lines.new.answers.items (lines.old.answers.items ++ text))) held.old held.new) }
-    ensures front { OnErr result (AppendsFront (W.contents writer.old) (W.contents writer.new)
+    ensures front { OnErr result (AppendsFront (W.contents wire.old) (W.contents wire.new)
         lines.old.answers.items
         ⊎ Begins behaviour registers pending (λ old last.
         BodyTold head.now first.now.past (Some first.now.act)
-        (HearsFront (to_come lines.old (R.rest reader.old))) old last
-        (λ text. AppendsFront (W.contents writer.old) (W.contents writer.new)
+        (HearsFront (to_come lines.old (W.rest wire.old))) old last
+        (λ text. AppendsFront (W.contents wire.old) (W.contents wire.new)
         (lines.old.answers.items ++ text))) held.old) }
-    ensures write { IsErrOf result Fault.Write → IsTrue (W.has_failed writer.new) }
+    ensures write { IsErrOf result Fault.Write → IsTrue (W.write_failed wire.new) }
     ensures read { IsErrOf result Fault.Read
-        → IsOver (R.has_failed reader.new) (R.asked reader.old + lines.old.left) (R.asked reader.new) }
+        → IsOver (W.read_failed wire.new) (W.asked wire.old + lines.old.left) (W.asked wire.new) }
     ensures long { IsErrOf result Fault.Read
-        → IsTrue (R.has_failed reader.new) ⊎ IsLong lines.old (R.rest reader.old) }
+        → IsTrue (W.read_failed wire.new) ⊎ IsLong lines.old (W.rest wire.old) }
 {
     answer(alloc, head, held, &first.act, lines)?;
-    attend(alloc, head, held, first.past + 1, lines, reader, writer)
+    attend(alloc, head, held, first.past + 1, lines, wire)
 }
 
 /// Answers the first command, if there is one, and then the lines behind it to the end of the input.
-pub(crate) fn answer_all<R: Source, W: Sink>(
+pub(crate) fn answer_all<W: Wire>(
     alloc: Global,
     head: &Head,
     held: &mut Held,
     first: Option<First>,
     lines: &mut Lines,
-    reader: &mut R,
-    writer: &mut W,
+    wire: &mut W,
 ) -> Result<(), Fault>
+    requires ready { W.ready wire.old }
     requires held { IsHeld behaviour registers pending head.now held.old }
-    requires asked { R.asked reader.old + lines.old.left < 2 ^ 64 }
+    requires asked { W.asked wire.old + lines.old.left < 2 ^ 64 }
     requires in_range { IfSome (begun first) (IsActInRange
         (vec_len head.now.servers) (vec_len head.now.workers)) }
     requires few { past_of first + room lines.old + 2 < 2 ^ 64 }
-    requires ended { first ≡ None → IsSilent (to_come lines.old (R.rest reader.old)) }
+    requires ended { first ≡ None → IsSilent (to_come lines.old (W.rest wire.old)) }
+    ensures ready { W.ready wire.new }
     ensures held { IsHeld behaviour registers pending head.now held.new }
     ensures went { Reaches behaviour registers pending
         (BodyDone head.now (past_of first) (begun first)
-        (to_come lines.old (R.rest reader.old))) held.old held.new }
+        (to_come lines.old (W.rest wire.old))) held.old held.new }
     ensures told { OnOk result (Leads behaviour registers pending (λ old new.
         BodyTold head.now (past_of first) (begun first)
-        (IsAllOf (to_come lines.old (R.rest reader.old))) old new
-        (λ text. Tells (W.contents writer.old) (W.contents writer.new)
+        (IsAllOf (to_come lines.old (W.rest wire.old))) old new
+        (λ text. Tells (W.contents wire.old) (W.contents wire.new)
         lines.new.answers.items (lines.old.answers.items ++ text))) held.old held.new) }
-    ensures front { OnErr result (AppendsFront (W.contents writer.old) (W.contents writer.new)
+    ensures front { OnErr result (AppendsFront (W.contents wire.old) (W.contents wire.new)
         lines.old.answers.items
         ⊎ Begins behaviour registers pending (λ old last.
         BodyTold head.now (past_of first) (begun first)
-        (HearsFront (to_come lines.old (R.rest reader.old))) old last
-        (λ text. AppendsFront (W.contents writer.old) (W.contents writer.new)
+        (HearsFront (to_come lines.old (W.rest wire.old))) old last
+        (λ text. AppendsFront (W.contents wire.old) (W.contents wire.new)
         (lines.old.answers.items ++ text))) held.old) }
-    ensures write { IsErrOf result Fault.Write → IsTrue (W.has_failed writer.new) }
+    ensures write { IsErrOf result Fault.Write → IsTrue (W.write_failed wire.new) }
     ensures read { IsErrOf result Fault.Read
-        → IsOver (R.has_failed reader.new) (R.asked reader.old + lines.old.left) (R.asked reader.new) }
+        → IsOver (W.read_failed wire.new) (W.asked wire.old + lines.old.left) (W.asked wire.new) }
     ensures long { IsErrOf result Fault.Read
-        → IsTrue (R.has_failed reader.new) ⊎ IsLong lines.old (R.rest reader.old) }
+        → IsTrue (W.read_failed wire.new) ⊎ IsLong lines.old (W.rest wire.old) }
 {
     match first {
         None => Ok(()),
-        Some(first) => answer_from(alloc, head, held, &first, lines, reader, writer),
+        Some(first) => answer_from(alloc, head, held, &first, lines, wire),
     }
 }

@@ -18,12 +18,13 @@ ghost use Rattle.tp_session.specs.Hands.{AllHold, GivesUp, hands, unit_of};
 use crate::hand::give_up;
 use crate::held::Held;
 use crate::reading::Lines;
+use crate::wire::Wire;
 use std::alloc::Global;
 use tp_commands::{Place, end_all};
 use tp_manager::{Manager, Pass};
 use tp_model::types::Work;
 use tp_perform::finals::line_of;
-use tp_report::{Fault, Sink};
+use tp_report::Fault;
 use tp_script::Head;
 use tp_server::Server;
 
@@ -140,23 +141,25 @@ pub(crate) fn tell_finals(
 }
 
 /// The same, and writes all that was told.
-pub(crate) fn finals<W: Sink>(
+pub(crate) fn finals<W: Wire>(
     alloc: Global,
     head: &Head,
     servers: &[Box<dyn Server + Send>],
     lines: &mut Lines,
-    writer: &mut W,
+    wire: &mut W,
 ) -> Result<(), Fault>
+    requires ready { W.ready wire.old }
     requires all { length servers.now ≡ length head.now.servers.items }
-    ensures told { OnOk result (Appends (W.contents writer.old) (W.contents writer.new)
+    ensures ready { W.ready wire.new }
+    ensures told { OnOk result (Appends (W.contents wire.old) (W.contents wire.new)
         (lines.old.answers.items ++ final_lines (head_view head.now).servers
         (map (λ server. registers server) servers.now) (length servers.now))) }
-    ensures front { OnErr result (AppendsFront (W.contents writer.old) (W.contents writer.new)
+    ensures front { OnErr result (AppendsFront (W.contents wire.old) (W.contents wire.new)
         (lines.old.answers.items ++ final_lines (head_view head.now).servers
         (map (λ server. registers server) servers.now) (length servers.now))) }
-    ensures write { IsErrOf result Fault.Write → IsTrue (W.has_failed writer.new) }
+    ensures write { IsErrOf result Fault.Write → IsTrue (W.write_failed wire.new) }
     ensures no_read { ¬ (IsErrOf result Fault.Read) }
 {
     tell_finals(alloc, head, servers, lines)?;
-    lines.flush(writer)
+    lines.flush(wire)
 }

@@ -13,9 +13,10 @@ ghost use Rattle.tp_session.specs.Told.{HeadTold, begun, past_of};
 use crate::answering::refuse;
 use crate::first::First;
 use crate::reading::Lines;
+use crate::wire::Wire;
 use std::alloc::Global;
-use tp_report::{Fault, Sink};
-use tp_script::{Act, Head, LineError, Source};
+use tp_report::Fault;
+use tp_script::{Act, Head, LineError};
 
 /// Takes the line that was read last, whose number this is, into the head, or refuses it. Answers what it asks
 /// for where it is the first command, which leaves the head as it is.
@@ -47,38 +48,39 @@ fn take_line(
 
 /// Reads the head: its lines are taken or refused, up to the first command or to the end of the input. Answers
 /// the first command, if there is one.
-pub(crate) fn read_head<R: Source, W: Sink>(
+pub(crate) fn read_head<W: Wire>(
     alloc: Global,
     head: &mut Head,
     lines: &mut Lines,
-    reader: &mut R,
-    writer: &mut W,
+    wire: &mut W,
 ) -> Result<Option<First>, Fault>
-    requires asked { R.asked reader.old + lines.old.left < 2 ^ 64 }
+    requires ready { W.ready wire.old }
+    requires asked { W.asked wire.old + lines.old.left < 2 ^ 64 }
     requires few { room lines.old + 1 < 2 ^ 64 }
-    ensures asked { R.asked reader.new + lines.new.left ≡ R.asked reader.old + lines.old.left }
+    ensures ready { W.ready wire.new }
+    ensures asked { W.asked wire.new + lines.new.left ≡ W.asked wire.old + lines.old.left }
     ensures few { IfOk result (λ first. past_of first + room lines.new + 2 < 2 ^ 64) }
     ensures spends { OnOk result
-        (Spends 1 lines.old (R.rest reader.old) lines.new (R.rest reader.new)) }
+        (Spends 1 lines.old (W.rest wire.old) lines.new (W.rest wire.new)) }
     ensures in_range { IfOk result (λ first. IfSome (begun first) (IsActInRange
         (vec_len head.new.servers) (vec_len head.new.workers))) }
     ensures head { IfOk result (λ first. HeadRead first
-        (to_come lines.old (R.rest reader.old)) (to_come lines.new (R.rest reader.new))
+        (to_come lines.old (W.rest wire.old)) (to_come lines.new (W.rest wire.new))
         (head_view head.old) (head_view head.new)
-        (λ text. Tells (W.contents writer.old) (W.contents writer.new)
+        (λ text. Tells (W.contents wire.old) (W.contents wire.new)
         lines.new.answers.items (lines.old.answers.items ++ text))) }
     ensures front { OnErr result ((new : HeadView) × HeadTold
-        (HearsFront (to_come lines.old (R.rest reader.old))) (head_view head.old) new
-        (λ text. AppendsFront (W.contents writer.old) (W.contents writer.new)
+        (HearsFront (to_come lines.old (W.rest wire.old))) (head_view head.old) new
+        (λ text. AppendsFront (W.contents wire.old) (W.contents wire.new)
         (lines.old.answers.items ++ text))) }
-    ensures write { IsErrOf result Fault.Write → IsTrue (W.has_failed writer.new) }
+    ensures write { IsErrOf result Fault.Write → IsTrue (W.write_failed wire.new) }
     ensures read { IsErrOf result Fault.Read
-        → IsOver (R.has_failed reader.new) (R.asked reader.old + lines.old.left) (R.asked reader.new) }
+        → IsOver (W.read_failed wire.new) (W.asked wire.old + lines.old.left) (W.asked wire.new) }
     ensures long { IsErrOf result Fault.Read
-        → IsTrue (R.has_failed reader.new) ⊎ IsLong lines.old (R.rest reader.old) }
+        → IsTrue (W.read_failed wire.new) ⊎ IsLong lines.old (W.rest wire.old) }
 {
     for past in 0..u64::MAX {
-        if !lines.next(reader, writer)? {
+        if !lines.next(wire)? {
             return Ok(None);
         }
         if let Some(act) = take_line(alloc, head, lines, past + 1)? {

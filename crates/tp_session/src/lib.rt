@@ -21,6 +21,7 @@ mod reading;
 mod restoring;
 mod scripts;
 mod session;
+mod wire;
 
 pub use acts::act_line;
 pub use answering::attend;
@@ -33,3 +34,4 @@ pub use racing::act_told;
 pub use reading::{Lines, MAX_ASKED, MAX_KEPT};
 pub use scripts::{run, run_to_end, serve};
 pub use session::{answer_to_end, converse, converse_to_end};
+pub use wire::{Pipes, Wire};

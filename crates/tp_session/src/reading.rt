@@ -1,16 +1,17 @@
-//! The lines of a reader, one by one, and the answers that are not written yet.
+//! The lines of a wire, one by one, and the answers that are not written yet.
 ghost use Rattle.std.specs.Prelude.{◌≡◌, ◌≤◌, ◌<◌, ◌+◌, ◌^◌, ◌==◌, ◌++◌, ◌⊎◌, [], false, true, IfOk, IsErrOf};
 ghost use Rattle.std.specs.Prelude.{IsTrue, OnErr, OnOk, length, position, take, vec_len};
 ghost use Rattle.tp_session.specs.declared.reading.TheConstants.{MAX_ASKED, MAX_KEPT};
 
+use crate::wire::Wire;
 use std::alloc::{AllocError, Global};
-use tp_report::{Fault, Sink, write_all};
-use tp_script::{Failed, Source};
+use tp_report::Fault;
+use tp_script::Failed;
 
 /// The bytes of a line that are kept: one more than a line may have, so that a longer one is known by it.
 pub const MAX_KEPT: usize = 201;
 
-/// How often a reader is asked in a session at most: a million times a second for 71 years. The lines that
+/// How often a wire is asked in a session at most: a million times a second for 71 years. The lines that
 /// come meanwhile have numbers below 2 ^ 64.
 pub const MAX_ASKED: u64 = 2_251_799_813_685_248;
 
@@ -21,7 +22,7 @@ pub struct Lines {
     at: usize,
     line: Vec<u8>,
     answers: Vec<u8>,
-    /// How often the reader may still be asked.
+    /// How often the wire may still be asked.
     pub left: u64,
     ghost short: { vec_len line ≤ MAX_KEPT },
     ghost inside: { at ≤ vec_len chunk },
@@ -73,7 +74,14 @@ impl Lines {
         self.line.as_slice()
     }
 
-    /// Adds an answer, which is written before the reader is asked again.
+    /// What was told and isn't written yet.
+    pub(crate) fn answers(&self) -> &[u8]
+        ensures { result.now ≡ self.now.answers.items }
+    {
+        self.answers.as_slice()
+    }
+
+    /// Adds an answer, which is written before the wire is asked again.
     pub fn tell(&mut self, text: &[u8]) -> Result<(), AllocError>
         ensures told { OnOk result (self.new.answers.items ≡ self.old.answers.items ++ text.now) }
         ensures left { self.new.left ≡ self.old.left }
@@ -84,19 +92,23 @@ impl Lines {
     }
 
     /// Writes the answers.
-    pub fn flush<W: Sink>(&mut self, writer: &mut W) -> Result<(), Fault>
+    pub fn flush<W: Wire>(&mut self, wire: &mut W) -> Result<(), Fault>
+        requires ready { W.ready wire.old }
+        ensures ready { W.ready wire.new }
         ensures left { self.new.left ≡ self.old.left }
         ensures unused { unused self.new ≡ unused self.old }
         ensures line { self.new.line ≡ self.old.line }
+        ensures rest { W.rest wire.new ≡ W.rest wire.old }
+        ensures asked { W.asked wire.new ≡ W.asked wire.old }
         ensures none { OnOk result (self.new.answers.items ≡ []) }
         ensures told { OnOk result
-            (Appends (W.contents writer.old) (W.contents writer.new) self.old.answers.items) }
+            (Appends (W.contents wire.old) (W.contents wire.new) self.old.answers.items) }
         ensures front { OnErr result
-            (AppendsFront (W.contents writer.old) (W.contents writer.new) self.old.answers.items) }
-        ensures write { IsErrOf result Fault.Write → IsTrue (W.has_failed writer.new) }
+            (AppendsFront (W.contents wire.old) (W.contents wire.new) self.old.answers.items) }
+        ensures write { IsErrOf result Fault.Write → IsTrue (W.write_failed wire.new) }
         ensures no_read { ¬ (IsErrOf result Fault.Read) }
     {
-        match write_all(writer, self.answers.as_slice()) {
+        match wire.tell(self.answers.as_slice()) {
             Ok(()) => {
                 self.answers.clear();
                 Ok(())
@@ -127,37 +139,35 @@ impl Lines {
     }
 
     /// Reads more, once the answers are written: whether there was more. All that was read before is used.
-    fn read_more<R: Source, W: Sink>(
-        &mut self,
-        reader: &mut R,
-        writer: &mut W,
-    ) -> Result<bool, Fault>
-        requires asked { R.asked reader.old + self.old.left < 2 ^ 64 }
+    fn read_more<W: Wire>(&mut self, wire: &mut W) -> Result<bool, Fault>
+        requires ready { W.ready wire.old }
+        requires asked { W.asked wire.old + self.old.left < 2 ^ 64 }
         requires used { unused self.old ≡ [] }
-        ensures asked { R.asked reader.new + self.new.left ≡ R.asked reader.old + self.old.left }
+        ensures ready { W.ready wire.new }
+        ensures asked { W.asked wire.new + self.new.left ≡ W.asked wire.old + self.old.left }
         ensures once { OnOk result (self.new.left + 1 ≡ self.old.left) }
         ensures room { OnOk result (room self.new + 1 ≤ room self.old) }
         ensures line { self.new.line ≡ self.old.line }
         ensures consumes { OnOk result
-            (Consumes (to_come self.old (R.rest reader.old)) (to_come self.new (R.rest reader.new)) []) }
-        ensures end { IfOk result (λ some. some ≡ false → IsAtEnd (to_come self.new (R.rest reader.new))) }
-        ensures told { OnOk result (Tells (W.contents writer.old) (W.contents writer.new)
+            (Consumes (to_come self.old (W.rest wire.old)) (to_come self.new (W.rest wire.new)) []) }
+        ensures end { IfOk result (λ some. some ≡ false → IsAtEnd (to_come self.new (W.rest wire.new))) }
+        ensures told { OnOk result (Tells (W.contents wire.old) (W.contents wire.new)
             self.new.answers.items self.old.answers.items) }
         ensures front { OnErr result
-            (AppendsFront (W.contents writer.old) (W.contents writer.new) self.old.answers.items) }
-        ensures write { IsErrOf result Fault.Write → IsTrue (W.has_failed writer.new) }
+            (AppendsFront (W.contents wire.old) (W.contents wire.new) self.old.answers.items) }
+        ensures write { IsErrOf result Fault.Write → IsTrue (W.write_failed wire.new) }
         ensures read { IsErrOf result Fault.Read
-            → IsOver (R.has_failed reader.new) (R.asked reader.old + self.old.left) (R.asked reader.new) }
+            → IsOver (W.read_failed wire.new) (W.asked wire.old + self.old.left) (W.asked wire.new) }
         ensures some { IfOk result (λ some. some ≡ true → 1 ≤ length (unused self.new)) }
-        ensures over { IsErrOf result Fault.Read → IsTrue (R.has_failed reader.new) ⊎ (self.old.left ≡ 0) }
+        ensures over { IsErrOf result Fault.Read → IsTrue (W.read_failed wire.new) ⊎ (self.old.left ≡ 0) }
     {
-        self.flush(writer)?;
+        self.flush(wire)?;
         if self.left == 0 {
             return Err(Fault::Read);
         }
         self.left -= 1;
         let mut buffer = [0; 4096];
-        let n = match reader.read(&mut buffer) {
+        let n = match wire.read(&mut buffer) {
             Ok(n) => n,
             Err(Failed) => return Err(Fault::Read),
         };
@@ -169,29 +179,27 @@ impl Lines {
         }
     }
 
-    /// Goes on to the next line: whether there is one. All answers are written before the reader is asked.
+    /// Goes on to the next line: whether there is one. All answers are written before the wire is asked.
     /// Bytes without a line's end at the end of the input are a line too.
-    pub fn next<R: Source, W: Sink>(
-        &mut self,
-        reader: &mut R,
-        writer: &mut W,
-    ) -> Result<bool, Fault>
-        requires asked { R.asked reader.old + self.old.left < 2 ^ 64 }
-        ensures asked { R.asked reader.new + self.new.left ≡ R.asked reader.old + self.old.left }
+    pub fn next<W: Wire>(&mut self, wire: &mut W) -> Result<bool, Fault>
+        requires ready { W.ready wire.old }
+        requires asked { W.asked wire.old + self.old.left < 2 ^ 64 }
+        ensures ready { W.ready wire.new }
+        ensures asked { W.asked wire.new + self.new.left ≡ W.asked wire.old + self.old.left }
         ensures room { OnOk result (room self.new + 1 ≤ room self.old) }
-        ensures next { IfOk result (λ more. Next more (to_come self.old (R.rest reader.old))
-            self.new.line.items (to_come self.new (R.rest reader.new))) }
-        ensures told { OnOk result (Tells (W.contents writer.old) (W.contents writer.new)
+        ensures next { IfOk result (λ more. Next more (to_come self.old (W.rest wire.old))
+            self.new.line.items (to_come self.new (W.rest wire.new))) }
+        ensures told { OnOk result (Tells (W.contents wire.old) (W.contents wire.new)
             self.new.answers.items self.old.answers.items) }
         ensures front { OnErr result
-            (AppendsFront (W.contents writer.old) (W.contents writer.new) self.old.answers.items) }
-        ensures write { IsErrOf result Fault.Write → IsTrue (W.has_failed writer.new) }
+            (AppendsFront (W.contents wire.old) (W.contents wire.new) self.old.answers.items) }
+        ensures write { IsErrOf result Fault.Write → IsTrue (W.write_failed wire.new) }
         ensures read { IsErrOf result Fault.Read
-            → IsOver (R.has_failed reader.new) (R.asked reader.old + self.old.left) (R.asked reader.new) }
+            → IsOver (W.read_failed wire.new) (W.asked wire.old + self.old.left) (W.asked wire.new) }
         ensures spends { IfOk result (λ more.
-            Spends (besides more) self.old (R.rest reader.old) self.new (R.rest reader.new)) }
+            Spends (besides more) self.old (W.rest wire.old) self.new (W.rest wire.new)) }
         ensures long { IsErrOf result Fault.Read
-            → IsTrue (R.has_failed reader.new) ⊎ IsLong self.old (R.rest reader.old) }
+            → IsTrue (W.read_failed wire.new) ⊎ IsLong self.old (W.rest wire.old) }
     {
         self.line.clear();
         for _read in 0..MAX_ASKED {
@@ -200,7 +208,7 @@ impl Lines {
                 Ok(false) => {}
                 Err(_) => return Err(Fault::NoMemory),
             }
-            if !self.read_more(reader, writer)? {
+            if !self.read_more(wire)? {
                 return Ok(!self.line.is_empty());
             }
         }

@@ -1,7 +1,7 @@
 //! The act `restore`: what the head says is alive stands again in a new manager.
 ghost use Rattle.std.specs.Prelude.{◌≡◌, List, ℕ, IfErr, IfOk, map, string_bytes};
 ghost use Rattle.tp_report.specs.Answer.{line};
-ghost use Rattle.tp_perform.specs.Restore.{Restored};
+ghost use Rattle.tp_perform.specs.Restore.{IsUnrestoredFor, Restored};
 ghost use Rattle.tp_perform.specs.Rollover.{RollRefused, roll_refused_text};
 ghost use Rattle.tp_script.specs.Script.{head_view};
 ghost use Rattle.tp_session.specs.Left.{OrSame, Reaches};
@@ -70,8 +70,8 @@ fn restore_held(
         HoldsUnits old × Restored survivors.now old.stand moved.items new.stand × (new.works ≡ old.works))
         held.old held.new) }
     ensures refused { IfErr result (λ why. Leads behaviour registers pending (λ old new.
-        HoldsUnits old × RollRefused old.stand (line (roll_refused_text why)) new.stand
-        × (new.works ≡ old.works)) held.old held.new) }
+        HoldsUnits old × RollRefused (IsUnrestoredFor old.stand.manager.limits survivors.now)
+        old.stand (line (roll_refused_text why)) new.stand × (new.works ≡ old.works)) held.old held.new) }
 {
     restore(
         alloc,

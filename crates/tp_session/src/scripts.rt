@@ -26,10 +26,10 @@ use tp_manager::MakeFault;
 use tp_model::types::Account;
 use tp_perform::boxes::{eager, lazy, put};
 use tp_report::{
-    Answer, Exit, Fault, Sink, exit_status, fault_of, line, write_fault, write_refusal,
+    Answer, Exit, Fault, Sink, exit_status, fault_of, line, write_all, write_fault, write_refusal,
 };
 use tp_rollover::Managed;
-use tp_script::{Kind, ReadFault, Script, Source, read_script};
+use tp_script::{Failed, Kind, ReadFault, Script, Source, read_script};
 use tp_server::Server;
 
 /// Reads a script, performs it over the shared manager with a desk for each server, and writes its report: a
@@ -219,5 +219,8 @@ fn write_end<W: Sink>(
 {
     let mut lines = Lines::new(alloc);
     tell_end(alloc, script, servers, account, &mut lines)?;
-    lines.flush(writer)
+    match write_all(writer, lines.answers()) {
+        Ok(()) => Ok(()),
+        Err(Failed) => Err(Fault::Write),
+    }
 }

@@ -30,58 +30,54 @@ use crate::heading::read_head;
 use crate::held::Held;
 use crate::making::{first_places, no_works};
 use crate::reading::{Lines, MAX_ASKED};
+use crate::wire::Wire;
 use std::alloc::Global;
 use tp_manager::MakeFault;
 use tp_model::types::Limits;
 use tp_perform::boxes::{eager, lazy, put};
 use tp_report::{Exit, Fault, Sink, exit_status, write_fault};
 use tp_rollover::Managed;
-use tp_script::{Head, Kind, Source};
+use tp_script::{Head, Kind};
 use tp_server::Server;
 
 /// Answers a whole session: reads its head, makes the manager, the passes and the servers that it needs, and
 /// answers each line behind it. At the end of the input what is open is ended, and the final lines are written.
-pub fn converse<R: Source, W: Sink>(
-    alloc: Global,
-    reader: &mut R,
-    writer: &mut W,
-) -> Result<(), Fault>
-    requires asked { R.asked reader.old + MAX_ASKED < 2 ^ 64 }
-    ensures conversed { OnOk result (IfSome (R.rest reader.old)
-        (λ bytes. Conversed bytes (W.contents writer.old) (W.contents writer.new))) }
-    ensures front { OnErr result (IfSome (R.rest reader.old)
-        (λ bytes. ConversedFront bytes (W.contents writer.old) (W.contents writer.new))) }
-    ensures write { IsErrOf result Fault.Write → IsTrue (W.has_failed writer.new) }
+pub fn converse<W: Wire>(alloc: Global, wire: &mut W) -> Result<(), Fault>
+    requires ready { W.ready wire.old }
+    requires asked { W.asked wire.old + MAX_ASKED < 2 ^ 64 }
+    ensures ready { W.ready wire.new }
+    ensures conversed { OnOk result (IfSome (W.rest wire.old)
+        (λ bytes. Conversed bytes (W.contents wire.old) (W.contents wire.new))) }
+    ensures front { OnErr result (IfSome (W.rest wire.old)
+        (λ bytes. ConversedFront bytes (W.contents wire.old) (W.contents wire.new))) }
+    ensures write { IsErrOf result Fault.Write → IsTrue (W.write_failed wire.new) }
     ensures read { IsErrOf result Fault.Read
-        → IsOver (R.has_failed reader.new) (R.asked reader.old + MAX_ASKED) (R.asked reader.new) }
-    ensures long { IsErrOf result Fault.Read → IsTrue (R.has_failed reader.new)
-        ⊎ IfSome (R.rest reader.old) (λ bytes. MAX_ASKED ≤ 2 * length bytes + 2) }
+        → IsOver (W.read_failed wire.new) (W.asked wire.old + MAX_ASKED) (W.asked wire.new) }
+    ensures long { IsErrOf result Fault.Read → IsTrue (W.read_failed wire.new)
+        ⊎ IfSome (W.rest wire.old) (λ bytes. MAX_ASKED ≤ 2 * length bytes + 2) }
 {
     let mut lines = Lines::new(alloc);
     let mut head = Head::new(alloc);
-    let first = read_head(alloc, &mut head, &mut lines, reader, writer)?;
-    hold(alloc, &head, first, &mut lines, reader, writer)
+    let first = read_head(alloc, &mut head, &mut lines, wire)?;
+    hold(alloc, &head, first, &mut lines, wire)
 }
 
 /// Answers a session as `converse` does, writes the line of a fault to the second writer, and answers the exit
 /// status.
-pub fn converse_to_end<R: Source, W: Sink, E: Sink>(
-    alloc: Global,
-    reader: &mut R,
-    writer: &mut W,
-    faults: &mut E,
-) -> u8
-    requires asked { R.asked reader.old + MAX_ASKED < 2 ^ 64 }
+pub fn converse_to_end<W: Wire, E: Sink>(alloc: Global, wire: &mut W, faults: &mut E) -> u8
+    requires ready { W.ready wire.old }
+    requires asked { W.asked wire.old + MAX_ASKED < 2 ^ 64 }
+    ensures ready { W.ready wire.new }
     ensures ended { (outcome : Result Exit Fault)
-        × IfSome (R.rest reader.old) (λ bytes. ConversedAs outcome bytes
-        (W.contents writer.old) (W.contents writer.new))
-        × (IsErrOf outcome Fault.Write → IsTrue (W.has_failed writer.new))
+        × IfSome (W.rest wire.old) (λ bytes. ConversedAs outcome bytes
+        (W.contents wire.old) (W.contents wire.new))
+        × (IsErrOf outcome Fault.Write → IsTrue (W.write_failed wire.new))
         × (IsErrOf outcome Fault.Read
-        → IsOver (R.has_failed reader.new) (R.asked reader.old + MAX_ASKED) (R.asked reader.new))
+        → IsOver (W.read_failed wire.new) (W.asked wire.old + MAX_ASKED) (W.asked wire.new))
         × (result ≡ exit_status outcome)
         × TellsFault outcome (E.has_failed faults.new) (E.contents faults.old) (E.contents faults.new) }
 {
-    let outcome = match converse(alloc, reader, writer) {
+    let outcome = match converse(alloc, wire) {
         Ok(()) => Ok(Exit::Done),
         Err(fault) => Err(fault),
     };
@@ -106,34 +102,35 @@ pub(crate) fn limits_of(head: &Head, racers: u16) -> Limits
 }
 
 /// Makes the manager that a session needs, and answers the first command and the lines behind it.
-fn hold<R: Source, W: Sink>(
+fn hold<W: Wire>(
     alloc: Global,
     head: &Head,
     first: Option<First>,
     lines: &mut Lines,
-    reader: &mut R,
-    writer: &mut W,
+    wire: &mut W,
 ) -> Result<(), Fault>
-    requires asked { R.asked reader.old + lines.old.left < 2 ^ 64 }
+    requires ready { W.ready wire.old }
+    requires asked { W.asked wire.old + lines.old.left < 2 ^ 64 }
     requires in_range { IfSome (begun first) (IsActInRange
         (vec_len head.now.servers) (vec_len head.now.workers)) }
     requires few { past_of first + room lines.old + 2 < 2 ^ 64 }
-    requires ended { first ≡ None → IsSilent (to_come lines.old (R.rest reader.old)) }
+    requires ended { first ≡ None → IsSilent (to_come lines.old (W.rest wire.old)) }
+    ensures ready { W.ready wire.new }
     ensures told { OnOk result (BodyWhole head.now (past_of first) (begun first)
-        (to_come lines.old (R.rest reader.old))
-        (λ text. Appends (W.contents writer.old) (W.contents writer.new) (lines.old.answers.items ++ text))) }
+        (to_come lines.old (W.rest wire.old))
+        (λ text. Appends (W.contents wire.old) (W.contents wire.new) (lines.old.answers.items ++ text))) }
     ensures front { OnErr result (BodyFront head.now (past_of first) (begun first)
-        (to_come lines.old (R.rest reader.old))
-        (λ text. AppendsFront (W.contents writer.old) (W.contents writer.new)
+        (to_come lines.old (W.rest wire.old))
+        (λ text. AppendsFront (W.contents wire.old) (W.contents wire.new)
         (lines.old.answers.items ++ text))) }
-    ensures write { IsErrOf result Fault.Write → IsTrue (W.has_failed writer.new) }
+    ensures write { IsErrOf result Fault.Write → IsTrue (W.write_failed wire.new) }
     ensures read { IsErrOf result Fault.Read
-        → IsOver (R.has_failed reader.new) (R.asked reader.old + lines.old.left) (R.asked reader.new) }
+        → IsOver (W.read_failed wire.new) (W.asked wire.old + lines.old.left) (W.asked wire.new) }
     ensures long { IsErrOf result Fault.Read
-        → IsTrue (R.has_failed reader.new) ⊎ IsLong lines.old (R.rest reader.old) }
+        → IsTrue (W.read_failed wire.new) ⊎ IsLong lines.old (W.rest wire.old) }
 {
     match Managed::new(alloc, limits_of(head, 0)) {
-        Ok(managed) => with_managed(alloc, head, first, managed, lines, reader, writer),
+        Ok(managed) => with_managed(alloc, head, first, managed, lines, wire),
         Err(MakeFault::NoMemory) => Err(Fault::NoMemory),
         Err(MakeFault::BadLimits) => unreachable!(),
         Err(MakeFault::NoPart) => unreachable!(),
@@ -141,33 +138,34 @@ fn hold<R: Source, W: Sink>(
 }
 
 /// Makes the boxed servers.
-fn with_managed<R: Source, W: Sink>(
+fn with_managed<W: Wire>(
     alloc: Global,
     head: &Head,
     first: Option<First>,
     managed: Managed,
     lines: &mut Lines,
-    reader: &mut R,
-    writer: &mut W,
+    wire: &mut W,
 ) -> Result<(), Fault>
+    requires ready { W.ready wire.old }
     requires new { IsNewManaged (limits_of (head_view head.now) 0) managed }
-    requires asked { R.asked reader.old + lines.old.left < 2 ^ 64 }
+    requires asked { W.asked wire.old + lines.old.left < 2 ^ 64 }
     requires in_range { IfSome (begun first) (IsActInRange
         (vec_len head.now.servers) (vec_len head.now.workers)) }
     requires few { past_of first + room lines.old + 2 < 2 ^ 64 }
-    requires ended { first ≡ None → IsSilent (to_come lines.old (R.rest reader.old)) }
+    requires ended { first ≡ None → IsSilent (to_come lines.old (W.rest wire.old)) }
+    ensures ready { W.ready wire.new }
     ensures told { OnOk result (BodyWhole head.now (past_of first) (begun first)
-        (to_come lines.old (R.rest reader.old))
-        (λ text. Appends (W.contents writer.old) (W.contents writer.new) (lines.old.answers.items ++ text))) }
+        (to_come lines.old (W.rest wire.old))
+        (λ text. Appends (W.contents wire.old) (W.contents wire.new) (lines.old.answers.items ++ text))) }
     ensures front { OnErr result (BodyFront head.now (past_of first) (begun first)
-        (to_come lines.old (R.rest reader.old))
-        (λ text. AppendsFront (W.contents writer.old) (W.contents writer.new)
+        (to_come lines.old (W.rest wire.old))
+        (λ text. AppendsFront (W.contents wire.old) (W.contents wire.new)
         (lines.old.answers.items ++ text))) }
-    ensures write { IsErrOf result Fault.Write → IsTrue (W.has_failed writer.new) }
+    ensures write { IsErrOf result Fault.Write → IsTrue (W.write_failed wire.new) }
     ensures read { IsErrOf result Fault.Read
-        → IsOver (R.has_failed reader.new) (R.asked reader.old + lines.old.left) (R.asked reader.new) }
+        → IsOver (W.read_failed wire.new) (W.asked wire.old + lines.old.left) (W.asked wire.new) }
     ensures long { IsErrOf result Fault.Read
-        → IsTrue (R.has_failed reader.new) ⊎ IsLong lines.old (R.rest reader.old) }
+        → IsTrue (W.read_failed wire.new) ⊎ IsLong lines.old (W.rest wire.old) }
 {
     let mut servers: Vec<Box<dyn Server + Send>> = Vec::new(alloc);
     for server in &head.servers {
@@ -176,43 +174,44 @@ fn with_managed<R: Source, W: Sink>(
             Kind::Lazy => put(&mut servers, Box::new(alloc, lazy(server)?)?)?,
         }
     }
-    with_servers(alloc, head, first, managed, servers, lines, reader, writer)
+    with_servers(alloc, head, first, managed, servers, lines, wire)
 }
 
 /// Answers the lines, and then writes the final lines of these servers.
-fn with_servers<R: Source, W: Sink>(
+fn with_servers<W: Wire>(
     alloc: Global,
     head: &Head,
     first: Option<First>,
     managed: Managed,
     servers: Vec<Box<dyn Server + Send>>,
     lines: &mut Lines,
-    reader: &mut R,
-    writer: &mut W,
+    wire: &mut W,
 ) -> Result<(), Fault>
+    requires ready { W.ready wire.old }
     requires new { IsNewManaged (limits_of (head_view head.now) 0) managed }
     requires behaviours { map (λ server. behaviour server) servers.items
         ≡ map (λ line. behaviour_of line.recipe) head.now.servers.items }
     requires registers { map (λ server. registers server) servers.items
         ≡ map (λ line. line.registers) head.now.servers.items }
     requires clear { All (λ server. pending server ≡ None) servers.items }
-    requires asked { R.asked reader.old + lines.old.left < 2 ^ 64 }
+    requires asked { W.asked wire.old + lines.old.left < 2 ^ 64 }
     requires in_range { IfSome (begun first) (IsActInRange
         (vec_len head.now.servers) (vec_len head.now.workers)) }
     requires few { past_of first + room lines.old + 2 < 2 ^ 64 }
-    requires ended { first ≡ None → IsSilent (to_come lines.old (R.rest reader.old)) }
+    requires ended { first ≡ None → IsSilent (to_come lines.old (W.rest wire.old)) }
+    ensures ready { W.ready wire.new }
     ensures told { OnOk result (BodyWhole head.now (past_of first) (begun first)
-        (to_come lines.old (R.rest reader.old))
-        (λ text. Appends (W.contents writer.old) (W.contents writer.new) (lines.old.answers.items ++ text))) }
+        (to_come lines.old (W.rest wire.old))
+        (λ text. Appends (W.contents wire.old) (W.contents wire.new) (lines.old.answers.items ++ text))) }
     ensures front { OnErr result (BodyFront head.now (past_of first) (begun first)
-        (to_come lines.old (R.rest reader.old))
-        (λ text. AppendsFront (W.contents writer.old) (W.contents writer.new)
+        (to_come lines.old (W.rest wire.old))
+        (λ text. AppendsFront (W.contents wire.old) (W.contents wire.new)
         (lines.old.answers.items ++ text))) }
-    ensures write { IsErrOf result Fault.Write → IsTrue (W.has_failed writer.new) }
+    ensures write { IsErrOf result Fault.Write → IsTrue (W.write_failed wire.new) }
     ensures read { IsErrOf result Fault.Read
-        → IsOver (R.has_failed reader.new) (R.asked reader.old + lines.old.left) (R.asked reader.new) }
+        → IsOver (W.read_failed wire.new) (W.asked wire.old + lines.old.left) (W.asked wire.new) }
     ensures long { IsErrOf result Fault.Read
-        → IsTrue (R.has_failed reader.new) ⊎ IsLong lines.old (R.rest reader.old) }
+        → IsTrue (W.read_failed wire.new) ⊎ IsLong lines.old (W.rest wire.old) }
 {
     let works = no_works(alloc, head.workers.len())?;
     let places = first_places(managed.passes.as_slice(), servers.as_slice());
@@ -222,57 +221,58 @@ fn with_servers<R: Source, W: Sink>(
         places,
         works,
     };
-    answer_to_end(alloc, head, &mut held, first, lines, reader, writer)?;
-    finals(alloc, head, held.servers.as_slice(), lines, writer)
+    answer_to_end(alloc, head, &mut held, first, lines, wire)?;
+    finals(alloc, head, held.servers.as_slice(), lines, wire)
 }
 
 /// Answers the lines behind the head. At the end, and after a fault, the desks are ended, and the workers give
 /// up what they have in hand: each server's registers are then what its behaviour makes of what its pass has
 /// committed since its desk began, at the beginning or at the last rollover, where the registers stay the same.
 /// What was done before a fault stands.
-pub fn answer_to_end<R: Source, W: Sink>(
+pub fn answer_to_end<W: Wire>(
     alloc: Global,
     head: &Head,
     held: &mut Held,
     first: Option<First>,
     lines: &mut Lines,
-    reader: &mut R,
-    writer: &mut W,
+    wire: &mut W,
 ) -> Result<(), Fault>
+    requires ready { W.ready wire.old }
     requires held { IsHeld behaviour registers pending head.now held.old }
-    requires asked { R.asked reader.old + lines.old.left < 2 ^ 64 }
+    requires asked { W.asked wire.old + lines.old.left < 2 ^ 64 }
     requires in_range { IfSome (begun first) (IsActInRange
         (vec_len head.now.servers) (vec_len head.now.workers)) }
     requires few { past_of first + room lines.old + 2 < 2 ^ 64 }
-    requires ended { first ≡ None → IsSilent (to_come lines.old (R.rest reader.old)) }
+    requires ended { first ≡ None → IsSilent (to_come lines.old (W.rest wire.old)) }
+    ensures ready { W.ready wire.new }
     ensures free { All (IsFreePass held.new.managed.manager) held.new.managed.passes.items }
     ensures clear { All (λ server. pending server ≡ None) held.new.servers.items }
     ensures each_server { length held.new.servers.items ≡ length held.old.servers.items }
     ensures left { (before : Live) × (last : Live) × IsLive behaviour registers pending held.old before
         × BodyDone head.now (past_of first) (begun first)
-        (to_come lines.old (R.rest reader.old)) before last
+        (to_come lines.old (W.rest wire.old)) before last
         × AllLeftAt behaviour registers last.stand.scene.places
         (workers (length held.old.servers.items) held.new.managed.passes.items) held.new.servers.items }
     ensures told { OnOk result (Begins behaviour registers pending (λ old last.
         BodyTold head.now (past_of first) (begun first)
-        (IsAllOf (to_come lines.old (R.rest reader.old))) old last
-        (λ text. Tells (W.contents writer.old) (W.contents writer.new)
+        (IsAllOf (to_come lines.old (W.rest wire.old))) old last
+        (λ text. Tells (W.contents wire.old) (W.contents wire.new)
         lines.new.answers.items (lines.old.answers.items ++ text))
         × LiveEnds last (map (λ server. registers server) held.new.servers.items)) held.old) }
-    ensures front { OnErr result (AppendsFront (W.contents writer.old) (W.contents writer.new)
+    ensures front { OnErr result (AppendsFront (W.contents wire.old) (W.contents wire.new)
         lines.old.answers.items
         ⊎ Begins behaviour registers pending (λ old last.
         BodyTold head.now (past_of first) (begun first)
-        (HearsFront (to_come lines.old (R.rest reader.old))) old last
-        (λ text. AppendsFront (W.contents writer.old) (W.contents writer.new)
+        (HearsFront (to_come lines.old (W.rest wire.old))) old last
+        (λ text. AppendsFront (W.contents wire.old) (W.contents wire.new)
         (lines.old.answers.items ++ text))) held.old) }
-    ensures write { IsErrOf result Fault.Write → IsTrue (W.has_failed writer.new) }
+    ensures write { IsErrOf result Fault.Write → IsTrue (W.write_failed wire.new) }
     ensures read { IsErrOf result Fault.Read
-        → IsOver (R.has_failed reader.new) (R.asked reader.old + lines.old.left) (R.asked reader.new) }
+        → IsOver (W.read_failed wire.new) (W.asked wire.old + lines.old.left) (W.asked wire.new) }
     ensures long { IsErrOf result Fault.Read
-        → IsTrue (R.has_failed reader.new) ⊎ IsLong lines.old (R.rest reader.old) }
+        → IsTrue (W.read_failed wire.new) ⊎ IsLong lines.old (W.rest wire.old) }
 {
-    let done = answer_all(alloc, head, held, first, lines, reader, writer);
+    let done = answer_all(alloc, head, held, first, lines, wire);
     end_held(head, held);
     done
 }

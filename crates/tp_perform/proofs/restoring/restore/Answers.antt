@@ -3,6 +3,7 @@ use Rattle.std.proofs.lemmas.List.Elements.{All-drop, All-take}
 use Rattle.tp_manager.specs.Shown.{PassShown}
 use Rattle.tp_commands.specs.Places.{workers}
 use Rattle.tp_commands.proofs.Lies.{lie_servers}
+use Rattle.tp_perform.specs.Restore.{IsUnrestoredFor}
 use Rattle.tp_perform.specs.Told.{AreReady}
 use Rattle.tp_perform.proofs.Restores.{held_anew, ready_anew, restored}
 use Rattle.tp_perform.proofs.Rollovers.{all_clear, gathers_of, held_refused, own_of, ready_refused, refused, stands_refused, stays_still}
@@ -43,8 +44,8 @@ returns-in-Err-clause-refused g c =
     let still = stays_still c.args.managed.now c.take_up.new.managed c.in-Err.ensures.same in
     let t = refused (λ b. (goal.Server-dyn g (b.vtable, b.value)).behaviour b.value) (λ b. (goal.Server-dyn g (b.vtable, b.value)).registers b.value) (λ b. (goal.Server-dyn g (b.vtable, b.value)).pending b.value) c.args.managed.now.manager c.args.managed.now.keeper c.take_up.new.managed.keeper c.gather_all.new.managed.keeper c.args.managed.now.passes.items c.take_up.new.managed.passes.items c.gather_all.new.managed.passes.items c.args.servers.now c.args.places.now c.requires.ready
     still.passes (own_of c.args.managed.now c.take_up.new.managed c.in-Err.ensures.managed still.manager) still.given (gathers_of c.args.managed.now c.take_up.new.managed c.gather_all.new.managed still.manager c.gather_all.ensures.gathers) c.gather_all.ensures.managed.all c.gather_all.ensures.given (own_of c.args.managed.now c.gather_all.new.managed c.gather_all.ensures.managed (c.gather_all.ensures.manager ∙ still.manager))
-    c.in-Err.why _ (omega (arith, c.requires.enough)) c.in-Err.ensures.fault refl in
-    (t.0, t.1, t.2, stands_refused c.args.managed.now c.gather_all.new.managed t.0 t.1 _ (c.gather_all.ensures.manager ∙ still.manager) t.3, t.4)
+    (IsUnrestoredFor c.args.managed.now.manager.limits c.args.survivors.now) c.in-Err.why _ (omega (arith, c.requires.enough)) c.in-Err.ensures.fault refl in
+    (t.0, t.1, t.2, stands_refused (IsUnrestoredFor c.args.managed.now.manager.limits c.args.survivors.now) c.args.managed.now c.gather_all.new.managed t.0 t.1 _ (c.gather_all.ensures.manager ∙ still.manager) t.3, t.4)
 
 pub begin_all_again-requires-clause-clear : goal.begin_all_again-requires-clause-clear
 begin_all_again-requires-clause-clear g c =

@@ -3,4 +3,6 @@ use Rattle.tp_perform.proofs.Restores.{refused_as}
 use Rattle.tp_perform.proofs.restoring.take_up.Goals as goal
 
 pub returns-in-Err-clause-fault : goal.returns-in-Err-clause-fault
-returns-in-Err-clause-fault c = refused_as c.args.managed.now.manager.limits _ c.args.managed.now.passes.items c.in-Err.fault c.requires.managed.limits c.limits.ensures (rw c.deref.ensures.value at (c.if-has_open.ensures.free refl)) c.in-Err.ensures.fault
+returns-in-Err-clause-fault c =
+    refused_as c.args.managed.now.manager.limits _ c.args.managed.now.passes.items c.args.survivors.now c.in-Err.fault _ _ c.requires.managed.limits c.limits.ensures (rw c.deref.ensures.value at (c.if-has_open.ensures.free refl)) (λ none. none)
+    c.in-Err.ensures.fault c.in-Err.ensures.computed

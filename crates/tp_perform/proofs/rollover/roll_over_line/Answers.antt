@@ -3,6 +3,7 @@ use Rattle.std.specs.Prelude.{string_bytes}
 use Rattle.std.proofs.lemmas.Result.{IfOk-weaker}
 use Rattle.std.proofs.lemmas.List.Elements.{All-drop, All-take}
 use Rattle.tp_manager.specs.Shown.{PassShown}
+use Rattle.tp_rollover.specs.Managed.{IsRefusedFor}
 use Rattle.tp_commands.specs.Places.{workers}
 use Rattle.tp_commands.proofs.Lies.{lie_servers}
 use Rattle.tp_perform.specs.Told.{AreReady}
@@ -48,7 +49,7 @@ pub returns-in-Err-clause-rolled : goal.returns-in-Err-clause-rolled
 returns-in-Err-clause-rolled g c =
     let t = refused (λ b. (goal.Server-dyn g (b.vtable, b.value)).behaviour b.value) (λ b. (goal.Server-dyn g (b.vtable, b.value)).registers b.value) (λ b. (goal.Server-dyn g (b.vtable, b.value)).pending b.value) c.args.managed.now.manager c.args.managed.now.keeper c.roll_over.new.self.keeper c.gather_all.new.managed.keeper c.args.managed.now.passes.items c.roll_over.new.self.passes.items c.gather_all.new.managed.passes.items c.args.servers.now c.args.places.now c.requires.ready
     c.in-Err.ensures.refused.passes (own_of c.args.managed.now c.roll_over.new.self c.in-Err.ensures.managed c.in-Err.ensures.refused.manager) c.in-Err.ensures.refused.given (gathers_of c.args.managed.now c.roll_over.new.self c.gather_all.new.managed c.in-Err.ensures.refused.manager c.gather_all.ensures.gathers) c.gather_all.ensures.managed.all c.gather_all.ensures.given (own_of c.args.managed.now c.gather_all.new.managed c.gather_all.ensures.managed (c.gather_all.ensures.manager ∙ c.in-Err.ensures.refused.manager))
-    c.in-Err.why _ (omega (arith, c.requires.enough)) c.in-Err.ensures.fault refl in
+    (IsRefusedFor c.args.managed.now.manager.limits) c.in-Err.why _ (omega (arith, c.requires.enough)) c.in-Err.ensures.fault refl in
     (t.0, t.1, _, t.2, stands_with c.args.managed.now c.gather_all.new.managed t.0 t.1 _ (c.gather_all.ensures.manager ∙ c.in-Err.ensures.refused.manager) (inr t.3), t.4)
 
 pub returns-in-Err-clause-rolls : goal.returns-in-Err-clause-rolls
@@ -56,7 +57,7 @@ returns-in-Err-clause-rolls g c =
     IfOk-weaker c.refused_line.result _ _ (λ text is.
     let t = refused (λ b. (goal.Server-dyn g (b.vtable, b.value)).behaviour b.value) (λ b. (goal.Server-dyn g (b.vtable, b.value)).registers b.value) (λ b. (goal.Server-dyn g (b.vtable, b.value)).pending b.value) c.args.managed.now.manager c.args.managed.now.keeper c.roll_over.new.self.keeper c.gather_all.new.managed.keeper c.args.managed.now.passes.items c.roll_over.new.self.passes.items c.gather_all.new.managed.passes.items c.args.servers.now c.args.places.now c.requires.ready
     c.in-Err.ensures.refused.passes (own_of c.args.managed.now c.roll_over.new.self c.in-Err.ensures.managed c.in-Err.ensures.refused.manager) c.in-Err.ensures.refused.given (gathers_of c.args.managed.now c.roll_over.new.self c.gather_all.new.managed c.in-Err.ensures.refused.manager c.gather_all.ensures.gathers) c.gather_all.ensures.managed.all c.gather_all.ensures.given (own_of c.args.managed.now c.gather_all.new.managed c.gather_all.ensures.managed (c.gather_all.ensures.manager ∙ c.in-Err.ensures.refused.manager))
-    c.in-Err.why (string_bytes text) (omega (arith, c.requires.enough)) c.in-Err.ensures.fault is in
+    (IsRefusedFor c.args.managed.now.manager.limits) c.in-Err.why (string_bytes text) (omega (arith, c.requires.enough)) c.in-Err.ensures.fault is in
     (t.0, t.1, t.2, stands_with c.args.managed.now c.gather_all.new.managed t.0 t.1 (string_bytes text) (c.gather_all.ensures.manager ∙ c.in-Err.ensures.refused.manager) (inr t.3), t.4)) c.refused_line.ensures.text
 
 pub begin_all_again-requires-clause-clear : goal.begin_all_again-requires-clause-clear

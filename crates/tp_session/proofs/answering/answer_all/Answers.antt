@@ -11,7 +11,7 @@ returns-in-None-clause-told g c = rw c.in-None.is (leads_none (λ b. (goal.Serve
   heard = c.requires.ended c.in-None.is;
   text = [];
   lines = (refl, refl);
-  told = subst (Tells (g.W.Sink.contents c.args.writer.now) (g.W.Sink.contents c.args.writer.now) c.args.lines.now.answers.items) (sym (append-nil c.args.lines.now.answers.items)) (told_none (g.W.Sink.contents c.args.writer.now) c.args.lines.now.answers.items);
+  told = subst (Tells (g.W.Wire.contents c.args.wire.now) (g.W.Wire.contents c.args.wire.now) c.args.lines.now.answers.items) (sym (append-nil c.args.lines.now.answers.items)) (told_none (g.W.Wire.contents c.args.wire.now) c.args.lines.now.answers.items);
 }))
 
 pub returns-in-Some-clause-told : goal.returns-in-Some-clause-told

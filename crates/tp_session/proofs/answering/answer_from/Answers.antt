@@ -13,8 +13,8 @@ returns-clause-told g c =
     let t = c.in_ok-answer.ensures.tells in
     on_ok_weaker c.attend.result (λ others. leads_then (λ b. (goal.Server-dyn g (b.vtable, b.value)).behaviour b.value) (λ b. (goal.Server-dyn g (b.vtable, b.value)).registers b.value) (λ b. (goal.Server-dyn g (b.vtable, b.value)).pending b.value) _ _ _ c.args.held.now c.answer.new.held c.attend.new.held
     (λ a m b one rest. body_begun c.args.head.now c.args.first.now _ _ IsAllOf a m b _ _
-    (Tells (g.W.Sink.contents c.args.writer.now) (g.W.Sink.contents c.attend.new.writer) c.attend.new.lines.answers.items)
-    (come_same c.args.lines.now c.answer.new.lines (g.R.Source.rest c.args.reader.now) c.in_ok-answer.ensures.unused) (t.0, t.1, one) rest) t.2 others) c.attend.ensures.told
+    (Tells (g.W.Wire.contents c.args.wire.now) (g.W.Wire.contents c.attend.new.wire) c.attend.new.lines.answers.items)
+    (come_same c.args.lines.now c.answer.new.lines (g.W.Wire.rest c.args.wire.now) c.in_ok-answer.ensures.unused) (t.0, t.1, one) rest) t.2 others) c.attend.ensures.told
 
 pub returns-in_err-answer-clause-front : goal.returns-in_err-answer-clause-front
 returns-in_err-answer-clause-front g c = always_err c.from_residual.result (inl (front_none _ _))
@@ -24,8 +24,8 @@ returns-clause-front g c =
     let t = c.in_ok-answer.ensures.tells in
     on_err_weaker c.attend.result (λ others. inr (begins_then (λ b. (goal.Server-dyn g (b.vtable, b.value)).behaviour b.value) (λ b. (goal.Server-dyn g (b.vtable, b.value)).registers b.value) (λ b. (goal.Server-dyn g (b.vtable, b.value)).pending b.value) _ _ _ c.args.held.now c.answer.new.held
     (λ a m b one rest. body_begun c.args.head.now c.args.first.now _ _ HearsFront a m b _ _
-    (AppendsFront (g.W.Sink.contents c.args.writer.now) (g.W.Sink.contents c.attend.new.writer))
-    (come_same c.args.lines.now c.answer.new.lines (g.R.Source.rest c.args.reader.now) c.in_ok-answer.ensures.unused) (t.0, t.1, one) rest) t.2 others)) c.attend.ensures.front
+    (AppendsFront (g.W.Wire.contents c.args.wire.now) (g.W.Wire.contents c.attend.new.wire))
+    (come_same c.args.lines.now c.answer.new.lines (g.W.Wire.rest c.args.wire.now) c.in_ok-answer.ensures.unused) (t.0, t.1, one) rest) t.2 others)) c.attend.ensures.front
 
 pub returns-in_err-answer-clause-went : goal.returns-in_err-answer-clause-went
 returns-in_err-answer-clause-went g c =
@@ -35,5 +35,5 @@ pub returns-clause-went : goal.returns-clause-went
 returns-clause-went g c =
     let t = c.in_ok-answer.ensures.tells in
     reach_then (λ b. (goal.Server-dyn g (b.vtable, b.value)).behaviour b.value) (λ b. (goal.Server-dyn g (b.vtable, b.value)).registers b.value) (λ b. (goal.Server-dyn g (b.vtable, b.value)).pending b.value) c.args.held.now c.answer.new.held c.attend.new.held _ _ _
-    (λ a m b one others. from_done c.args.head.now c.args.first.now _ _ a m b (come_same c.args.lines.now c.answer.new.lines (g.R.Source.rest c.args.reader.now) c.in_ok-answer.ensures.unused) (t.0, one) others)
+    (λ a m b one others. from_done c.args.head.now c.args.first.now _ _ a m b (come_same c.args.lines.now c.answer.new.lines (g.W.Wire.rest c.args.wire.now) c.in_ok-answer.ensures.unused) (t.0, one) others)
     t.2 c.attend.ensures.went

@@ -10,9 +10,10 @@ use Rattle.tp_session.proofs.answering.attend.Goals as goal
 pub loop-number-init : goal.loop-number-init
 loop-number-init g c = record {
   held = c.requires.held;
+  ready = c.requires.ready;
   asked = refl;
   room = omega arith;
-  spends = spends_none c.args.lines.now (g.R.Source.rest c.args.reader.now);
+  spends = spends_none c.args.lines.now (g.W.Wire.rest c.args.wire.now);
   told = leads_none (λ b. (goal.Server-dyn g (b.vtable, b.value)).behaviour b.value) (λ b. (goal.Server-dyn g (b.vtable, b.value)).registers b.value) (λ b. (goal.Server-dyn g (b.vtable, b.value)).pending b.value) c.args.head.now c.args.held.now _ c.requires.held (λ l. body_none c.args.head.now c.args.past _ l _ _);
 }
 
@@ -21,14 +22,15 @@ loop-number-preserved g c =
     let t = c.in_ok-answer_line.ensures.tells in
     record {
       held = c.in_ok-answer_line.ensures.held;
+      ready = c.in_ok-next.ensures.ready;
       asked = rw c.in_ok-answer_line.ensures.left (c.in_ok-next.ensures.asked ∙ c.loop-number.invariant.asked);
       room = omega (arith, c.in_ok-next.ensures.room, c.loop-number.invariant.room, c.in_ok-answer_line.ensures.left, ap length c.in_ok-answer_line.ensures.unused);
-      spends = spends_same 0 c.args.lines.now c.next.new.self c.answer_line.new.lines (g.R.Source.rest c.args.reader.now) (g.R.Source.rest c.next.new.reader)
-          (spends_then 0 0 c.args.lines.now c.loop-number.lines c.next.new.self (g.R.Source.rest c.args.reader.now) (g.R.Source.rest c.loop-number.reader) (g.R.Source.rest c.next.new.reader) (omega arith) c.loop-number.invariant.spends
+      spends = spends_same 0 c.args.lines.now c.next.new.self c.answer_line.new.lines (g.W.Wire.rest c.args.wire.now) (g.W.Wire.rest c.next.new.wire)
+          (spends_then 0 0 c.args.lines.now c.loop-number.lines c.next.new.self (g.W.Wire.rest c.args.wire.now) (g.W.Wire.rest c.loop-number.wire) (g.W.Wire.rest c.next.new.wire) (omega arith) c.loop-number.invariant.spends
           (rw c.if-not-branch.false at c.in_ok-next.ensures.spends)) c.in_ok-answer_line.ensures.left c.in_ok-answer_line.ensures.unused;
       told = leads_then (λ b. (goal.Server-dyn g (b.vtable, b.value)).behaviour b.value) (λ b. (goal.Server-dyn g (b.vtable, b.value)).registers b.value) (λ b. (goal.Server-dyn g (b.vtable, b.value)).pending b.value) _ _ _ c.args.held.now c.loop-number.held c.answer_line.new.held
           (λ a m b so_far one. body_next c.args.head.now c.args.past _ _ _ _ c.loop-number.number a m b _ _ _ _ _ _ _ _ so_far (rw c.if-not-branch.false at c.in_ok-next.ensures.next) c.in_ok-next.ensures.told
-          (come_same c.next.new.self c.answer_line.new.lines (g.R.Source.rest c.next.new.reader) c.in_ok-answer_line.ensures.unused) (t.0, t.1, one))
+          (come_same c.next.new.self c.answer_line.new.lines (g.W.Wire.rest c.next.new.wire) c.in_ok-answer_line.ensures.unused) (t.0, t.1, one))
           c.loop-number.invariant.told t.2;
     }
 

@@ -9,13 +9,14 @@ use Rattle.tp_session.proofs.answering.attend.Given as goal
 abbrev pub invariant-loop-number : goal.invariant-loop-number
 invariant-loop-number g l = record {
   held : IsHeld (λ b. (goal.Server-dyn g (b.vtable, b.value)).behaviour b.value) (λ b. (goal.Server-dyn g (b.vtable, b.value)).registers b.value) (λ b. (goal.Server-dyn g (b.vtable, b.value)).pending b.value) l.head l.held;
-  asked : g.R.Source.asked l.reader + l.lines.left ≡ g.R.Source.asked l.fn.reader + l.fn.lines.left;
+  ready : g.W.Wire.ready l.wire;
+  asked : g.W.Wire.asked l.wire + l.lines.left ≡ g.W.Wire.asked l.fn.wire + l.fn.lines.left;
   room : l.number + room l.lines ≤ l.past + room l.fn.lines;
-  spends : Spends 0 l.fn.lines (g.R.Source.rest l.fn.reader) l.lines (g.R.Source.rest l.reader);
+  spends : Spends 0 l.fn.lines (g.W.Wire.rest l.fn.wire) l.lines (g.W.Wire.rest l.wire);
   told : Leads (λ b. (goal.Server-dyn g (b.vtable, b.value)).behaviour b.value) (λ b. (goal.Server-dyn g (b.vtable, b.value)).registers b.value) (λ b. (goal.Server-dyn g (b.vtable, b.value)).pending b.value)
       (λ old new. BodyTold l.head l.past None
-      (λ taken. Hears (to_come l.fn.lines (g.R.Source.rest l.fn.reader)) taken (to_come l.lines (g.R.Source.rest l.reader)) × (l.number ≡ l.past + length taken))
+      (λ taken. Hears (to_come l.fn.lines (g.W.Wire.rest l.fn.wire)) taken (to_come l.lines (g.W.Wire.rest l.wire)) × (l.number ≡ l.past + length taken))
       old new
-      (λ text. Tells (g.W.Sink.contents l.fn.writer) (g.W.Sink.contents l.writer) l.lines.answers.items (l.fn.lines.answers.items ++ text)))
+      (λ text. Tells (g.W.Wire.contents l.fn.wire) (g.W.Wire.contents l.wire) l.lines.answers.items (l.fn.lines.answers.items ++ text)))
       l.fn.held l.held;
 }

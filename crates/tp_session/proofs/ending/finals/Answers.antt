@@ -8,4 +8,4 @@ pub returns-in_err-tell_finals-clause-front : goal.returns-in_err-tell_finals-cl
 returns-in_err-tell_finals-clause-front g c = always_err c.from_residual.result (front_none _ _)
 
 pub returns-clause-front : goal.returns-clause-front
-returns-clause-front g c = subst (λ t. OnErr c.flush.result (AppendsFront (g.W.Sink.contents c.args.writer.now) (g.W.Sink.contents c.flush.new.writer) t)) c.in_ok-tell_finals.ensures.told c.flush.ensures.front
+returns-clause-front g c = subst (λ t. OnErr c.flush.result (AppendsFront (g.W.Wire.contents c.args.wire.now) (g.W.Wire.contents c.flush.new.wire) t)) c.in_ok-tell_finals.ensures.told c.flush.ensures.front

@@ -21,15 +21,16 @@ returns-in_err-act-clause-front g c =
 pub returns-in-Some-clause-head : goal.returns-in-Some-clause-head
 returns-in-Some-clause-head g c =
     head_command _ _ _ _ (record { past = c.loop-past.past; act = c.in-Some.act }) _ _ _ _ _ _ c.next.new.self.line.items _ _ _ _ c.loop-past.invariant.read (rw c.if-not-branch.false at c.in_ok-next.ensures.next) c.in_ok-next.ensures.told
-    (come_same c.next.new.self c.take_line.new.lines (g.R.Source.rest c.next.new.reader) c.in_ok-act.ensures.unused) (rw c.in-Some.is at c.in_ok-act.ensures.takes)
+    (come_same c.next.new.self c.take_line.new.lines (g.W.Wire.rest c.next.new.wire) c.in_ok-act.ensures.unused) (rw c.in-Some.is at c.in_ok-act.ensures.takes)
 
 pub loop-past-preserved : goal.loop-past-preserved
 loop-past-preserved g c = record {
+  ready = c.in_ok-next.ensures.ready;
   asked = rw c.in_ok-act.ensures.left (c.in_ok-next.ensures.asked ∙ c.loop-past.invariant.asked);
   room = omega (arith, c.in_ok-next.ensures.room, c.loop-past.invariant.room, c.in_ok-act.ensures.left, ap length c.in_ok-act.ensures.unused);
-  spends = spends_same 0 c.args.lines.now c.next.new.self c.take_line.new.lines (g.R.Source.rest c.args.reader.now) (g.R.Source.rest c.next.new.reader)
-      (spends_then 0 0 c.args.lines.now c.loop-past.lines c.next.new.self (g.R.Source.rest c.args.reader.now) (g.R.Source.rest c.loop-past.reader) (g.R.Source.rest c.next.new.reader) (omega arith) c.loop-past.invariant.spends
+  spends = spends_same 0 c.args.lines.now c.next.new.self c.take_line.new.lines (g.W.Wire.rest c.args.wire.now) (g.W.Wire.rest c.next.new.wire)
+      (spends_then 0 0 c.args.lines.now c.loop-past.lines c.next.new.self (g.W.Wire.rest c.args.wire.now) (g.W.Wire.rest c.loop-past.wire) (g.W.Wire.rest c.next.new.wire) (omega arith) c.loop-past.invariant.spends
       (rw c.if-not-branch.false at c.in_ok-next.ensures.spends)) c.in_ok-act.ensures.left c.in_ok-act.ensures.unused;
   read = head_next _ _ _ _ c.loop-past.past _ _ _ _ _ _ c.next.new.self.line.items _ _ _ _ c.loop-past.invariant.read (rw c.if-not-branch.false at c.in_ok-next.ensures.next) c.in_ok-next.ensures.told
-      (come_same c.next.new.self c.take_line.new.lines (g.R.Source.rest c.next.new.reader) c.in_ok-act.ensures.unused) (rw c.in_default.is at c.in_ok-act.ensures.takes);
+      (come_same c.next.new.self c.take_line.new.lines (g.W.Wire.rest c.next.new.wire) c.in_ok-act.ensures.unused) (rw c.in_default.is at c.in_ok-act.ensures.takes);
 }

@@ -8,11 +8,12 @@ use Rattle.tp_session.proofs.heading.read_head.Given as goal
 -- the lines of the head so far
 abbrev pub invariant-loop-past : goal.invariant-loop-past
 invariant-loop-past g l = record {
-  asked : g.R.Source.asked l.reader + l.lines.left ≡ g.R.Source.asked l.fn.reader + l.fn.lines.left;
+  ready : g.W.Wire.ready l.wire;
+  asked : g.W.Wire.asked l.wire + l.lines.left ≡ g.W.Wire.asked l.fn.wire + l.fn.lines.left;
   room : l.past + room l.lines ≤ room l.fn.lines;
-  spends : Spends 0 l.fn.lines (g.R.Source.rest l.fn.reader) l.lines (g.R.Source.rest l.reader);
+  spends : Spends 0 l.fn.lines (g.W.Wire.rest l.fn.wire) l.lines (g.W.Wire.rest l.wire);
   read : HeadTold
-      (λ taken. Hears (to_come l.fn.lines (g.R.Source.rest l.fn.reader)) taken (to_come l.lines (g.R.Source.rest l.reader)) × (length taken ≡ l.past))
+      (λ taken. Hears (to_come l.fn.lines (g.W.Wire.rest l.fn.wire)) taken (to_come l.lines (g.W.Wire.rest l.wire)) × (length taken ≡ l.past))
       (head_view l.fn.head) (head_view l.head)
-      (λ text. Tells (g.W.Sink.contents l.fn.writer) (g.W.Sink.contents l.writer) l.lines.answers.items (l.fn.lines.answers.items ++ text));
+      (λ text. Tells (g.W.Wire.contents l.fn.wire) (g.W.Wire.contents l.wire) l.lines.answers.items (l.fn.lines.answers.items ++ text));
 }

@@ -2,7 +2,7 @@ use Rattle.std.proofs.Common.{◌∙◌, ap, length, refl, subst, sym}
 use Rattle.std.specs.List.{refill}
 use Rattle.std.proofs.lemmas.Result.{IfErr-weaker, IfOk-weaker}
 use Rattle.tp_report.specs.Answer.{line}
-use Rattle.tp_perform.specs.Restore.{Restored}
+use Rattle.tp_perform.specs.Restore.{IsUnrestoredFor, Restored}
 use Rattle.tp_perform.specs.Rollover.{RollRefused, roll_refused_text}
 use Rattle.tp_perform.specs.Told.{AreReady}
 use Rattle.tp_session.proofs.ActLemmas.{at_of, refilled}
@@ -37,7 +37,7 @@ returns-clause-restored g c =
 pub returns-clause-refused : goal.returns-clause-refused
 returns-clause-refused g c =
     let os = c.restore.auto.places ∙ ap length c.as_mut_slice.ensures.value in
-    IfErr-weaker c.restore.result _ _ (λ out t. stand_leads (λ b. (goal.Server-dyn g (b.vtable, b.value)).behaviour b.value) (λ b. (goal.Server-dyn g (b.vtable, b.value)).registers b.value) (λ b. (goal.Server-dyn g (b.vtable, b.value)).pending b.value) c.args.head.now (λ x y. RollRefused x (line (roll_refused_text out)) y) c.args.held.now (record { managed = c.restore.new.managed; servers = c.args.held.now.servers; places = record { items = refill (length c.args.held.now.places.items) c.args.held.now.places.items c.restore.new.places }; works = c.args.held.now.works }) c.requires.held refl (
+    IfErr-weaker c.restore.result _ _ (λ out t. stand_leads (λ b. (goal.Server-dyn g (b.vtable, b.value)).behaviour b.value) (λ b. (goal.Server-dyn g (b.vtable, b.value)).registers b.value) (λ b. (goal.Server-dyn g (b.vtable, b.value)).pending b.value) c.args.head.now (λ x y. RollRefused (IsUnrestoredFor x.manager.limits c.args.survivors.now) x (line (roll_refused_text out)) y) c.args.held.now (record { managed = c.restore.new.managed; servers = c.args.held.now.servers; places = record { items = refill (length c.args.held.now.places.items) c.args.held.now.places.items c.restore.new.places }; works = c.args.held.now.works }) c.requires.held refl (
       t.0,
       t.1,
       (rw (c.as_slice.ensures.value, c.as_mut_slice.ensures.value) at t.2),

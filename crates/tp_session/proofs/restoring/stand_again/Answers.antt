@@ -1,7 +1,9 @@
 use Rattle.std.proofs.Common.{inl, inr, refl, subst, sym}
 use Rattle.std.proofs.lemmas.Result.{IfOk-weaker}
-use Rattle.tp_perform.specs.Restore.{Restored}
-use Rattle.tp_perform.specs.Rollover.{RollRefused}
+use Rattle.tp_perform.specs.Restore.{IsUnrestoredFor, Restored}
+use Rattle.std.specs.Prelude.{string_bytes}
+use Rattle.tp_report.specs.Answer.{line}
+use Rattle.tp_perform.specs.Rollover.{RollRefused, roll_refused_text}
 use Rattle.tp_session.proofs.LeftLemmas.{reach_lead}
 use Rattle.tp_session.proofs.LiveLemmas.{leads_so}
 use Rattle.tp_session.proofs.restoring.stand_again.Goals as goal
@@ -12,7 +14,7 @@ returns-in-Ok-clause-went g c =
 
 pub returns-in-Err-clause-went : goal.returns-in-Err-clause-went
 returns-in-Err-clause-went g c =
-    reach_lead (λ b. (goal.Server-dyn g (b.vtable, b.value)).behaviour b.value) (λ b. (goal.Server-dyn g (b.vtable, b.value)).registers b.value) (λ b. (goal.Server-dyn g (b.vtable, b.value)).pending b.value) c.args.head.now c.args.held.now c.restore_held.new.held _ _ c.in-Err.ensures.held (λ a b done. (_, record { holds = done.0; restores = inr done.1; works = done.2 })) c.in-Err.ensures.refused
+    reach_lead (λ b. (goal.Server-dyn g (b.vtable, b.value)).behaviour b.value) (λ b. (goal.Server-dyn g (b.vtable, b.value)).registers b.value) (λ b. (goal.Server-dyn g (b.vtable, b.value)).pending b.value) c.args.head.now c.args.held.now c.restore_held.new.held _ _ c.in-Err.ensures.held (λ a b done. (_, record { holds = done.0; restores = inr (subst (λ s. RollRefused (IsUnrestoredFor a.stand.manager.limits s) a.stand (line (roll_refused_text c.in-Err.why)) b.stand) c.requires.described done.1); works = done.2 })) c.in-Err.ensures.refused
 
 pub returns-in-Ok-clause-tells : goal.returns-in-Ok-clause-tells
 returns-in-Ok-clause-tells g c =
@@ -20,4 +22,4 @@ returns-in-Ok-clause-tells g c =
 
 pub returns-in-Err-clause-tells : goal.returns-in-Err-clause-tells
 returns-in-Err-clause-tells g c =
-    IfOk-weaker c.refused_line.result _ _ (λ text is. leads_so (λ b. (goal.Server-dyn g (b.vtable, b.value)).behaviour b.value) (λ b. (goal.Server-dyn g (b.vtable, b.value)).registers b.value) (λ b. (goal.Server-dyn g (b.vtable, b.value)).pending b.value) _ _ c.args.held.now c.restore_held.new.held (λ a b done. record { holds = done.0; restores = inr (subst (λ t. RollRefused a.stand t b.stand) (sym is) done.1); works = done.2 }) c.in-Err.ensures.refused) c.refused_line.ensures.text
+    IfOk-weaker c.refused_line.result _ _ (λ text is. leads_so (λ b. (goal.Server-dyn g (b.vtable, b.value)).behaviour b.value) (λ b. (goal.Server-dyn g (b.vtable, b.value)).registers b.value) (λ b. (goal.Server-dyn g (b.vtable, b.value)).pending b.value) _ _ c.args.held.now c.restore_held.new.held (λ a b done. record { holds = done.0; restores = inr (subst (λ s. RollRefused (IsUnrestoredFor a.stand.manager.limits s) a.stand (string_bytes text) b.stand) c.requires.described (subst (λ t. RollRefused (IsUnrestoredFor a.stand.manager.limits c.args.survivors.now) a.stand t b.stand) (sym is) done.1)); works = done.2 }) c.in-Err.ensures.refused) c.refused_line.ensures.text

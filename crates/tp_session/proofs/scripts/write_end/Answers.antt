@@ -1,5 +1,5 @@
 use Rattle.std.proofs.Common.{◌∙◌, ◌++◌, ap, map, subst}
-use Rattle.std.specs.Prelude.{OnErr}
+use Rattle.std.specs.Io.KnownBytes.{Appends}
 use Rattle.tp_report.specs.Written.{AppendsFront}
 use Rattle.tp_report.proofs.Devices.{always_err, front_none}
 use Rattle.tp_session.specs.Performed.{closing_text, finals_text}
@@ -8,6 +8,6 @@ use Rattle.tp_session.proofs.scripts.write_end.Goals as goal
 pub returns-in_err-tell_end-clause-front : goal.returns-in_err-tell_end-clause-front
 returns-in_err-tell_end-clause-front g c = always_err c.from_residual.result (front_none _ _)
 
-pub returns-clause-front : goal.returns-clause-front
-returns-clause-front g c =
-    subst (λ t. OnErr c.flush.result (AppendsFront (g.W.Sink.contents c.args.writer.now) (g.W.Sink.contents c.flush.new.writer) t)) (c.in_ok-tell_end.ensures.told ∙ ap (λ before. before ++ (finals_text c.args.script.now (map (λ b. (goal.Server-dyn g (b.vtable, b.value)).registers b.value) c.args.servers.now) ++ closing_text c.args.account)) c.new-lines.ensures.untold) c.flush.ensures.front
+pub returns-in-Ok-clause-told : goal.returns-in-Ok-clause-told
+returns-in-Ok-clause-told g c =
+    subst (Appends (g.W.Sink.contents c.args.writer.now) (g.W.Sink.contents c.write_all.new.sink)) (c.answers.ensures ∙ (c.in_ok-tell_end.ensures.told ∙ ap (λ before. before ++ (finals_text c.args.script.now (map (λ b. (goal.Server-dyn g (b.vtable, b.value)).registers b.value) c.args.servers.now) ++ closing_text c.args.account)) c.new-lines.ensures.untold)) c.in-Ok.ensures.ok

@@ -13,19 +13,19 @@ hold-requires-clause-ended g c = head_silent _ _ _ _ _ _ c.in_ok-first.ensures.h
 pub returns-clause-conversed : goal.returns-clause-conversed
 returns-clause-conversed g c =
     let read = rw (c.new-lines.ensures.untold, c.new-head.ensures) at c.in_ok-first.ensures.head in
-    let all = come_all c.new-lines.result (g.R.Source.rest c.args.reader.now) c.new-lines.ensures.unused in
-    on_ok_weaker c.hold.result (λ held. subst (λ come. IfSome come (λ bytes. Conversed bytes (g.W.Sink.contents c.args.writer.now) (g.W.Sink.contents c.hold.new.writer))) all
-    (conversed _ _ _ (g.W.Sink.contents c.read_head.new.writer) _ _ _ _ read held)) c.hold.ensures.told
+    let all = come_all c.new-lines.result (g.W.Wire.rest c.args.wire.now) c.new-lines.ensures.unused in
+    on_ok_weaker c.hold.result (λ held. subst (λ come. IfSome come (λ bytes. Conversed bytes (g.W.Wire.contents c.args.wire.now) (g.W.Wire.contents c.hold.new.wire))) all
+    (conversed _ _ _ (g.W.Wire.contents c.read_head.new.wire) _ _ _ _ read held)) c.hold.ensures.told
 
 pub returns-clause-front : goal.returns-clause-front
 returns-clause-front g c =
     let read = rw (c.new-lines.ensures.untold, c.new-head.ensures) at c.in_ok-first.ensures.head in
-    let all = come_all c.new-lines.result (g.R.Source.rest c.args.reader.now) c.new-lines.ensures.unused in
-    on_err_weaker c.hold.result (λ held. subst (λ come. IfSome come (λ bytes. ConversedFront bytes (g.W.Sink.contents c.args.writer.now) (g.W.Sink.contents c.hold.new.writer))) all
-    (conversed_front _ _ _ (g.W.Sink.contents c.read_head.new.writer) _ _ _ _ read held)) c.hold.ensures.front
+    let all = come_all c.new-lines.result (g.W.Wire.rest c.args.wire.now) c.new-lines.ensures.unused in
+    on_err_weaker c.hold.result (λ held. subst (λ come. IfSome come (λ bytes. ConversedFront bytes (g.W.Wire.contents c.args.wire.now) (g.W.Wire.contents c.hold.new.wire))) all
+    (conversed_front _ _ _ (g.W.Wire.contents c.read_head.new.wire) _ _ _ _ read held)) c.hold.ensures.front
 
 pub returns-in_err-first-clause-front : goal.returns-in_err-first-clause-front
 returns-in_err-first-clause-front g c =
     let told = rw (c.new-lines.ensures.untold, c.new-head.ensures) at c.in_err-first.ensures.front in
-    let all = come_all c.new-lines.result (g.R.Source.rest c.args.reader.now) c.new-lines.ensures.unused in
-    always_err c.from_residual.result (subst (λ come. IfSome come (λ bytes. ConversedFront bytes (g.W.Sink.contents c.args.writer.now) (g.W.Sink.contents c.read_head.new.writer))) all (head_fault _ _ _ told))
+    let all = come_all c.new-lines.result (g.W.Wire.rest c.args.wire.now) c.new-lines.ensures.unused in
+    always_err c.from_residual.result (subst (λ come. IfSome come (λ bytes. ConversedFront bytes (g.W.Wire.contents c.args.wire.now) (g.W.Wire.contents c.read_head.new.wire))) all (head_fault _ _ _ told))

@@ -45,7 +45,7 @@ returns-clause-told g c =
     let told = c.in_ok-answer_to_end.ensures.told in
     let many_servers : length (head_view c.args.head.now).servers ≡ length c.answer_to_end.new.held.servers.items = length-map c.args.head.now.servers.items server_view ∙ (sym (as_many _ _ c.args.servers.items c.args.head.now.servers.items c.requires.behaviours) ∙ sym c.in_ok-answer_to_end.ensures.each_server) in
     let are = ap (final_lines (head_view c.args.head.now).servers (map (λ b. (goal.Server-dyn g (b.vtable, b.value)).registers b.value) c.answer_to_end.new.held.servers.items)) many_servers in
-    on_ok_weaker c.finals.result (λ done. body_whole c.args.head.now _ _ _ (g.W.Sink.contents c.args.writer.now) (g.W.Sink.contents c.answer_to_end.new.writer) _ _ _ told.before told.after (begins (λ b. (goal.Server-dyn g (b.vtable, b.value)).behaviour b.value) (λ b. (goal.Server-dyn g (b.vtable, b.value)).registers b.value) (λ b. (goal.Server-dyn g (b.vtable, b.value)).pending b.value) c.args.head.now 0 (record { managed = c.args.managed; servers = c.args.servers; places = c.first_places-places.result; works = c.in_ok-works.works }) c.requires.new c.requires.behaviours c.requires.registers lie shown many c.in_ok-works.ensures.idle told.before told.was) _ told.leads.1 _ are told.leads.0 (rw c.as_slice-3.ensures.value at done)) c.finals.ensures.told
+    on_ok_weaker c.finals.result (λ done. body_whole c.args.head.now _ _ _ (g.W.Wire.contents c.args.wire.now) (g.W.Wire.contents c.answer_to_end.new.wire) _ _ _ told.before told.after (begins (λ b. (goal.Server-dyn g (b.vtable, b.value)).behaviour b.value) (λ b. (goal.Server-dyn g (b.vtable, b.value)).registers b.value) (λ b. (goal.Server-dyn g (b.vtable, b.value)).pending b.value) c.args.head.now 0 (record { managed = c.args.managed; servers = c.args.servers; places = c.first_places-places.result; works = c.in_ok-works.works }) c.requires.new c.requires.behaviours c.requires.registers lie shown many c.in_ok-works.ensures.idle told.before told.was) _ told.leads.1 _ are told.leads.0 (rw c.as_slice-3.ensures.value at done)) c.finals.ensures.told
 
 pub returns-clause-front : goal.returns-clause-front
 returns-clause-front g c =
@@ -55,4 +55,4 @@ returns-clause-front g c =
     let told = c.in_ok-answer_to_end.ensures.told in
     let many_servers : length (head_view c.args.head.now).servers ≡ length c.answer_to_end.new.held.servers.items = length-map c.args.head.now.servers.items server_view ∙ (sym (as_many _ _ c.args.servers.items c.args.head.now.servers.items c.requires.behaviours) ∙ sym c.in_ok-answer_to_end.ensures.each_server) in
     let are = ap (final_lines (head_view c.args.head.now).servers (map (λ b. (goal.Server-dyn g (b.vtable, b.value)).registers b.value) c.answer_to_end.new.held.servers.items)) many_servers in
-    on_err_weaker c.finals.result (λ done. inr (inr (body_whole_front c.args.head.now _ _ _ (g.W.Sink.contents c.args.writer.now) (g.W.Sink.contents c.answer_to_end.new.writer) _ _ _ told.before told.after (begins (λ b. (goal.Server-dyn g (b.vtable, b.value)).behaviour b.value) (λ b. (goal.Server-dyn g (b.vtable, b.value)).registers b.value) (λ b. (goal.Server-dyn g (b.vtable, b.value)).pending b.value) c.args.head.now 0 (record { managed = c.args.managed; servers = c.args.servers; places = c.first_places-places.result; works = c.in_ok-works.works }) c.requires.new c.requires.behaviours c.requires.registers lie shown many c.in_ok-works.ensures.idle told.before told.was) _ told.leads.1 _ are told.leads.0 (rw c.as_slice-3.ensures.value at done)))) c.finals.ensures.front
+    on_err_weaker c.finals.result (λ done. inr (inr (body_whole_front c.args.head.now _ _ _ (g.W.Wire.contents c.args.wire.now) (g.W.Wire.contents c.answer_to_end.new.wire) _ _ _ told.before told.after (begins (λ b. (goal.Server-dyn g (b.vtable, b.value)).behaviour b.value) (λ b. (goal.Server-dyn g (b.vtable, b.value)).registers b.value) (λ b. (goal.Server-dyn g (b.vtable, b.value)).pending b.value) c.args.head.now 0 (record { managed = c.args.managed; servers = c.args.servers; places = c.first_places-places.result; works = c.in_ok-works.works }) c.requires.new c.requires.behaviours c.requires.registers lie shown many c.in_ok-works.ensures.idle told.before told.was) _ told.leads.1 _ are told.leads.0 (rw c.as_slice-3.ensures.value at done)))) c.finals.ensures.front

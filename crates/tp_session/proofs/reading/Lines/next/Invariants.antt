@@ -8,10 +8,11 @@ use Rattle.tp_session.proofs.reading.Lines.next.Given as goal
 -- what was read of the line, and what was told before
 abbrev pub invariant-loop-read : goal.invariant-loop-read
 invariant-loop-read g l = record {
-  asked : g.R.Source.asked l.reader + l.self.left ≡ g.R.Source.asked l.fn.reader + l.fn.self.left;
+  ready : g.W.Wire.ready l.wire;
+  asked : g.W.Wire.asked l.wire + l.self.left ≡ g.W.Wire.asked l.fn.wire + l.fn.self.left;
   left : l.self.left + l._read ≤ MAX_ASKED;
   room : room l.self ≤ room l.fn.self;
-  read : ReadsLine (to_come l.fn.self (g.R.Source.rest l.fn.reader)) (to_come l.self (g.R.Source.rest l.reader)) l.self.line.items;
-  gave : Gave 0 l.fn.self (g.R.Source.rest l.fn.reader) l.self (g.R.Source.rest l.reader);
-  told : Tells (g.W.Sink.contents l.fn.writer) (g.W.Sink.contents l.writer) l.self.answers.items l.fn.self.answers.items;
+  read : ReadsLine (to_come l.fn.self (g.W.Wire.rest l.fn.wire)) (to_come l.self (g.W.Wire.rest l.wire)) l.self.line.items;
+  gave : Gave 0 l.fn.self (g.W.Wire.rest l.fn.wire) l.self (g.W.Wire.rest l.wire);
+  told : Tells (g.W.Wire.contents l.fn.wire) (g.W.Wire.contents l.wire) l.self.answers.items l.fn.self.answers.items;
 }

@@ -1,0 +1,209 @@
+"""A shared log that etcd keeps, by its JSON gateway.
+
+Its keys, behind a prefix: `leader`, which is bound to the leader's lease; `log/PLACE`; and `base`. Each
+change is a transaction that compares the revision in which this leader's key was created. So one that leads
+no more changes nothing.
+"""
+from __future__ import annotations
+
+import base64
+import contextlib
+import http.client
+import json
+import ssl
+import threading
+import time
+import zlib
+from collections.abc import Sequence
+from typing import Any
+from urllib.parse import urlsplit
+
+from covetrivet.shared_log import Base, InDoubt, LogLost, Record, Token
+
+RECORDS_AT_ONCE = 100
+# A request has at most 1.5 MiB (etcd's --max-request-bytes). Dumps are compressed, and are smaller then.
+Json = dict[str, Any]
+
+
+def coded(text: str | bytes) -> str:
+    return base64.b64encode(text.encode() if isinstance(text, str) else text).decode()
+
+
+class Gateway:
+    """Requests to etcd, one at a time, by a connection that is kept. After a fault the next one goes to the
+    next of the members.
+    """
+
+    def __init__(self, members: Sequence[str], seconds: float, trust: ssl.SSLContext | None) -> None:
+        self.members, self.seconds, self.trust = members, seconds, trust
+        self.at = 0
+        self.connection: http.client.HTTPConnection | None = None
+
+    def connected(self) -> http.client.HTTPConnection:
+        if not self.connection:
+            to = urlsplit(self.members[self.at % len(self.members)])
+            host, port = to.hostname or "127.0.0.1", to.port or 2379
+            if to.scheme == "https":
+                self.connection = http.client.HTTPSConnection(
+                    host, port, timeout=self.seconds, context=self.trust
+                )
+            else:
+                self.connection = http.client.HTTPConnection(host, port, timeout=self.seconds)
+        return self.connection
+
+    def call(self, path: str, body: Json) -> Json:
+        """Returns the answer. InDoubt where none comes, or it is that of a fault."""
+        with self.doubted():
+            response = self.asked(path, body)
+            said = json.loads(response.read().split(b"\n")[0] or b"{}")
+            if response.status != 200:
+                raise http.client.HTTPException(f"status {response.status}: {said.get('error')}")
+            return dict(said)
+
+    def wait(self, body: Json, seconds: float) -> None:
+        """Waits until a watch tells anything, for so many seconds at most."""
+        with self.doubted():
+            response = self.asked("/v3/watch", body)
+            # (the first line says that it watches)
+            response.readline()
+            connection = self.connected()
+            if connection.sock:
+                connection.sock.settimeout(seconds)
+            with contextlib.suppress(TimeoutError):
+                response.readline()
+        self.close()
+
+    def asked(self, path: str, body: Json) -> http.client.HTTPResponse:
+        connection = self.connected()
+        connection.request("POST", path, json.dumps(body))
+        return connection.getresponse()
+
+    @contextlib.contextmanager
+    def doubted(self) -> Any:
+        try:
+            yield
+        except (OSError, http.client.HTTPException, ValueError) as fault:
+            self.close()
+            self.at += 1
+            raise InDoubt(f"etcd: {fault!r}") from fault
+
+    def close(self) -> None:
+        if self.connection:
+            self.connection.close()
+            self.connection = None
+
+
+class EtcdLog:
+    """The log under a prefix. `who` is this node's name, and a lease has so many seconds."""
+
+    def __init__(
+        self, members: Sequence[str], prefix: str, who: str, lease: int, trust: ssl.SSLContext | None = None
+    ) -> None:
+        self.prefix, self.who, self.seconds = f"{prefix}/", who, lease
+        self.gateway = Gateway(members, lease, trust)
+        self.keeping = Gateway(members, lease / 3, trust)
+        # the revision of the last read, and the place and the revision of the base that was read last
+        self.seen = 0
+        self.base_place, self.base_revision = -1, 0
+
+    def key(self, name: str) -> str:
+        return coded(self.prefix + name)
+
+    def place(self, place: int) -> str:
+        return self.key(f"log/{place:016d}")
+
+    def mine(self, token: Token) -> Json:
+        """Returns the comparison that this node leads still."""
+        return {"key": self.key("leader"), "target": "CREATE", "create_revision": str(token.term)}
+
+    def is_done(self, compare: list[Json], acts: list[Json]) -> bool:
+        said = self.gateway.call("/v3/kv/txn", {"compare": compare, "success": acts})
+        return said.get("succeeded") is True
+
+    # ---- who leads
+
+    def leader(self) -> str | None:
+        found = self.gateway.call("/v3/kv/range", {"key": self.key("leader")}).get("kvs")
+        return base64.b64decode(found[0]["value"]).decode() if found else None
+
+    def lead(self) -> Token | None:
+        lease = str(self.gateway.call("/v3/lease/grant", {"TTL": self.seconds})["ID"])
+        put = {"request_put": {"key": self.key("leader"), "value": coded(self.who), "lease": lease}}
+        free = {"key": self.key("leader"), "target": "CREATE", "create_revision": "0"}
+        said = self.gateway.call("/v3/kv/txn", {"compare": [free], "success": [put]})
+        if said.get("succeeded") is not True:
+            self.revoke(lease)
+            return None
+        token = Token(int(said["header"]["revision"]), lease)
+        threading.Thread(target=self.keep, args=(token,), daemon=True).start()
+        return token
+
+    def keep(self, token: Token) -> None:
+        """Has the lease last as long as the node leads. It is lost where etcd says so, or says nothing."""
+        kept = time.monotonic()
+        while not token.is_lost and time.monotonic() < kept + self.seconds:
+            time.sleep(self.seconds / 6)
+            asked = time.monotonic()
+            with contextlib.suppress(InDoubt):
+                said = self.keeping.call("/v3/lease/keepalive", {"ID": token.lease})
+                if not int(said.get("result", {}).get("TTL", 0)):
+                    break
+                kept = asked
+        token.is_lost = True
+
+    def resign(self, token: Token) -> None:
+        token.is_lost = True
+        self.revoke(token.lease)
+
+    def revoke(self, lease: str) -> None:
+        with contextlib.suppress(InDoubt):
+            self.gateway.call("/v3/lease/revoke", {"ID": lease})
+
+    # ---- the log
+
+    def append(self, place: int, record: Record, token: Token) -> bool:
+        free = {"key": self.place(place), "target": "CREATE", "create_revision": "0"}
+        put = {"request_put": {"key": self.place(place), "value": coded(record.text())}}
+        return self.is_done([self.mine(token), free], [put])
+
+    def read(self, place: int) -> list[tuple[int, Record]]:
+        asked = {"key": self.place(place), "range_end": self.key("log0"), "limit": RECORDS_AT_ONCE}
+        said = self.gateway.call("/v3/kv/range", asked)
+        self.seen = int(said["header"]["revision"])
+        return [
+            (int(base64.b64decode(it["key"])[-16:]), Record.of(base64.b64decode(it["value"]).decode()))
+            for it in said.get("kvs", [])
+        ]
+
+    def base(self, behind: int) -> Base | None:
+        # (one that was read already is not sent again)
+        newer = self.base_revision + 1 if behind >= self.base_place else 0
+        asked = {"key": self.key("base"), "min_mod_revision": newer}
+        found = self.gateway.call("/v3/kv/range", asked).get("kvs")
+        if not found:
+            return None
+        try:
+            base = Base.of(zlib.decompress(base64.b64decode(found[0]["value"])).decode())
+        except zlib.error as fault:
+            raise LogLost(f"{self.prefix}base isn't the base of a log: {fault}") from fault
+        self.base_place, self.base_revision = base.place, int(found[0]["mod_revision"])
+        return base if base.place > behind else None
+
+    def compact(self, base: Base, token: Token) -> bool:
+        put = {"request_put": {"key": self.key("base"), "value": coded(zlib.compress(base.text().encode()))}}
+        delete = {"request_delete_range": {"key": self.place(0), "range_end": self.place(base.place)}}
+        return self.is_done([self.mine(token)], [put, delete])
+
+    def watch(self, seconds: float) -> None:
+        behind = coded(self.prefix[:-1] + "0")
+        asked = {"key": self.key(""), "range_end": behind, "start_revision": self.seen + 1}
+        gateway = Gateway(self.gateway.members, self.seconds, self.gateway.trust)
+        gateway.at = self.gateway.at
+        try:
+            gateway.wait({"create_request": asked}, seconds)
+        finally:
+            gateway.close()
+
+    def close(self) -> None:
+        self.gateway.close()
+        self.keeping.close()

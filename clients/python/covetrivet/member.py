@@ -1,0 +1,239 @@
+"""A node's part in a shared log, in a thread of its own: it leads, or follows who does."""
+from __future__ import annotations
+
+import contextlib
+import queue
+import threading
+import time
+from collections.abc import Sequence
+from typing import Protocol
+
+from covetrivet.answers import Counts
+from covetrivet.faults import SessionFault
+from covetrivet.refusals import Refusal
+from covetrivet.replica import Replica
+from covetrivet.rollovers import Item, Rollovers, held_back, most_of, next_of
+from covetrivet.shared_log import BadHead, Base, Deposed, InDoubt, LogLost, Record, SharedLog, Token
+
+# Of a follower: between two looks at the log at most. Of a leader: between two looks at its lease.
+SECONDS_TO_WATCH, SECONDS_TO_LOOK = 1.0, 0.1
+SECONDS_AFTER_DOUBT = 0.2
+# So late after a rollover the log is compacted: a follower that isn't further behind needs no dump.
+SECONDS_TO_COMPACT = 1.0
+NO_MORE = "this node leads no more; what wasn't answered may have been done"
+
+
+class Told(Protocol):
+    """Who is told what a member does, by its thread."""
+
+    def leads(self, token: Token, open_units: Sequence[str]) -> None:
+        """The node leads. These workers have units open, of callers elsewhere."""
+
+    def follows(self, leader: str | None, why: str | None) -> None:
+        """Another node leads, or nobody known. Where the node has led until now this is why it doesn't."""
+
+    def unreached(self, why: str) -> None:
+        """The log can't be reached, for this reason."""
+
+    def answered(self, answers: Sequence[tuple[int, str]]) -> None:
+        """These lines are answered, by their numbers. Their record is in the log."""
+
+    def ended(self, fault: SessionFault) -> None:
+        """The node can't go on."""
+
+
+class Member:
+    """The thread. `asked` has the lines for it; `head` are the lines that a new log begins with, if it is to.
+
+    A line is performed once its record is in the log, and answered by the node that appended it alone, and
+    only where the log has said that it did.
+    """
+
+    def __init__(self, log: SharedLog, who: str, head: Sequence[str], told: Told) -> None:
+        self.log, self.who, self.head, self.told = log, who, head, told
+        self.asked: queue.SimpleQueue[list[Item]] = queue.SimpleQueue()
+        self.pending: list[Item] = []
+        self.replica: Replica | None = None
+        self.token: Token | None = None
+        self.reign = 0
+        self.rollovers = Rollovers(1)
+        self.compact_at: float | None = None
+        self.leader: str | None = None
+        # where a session was that is closed
+        self.stood = 0, ""
+        self.is_leaving = self.is_ending = self.is_unreached = False
+        self.thread = threading.Thread(target=self.run, daemon=True)
+
+    def run(self) -> None:
+        try:
+            while not self.is_ending:
+                try:
+                    self.act()
+                    self.is_unreached = False
+                except (Deposed, InDoubt) as why:
+                    self.step_down(str(why))
+                    time.sleep(SECONDS_AFTER_DOUBT)
+        except SessionFault as fault:
+            self.told.ended(fault)
+        except TimeoutError as fault:
+            self.told.ended(LogLost(str(fault)))
+        except Exception as fault:
+            self.told.ended(LogLost(repr(fault)))
+            raise
+        finally:
+            if self.token:
+                self.log.resign(self.token)
+            self.log.close()
+            with contextlib.suppress(SessionFault):
+                self.close_replica()
+
+    def act(self) -> None:
+        if self.token and self.replica:
+            self.lead(self.replica, self.token)
+        else:
+            self.follow()
+
+    # ---- following
+
+    def follow(self) -> None:
+        if self.catch_up():
+            return
+        leader = self.log.leader()
+        token = None if leader else self.log.lead()
+        if token:
+            self.token = token
+            self.take_the_lead(token)
+        else:
+            if leader != self.leader:
+                self.leader = leader
+                self.told.follows(leader, None)
+            self.log.watch(SECONDS_TO_WATCH)
+
+    def catch_up(self) -> bool:
+        """Performs what comes next in the log. False where nothing did."""
+        if not self.replica:
+            return self.begin_at(self.log.base(-1))
+        records = self.log.read(self.replica.place)
+        if not records or records[0][0] != self.replica.place:
+            # What comes next may be deleted, behind a newer base.
+            if self.begin_at(self.log.base(self.replica.place)):
+                return True
+        for place, record in records:
+            self.replica.feed(place, record)
+        return bool(records)
+
+    def begin_at(self, base: Base | None) -> bool:
+        """Has a session that goes on from a base. False without one."""
+        if not base:
+            return False
+        self.close_replica()
+        replica = Replica(base)
+        try:
+            replica.__enter__()
+        except (Refusal, ValueError) as why:
+            raise BadHead(f"the session can't begin: {why}") from why
+        self.replica = replica
+        self.rollovers = Rollovers(most_of(base.lines))
+        return True
+
+    def close_replica(self) -> None:
+        if self.replica:
+            self.stood = self.replica.place, self.replica.digest
+            self.replica.close()
+            self.replica = None
+
+    # ---- leading
+
+    def take_the_lead(self, token: Token) -> None:
+        """Performs all that earlier leaders have appended: none of them can append any more."""
+        while self.catch_up():
+            pass
+        if not self.replica:
+            base = Base(0, "", self.head)
+            self.begin_at(base)
+            if not self.log.compact(base, token):
+                raise Deposed("another node leads")
+        if self.replica:
+            self.reign = token.term
+            self.told.leads(token, list(self.replica.holders.units))
+
+    def lead(self, replica: Replica, token: Token) -> None:
+        """Has the next record appended and performed, and its lines answered."""
+        if token.is_lost:
+            raise Deposed("the lease is lost")
+        self.compact(replica, token)
+        items, lines = self.next_record(replica)
+        if not lines:
+            return
+        place, record = replica.place, Record(self.who, replica.digest, lines)
+        if not self.log.append(place, record, token):
+            raise Deposed("another node leads")
+        answers = replica.feed(place, record)
+        if not items:
+            self.rollovers.heard(answers[0])
+        self.told.answered([(it.number, answer) for it, answer in zip(items, answers)])
+
+    def next_record(self, replica: Replica) -> tuple[list[Item], list[str]]:
+        """Returns the lines of the next record, and whose they are. A rollover of the leader's own is
+        nobody's.
+        """
+        self.gather()
+        # (one that is about to end has no time for a rollover, nor for lines that wait for one)
+        is_due = not self.is_leaving and self.rollovers.is_due(replica.use)
+        has_units = bool(replica.holders.units)
+        if is_due and not has_units:
+            return [], ["rollover"]
+        go, wait = self.pending, list[Item]()
+        if is_due and self.rollovers.is_patient():
+            go, wait = held_back(self.pending)
+        if not go:
+            with contextlib.suppress(queue.Empty):
+                self.take(self.asked.get(timeout=SECONDS_TO_LOOK))
+            return [], []
+        many = next_of(go)
+        self.pending = [*go[many:], *wait]
+        return go[:many], [it.line for it in go[:many]]
+
+    def gather(self) -> None:
+        with contextlib.suppress(queue.Empty):
+            while True:
+                self.take(self.asked.get_nowait())
+
+    def take(self, items: list[Item]) -> None:
+        # (what was asked while the node led another time is answered no more)
+        self.pending += [it for it in items if it.reign == self.reign]
+
+    def compact(self, replica: Replica, token: Token) -> None:
+        """Has the newest base in the log, some time after the rollover that it is of."""
+        if not replica.base:
+            return
+        if self.compact_at is None:
+            self.compact_at = time.monotonic() + SECONDS_TO_COMPACT
+        elif time.monotonic() > self.compact_at:
+            if not self.log.compact(replica.base, token):
+                raise Deposed("another node leads")
+            replica.base = self.compact_at = None
+
+    def place(self) -> int:
+        """Returns the place that the node has come to."""
+        return self.replica.place if self.replica else self.stood[0]
+
+    def count(self) -> Counts:
+        """Returns the elements by status, as far as the node has come. TimeoutError where there is none."""
+        try:
+            if self.replica:
+                return self.replica.count()
+        except SessionFault as fault:
+            raise TimeoutError from fault
+        raise TimeoutError
+
+    def step_down(self, why: str) -> None:
+        """Leads no more, if it did."""
+        token, self.token = self.token, None
+        self.pending, self.leader = [], None
+        if token:
+            self.told.follows(None, why)
+            self.log.resign(token)
+        elif not self.is_unreached:
+            self.told.unreached(why)
+        self.is_unreached = True

@@ -1,0 +1,237 @@
+"""Sessions with a journal, whose client or program is killed."""
+from __future__ import annotations
+
+import hashlib
+import os
+import random
+import subprocess
+import sys
+import tempfile
+import threading
+import time
+import unittest
+from collections.abc import Sequence
+from unittest import mock
+
+from covetrivet import Counts, Draft, JournalFault, LogFault, Session, SessionEnded, journal, refusals
+
+HEAD = ["rows 16", "units 16", "server till eager 2 1 add", "worker clerk 1"]
+
+
+def text_of(lines: Sequence[str]) -> bytes:
+    """Returns the text of a journal that has these lines as one batch."""
+    text = "".join(f"{it}\n" for it in ["# covetrivet journal 1", *lines]).encode("ascii")
+    return text + f"# {len(text)} {hashlib.sha256(text).hexdigest()}\x17\n".encode("ascii")
+
+
+class Journals(unittest.TestCase):
+    def setUp(self) -> None:
+        folder = tempfile.TemporaryDirectory()
+        self.addCleanup(folder.cleanup)
+        self.path = f"{folder.name}/orders.journal"
+
+    def lines(self) -> list[str]:
+        return journal.first_lines(self.path, 1_000_000)
+
+    def write(self, text: bytes) -> None:
+        with open(self.path, "wb") as file:
+            file.write(text)
+
+    def lost(self, session: Session) -> None:
+        """Has the program be killed, as with its machine's power."""
+        session.process.kill()
+        with self.assertRaises(SessionEnded):
+            session.count()
+
+    def test_a_session_goes_on(self) -> None:
+        with Session.open(self.path, HEAD) as session:
+            self.assertEqual((session.recovered, session.lines), (0, 5))
+            for customer in range(4):
+                session.submit(1, customer, 10)
+            session.claim("clerk")
+            session.commit("clerk", Draft(2, 0, 10), Draft(15, 0, 1))
+            session.turn("till")
+            session.claim("clerk")
+            before = session.lines
+            self.lost(session)
+        self.assertEqual(before, 5 + 4 + 4)
+        for _life in range(3):
+            with Session.open(self.path, HEAD) as session:
+                # Order 1 is in hand, as it was: 2 and 3 wait, and the reply. (Output 32 is the till's.)
+                self.assertEqual(session.recovered, before)
+                self.assertEqual(session.count(), Counts(3, 1, 2, 0, 0))
+                with self.assertRaises(refusals.Busy):
+                    session.claim("clerk")
+                self.assertEqual([it.words[0] for it in session.reply(0)], [0])
+                before = session.lines
+                self.lost(session)
+        self.assertEqual(self.lines()[:5], [*HEAD, "count"])
+        with Session.open(self.path) as session:
+            session.commit("clerk", Draft(15, 1, 1))
+            # (2 and 3 wait, and both replies)
+            self.assertEqual(session.count(), Counts(4, 0, 3, 0, 0))
+
+    def test_an_end_in_order_is_not_kept(self) -> None:
+        for _life in range(2):
+            with Session.open(self.path, HEAD) as session:
+                if not session.recovered:
+                    session.submit(1, 7)
+                    session.claim("clerk")
+                self.assertEqual(session.count(), Counts(0, 1, 0, 0, 0))
+            self.assertEqual(session.finals, {"till": (0,)})
+
+    def test_the_head_is_not_sent_again(self) -> None:
+        with Session.open(self.path, HEAD) as session:
+            session.submit(1, 7)
+        lines = self.lines()
+        for head in (HEAD, [*HEAD, "worker late 2", "worker later 3", "worker last 4"], ["rows 8"]):
+            with Session.open(self.path, head) as session:
+                self.assertEqual(session.recovered, len(lines))
+        self.assertEqual(self.lines(), lines)
+
+    def test_a_head_that_is_refused_is_not_kept(self) -> None:
+        with self.assertRaises(refusals.BadNumber) as refused:
+            with Session.open(self.path, [*HEAD, "worker late 99"]):
+                pass
+        self.assertEqual(refused.exception.command, "worker late 99")
+        with Session.open(self.path, [*HEAD, "worker late 2"]) as session:
+            self.assertEqual((session.recovered, session.claim("late")), (0, None))
+
+    def test_a_beginning_that_was_cut_short(self) -> None:
+        head = [*HEAD, "alive 0 0 0 1:5:6", "alive 1 0 0 1:7:8"]
+        whole = [*head, "restore"]
+        for count in range(1, len(whole) + 1):
+            with self.subTest(count):
+                self.write(text_of(whole[:count]))
+                with Session.open(self.path, head) as session:
+                    self.assertEqual(session.recovered, count)
+                    self.assertEqual(session.count(), Counts(2, 0, 0, 0, 0))
+                    # What was recovered isn't told again.
+                    self.assertEqual(session.moved, {0: 0, 1: 1} if count < len(whole) else {})
+                self.assertEqual(self.lines(), [*whole, "count"])
+        self.write(text_of(["rows 8", "units 8"]))
+        with self.assertRaisesRegex(JournalFault, "another head"), Session.open(self.path, head):
+            pass
+        self.assertEqual(self.lines(), ["rows 8", "units 8"])
+
+    def test_commands_behind_the_head(self) -> None:
+        begin = [*HEAD, "submit 1 5 6", "# a comment", "submit 1 7 8"]
+        whole = [*HEAD, "count", "submit 1 5 6", "# a comment", "submit 1 7 8"]
+        for count in range(len(whole) + 1):
+            self.write(text_of(whole[:count]))
+            with Session.open(self.path, begin) as session:
+                self.assertEqual(session.count().waiting, 2)
+            self.assertEqual(self.lines(), [*whole, "count"])
+
+    def test_what_is_no_journal(self) -> None:
+        with self.assertRaisesRegex(JournalFault, "there is no journal"), Session.open(self.path):
+            pass
+        self.assertEqual(os.listdir(os.path.dirname(self.path)), [])
+        good = text_of([*HEAD, "count"])
+        for text, why in (
+            (good.replace(b"till", b"tell"), "damaged from line 2 on"),
+            (b"rows 8\n", "no journal"),
+            (good.replace(b"journal 1", b"journal 2"), "of another version"),
+        ):
+            self.write(text)
+            with self.assertRaisesRegex(JournalFault, why), Session.open(self.path, HEAD):
+                pass
+            with open(self.path, "rb") as file:
+                self.assertEqual(file.read(), text)
+        self.write(text_of([]))
+        with self.assertRaisesRegex(JournalFault, "has no lines"), Session.open(self.path):
+            pass
+        with self.assertRaises(JournalFault), Session.open(f"{self.path}/nowhere", HEAD):
+            pass
+
+    def test_two_sessions(self) -> None:
+        with mock.patch.object(journal, "SECONDS_TO_LET_GO", 0.2), Session.open(self.path, HEAD) as session:
+            with self.assertRaisesRegex(JournalFault, "busy"), Session.open(self.path, HEAD):
+                pass
+            self.assertEqual(session.submit(1, 7).element, 0)
+            # One that waits goes on once the other one has ended.
+            threading.Timer(0.1, session.process.kill).start()
+            with mock.patch.object(journal, "SECONDS_TO_LET_GO", 30), Session.open(self.path) as other:
+                self.assertEqual(other.recovered, 6)
+            with self.assertRaises(SessionEnded):
+                session.count()
+
+    def test_a_program_without_journals(self) -> None:
+        program = f"{os.path.dirname(self.path)}/program"
+        for act, fault in ("exit 64", SessionEnded), ("echo submitted 0; cat", JournalFault):
+            with open(program, "w", encoding="ascii") as file:
+                file.write(f"#!/bin/sh\n{act}\n")
+            os.chmod(program, 0o755)
+            with self.assertRaises(fault), Session.open(self.path, HEAD, program):
+                pass
+
+    def test_a_journal_is_no_log(self) -> None:
+        with Session.open(self.path, HEAD) as session:
+            with self.assertRaises(LogFault):
+                session.shorten_log()
+            self.assertEqual(session.count().waiting, 0)
+
+    def test_rollovers(self) -> None:
+        with Session.open(self.path, HEAD) as session:
+            session.submit(1, 5)
+            session.submit(1, 7)
+            session.kill(0)
+            self.assertEqual(session.rollover().moved, {1: 0})
+            self.lost(session)
+        with Session.open(self.path) as session:
+            self.assertEqual(session.read(0).words[0], 7)
+
+    def test_a_client_is_killed(self) -> None:
+        """Each order that a killed client was told of is there once, and so is each that was asked for before
+        another one was told."""
+        chance = random.Random(5)
+        child = (
+            "import sys\nfrom covetrivet import Session\n"
+            f"with Session.open({self.path!r}, ['rows 256', 'spare 256']) as session:\n"
+            "    print('recovered', session.recovered, flush=True)\n"
+            "    while True: print(session.submit(1, 7).element, flush=True)\n"
+        )
+        known = -1
+        for _life in range(6):
+            client = subprocess.Popen([sys.executable, "-c", child], stdout=subprocess.PIPE, text=True)
+            try:
+                assert client.stdout
+                recovered = int(client.stdout.readline().split()[1])
+                # (a head of two lines and the command that ends it)
+                self.assertGreaterEqual(max(0, recovered - 3), known + 1)
+                known = max(0, recovered - 3) - 1
+                for _ in range(chance.randrange(30)):
+                    self.assertEqual(int(client.stdout.readline()), known + 1)
+                    known += 1
+                time.sleep(chance.random() * 0.01)
+            finally:
+                client.kill()
+                rest, _ = client.communicate()
+            for told in rest.splitlines(keepends=True):
+                if told.endswith("\n"):
+                    self.assertEqual(int(told), known + 1)
+                    known += 1
+
+    def test_no_line_of_a_killed_client_is_torn(self) -> None:
+        chance = random.Random(6)
+        child = (
+            "from covetrivet import Session\n"
+            f"with Session.open({self.path!r}, ['rows 8']) as session:\n"
+            "    print('begun', flush=True)\n"
+            "    while True: session._exchange(['#' + 'x' * 150] * 2000 + ['count'], 1)\n"
+        )
+        for _life in range(4):
+            client = subprocess.Popen([sys.executable, "-c", child], stdout=subprocess.PIPE, text=True)
+            try:
+                assert client.stdout
+                self.assertEqual(client.stdout.readline(), "begun\n")
+                time.sleep(chance.random() * 0.1)
+            finally:
+                client.kill()
+                client.communicate()
+        with Session.open(self.path):
+            self.assertEqual(set(self.lines()), {"rows 8", "count", "#" + "x" * 150})
+
+
+if __name__ == "__main__":
+    unittest.main()

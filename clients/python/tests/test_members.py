@@ -1,0 +1,207 @@
+"""Who leads, what it answers, and how others follow and take over. The log is in memory here: tools/cluster
+has nodes over a real one.
+"""
+from __future__ import annotations
+
+import os
+import signal
+import time
+import unittest
+from collections.abc import Callable
+from unittest import mock
+
+from covetrivet.replica import Replica
+from covetrivet.rollovers import SECONDS_TO_WAIT
+from covetrivet.shared_log import Base, Diverged, Record
+from memory_log import MemoryLog, Node, Store
+from serving import comes
+from test_node import HEAD
+
+SOON = 20
+
+
+class Members(unittest.TestCase):
+    def setUp(self) -> None:
+        self.store = Store()
+        self.nodes: list[Node] = []
+        self.addCleanup(self.end)
+
+    def end(self) -> None:
+        for it in self.nodes:
+            it.end()
+
+    def node(self, who: str) -> Node:
+        self.nodes.append(Node(self.store, who, HEAD))
+        return self.nodes[-1]
+
+    def comes(self, is_so: Callable[[], object]) -> None:
+        self.assertTrue(comes(lambda: bool(is_so()), SOON))
+
+    def asked(self, node: Node, *lines: str) -> list[str]:
+        numbers = node.ask(*lines)
+        self.comes(lambda: numbers[-1] in node.answers)
+        return [node.answers[it] for it in numbers]
+
+    def test_one_leads_and_the_other_takes_over(self) -> None:
+        first = self.node("n1")
+        self.comes(lambda: first.token)
+        second = self.node("n2")
+        self.comes(lambda: second.leader == "n1")
+        self.assertEqual(self.asked(first, "submit 1 5 6", "claim wa")[0], "submitted 0")
+        first.end()
+        self.comes(lambda: second.token)
+        self.assertEqual(second.open_units, ["wa"])
+        said = self.asked(second, "commit wa 15:1:2", "reply 0")
+        self.assertEqual(said, ["wa done 0 unit 128 outputs 128 1", "replies 0 128:1:2"])
+        self.assertEqual(first.member.stood[0], 1)
+
+    def test_what_is_in_doubt_is_not_answered(self) -> None:
+        for is_done in True, False:
+            self.store, self.nodes = Store(), []
+            node = self.node("n1")
+            self.comes(lambda: node.token)
+            before = node.token
+            self.store.doubts.append(is_done)
+            (number,) = node.ask("submit 1 5 6")
+            self.comes(lambda: node.token and node.token is not before)
+            self.assertNotIn(number, node.answers)
+            self.assertEqual(node.why, "no answer came")
+            # It leads again, and has performed what turned out to be in the log.
+            self.assertEqual(self.asked(node, "submit 1 5 6"), [f"submitted {int(is_done)}"])
+            node.end()
+
+    def test_one_that_was_deposed_answers_nothing(self) -> None:
+        node = self.node("n1")
+        self.comes(lambda: node.token)
+        self.store.next_term("n2")
+        other = MemoryLog(self.store, "n2")
+        (number,) = node.ask("submit 1 5 6")
+        self.comes(lambda: node.leader == "n2")
+        self.assertEqual((node.why, number in node.answers), ("another node leads", False))
+        # What the other one appends is performed here too.
+        assert other.read(0) == []
+        self.store.records[0] = Record("n2", "", ["submit 1 7 7"])
+        self.comes(lambda: node.member.place() == 1)
+        # What was asked before is performed no more once it leads again.
+        other_number = node.ask("submit 1 8 8")[0]
+        self.store.next_term(None)
+        self.comes(lambda: node.token)
+        self.assertEqual(self.asked(node, "submit 1 5 6"), ["submitted 1"])
+        self.assertNotIn(number, node.answers)
+        self.assertNotIn(other_number, node.answers)
+
+    def test_what_came_in_the_last_moment_is_performed_first(self) -> None:
+        node = self.node("n1")
+        self.comes(lambda: node.token)
+        self.store.next_term("n2")
+        node.ask("count")
+        self.comes(lambda: node.leader == "n2")
+        node.why = None
+        self.store.late = [Record("n2", "", ["submit 1 7 7"])]
+        self.store.next_term(None)
+        self.comes(lambda: node.token)
+        self.assertEqual(self.asked(node, "submit 1 5 6"), ["submitted 1"])
+        self.assertIsNone(node.why)
+
+    def test_the_log_is_made_short(self) -> None:
+        first = self.node("n1")
+        self.comes(lambda: first.token)
+        for at in range(60):
+            born = self.asked(first, f"submit 1 {at} 5")[0].split()[1]
+            self.asked(first, "claim wa", "commit wa 15:1:2", f"collect {born}")
+        self.comes(lambda: (self.store.the_base or Base(0, "", ())).place > 0)
+        base = self.store.the_base
+        assert base
+        self.assertEqual(min(self.store.records, default=base.place), base.place)
+        # One that comes now begins there, and answers the same.
+        second = self.node("n2")
+        self.comes(lambda: second.member.place() == first.member.place())
+        first.end()
+        self.comes(lambda: second.token)
+        self.assertRegex(self.asked(second, "submit 1 0 0")[0], r"submitted \d{10,}")
+        self.assertIsNone(second.fault)
+
+    def test_one_that_is_behind_the_dump_begins_anew(self) -> None:
+        node = self.node("n1")
+        self.comes(lambda: node.token)
+        self.asked(node, "submit 1 5 6")
+        self.store.next_term("n2")
+        self.comes(lambda: node.leader == "n2" or node.ask("count") is None)
+        self.store.records.clear()
+        self.store.the_base = Base(9, "d0", [*HEAD, "alive 3 0 0 1:5:6:0:0", "restore"])
+        self.comes(lambda: node.member.place() == 9)
+        self.store.next_term(None)
+        self.comes(lambda: node.token)
+        self.assertEqual(self.asked(node, "errors"), ["errors"])
+
+    def test_a_log_with_a_gap(self) -> None:
+        node = self.node("n1")
+        self.comes(lambda: node.token)
+        self.store.next_term("n2")
+        self.store.records[1] = Record("n2", "", ["count"])
+        self.comes(lambda: node.fault or node.ask("count") is None)
+        self.assertIn("lacks record 0", str(node.fault))
+
+    def test_answers_that_differ(self) -> None:
+        node = self.node("n1")
+        self.comes(lambda: node.token)
+        self.store.next_term("n2")
+        self.store.records[0] = Record("n2", "", ["count"])
+        self.store.records[1] = Record("n2", "0" * 32, ["count"])
+        self.comes(lambda: node.fault or node.ask("count") is None)
+        self.assertIsInstance(node.fault, Diverged)
+
+    def test_a_session_that_does_not_answer(self) -> None:
+        with mock.patch.object(Replica, "SECONDS", 1.0):
+            node = self.node("n1")
+            self.comes(lambda: node.token)
+            assert node.member.replica
+            os.kill(node.member.replica.process.pid, signal.SIGSTOP)
+            node.ask("count")
+            self.comes(lambda: node.fault)
+        # Another one may lead.
+        self.assertIn("has not answered in 1.0 seconds", str(node.fault))
+        self.comes(lambda: self.store.holder is None)
+
+    def test_lines_wait_for_a_rollover(self) -> None:
+        # A worker has its unit, while the others' claims wait until it ends and the rollover is done.
+        node = self.node("n1")
+        self.comes(lambda: node.token)
+        self.asked(node, *(f"submit 1 {it} 5" for it in range(47)), "claim wa")
+        self.asked(node, "claim wb")
+        # (one is due after 48 elements)
+        self.asked(node, "submit 1 47 5", "abort wb")
+        waiting = node.ask("claim wb")[0]
+        self.asked(node, "submit 1 48 5", "read 0")
+        self.assertNotIn(waiting, node.answers)
+        self.assertEqual(self.asked(node, "abort wa"), ["wa aborted 0"])
+        self.comes(lambda: waiting in node.answers)
+        self.assertEqual(node.answers[waiting], "wb work 0 unit 192 attempt 2 root 0 body 0:5:0:0")
+        self.assertIn(["rollover"], [list(it.lines) for it in self.store.records.values()])
+
+    def test_no_line_waits_at_the_end(self) -> None:
+        node = self.node("n1")
+        self.comes(lambda: node.token)
+        self.asked(node, *(f"submit 1 {it} 5" for it in range(48)), "claim wa")
+        begun = time.monotonic()
+        waiting = node.ask("claim wb")[0]
+        self.asked(node, "count")
+        self.assertNotIn(waiting, node.answers)
+        node.member.is_leaving = True
+        self.comes(lambda: waiting in node.answers)
+        self.assertLess(time.monotonic(), begun + SECONDS_TO_WAIT - 1)
+
+    def test_lines_do_not_wait_for_ever(self) -> None:
+        node = self.node("n1")
+        self.comes(lambda: node.token)
+        self.asked(node, *(f"submit 1 {it} 5" for it in range(48)), "claim wa")
+        begun = time.monotonic()
+        self.assertRegex(self.asked(node, "claim wb")[0], "wb work 1 ")
+        self.assertGreater(time.monotonic(), begun + SECONDS_TO_WAIT - 1)
+        # From then on none waits for a while.
+        self.asked(node, "abort wb", "claim wb")
+        self.assertLess(time.monotonic(), begun + SECONDS_TO_WAIT + 3)
+
+
+if __name__ == "__main__":
+    unittest.main()

@@ -1,0 +1,88 @@
+-- What is written and noted.
+use Rattle.std.proofs.Common.{◌≡◌, ◌∙◌, ◌==◌, ℕ, zero, suc, ◌-◌, ◌≤◌, Bool, List, [], ◌∷◌, ◌++◌, Option, None, Some, true, refl, sym, ap, subst, arith, append-nil, append_assoc, inl, inr, length, take}
+use Rattle.std.specs.Prelude.{◌⊎◌, ◌&&◌}
+use Rattle.std.specs.Io.KnownBytes.{Appends}
+use Rattle.std.proofs.lemmas.Bool.{eqb-true}
+use Rattle.std.proofs.lemmas.List.{length-append}
+use Rattle.tp_report.proofs.Devices.{Appends-none, Appends-then}
+use Rattle.tp_journal.specs.Event.{Event}
+use Rattle.tp_kept.specs.Events.{Writes, WritesSoFar, contents_of, is_late, shown_by, told, written}
+use Rattle.tp_kept.specs.declared.events.TheConstants.{RESUMED, SHOWN}
+
+pub writes_none : (events : List Event) → Writes [] [] events events
+writes_none events = record { handed_is = refl; told_is = sym (append-nil (told events)); written_is = sym (append-nil (written events)); appended_is = refl; prompt_is = refl; begun_is = refl; gone_on_is = refl; late_is = λ on. refl }
+
+-- one part more
+writes_part : (kind : ℕ) (f part : List ℕ) (old mid : List Event) → (kind ≡ RESUMED) ⊎ (kind ≡ SHOWN) → Writes (shown_by kind f) f old mid → Writes (shown_by kind (f ++ part)) (f ++ part) old ((kind, 0, true, part) ∷ mid)
+writes_part kind f part old mid (inl is) so = subst (λ k. Writes (shown_by k (f ++ part)) (f ++ part) old ((k, 0, true, part) ∷ mid)) (sym is) (record {
+  handed_is = so.handed_is;
+  told_is = so.told_is ∙ ap (λ k. told old ++ shown_by k f) is;
+  written_is = ap (λ l. l ++ part) so.written_is ∙ append_assoc (written old) f part;
+  appended_is = so.appended_is;
+  prompt_is = so.prompt_is;
+  begun_is = so.begun_is;
+  gone_on_is = so.gone_on_is;
+  late_is = λ on. ap (λ b. b && is_late mid) (so.gone_on_is ∙ on) ∙ so.late_is on;
+})
+writes_part kind f part old mid (inr is) so = subst (λ k. Writes (shown_by k (f ++ part)) (f ++ part) old ((k, 0, true, part) ∷ mid)) (sym is) (record {
+  handed_is = so.handed_is;
+  told_is = ap (λ l. l ++ part) (so.told_is ∙ ap (λ k. told old ++ shown_by k f) is) ∙ append_assoc (told old) f part;
+  written_is = ap (λ l. l ++ part) so.written_is ∙ append_assoc (written old) f part;
+  appended_is = so.appended_is;
+  prompt_is = so.prompt_is;
+  begun_is = so.begun_is;
+  gone_on_is = so.gone_on_is;
+  late_is = λ on. ap (λ b. b && is_late mid) (so.gone_on_is ∙ on) ∙ so.late_is on;
+})
+
+shown_none : (kind : ℕ) → (kind ≡ RESUMED) ⊎ (kind ≡ SHOWN) → shown_by kind [] ≡ []
+shown_none kind (inl is) = ap (λ k. shown_by k []) is
+shown_none kind (inr is) = ap (λ k. shown_by k []) is
+
+module _ (kind : ℕ) (bytes : List ℕ) (a : Option (List ℕ)) (old : List Event) (ok : (kind ≡ RESUMED) ⊎ (kind ≡ SHOWN)) where
+  pub so_far_none : WritesSoFar kind bytes bytes a old a old
+  so_far_none = record { front = []; bytes_are = refl; appends = Appends-none a; noted = subst (λ t. Writes t [] old old) (sym (shown_none kind ok)) (writes_none old) }
+
+  pub so_far_more : (rest part rest' : List ℕ) (b c : Option (List ℕ)) (mid new : List Event) → WritesSoFar kind bytes rest a old b mid → rest ≡ part ++ rest' → Appends b c part → new ≡ (kind, 0, true, part) ∷ mid → WritesSoFar kind bytes rest' a old c new
+  so_far_more rest part rest' b c mid new so are more is = record {
+    front = so.front ++ part;
+    bytes_are = so.bytes_are ∙ (ap (λ l. so.front ++ l) are ∙ sym (append_assoc so.front part rest'));
+    appends = Appends-then a b c so.front part so.appends more;
+    noted = subst (Writes (shown_by kind (so.front ++ part)) (so.front ++ part) old) (sym is) (writes_part kind so.front part old mid ok so.noted);
+  }
+
+-- ---- what a wire has told
+
+take_less : (k : ℕ) (xs ys : List ℕ) → k ≤ length xs → take k (xs ++ ys) ≡ take k xs
+take_less zero xs ys less = refl
+take_less (suc k) [] ys less = absurd (omega (arith, less))
+take_less (suc k) (x ∷ xs) ys less = ap (λ l. x ∷ l) (take_less k xs ys (omega (arith, less)))
+
+-- more was written, of which so much was told
+pub contents_more : (a b : Option (List ℕ)) (more front : List ℕ) (old new : List Event) → Appends a b front → Writes more front old new → Appends (contents_of old a) (contents_of new b) more
+contents_more None b more front old new appends writes = tt
+contents_more (Some x) None more front old new appends writes = absurd appends
+contents_more (Some x) (Some y) more front old new appends writes =
+    let same : length y - length (written new) ≡ length x - length (written old) = omega (arith, ap length appends, length-append x front, ap length writes.written_is, length-append (written old) front) in
+    let less : length x - length (written old) ≤ length x = omega arith in
+    ap (λ n. take n y ++ told new) same ∙ (ap (λ l. take (length x - length (written old)) l ++ told new) appends ∙ (ap (λ l. l ++ told new) (take_less (length x - length (written old)) x front less) ∙ (ap (λ l. take (length x - length (written old)) x ++ l) writes.told_is ∙ sym (append_assoc (take (length x - length (written old)) x) (told old) more))))
+
+-- nothing was
+pub contents_same : (a : Option (List ℕ)) (old new : List Event) → told new ≡ told old → written new ≡ written old → Appends (contents_of old a) (contents_of new a) []
+contents_same None old new telling writing = tt
+contents_same (Some x) old new telling writing =
+    ap (λ w. take (length x - length w) x ++ told new) writing ∙ (ap (λ t. take (length x - length (written old)) x ++ t) telling ∙ sym (append-nil _))
+
+-- more was told that isn't written
+pub contents_muted : (a : Option (List ℕ)) (answers : List ℕ) (old new : List Event) → told new ≡ told old ++ answers → written new ≡ written old → Appends (contents_of old a) (contents_of new a) answers
+contents_muted None answers old new telling writing = tt
+contents_muted (Some x) answers old new telling writing =
+    ap (λ w. take (length x - length w) x ++ told new) writing ∙ (ap (λ t. take (length x - length (written old)) x ++ t) telling ∙ sym (append_assoc (take (length x - length (written old)) x) (told old) answers))
+
+-- nothing is left
+pub nothing : (xs : List ℕ) → length xs ≡ 0 → xs ≡ []
+nothing [] e = refl
+nothing (x ∷ xs) e = absurd (omega (arith, e))
+
+pub none_left : (xs : List ℕ) (empty : Bool) → empty ≡ (length xs == 0) → empty ≡ true → xs ≡ []
+none_left xs empty is all = nothing xs (eqb-true (length xs) 0 (sym is ∙ all))

@@ -1,0 +1,162 @@
+-- A kept session and its journal.
+use Rattle.std.proofs.Common.{◌≡◌, ◌∙◌, ℕ, ◌<◌, ◌≤◌, ◌+◌, ◌-◌, ◌^◌, All, Bool, true, false, List, [], ◌∷◌, ◌++◌, refl, sym, ap, subst, arith, append-nil, append_assoc, drop, inl, inr, length, length-append, length-drop, min, take, take-append-drop}
+use Rattle.std.specs.Prelude.{◌⊎◌, Option, None, Some}
+use Rattle.std.specs.Io.KnownBytes.{Consumes, IsAtEnd}
+use Rattle.std.proofs.lemmas.List.{drop-drop, length-take-le, take_at}
+use Rattle.std.proofs.lemmas.List.Elements.{All-append, All-cons, All-nil}
+use Rattle.tp_journal.specs.Device.{LeavesOnly}
+use Rattle.tp_journal.specs.Journal.{IsOpen, IsSettled}
+use Rattle.tp_journal.specs.Text.{HasTorn, IsAtRest, IsBatch, IsPlain, end_line, text_of, with_end}
+use Rattle.tp_journal.specs.declared.journal.Journal.{Journal}
+use Rattle.tp_journal.proofs.Crashes.{keeps_batches, keeps_text}
+use Rattle.tp_kept.specs.Kept.{IsKept, Keeps, lines_in, rest_of}
+use Rattle.tp_kept.specs.Lines.{AreEnded, Puts, downs}
+use Rattle.tp_kept.proofs.EventsLemmas.{nothing}
+use Rattle.tp_kept.proofs.OwnLemmas.{lines_with}
+
+module _ {D : Type 0} (seen : D → List ℕ) (may_leave : D → List ℕ → Type 0) where
+  -- after a fault
+  pub kept_failed : (j : Journal D) (failed : Bool) (lines : List ℕ) → IsKept seen may_leave j failed lines → IsKept seen may_leave j true lines
+  kept_failed j failed lines k = record { is_open = k.is_open; keeps = k.keeps; fine = λ e. absurd cc }
+
+  -- where nothing has failed and nothing is ready
+  pub kept_given : (j : Journal D) (failed : Bool) (given left : List ℕ) → IsKept seen may_leave j failed (given ++ left) → failed ≡ false → left ≡ [] → IsKept seen may_leave j false given
+  kept_given j failed given left k fine none = subst (λ l. IsKept seen may_leave j false l) (ap (λ l. given ++ l) none ∙ append-nil given) (subst (λ b. IsKept seen may_leave j b (given ++ left)) fine k)
+
+  -- the same lines
+  pub kept_same : (j : Journal D) (failed failed' : Bool) (lines lines' : List ℕ) → IsKept seen may_leave j failed lines → failed' ≡ failed → lines' ≡ lines → IsKept seen may_leave j failed' lines'
+  kept_same j failed failed' lines lines' k same is = subst (λ l. IsKept seen may_leave j failed' l) (sym is) (subst (λ b. IsKept seen may_leave j b lines) (sym same) k)
+
+  settled_keeps : (j : Journal D) → IsSettled seen may_leave j → Keeps (may_leave j.device) (lines_in (text_of (seen j.device)))
+  settled_keeps j settled file recovered left is =
+      let same : file ≡ seen j.device = settled.stands.durable file left in
+      let text : recovered ≡ text_of (seen j.device) = keeps_text (text_of (seen j.device)) file recovered settled.stands.is_sealed (subst (IsAtRest (text_of (seen j.device))) (sym same) settled.stands.at_rest) is in
+      ([], ap lines_in text ∙ sym (append-nil (lines_in (text_of (seen j.device)))))
+
+  pub kept_new : (j : Journal D) (text : List ℕ) → IsSettled seen may_leave j → j.poisoned ≡ false → text ≡ text_of (seen j.device) → IsKept seen may_leave j false (lines_in text)
+  kept_new j text settled fine is = record {
+    is_open = λ e. settled;
+    keeps = subst (λ t. Keeps (may_leave j.device) (lines_in t)) (sym is) (settled_keeps j settled);
+    fine = λ e. (fine, ap lines_in (sym is));
+  }
+
+  module _ (j j' : Journal D) (lines batch : List ℕ) (was : IsKept seen may_leave j false lines) (now : IsOpen seen may_leave j') where
+    abbrev text : List ℕ
+    text = text_of (seen j.device)
+
+    settled : IsSettled seen may_leave j
+    settled = was.is_open (was.fine refl).0
+
+    -- a batch was appended
+    pub kept_appended : j'.poisoned ≡ false → text_of (seen j'.device) ≡ with_end (text ++ batch) → IsBatch batch → (j'.device ≡ j.device) ⊎ (length (with_end (text ++ batch)) < 2 ^ 64) → IsKept seen may_leave j' false (lines ++ batch)
+    kept_appended fine is batch_is (inl same) = absurd (omega (arith, ap length is, ap (λ d. length (text_of (seen d))) same, length-append (text ++ batch) (end_line (text ++ batch)), length-append text batch, some))
+      where
+        some : 1 ≤ length batch
+        some = omega (arith, ap length batch_is.ends, length-append batch_is.front (10 ∷ []))
+    kept_appended fine is batch_is (inr short) =
+        let added : lines_in (text_of (seen j'.device)) ≡ lines ++ batch =
+        ap lines_in is ∙ (lines_with text batch settled.stands.is_sealed batch_is (omega (arith, short, length-append (text ++ batch) (end_line (text ++ batch)))) ∙ ap (λ l. l ++ batch) (was.fine refl).1) in
+        record {
+          is_open = now;
+          keeps = subst (Keeps (may_leave j'.device)) added (settled_keeps j' (now fine));
+          fine = λ e. (fine, added);
+        }
+
+    -- it may not have been
+    pub kept_torn : (moment : D → ℕ) (left_since : D → ℕ → List ℕ → Type 0) → ((file : D) (t : ℕ) (c : List ℕ) → t ≤ moment file → may_leave file c → left_since file t c)
+        → LeavesOnly moment left_since j.device j'.device (HasTorn text (batch ++ end_line (text ++ batch))) → IsBatch batch → (j'.device ≡ j.device) ⊎ (length (with_end (text ++ batch)) < 2 ^ 64) → IsKept seen may_leave j' true lines
+    kept_torn moment left_since counts leaves batch_is within = record { is_open = now; keeps = keeps within; fine = λ e. absurd cc }
+      where
+        keeps : (j'.device ≡ j.device) ⊎ (length (with_end (text ++ batch)) < 2 ^ 64) → Keeps (may_leave j'.device) lines
+        keeps (inl same) = subst (λ d. Keeps (may_leave d) lines) (sym same) was.keeps
+        keeps (inr short) = λ file recovered left is.
+            let torn = leaves.each file (counts j'.device (moment j.device) file leaves.later left) in
+            let less : length (text ++ batch) < 2 ^ 64 = omega (arith, short, length-append (text ++ batch) (end_line (text ++ batch))) in
+            elim (keeps_batches text batch file recovered short settled.stands.at_rest.text_is settled.stands.is_sealed batch_is torn is) [
+              | inl old ↦ ([], ap lines_in old ∙ ((was.fine refl).1 ∙ sym (append-nil lines)))
+              | inr new ↦ (batch, ap lines_in new ∙ (lines_with text batch settled.stands.is_sealed batch_is less ∙ ap (λ l. l ++ batch) (was.fine refl).1))
+            ]
+
+-- some of what is ready was given
+pub handed_more : (given ready : List ℕ) (at n : ℕ) → (given ++ take n (drop at ready)) ++ drop (at + n) ready ≡ given ++ drop at ready
+handed_more given ready at n =
+    append_assoc given (take n (drop at ready)) (drop (at + n) ready) ∙ ap (λ l. given ++ l) (ap (λ l. take n (drop at ready) ++ l) (sym (drop-drop n at ready)) ∙ take-append-drop n (drop at ready))
+
+-- lines that have ended are a batch, where there are some
+pub batch_of : (lines : List ℕ) → AreEnded lines → 1 ≤ length lines → IsBatch lines
+batch_of lines (plain, inl none) some = absurd (omega (arith, ap length none, some))
+batch_of lines (plain, inr t) some = record { plain = plain; front = t.0; ends = t.1 }
+
+-- ---- the bytes that are to come
+
+pub rest_none : (line : List ℕ) (rest : Option (List ℕ)) → Consumes (rest_of [] line rest) (rest_of [] line rest) []
+rest_none line None = tt
+rest_none line (Some bytes) = refl
+
+-- bytes were read, and taken behind what was there of a line
+pub rest_read : (line line' : List ℕ) (rest rest' : Option (List ℕ)) (bytes lines lines' : List ℕ) (puts : Puts bytes line lines line' lines') → Consumes rest rest' bytes → lines ≡ []
+    → Consumes (rest_of [] line rest) (rest_of lines' line' rest') []
+rest_read line line' None rest' bytes lines lines' puts consumes none = tt
+rest_read line line' (Some xs) None bytes lines lines' puts consumes none = absurd consumes
+rest_read line line' (Some xs) (Some ys) bytes lines lines' puts consumes none =
+    let added : lines' ≡ puts.added = puts.lines_are ∙ ap (λ l. l ++ puts.added) none in
+    ap (downs line) consumes ∙ (puts.follows ys ∙ ap (λ l. l ++ downs line' ys) (sym added))
+
+pub rest_then : (a b c : Option (List ℕ)) → Consumes a b [] → Consumes b c [] → Consumes a c []
+rest_then None b c p q = tt
+rest_then (Some x) None c p q = absurd p
+rest_then (Some x) (Some y) None p q = absurd q
+rest_then (Some x) (Some y) (Some z) p q = p ∙ q
+
+-- at the end of the input nothing is to come behind a line that has ended
+pub rest_end : (rest : Option (List ℕ)) → IsAtEnd rest → IsAtEnd (rest_of [] [] rest)
+rest_end None end = tt
+rest_end (Some bytes) end = ap (downs []) end
+
+-- a front of what is ready was given
+pub rest_given : (ready line : List ℕ) (rest : Option (List ℕ)) (at n : ℕ) → Consumes (rest_of (drop at ready) line rest) (rest_of (drop (at + n) ready) line rest) (take n (drop at ready))
+rest_given ready line None at n = tt
+rest_given ready line (Some bytes) at n =
+    ap (λ l. l ++ downs line bytes) (sym (take-append-drop n (drop at ready))) ∙ (append_assoc (take n (drop at ready)) (drop n (drop at ready)) (downs line bytes) ∙ ap (λ l. take n (drop at ready) ++ (l ++ downs line bytes)) (drop-drop n at ready))
+
+-- where nothing is ready, and nothing is given
+pub rest_over : (ready line : List ℕ) (rest : Option (List ℕ)) → ready ≡ [] → IsAtEnd (rest_of [] line rest) → IsAtEnd (rest_of ready line rest)
+rest_over ready line rest none end = subst (λ r. IsAtEnd (rest_of r line rest)) (sym none) end
+
+-- a line with its end
+pub one_line : (lines line : List ℕ) → All IsPlain line → lines ≡ line ++ 10 ∷ [] → AreEnded lines
+one_line lines line plain is = (subst (All IsPlain) (sym is) (All-append IsPlain line (10 ∷ []) plain (All-cons IsPlain 10 [] refl (All-nil IsPlain))), inr (line, is))
+
+-- ---- a read
+
+module _ (ready ready' : List ℕ) (at at' n : ℕ) (line line' : List ℕ) (rest rest' : Option (List ℕ)) where
+  same_rest : ready' ≡ ready → at' ≡ at + n → line' ≡ line → rest' ≡ rest → rest_of (drop at' ready') line' rest' ≡ rest_of (drop (at + n) ready) line rest
+  same_rest r a l s = ap (λ r. rest_of (drop at' r) line' rest') r ∙ (ap (λ a. rest_of (drop a ready) line' rest') a ∙ (ap (λ l. rest_of (drop (at + n) ready) l rest') l ∙ ap (λ s. rest_of (drop (at + n) ready) line s) s))
+
+rest_on : (a b c : Option (List ℕ)) (bytes : List ℕ) → Consumes a b [] → Consumes b c bytes → Consumes a c bytes
+rest_on None b c bytes p q = tt
+rest_on (Some x) None c bytes p q = absurd p
+rest_on (Some x) (Some y) None bytes p q = absurd q
+rest_on (Some x) (Some y) (Some z) bytes p q = p ∙ q
+
+pub given_bytes : (before : Option (List ℕ)) (ready ready' : List ℕ) (at at' n : ℕ) (line line' : List ℕ) (rest rest' : Option (List ℕ)) (got : List ℕ)
+    → Consumes before (rest_of (drop at ready) line rest) [] → ready' ≡ ready → at' ≡ at + n → line' ≡ line → rest' ≡ rest → got ≡ take n (drop at ready) → Consumes before (rest_of (drop at' ready') line' rest') got
+given_bytes before ready ready' at at' n line line' rest rest' got so r a l s is =
+    subst (λ bs. Consumes before (rest_of (drop at' ready') line' rest') bs) (sym is)
+    (subst (λ o. Consumes before o (take n (drop at ready))) (sym (same_rest ready ready' at at' n line line' rest rest' r a l s))
+    (rest_on before (rest_of (drop at ready) line rest) (rest_of (drop (at + n) ready) line rest) (take n (drop at ready)) so (rest_given ready line rest at n)))
+
+pub given_end : (ready ready' : List ℕ) (at at' n : ℕ) (line line' : List ℕ) (rest rest' : Option (List ℕ)) (room : ℕ) → n ≡ min room (length (drop at ready)) → n ≡ 0 → 0 < room
+    → (drop at ready ≡ [] → IsAtEnd (rest_of [] line rest)) → ready' ≡ ready → at' ≡ at + n → line' ≡ line → rest' ≡ rest → IsAtEnd (rest_of (drop at' ready') line' rest')
+given_end ready ready' at at' n line line' rest rest' room count none some end r a l s =
+    let empty : length (drop at ready) ≡ 0 = omega (arith, count, none, some) in
+    let over : drop at ready ≡ [] = nothing (drop at ready) empty in
+    let after : drop (at + n) ready ≡ [] = nothing (drop (at + n) ready) (omega (arith, empty, length-drop at ready, length-drop (at + n) ready)) in
+    subst IsAtEnd (sym (same_rest ready ready' at at' n line line' rest rest' r a l s)) (rest_over (drop (at + n) ready) line rest after (end over))
+
+-- a buffer of which the first bytes were copied from what is ready
+pub filled : (n at : ℕ) (ready buffer got all : List ℕ) → got ≡ take ((at + n) - at) (drop at all) → all ≡ ready → length got ≡ length (take n buffer) → n ≤ length buffer → take n (got ++ drop n buffer) ≡ take n (drop at ready)
+filled n at ready buffer got all is same long room =
+    let count : (at + n) - at ≡ n = omega arith in
+    let whole : length got ≡ n = omega (arith, long, length-take-le n buffer room) in
+    take_at got (drop n buffer) n whole ∙ (is ∙ (ap (λ k. take k (drop at all)) count ∙ ap (λ l. take n (drop at l)) same))

@@ -1,0 +1,4 @@
+pub mod EventsLemmas
+pub mod KeptLemmas
+pub mod LinesLemmas
+pub mod OwnLemmas

@@ -1,0 +1,89 @@
+-- What has happened to a kept session, the last first.
+use Rattle.std.specs.Prelude.{◌≡◌, ◌-◌, ◌||◌, ◌&&◌, not, ◌==◌, if◌then◌else◌, ℕ, Bool, true, false, List, [], ◌∷◌, ◌++◌}
+use Rattle.std.specs.Prelude.{Option, Result, OnOk, length, take}
+use Rattle.std.specs.Io.KnownBytes.{Appends}
+use Rattle.tp_script.specs.declared.source.Failed.{Failed}
+use Rattle.std.specs.Option.{option_map}
+use Rattle.tp_journal.specs.Event.{Event}
+use Rattle.tp_kept.specs.declared.events.TheConstants.{APPENDED, ASKED, BEGUN, HANDED, MUTED, RESUMED, SHOWN}
+
+-- the bytes of the events of one kind or another, in the order in which they came
+abbrev pub bytes_of : ℕ → ℕ → List Event → List ℕ
+bytes_of one other [] = []
+bytes_of one other ((kind, number, ok, bytes) ∷ past) =
+    if (kind == one) || (kind == other) then bytes_of one other past ++ bytes else bytes_of one other past
+
+-- what the session was given
+abbrev pub handed : List Event → List ℕ
+handed events = bytes_of HANDED HANDED events
+
+-- what the journal had when the session began
+abbrev pub begun : List Event → List ℕ
+begun events = bytes_of BEGUN BEGUN events
+
+-- nothing but this has happened
+abbrev pub only_begun : List ℕ → List Event
+only_begun lines = (BEGUN, 0, true, lines) ∷ []
+
+-- what it has told, also where that was told before
+abbrev pub told : List Event → List ℕ
+told events = bytes_of MUTED SHOWN events
+
+-- what was written of it, behind how many lines were recovered
+abbrev pub written : List Event → List ℕ
+written events = bytes_of RESUMED SHOWN events
+
+-- some lines were appended
+abbrev pub has_appended : List Event → Bool
+has_appended [] = false
+has_appended ((kind, number, ok, bytes) ∷ past) = (kind == APPENDED) || has_appended past
+
+-- nothing that was told behind an appended line was held back
+abbrev pub is_prompt : List Event → Bool
+is_prompt [] = true
+is_prompt ((kind, number, ok, bytes) ∷ past) = not ((kind == MUTED) && has_appended past) && is_prompt past
+
+-- the session had all that the journal had when it began, and then asked for more
+abbrev pub has_gone_on : List Event → Bool
+has_gone_on [] = false
+has_gone_on ((kind, number, ok, bytes) ∷ past) =
+    ((kind == ASKED) && (length (begun past) - length (handed past) == 0)) || has_gone_on past
+
+-- nothing was written before that
+abbrev pub is_late : List Event → Bool
+is_late [] = true
+is_late ((kind, number, ok, bytes) ∷ past) =
+    (not ((kind == RESUMED) || (kind == SHOWN)) || has_gone_on past) && is_late past
+
+-- What the session has told, behind what a writer had before: of what the writer has, that was written.
+abbrev pub contents_of : List Event → Option (List ℕ) → Option (List ℕ)
+contents_of events has = option_map (λ all. take (length all - length (written events)) all ++ told events) has
+
+-- between the two this was told and that was written, and nothing else has happened
+pub record Writes (more_told more_written : List ℕ) (old new : List Event) : Type 0 where
+  pub handed_is : handed new ≡ handed old
+  pub told_is : told new ≡ told old ++ more_told
+  pub written_is : written new ≡ written old ++ more_written
+  pub appended_is : has_appended new ≡ has_appended old
+  pub prompt_is : is_prompt new ≡ is_prompt old
+  pub begun_is : begun new ≡ begun old
+  pub gone_on_is : has_gone_on new ≡ has_gone_on old
+  pub late_is : has_gone_on old ≡ true → is_late new ≡ is_late old
+
+-- what of written bytes was told: answers are, how many lines were recovered isn't
+abbrev pub shown_by : ℕ → List ℕ → List ℕ
+shown_by kind bytes = if kind == SHOWN then bytes else []
+
+-- the bytes were written and noted up to this rest
+pub record WritesSoFar (kind : ℕ) (bytes rest : List ℕ) (before : Option (List ℕ)) (old : List Event)
+    (after : Option (List ℕ)) (new : List Event) : Type 0 where
+  pub front : List ℕ
+  pub bytes_are : bytes ≡ front ++ rest
+  pub appends : Appends before after front
+  pub noted : Writes (shown_by kind front) front old new
+
+-- they were written, all of them where it went well
+abbrev pub WritesNoted : ℕ → Result Unit Failed → List ℕ → Option (List ℕ) → List Event → Option (List ℕ)
+    → List Event → Type 0
+WritesNoted kind result bytes before old after new =
+    (rest : List ℕ) × OnOk result (rest ≡ []) × WritesSoFar kind bytes rest before old after new

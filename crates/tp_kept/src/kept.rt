@@ -1,0 +1,46 @@
+//! A reader, a writer and a journal.
+ghost use Rattle.std.specs.Prelude.{◌≡◌, ◌≤◌, ◌<◌, ◌+◌, ◌^◌, ◌&&◌, ◌++◌, [], true, false, drop, vec_len};
+ghost use Rattle.tp_kept.specs.Events.{begun, handed, has_appended, has_gone_on, is_late, is_prompt, written};
+ghost use Rattle.tp_session.specs.declared.reading.TheConstants.{MAX_KEPT};
+
+use crate::cause::Cause;
+use std::alloc::Global;
+use tp_journal::{Device, Journal, Record};
+use tp_report::Sink;
+use tp_script::Source;
+
+/// A reader, a writer and a journal. What is read is on the disk before the session has it. The lines that the
+/// journal had come first; what the session tells of them was told before, and isn't written again.
+#[derive(Drop)]
+pub struct Kept<R: Source + Drop, W: Sink + Drop, D: Device + Drop> {
+    pub(crate) alloc: Global,
+    pub(crate) reader: R,
+    pub(crate) writer: W,
+    pub(crate) journal: Journal<D>,
+    /// Lines that the journal has, each with its end.
+    pub(crate) ready: Vec<u8>,
+    /// How many bytes of them the session has.
+    pub(crate) at: usize,
+    /// What was read of a line that hasn't ended.
+    pub(crate) line: Vec<u8>,
+    /// How many lines the journal had.
+    pub(crate) recovered: usize,
+    /// The session has no line yet but those.
+    pub(crate) recovering: bool,
+    /// How often the reader may still be asked.
+    pub(crate) left: u64,
+    /// How often this was.
+    pub(crate) asked: u64,
+    /// Why nothing more is done.
+    pub(crate) cause: Option<Cause>,
+    pub(crate) log: Record,
+    ghost inside: { at ≤ vec_len ready },
+    ghost short: { vec_len line ≤ MAX_KEPT },
+    ghost few: { R.asked reader + left < 2 ^ 64 },
+    ghost unread: { (recovering && has_appended log.events) ≡ false },
+    ghost prompt: { is_prompt log.events ≡ true },
+    ghost silent: { recovering ≡ true → written log.events ≡ [] },
+    ghost first: { recovering ≡ true → handed log.events ++ drop at ready.items ≡ begun log.events },
+    ghost gone_on: { recovering ≡ false → has_gone_on log.events ≡ true },
+    ghost late: { is_late log.events ≡ true },
+}

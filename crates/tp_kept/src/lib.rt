@@ -1,0 +1,15 @@
+//! Sessions whose lines are in a journal before they are answered.
+#![tactic(auto)]
+
+mod cause;
+mod events;
+mod filling;
+mod kept;
+mod lines;
+mod program;
+mod wire;
+mod writing;
+
+pub use cause::Cause;
+pub use kept::Kept;
+pub use program::{keep_session, keep_to_end};

@@ -1,0 +1,58 @@
+"""The text of a journal: its first line, its lines, and the end of each batch (docs/decisions/32-journal.md)."""
+import hashlib
+import re
+
+FIRST = b"# covetrivet journal 1\n"
+END = re.compile(rb"# (\d+) ([0-9a-f]{64})\x17\n")
+
+
+class Wrong(Exception):
+    """Something is not as it has to be."""
+
+
+def own_lines(text):
+    """The batches of a journal's text, each as a list of lines, once its first line and each end were held against it."""
+    if not text.startswith(FIRST):
+        raise Wrong(f"the text begins with {text[:40]!r}")
+    batches, lines, at = [], [], len(FIRST)
+    for line in re.findall(rb"[^\n]*\n|[^\n]+", text[len(FIRST):]):
+        end = END.fullmatch(line)
+        if end:
+            if int(end[1]) != at or end[2].decode() != hashlib.sha256(text[:at]).hexdigest():
+                raise Wrong(f"the end at byte {at} isn't that of the bytes before it")
+            batches.append(lines)
+            lines = []
+        else:
+            lines.append(line)
+        at += len(line)
+    if lines:
+        raise Wrong(f"lines with no end were recovered: {lines[:2]}")
+    return batches
+
+
+def flat(batches):
+    return [line for batch in batches for line in batch]
+
+
+def attested(path):
+    """The batches of a journal that its ends attest. What is behind the last end is a batch that a crash took the end of."""
+    try:
+        with open(path, "rb") as file:
+            text = file.read().partition(b"\0")[0]
+    except FileNotFoundError:
+        return []
+    last = text.rfind(b"\x17\n")
+    return [] if last < 0 else own_lines(text[: last + 2])
+
+
+def sealed(text):
+    """The text with the end of a batch behind it."""
+    return text + b"# %d %s\x17\n" % (len(text), hashlib.sha256(text).hexdigest().encode())
+
+
+def made(batches):
+    """The text of a journal that has these batches."""
+    text = FIRST
+    for lines in batches:
+        text = sealed(text + b"".join(lines))
+    return text
