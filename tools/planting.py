@@ -159,7 +159,10 @@ class Planter:
         ids = [it.answer[1]["element"]["id"] for it in (claim, later)]
         # A claim in turn took what came first in the turns of its pass, whichever id is less.
         is_first = claim.kind == "ClaimNext" or ids[0] < ids[1]
-        if claim.after > later.before or claim.told["stage"] != later.told["stage"] or not is_first or not self.was_there(ids[1], claim):
+        if claim.after > later.before or claim.told["stage"] != later.told["stage"] or not is_first:
+            return False
+        # (a claim may pass over what is born meanwhile)
+        if not all(self.was_there(id, claim) for id in ids):
             return False
         ended = max(self.end_of(it).after for it in (claim, later))
         others = [it for id in ids for it in self.naming[id] if it not in (claim, later)]
@@ -257,7 +260,7 @@ class Planter:
         pairs = ((it, other) for it in took for other in took if it.told["root"] == other.told["root"] and it.after < other.before)
         for call, other in islice(pairs, MOST_SWAPS):
             ids = [it.answer[1]["id"] for it in (call, other)]
-            if self.was_there(ids[1], call):
+            if all(self.was_there(id, call) for id in ids):
                 yield from self.wrong_in_order({call.line: self.taken_instead(call, ids[1]), other.line: self.taken_instead(other, ids[0])})
 
     def none_collected(self):

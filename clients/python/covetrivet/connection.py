@@ -11,6 +11,8 @@ from covetrivet.relay import Caller
 READ_AT_ONCE = 16384
 BEHIND = 65536
 BUFFER = memoryview(bytearray(READ_AT_ONCE))
+# So many lines of all clients are handed over at once, shared by those that have any, and a few of each.
+SHARED, FEW = 256, 2
 
 
 @dataclass(frozen=True)
@@ -29,6 +31,8 @@ class Host(Protocol):
     """What a connection needs of its server."""
 
     limits: Limits
+    # how many connections have lines that aren't answered
+    busy: int
 
     def joined(self, connection: Connection) -> None:
         """The connection has begun."""
@@ -87,6 +91,7 @@ class Connection(asyncio.BufferedProtocol):
         self.hand_over()
 
     def connection_lost(self, exc: Exception | None) -> None:
+        self.host.busy -= self.in_flight > 0
         self.is_gone = self.is_closing = True
         self.pending = b""
         self.out = []
@@ -100,13 +105,15 @@ class Connection(asyncio.BufferedProtocol):
         """
         if self.is_closing or self.is_held:
             return
-        room = 0 if self.is_behind else self.host.limits.lines - self.in_flight
+        most = min(self.host.limits.lines, max(FEW, SHARED // max(1, self.host.busy)))
+        room = 0 if self.is_behind else most - self.in_flight
         lines: list[bytes] = []
         while len(lines) < room and b"\n" in self.pending:
             *some, self.pending = self.pending.split(b"\n", room - len(lines))
             # (of a line that is too long as much as the program refuses)
             lines += [it[: LONGEST_LINE + 1] for it in some if is_asked(it)]
         if lines:
+            self.host.busy += not self.in_flight
             self.in_flight += len(lines)
             self.host.ask(self, lines)
         if b"\n" in self.pending:
@@ -121,6 +128,7 @@ class Connection(asyncio.BufferedProtocol):
 
     def answered(self, answer: str) -> None:
         self.in_flight -= 1
+        self.host.busy -= not self.in_flight and not self.is_gone
         self.out.append(answer)
 
     def all_taken(self) -> None:

@@ -57,7 +57,8 @@ class Member:
         self.token: Token | None = None
         self.reign = 0
         self.rollovers = Rollovers(1)
-        self.compact_at: float | None = None
+        # where the log's base is to be next, and when
+        self.next_base: tuple[Base, float] | None = None
         self.leader: str | None = None
         # where a session was that is closed
         self.stood = 0, ""
@@ -204,15 +205,14 @@ class Member:
         self.pending += [it for it in items if it.reign == self.reign]
 
     def compact(self, replica: Replica, token: Token) -> None:
-        """Has the newest base in the log, some time after the rollover that it is of."""
-        if not replica.base:
-            return
-        if self.compact_at is None:
-            self.compact_at = time.monotonic() + SECONDS_TO_COMPACT
-        elif time.monotonic() > self.compact_at:
-            if not self.log.compact(replica.base, token):
+        """Has a newer base in the log, some time after the rollover that it is of."""
+        if replica.base and not self.next_base:
+            self.next_base = replica.base, time.monotonic() + SECONDS_TO_COMPACT
+            replica.base = None
+        if self.next_base and time.monotonic() > self.next_base[1]:
+            if not self.log.compact(self.next_base[0], token):
                 raise Deposed("another node leads")
-            replica.base = self.compact_at = None
+            self.next_base = None
 
     def place(self) -> int:
         """Returns the place that the node has come to."""
@@ -230,7 +230,7 @@ class Member:
     def step_down(self, why: str) -> None:
         """Leads no more, if it did."""
         token, self.token = self.token, None
-        self.pending, self.leader = [], None
+        self.pending, self.leader, self.next_base = [], None, None
         if token:
             self.told.follows(None, why)
             self.log.resign(token)

@@ -6,6 +6,7 @@ in a queue, and the first one has the next answer.
 from __future__ import annotations
 
 import asyncio
+import select
 import time
 from collections import deque
 from collections.abc import Callable, Collection, Iterable, Sequence
@@ -41,6 +42,9 @@ def words_of(line: bytes) -> tuple[str, str]:
     return words[0], words[1]
 
 
+# For so long the answer to a line that came alone is waited for before anything else is done: mostly it is
+# there in some hundredth of that, or a third where it has to be on a disk.
+MILLISECONDS_TO_RUSH = 1
 Hear = Callable[[Asked, str, float], None]
 OnEnd = Callable[[SessionFault], None]
 
@@ -92,24 +96,46 @@ class Relay:
         # how many lines were lost with a program that ended, and whether the one that there is has answered
         self.lost, self.has_answered = 0, True
         self.when_idle: asyncio.Future[None] | None = None
+        # how many lines came in this round of the event loop, and whether in the last one one came alone
+        self.came, self.came_alone, self.is_rushing = 0, False, False
         self.listen()
 
     def listen(self) -> None:
+        self.output = select.poll()
+        self.output.register(self.pipe.output, select.POLLIN)
         self.loop.add_reader(self.pipe.output, self.read)
         self.loop.add_reader(self.pipe.errors, self.read_errors)
 
     def ask(self, caller: Caller, lines: Sequence[bytes]) -> None:
         """Has these lines performed, each of which has an answer, behind all before. What comes in one round
-        of the event loop is written at once. Once the program has ended nothing is done, unless another one
-        is waited for.
+        of the event loop is written at once. Where lines come one at a time the answer is waited for, as it
+        costs less than the rounds that it saves. Once the program has ended nothing is done, unless another
+        one is waited for.
         """
         if self.is_over:
             return
-        if not self.new and not self.is_blocked and not self.is_waiting:
-            self.loop.call_soon(self.write)
+        if not self.came:
+            self.loop.call_soon(self.end_round)
+        is_free = not self.asked and not self.is_blocked and not self.is_waiting
+        self.came += len(lines)
         now = time.monotonic()
         self.asked.extend([Asked(caller, *words_of(it), now) for it in lines])
         self.new += lines
+        if is_free and self.came == 1 and self.came_alone and not self.is_rushing:
+            self.rush()
+
+    def end_round(self) -> None:
+        self.came_alone, self.came = self.came == 1, 0
+        if not self.is_blocked:
+            self.write()
+
+    def rush(self) -> None:
+        """Writes a line that came alone, and hands out its answer."""
+        self.is_rushing = True
+        self.write()
+        if not self.left and self.output.poll(MILLISECONDS_TO_RUSH):
+            self.read()
+        self.is_rushing = False
 
     def write(self) -> None:
         """Writes what there is, as far as the program takes it."""

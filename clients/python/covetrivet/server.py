@@ -52,6 +52,7 @@ class Server:
         self.limits = limits
         self.loop = asyncio.get_running_loop()
         self.connections: set[Connection] = set()
+        self.busy = 0
         self.holders, self.tally = Holders(), Tally()
         self.relay = make(self.hear, self.session_ended)
         self.orphans = Orphans(self.holders, orphans, self.loop.call_later, self.ask, self.is_named)

@@ -6,7 +6,6 @@ number of its own is in the log once at most.
 """
 from __future__ import annotations
 
-import contextlib
 import random
 import socket
 import threading
@@ -15,7 +14,7 @@ from collections.abc import Callable, Iterator, Sequence
 from dataclasses import dataclass, field
 
 from covetrivet.replica import Replica
-from covetrivet.shared_log import Base, InDoubt, Record, SharedLog
+from covetrivet.shared_log import Base, Record
 
 NOTICE = "covetrivet: "
 SLOW, QUICK = 12.0, 0.7
@@ -153,52 +152,6 @@ class Traffic:
 
 class Wrong(Exception):
     """Something is not as it has to be."""
-
-
-class Collector:
-    """Threads that read all records of a log, before they are deleted behind a dump. Each has a way of its
-    own to the log, of which some may be cut off.
-    """
-
-    def __init__(self, logs: Sequence[SharedLog]) -> None:
-        self.found: dict[int, Record] = {}
-        self.bases: set[int] = set()
-        self.twice: list[int] = []
-        self.is_over = False
-        self.threads = [threading.Thread(target=self.run, args=(it,), daemon=True) for it in logs]
-        for it in self.threads:
-            it.start()
-
-    def run(self, log: SharedLog) -> None:
-        at, behind = 0, -1
-        while True:
-            is_last = self.is_over
-            with contextlib.suppress(InDoubt):
-                records = log.read(at)
-                for place, record in records:
-                    if self.found.setdefault(place, record) != record:
-                        self.twice.append(place)
-                    at = place + 1
-                base = log.base(behind)
-                if base:
-                    behind = base.place
-                    self.bases.add(behind)
-                if is_last and not records:
-                    return
-                if not records:
-                    log.watch(0.05)
-
-    def end(self) -> list[Record]:
-        """Returns the records. Wrong where one was deleted before it was read here."""
-        self.is_over = True
-        for it in self.threads:
-            it.join(20)
-        if self.twice:
-            raise Wrong(f"there were two records at {self.twice[0]}")
-        if sorted(self.found) != list(range(len(self.found))):
-            lacks = sorted({*range(max(self.found))} - {*self.found})
-            raise Wrong(f"records were deleted before they were read here: {lacks[:5]}")
-        return [self.found[it] for it in range(len(self.found))]
 
 
 def replayed(head: Sequence[str], records: Sequence[Record]) -> tuple[list[tuple[str, str]], list[str]]:

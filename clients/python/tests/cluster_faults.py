@@ -25,8 +25,9 @@ from covetrivet import SessionFault
 from covetrivet.etcd import EtcdLog
 from covetrivet.postgres import PostgresLog
 from covetrivet.shared_log import SharedLog
-from callers import Collector, Traffic, Wrong, check, replayed
-from machines import LEASE, MACHINES, Machines, children, comes
+from callers import Traffic, Wrong, check, replayed
+from log_history import EtcdHistory, History, PostgresHistory, all_written
+from machines import LEASE, MACHINES, PREFIX, Machines, children, comes
 
 WORKERS = "wa", "wb", "wc"
 SMALL = ["rows 32", "units 64", "spare 64", "limit 7", *(f"worker {it} 1" for it in WORKERS)]
@@ -151,7 +152,7 @@ class Run:
 
     # ---- its end
 
-    def finish(self, log: SharedLog, collector: Collector) -> dict[str, object]:
+    def finish(self, log: SharedLog, history: History) -> dict[str, object]:
         """Holds all that was answered against the log. Returns figures."""
         self.traffic.is_submitting = False
         time.sleep(1)
@@ -168,7 +169,7 @@ class Run:
         self.await_place(1, place)
         for it in MACHINES:
             self.machines.end(f"node{it}", signal.SIGTERM)
-        records = collector.end()
+        records, dumps = all_written(history)
         performed, digests = replayed(self.machines.head, records)
         check(self.traffic.callers, performed)
         for it in MACHINES:
@@ -177,7 +178,7 @@ class Run:
         rolled = sum(answer.startswith("rolled over ") for _, answer in performed)
         return {
             "records": len(records), "lines": len(performed), "rollovers": rolled,
-            "dumps": len(collector.bases), "records kept": kept, "answers": self.traffic.answered(),
+            "dumps": dumps, "records kept": kept, "answers": self.traffic.answered(),
             "unknown": sum(it.unknown for it in self.traffic.callers),
             "refused by followers": sum(it.refused for it in self.traffic.callers),
             "leaders": len(re.findall("leads from place", self.said_in_all())),
@@ -198,11 +199,12 @@ class Run:
         said = [self.machines.told_by(it) for it in MACHINES if it != leader]
         return said == [f"covetrivet: this node follows: n{leader} leads\n"] * 2
 
-    def held_against(self, collector: Collector) -> str:
+    def held_against(self, history: History) -> str:
         """Returns what else is wrong with the answers, where something was found already."""
         self.traffic.end()
         try:
-            performed, _ = replayed(self.machines.head, collector.end())
+            records, _ = all_written(history)
+            performed, _ = replayed(self.machines.head, records)
             check(self.traffic.callers, performed)
         except (Wrong, SessionFault) as why:
             return str(why)
@@ -261,19 +263,19 @@ def run(
     begun = time.monotonic()
     with Machines(SMALL, package, postgres) as machines:
         begin(machines)
-        logs, one = [reader(machines, it) for it in MACHINES], Run(machines, seed)
+        one = Run(machines, seed)
         if not comes(machines.leader, SECONDS_TO_GO_ON):
             raise Wrong(f"nobody leads: {one.said()} {machines.log_of('etcd1')[-400:]}")
-        collector = Collector(logs)
+        log, history = reader(machines)
         one.traffic.begin()
         time.sleep(1)
         of = list(kinds or one.kinds())
         try:
             for at in range(faults):
                 one.fault(of[at] if at < len(of) else one.dice.choice(of))
-            figures = one.finish(logs[0], collector)
+            figures = one.finish(log, history)
         except Wrong as why:
-            raise Wrong(f"{why}\n{one.held_against(collector)}") from why
+            raise Wrong(f"{why}\n{one.held_against(history)}") from why
     where = "namespaces" if machines.network.is_there else "ports of one machine"
     of_what = "PostgreSQL" if postgres else "etcd"
     print(f"{faults} faults, {of_what}, seed {seed}, over {where}, in {time.monotonic() - begun:.0f} s:")
@@ -284,11 +286,12 @@ def run(
     sys.stdout.flush()
 
 
-def reader(machines: Machines, first: int) -> SharedLog:
+def reader(machines: Machines) -> tuple[SharedLog, History]:
     if machines.postgres:
-        return PostgresLog(machines.postgres.where(), "shop/queue", "reader", 1)
-    members = [machines.client_url(it) for it in (first, *MACHINES)]
-    return EtcdLog(members, "shop/queue", "reader", 1)
+        where = machines.postgres.where()
+        return PostgresLog(where, PREFIX, "reader", 1), PostgresHistory(where)
+    members = [machines.client_url(it) for it in MACHINES]
+    return EtcdLog(members, PREFIX, "reader", 1), EtcdHistory(members, PREFIX)
 
 
 def main(words: Sequence[str]) -> int:

@@ -19,6 +19,8 @@ from pathlib import Path
 
 MACHINES = 1, 2, 3
 LEASE = 2
+# The log's name.
+PREFIX = "shop/queue"
 
 
 def runs(*words: str) -> bool:
@@ -177,17 +179,16 @@ class Machines:
                 "--listen-peer-urls", peer, "--initial-advertise-peer-urls", peer,
                 "--heartbeat-interval", "50", "--election-timeout", "500",
                 "--initial-cluster", ",".join(f"m{it}={self.peer_url(it)}" for it in MACHINES),
-                "--logger", "zap", "--log-outputs", "stderr", "--auto-compaction-mode", "revision",
-                "--auto-compaction-retention", "100",
+                "--logger", "zap", "--log-outputs", "stderr",
             ],
         )  # fmt: skip
 
     def log_words(self, machine: int) -> list[str]:
         """Returns the options by which a node finds its log: the machine's own member first."""
         if self.postgres:
-            return ["--postgres", self.postgres.where(), "--prefix", "shop/queue"]
+            return ["--postgres", self.postgres.where(), "--prefix", PREFIX]
         members = [machine, *(it for it in MACHINES if it != machine)]
-        return ["--etcd", ",".join(map(self.client_url, members)), "--prefix", "shop/queue"]
+        return ["--etcd", ",".join(map(self.client_url, members)), "--prefix", PREFIX]
 
     # ---- nodes
 

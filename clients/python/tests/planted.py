@@ -119,9 +119,15 @@ ERRORS = [
     ),
     Error(
         "connection.py",
-        "self.host.limits.lines - self",
+        "most - self",
         "1 << 30 - 0 * self",
         "ServeBounds.test_lines_that_are_not_answered",
+    ),
+    Error(
+        "connection.py",
+        "max(FEW, SHARED // max(1, self.host.busy))",
+        "SHARED",
+        "ServeBounds.test_lines_are_shared",
     ),
     Error(
         "connection.py",

@@ -137,6 +137,21 @@ class ServeBounds(unittest.TestCase):
             self.assertLessEqual(int(two.line().split(" ")[1]), 7)
             self.assertEqual(len([one.line() for _ in range(1000)]), 1000)
 
+    def test_lines_are_shared(self) -> None:
+        """Forty clients send a lot at once. Each has fewer lines with the program than one alone would."""
+        with Serving([*WIDE]) as server:
+            clients = server.clients(40)
+            server.signal_session(signal.SIGSTOP)
+            for it in clients:
+                it.send(*["submit 1 5 5"] * 100)
+            self.assertTrue(comes(lambda: server.counted("lines_in_flight") >= 200))
+            time.sleep(0.2)
+            # (the first ones have up to 64, each later one its share of 256 among those before it)
+            self.assertLess(server.counted("lines_in_flight"), 900)
+            server.signal_session(signal.SIGCONT)
+            for it in clients:
+                self.assertEqual(len([it.line() for _ in range(100)]), 100)
+
     def test_a_slow_client_is_let_go(self) -> None:
         with Serving([*WIDE], "--unread", "100000") as server:
             slow, other = server.clients(2)
