@@ -1,5 +1,6 @@
 //! Batches that are appended, and a text that takes the place of all of them.
 ghost use Rattle.std.specs.Prelude.{◌≡◌, ◌⊎◌, ◌+◌, ◌<◌, ◌≤◌, ◌^◌, ◌++◌, true, false, length, OnOk, IsErrOf};
+ghost use Rattle.tp_journal.specs.declared.append.TheConstants.{MAX_LEN};
 ghost use Rattle.tp_journal.specs.declared.batch.Refusal.{Refusal};
 ghost use Rattle.tp_journal.specs.Device.{HasCause, LeavesOnly, Only};
 ghost use Rattle.tp_journal.specs.Journal.{IsOpen, IsSettled};
@@ -13,8 +14,8 @@ use crate::zeros::with_zeros;
 use crate::{AppendError, Device, Failed, Journal};
 use std::alloc::Global;
 
-/// The longest file to which bytes are added: 2 ^ 61.
-const MAX_LEN: usize = 2_305_843_009_213_693_952;
+/// The longest file to which bytes are added, in bytes: 2 ^ 61.
+pub const MAX_LEN: usize = 2_305_843_009_213_693_952;
 
 impl<D: Device> Journal<D> {
     /// Adds a batch and its end. At `Ok` it is acknowledged: it is on the disk.
@@ -37,6 +38,10 @@ impl<D: Device> Journal<D> {
         ensures later { D.faults self.old.device ≤ D.faults self.new.device }
         ensures failed { IsErrOf result AppendError.Failed
             → (self.new.poisoned ≡ true) × (D.faults self.old.device < D.faults self.new.device) }
+        ensures memory { IsErrOf result AppendError.Memory → self.new ≡ self.old }
+        ensures full { IsErrOf result AppendError.Full
+            → (self.new ≡ self.old) × (MAX_LEN < self.old.len) }
+        ensures had_failed { IsErrOf result AppendError.Poisoned → self.old.poisoned ≡ true }
     {
         if self.poisoned {
             return Err(AppendError::Poisoned);
@@ -76,6 +81,9 @@ impl<D: Device> Journal<D> {
         ensures later { D.faults self.old.device ≤ D.faults self.new.device }
         ensures failed { IsErrOf result AppendError.Failed
             → (self.new.poisoned ≡ true) × (D.faults self.old.device < D.faults self.new.device) }
+        ensures memory { IsErrOf result AppendError.Memory → self.new ≡ self.old }
+        ensures not_full { IsErrOf result AppendError.Full → ⊥ }
+        ensures had_failed { IsErrOf result AppendError.Poisoned → self.old.poisoned ≡ true }
     {
         if self.poisoned {
             return Err(AppendError::Poisoned);

@@ -62,4 +62,11 @@ impl<D: Device> Journal<D> {
             poisoned: false,
         }
     }
+
+    /// Its device.
+    pub fn device(&self) -> &D
+        ensures { result.now ≡ self.now.device }
+    {
+        &self.device
+    }
 }

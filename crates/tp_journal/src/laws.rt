@@ -1,7 +1,8 @@
 //! What is recovered of what a crash leaves. These functions do nothing: their contracts are the laws.
 ghost use Rattle.tp_journal.specs.Laws.{KeepsBatches, KeepsText, TellsNoCrash};
 
-/// Of what a crash leaves as a batch is appended, the text is recovered as it was acknowledged, or with the batch.
+/// Of what a crash leaves as a batch is appended, the text is recovered as it was acknowledged, or with the
+/// batch.
 pub fn kept_batches()
     ensures { KeepsBatches }
 {}

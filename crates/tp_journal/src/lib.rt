@@ -1,9 +1,9 @@
 //! A journal: batches of lines in a file, each on the disk before it is acknowledged.
 //!
 //! Its file has a text, and behind it bytes 0 that are on the disk before anything is written over them. So
-//! what a crash leaves of a write is a front of what was written, up to the first 0. Each batch ends with a line
-//! that has the number of bytes before it and their digest. So what is recovered is the acknowledged batches, or
-//! these and the one that was being appended.
+//! what a crash leaves of a write is a front of what was written, up to the first 0. Each batch ends with a
+//! line that has the number of bytes before it and their digest. So what is recovered is the acknowledged
+//! batches, or these and the one that was being appended.
 #![tactic(auto)]
 
 mod append;
@@ -16,16 +16,15 @@ mod laws;
 mod record;
 mod recovery;
 mod sealing;
-#[cfg(test)]
-mod tests;
 mod writing;
 mod zeros;
 
+pub use append::MAX_LEN;
 pub use batch::Refusal;
 pub use device::{Device, Failed};
 pub use file::{FileDevice, Paths};
 pub use journal::{AppendError, Journal};
 pub use laws::{kept_batches, kept_text, no_crash_told};
-pub use record::Record;
+pub use record::{GROWN, OPENED, Record, SPARE_SYNCED, SPARE_WRITTEN, SWAPPED, SYNCED, WRITTEN};
 pub use recovery::{Found, OpenError, recover};
 pub use sealing::FIRST_LINE;

@@ -8,25 +8,25 @@ use std::io;
 use std::marker::{Model, PhantomData};
 
 /// A file was opened that has these bytes.
-pub(crate) const OPENED: u64 = 0;
+pub const OPENED: u64 = 0;
 
 /// Bytes were written over those at an offset.
-pub(crate) const WRITTEN: u64 = 1;
+pub const WRITTEN: u64 = 1;
 
 /// A number of bytes 0 were added.
-pub(crate) const GROWN: u64 = 2;
+pub const GROWN: u64 = 2;
 
 /// The file was synced.
-pub(crate) const SYNCED: u64 = 3;
+pub const SYNCED: u64 = 3;
 
 /// The spare file was made anew, of these bytes.
-pub(crate) const SPARE_WRITTEN: u64 = 4;
+pub const SPARE_WRITTEN: u64 = 4;
 
 /// The spare file was synced.
-pub(crate) const SPARE_SYNCED: u64 = 5;
+pub const SPARE_SYNCED: u64 = 5;
 
 /// The spare file took the place of the file.
-pub(crate) const SWAPPED: u64 = 6;
+pub const SWAPPED: u64 = 6;
 
 /// What has happened, the last first.
 #[derive(Drop)]
@@ -55,7 +55,7 @@ impl Record {
     {}
 
     /// Notes a call with its answer, and passes that on.
-    pub(crate) fn tell(
+    pub fn tell(
         &mut self,
         call: u64,
         number: u64,

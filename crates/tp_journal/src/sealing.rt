@@ -57,6 +57,7 @@ pub(crate) fn seal(
         → IfOk result (λ ready. Holds256 ready.hasher (with_end (text ++ batch.now))) }
     ensures not_failed { IsErrOf result AppendError.Failed → ⊥ }
     ensures not_poisoned { IsErrOf result AppendError.Poisoned → ⊥ }
+    ensures not_full { IsErrOf result AppendError.Full → ⊥ }
 {
     if let Err(refusal) = check(batch) {
         return Err(AppendError::Refused(refusal));

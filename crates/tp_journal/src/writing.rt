@@ -40,7 +40,8 @@ pub(crate) fn make_room<D: Device>(device: &mut D, count: usize) -> Result<(), F
     Ok(())
 }
 
-/// Puts a file of its own, which is on the disk, in the place of the file. A crash leaves the one or the other.
+/// Puts a file of its own, which is on the disk, in the place of the file. A crash leaves the one or the
+/// other.
 pub(crate) fn renew<D: Device>(device: &mut D, file: &[u8]) -> Result<(), Failed>
     ensures seen { OnOk result (D.seen device.new ≡ file.now) }
     ensures durable { OnOk result (Only file.now (D.may_leave device.new)) }

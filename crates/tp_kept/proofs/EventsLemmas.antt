@@ -1,16 +1,42 @@
 -- What is written and noted.
-use Rattle.std.proofs.Common.{◌≡◌, ◌∙◌, ◌==◌, ℕ, zero, suc, ◌-◌, ◌≤◌, Bool, List, [], ◌∷◌, ◌++◌, Option, None, Some, true, refl, sym, ap, subst, arith, append-nil, append_assoc, inl, inr, length, take}
-use Rattle.std.specs.Prelude.{◌⊎◌, ◌&&◌}
+use Rattle.std.proofs.Common.{◌≡◌, ◌∙◌, ◌==◌, ℕ, zero, suc, ◌-◌, ◌≤◌, Bool, List, [], ◌∷◌, ◌++◌, Option, None, Some, true, false, refl, sym, ap, subst, arith, append-nil, append_assoc, inl, inr, length, take}
+use Rattle.std.specs.Prelude.{◌⊎◌, ◌&&◌, ◌||◌, not}
 use Rattle.std.specs.Io.KnownBytes.{Appends}
 use Rattle.std.proofs.lemmas.Bool.{eqb-true}
 use Rattle.std.proofs.lemmas.List.{length-append}
 use Rattle.tp_report.proofs.Devices.{Appends-none, Appends-then}
 use Rattle.tp_journal.specs.Event.{Event}
-use Rattle.tp_kept.specs.Events.{Writes, WritesSoFar, contents_of, is_late, shown_by, told, written}
+use Rattle.tp_model.specs.declared.types.Refusal.TheVariants as refusals
+use Rattle.tp_report.specs.Answer.{line, refusal_text}
+use Rattle.tp_kept.specs.Events.{Writes, WritesSoFar, begins, contents_of, is_late, is_sure, lacks_memory, shown_by, told, written}
 use Rattle.tp_kept.specs.declared.events.TheConstants.{RESUMED, SHOWN}
 
 pub writes_none : (events : List Event) → Writes [] [] events events
-writes_none events = record { handed_is = refl; told_is = sym (append-nil (told events)); written_is = sym (append-nil (written events)); appended_is = refl; prompt_is = refl; begun_is = refl; gone_on_is = refl; late_is = λ on. refl }
+writes_none events = record { sure_is = λ none. refl; handed_is = refl; told_is = sym (append-nil (told events)); written_is = sym (append-nil (written events)); appended_is = refl; prompt_is = refl; begun_is = refl; gone_on_is = refl; late_is = λ on. refl }
+
+or_false : (a b : Bool) → (a || b) ≡ false → (a ≡ false) × (b ≡ false)
+or_false true b e = absurd cc
+or_false false b e = (refl, e)
+
+and_less : (a b c : Bool) → (b ≡ false → c ≡ false) → (a && b) ≡ false → (a && c) ≡ false
+and_less true b c less e = less e
+and_less false b c less e = refl
+
+begins_less : (p xs ys : List ℕ) → begins p (xs ++ ys) ≡ false → begins p xs ≡ false
+begins_less [] xs ys e = absurd cc
+begins_less (x ∷ p) [] ys e = refl
+begins_less (x ∷ p) (b ∷ xs) ys e = and_less (x == b) (begins p (xs ++ ys)) (begins p xs) (begins_less p xs ys) e
+
+abbrev short : List ℕ
+short = line (refusal_text refusals.NoMemory)
+
+-- parts of what has none have none
+pub lacks_less : (xs ys : List ℕ) → lacks_memory (xs ++ ys) ≡ false → (lacks_memory xs ≡ false) × (lacks_memory ys ≡ false)
+lacks_less [] ys e = (refl, e)
+lacks_less (x ∷ xs) ys e =
+    let both = or_false (begins short (x ∷ (xs ++ ys))) (lacks_memory (xs ++ ys)) e in
+    let rest = lacks_less xs ys both.1 in
+    (ap (λ b. b || lacks_memory xs) (begins_less short (x ∷ xs) ys both.0) ∙ rest.0, rest.1)
 
 -- one part more
 writes_part : (kind : ℕ) (f part : List ℕ) (old mid : List Event) → (kind ≡ RESUMED) ⊎ (kind ≡ SHOWN) → Writes (shown_by kind f) f old mid → Writes (shown_by kind (f ++ part)) (f ++ part) old ((kind, 0, true, part) ∷ mid)
@@ -23,6 +49,7 @@ writes_part kind f part old mid (inl is) so = subst (λ k. Writes (shown_by k (f
   begun_is = so.begun_is;
   gone_on_is = so.gone_on_is;
   late_is = λ on. ap (λ b. b && is_late mid) (so.gone_on_is ∙ on) ∙ so.late_is on;
+  sure_is = λ none. so.sure_is (ap (λ k. lacks_memory (shown_by k f)) is);
 })
 writes_part kind f part old mid (inr is) so = subst (λ k. Writes (shown_by k (f ++ part)) (f ++ part) old ((k, 0, true, part) ∷ mid)) (sym is) (record {
   handed_is = so.handed_is;
@@ -33,6 +60,7 @@ writes_part kind f part old mid (inr is) so = subst (λ k. Writes (shown_by k (f
   begun_is = so.begun_is;
   gone_on_is = so.gone_on_is;
   late_is = λ on. ap (λ b. b && is_late mid) (so.gone_on_is ∙ on) ∙ so.late_is on;
+  sure_is = λ none. (let both = lacks_less f part none in ap (λ b. not b && is_sure mid) both.1 ∙ so.sure_is (ap (λ k. lacks_memory (shown_by k f)) is ∙ both.0));
 })
 
 shown_none : (kind : ℕ) → (kind ≡ RESUMED) ⊎ (kind ≡ SHOWN) → shown_by kind [] ≡ []

@@ -2,3 +2,4 @@ pub mod EventsLemmas
 pub mod KeptLemmas
 pub mod LinesLemmas
 pub mod OwnLemmas
+pub mod SureLemmas

@@ -5,6 +5,8 @@ use Rattle.std.specs.Io.KnownBytes.{Appends}
 use Rattle.tp_script.specs.declared.source.Failed.{Failed}
 use Rattle.std.specs.Option.{option_map}
 use Rattle.tp_journal.specs.Event.{Event}
+use Rattle.tp_model.specs.declared.types.Refusal.TheVariants as refusals
+use Rattle.tp_report.specs.Answer.{line, refusal_text}
 use Rattle.tp_kept.specs.declared.events.TheConstants.{APPENDED, ASKED, BEGUN, HANDED, MUTED, RESUMED, SHOWN}
 
 -- the bytes of the events of one kind or another, in the order in which they came
@@ -55,9 +57,27 @@ is_late [] = true
 is_late ((kind, number, ok, bytes) ∷ past) =
     (not ((kind == RESUMED) || (kind == SHOWN)) || has_gone_on past) && is_late past
 
+-- one list begins with another
+abbrev pub begins : List ℕ → List ℕ → Bool
+begins [] bs = true
+begins (x ∷ xs) [] = false
+begins (x ∷ xs) (b ∷ bs) = (x == b) && begins xs bs
+
+-- the bytes have the end of a line that tells of want of memory
+abbrev pub lacks_memory : List ℕ → Bool
+lacks_memory [] = false
+lacks_memory (b ∷ bs) = begins (line (refusal_text refusals.NoMemory)) (b ∷ bs) || lacks_memory bs
+
+-- nothing that was told, or had been told before, has one
+abbrev pub is_sure : List Event → Bool
+is_sure [] = true
+is_sure ((kind, number, ok, bytes) ∷ past) =
+    not (((kind == MUTED) || (kind == SHOWN)) && lacks_memory bytes) && is_sure past
+
 -- What the session has told, behind what a writer had before: of what the writer has, that was written.
 abbrev pub contents_of : List Event → Option (List ℕ) → Option (List ℕ)
-contents_of events has = option_map (λ all. take (length all - length (written events)) all ++ told events) has
+contents_of events has = option_map (λ all.
+    take (length all - length (written events)) all ++ told events) has
 
 -- between the two this was told and that was written, and nothing else has happened
 pub record Writes (more_told more_written : List ℕ) (old new : List Event) : Type 0 where
@@ -69,6 +89,7 @@ pub record Writes (more_told more_written : List ℕ) (old new : List Event) : T
   pub begun_is : begun new ≡ begun old
   pub gone_on_is : has_gone_on new ≡ has_gone_on old
   pub late_is : has_gone_on old ≡ true → is_late new ≡ is_late old
+  pub sure_is : lacks_memory more_told ≡ false → is_sure new ≡ is_sure old
 
 -- what of written bytes was told: answers are, how many lines were recovered isn't
 abbrev pub shown_by : ℕ → List ℕ → List ℕ

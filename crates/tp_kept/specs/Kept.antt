@@ -22,6 +22,7 @@ pub record IsKept {D : Type 0} (seen : D → List ℕ) (may_leave : D → List �
   pub keeps : Keeps (may_leave journal.device) lines
   pub fine : failed ≡ false → (journal.poisoned ≡ false) × (lines_in (text_of (seen journal.device)) ≡ lines)
 
--- the bytes that are to come: lines that are ready, and then what a reader has as it is put down behind a line
+-- the bytes that are to come: lines that are ready, and then what a reader has as it is put down behind a
+-- line
 abbrev pub rest_of : List ℕ → List ℕ → Option (List ℕ) → Option (List ℕ)
 rest_of ready line rest = option_map (λ more. ready ++ downs line more) rest

@@ -10,7 +10,7 @@ ghost use Rattle.tp_kept.specs.Kept.{lines_in, rest_of};
 ghost use Rattle.tp_kept.specs.Ready.{IsReady};
 ghost use Rattle.tp_session.specs.declared.reading.TheConstants.{MAX_ASKED};
 
-use crate::cause::Cause;
+use crate::cause::{Cause, cause_of};
 use crate::events::{APPENDED, ASKED, BEGUN, HANDED, RESUMED};
 use crate::kept::Kept;
 use crate::lines::{count, end, given, put};
@@ -76,6 +76,7 @@ impl<R: Source + Drop, W: Sink + Drop, D: Device + Drop> Kept<R, W, D> {
     /// Reads once.
     fn read_some(&mut self, buffer: &mut [u8]) -> Result<usize, Failed>
         requires ready { IsReady D.seen D.may_leave self.old }
+        requires fine { self.old.cause ≡ None }
         ensures is_ready { IsReady D.seen D.may_leave self.new }
         ensures count { IfOk result (λ n. n ≤ length buffer.new) }
         ensures bytes { IfOk result (λ n.
@@ -85,7 +86,7 @@ impl<R: Source + Drop, W: Sink + Drop, D: Device + Drop> Kept<R, W, D> {
         ensures ready { (self.new.ready ≡ self.old.ready) × (self.new.at ≡ self.old.at) }
         ensures same { (self.new.writer ≡ self.old.writer) × (self.new.log ≡ self.old.log)
             × (self.new.asked ≡ self.old.asked) × (self.new.recovering ≡ self.old.recovering) }
-        ensures fine { OnOk result (self.new.cause ≡ self.old.cause) }
+        ensures fine { OnOk result ((self.new.cause ≡ self.old.cause) × (self.new.left + 1 ≡ self.old.left)) }
         ensures cause { OnErr result (is_some self.new.cause ≡ true) }
     {
         if self.left == 0 {
@@ -125,8 +126,8 @@ impl<R: Source + Drop, W: Sink + Drop, D: Device + Drop> Kept<R, W, D> {
                 self.at = 0;
                 Ok(())
             }
-            Err(_) => {
-                self.cause = Some(Cause::Journal);
+            Err(error) => {
+                self.cause = Some(cause_of(error));
                 Err(Failed)
             }
         }
@@ -141,7 +142,8 @@ impl<R: Source + Drop, W: Sink + Drop, D: Device + Drop> Kept<R, W, D> {
         ensures is_ready { IsReady D.seen D.may_leave self.new }
         ensures rest { OnOk result (Consumes
             (rest_of [] self.old.line.items (R.rest self.old.reader))
-            (rest_of (drop self.new.at self.new.ready.items) self.new.line.items (R.rest self.new.reader)) []) }
+            (rest_of (drop self.new.at self.new.ready.items) self.new.line.items (R.rest self.new.reader))
+            []) }
         ensures end { OnOk result (drop self.new.at self.new.ready.items ≡ []
             → IsAtEnd (rest_of [] self.new.line.items (R.rest self.new.reader))) }
         ensures same { (self.new.writer ≡ self.old.writer) × (self.new.asked ≡ self.old.asked)
@@ -151,7 +153,7 @@ impl<R: Source + Drop, W: Sink + Drop, D: Device + Drop> Kept<R, W, D> {
     {
         let mut batch = Vec::new(self.alloc);
         let mut buffer = [0; CHUNK];
-        for _read in 0..MAX_ASKED {
+        for read in 0..self.left {
             let n = self.read_some(&mut buffer)?;
             if n == 0 {
                 return self.end_line(batch);
@@ -183,7 +185,8 @@ impl<R: Source + Drop, W: Sink + Drop, D: Device + Drop> Kept<R, W, D> {
         ensures is_ready { IsReady D.seen D.may_leave self.new }
         ensures rest { OnOk result (Consumes
             (rest_of [] self.old.line.items (R.rest self.old.reader))
-            (rest_of (drop self.new.at self.new.ready.items) self.new.line.items (R.rest self.new.reader)) []) }
+            (rest_of (drop self.new.at self.new.ready.items) self.new.line.items (R.rest self.new.reader))
+            []) }
         ensures end { OnOk result (drop self.new.at self.new.ready.items ≡ []
             → IsAtEnd (rest_of [] self.new.line.items (R.rest self.new.reader))) }
         ensures same { (self.new.writer ≡ self.old.writer) × (self.new.asked ≡ self.old.asked)
@@ -245,7 +248,8 @@ impl<R: Source + Drop, W: Sink + Drop, D: Device + Drop> Kept<R, W, D> {
         ensures is_ready { IsReady D.seen D.may_leave self.new }
         ensures rest { OnOk result (Consumes
             (rest_of [] self.old.line.items (R.rest self.old.reader))
-            (rest_of (drop self.new.at self.new.ready.items) self.new.line.items (R.rest self.new.reader)) []) }
+            (rest_of (drop self.new.at self.new.ready.items) self.new.line.items (R.rest self.new.reader))
+            []) }
         ensures end { OnOk result (drop self.new.at self.new.ready.items ≡ []
             → IsAtEnd (rest_of [] self.new.line.items (R.rest self.new.reader))) }
         ensures contents { Appends (contents_of self.old.log.events (W.contents self.old.writer))
@@ -264,7 +268,8 @@ impl<R: Source + Drop, W: Sink + Drop, D: Device + Drop> Kept<R, W, D> {
         ensures is_ready { IsReady D.seen D.may_leave self.new }
         ensures rest { OnOk result (Consumes
             (rest_of (drop self.old.at self.old.ready.items) self.old.line.items (R.rest self.old.reader))
-            (rest_of (drop self.new.at self.new.ready.items) self.new.line.items (R.rest self.new.reader)) []) }
+            (rest_of (drop self.new.at self.new.ready.items) self.new.line.items (R.rest self.new.reader))
+            []) }
         ensures end { OnOk result (drop self.new.at self.new.ready.items ≡ []
             → IsAtEnd (rest_of [] self.new.line.items (R.rest self.new.reader))) }
         ensures contents { Appends (contents_of self.old.log.events (W.contents self.old.writer))

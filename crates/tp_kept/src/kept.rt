@@ -1,6 +1,9 @@
 //! A reader, a writer and a journal.
-ghost use Rattle.std.specs.Prelude.{◌≡◌, ◌≤◌, ◌<◌, ◌+◌, ◌^◌, ◌&&◌, ◌++◌, [], true, false, drop, vec_len};
-ghost use Rattle.tp_kept.specs.Events.{begun, handed, has_appended, has_gone_on, is_late, is_prompt, written};
+ghost use Rattle.std.specs.Prelude.{◌≡◌, ◌≤◌, ◌<◌, ◌+◌, ◌^◌, ◌&&◌, ◌||◌, ◌==◌, ◌++◌, [], Some, IsTrue};
+ghost use Rattle.std.specs.Prelude.{drop, false, nat_lt, true, vec_len};
+ghost use Rattle.tp_journal.specs.declared.append.TheConstants.{MAX_LEN};
+ghost use Rattle.tp_kept.specs.declared.cause.Cause.TheVariants as Cause;
+ghost use Rattle.tp_kept.specs.Events.{begun, handed, has_appended, has_gone_on, is_late, is_prompt, is_sure, written};
 ghost use Rattle.tp_session.specs.declared.reading.TheConstants.{MAX_KEPT};
 
 use crate::cause::Cause;
@@ -9,8 +12,8 @@ use tp_journal::{Device, Journal, Record};
 use tp_report::Sink;
 use tp_script::Source;
 
-/// A reader, a writer and a journal. What is read is on the disk before the session has it. The lines that the
-/// journal had come first; what the session tells of them was told before, and isn't written again.
+/// A reader, a writer and a journal. What is read is on the disk before the session has it. The lines that
+/// the journal had come first; what the session tells of them was told before, and isn't written again.
 #[derive(Drop)]
 pub struct Kept<R: Source + Drop, W: Sink + Drop, D: Device + Drop> {
     pub(crate) alloc: Global,
@@ -43,4 +46,9 @@ pub struct Kept<R: Source + Drop, W: Sink + Drop, D: Device + Drop> {
     ghost first: { recovering ≡ true → handed log.events ++ drop at ready.items ≡ begun log.events },
     ghost gone_on: { recovering ≡ false → has_gone_on log.events ≡ true },
     ghost late: { is_late log.events ≡ true },
+    ghost sure: { is_sure log.events ≡ true },
+    ghost read_fault: { cause ≡ Some Cause.Read → (R.has_failed reader || (left == 0)) ≡ true },
+    ghost write_fault: { cause ≡ Some Cause.Write → IsTrue (W.has_failed writer) },
+    ghost journal_fault: { cause ≡ Some Cause.Journal
+        → (journal.poisoned || nat_lt MAX_LEN journal.len) ≡ true },
 }

@@ -7,6 +7,7 @@ mod filling;
 mod kept;
 mod lines;
 mod program;
+mod sure;
 mod wire;
 mod writing;
 

@@ -30,7 +30,8 @@ fn put_byte(line: &mut Vec<u8>, byte: u8, ready: &mut Vec<u8>) -> Result<(), All
     requires plain { All IsPlain line.old.items }
     ensures short { vec_len line.new ≤ MAX_KEPT }
     ensures plain { All IsPlain line.new.items }
-    ensures put { OnOk result (Puts (byte ∷ []) line.old.items ready.old.items line.new.items ready.new.items) }
+    ensures put { OnOk result
+        (Puts (byte ∷ []) line.old.items ready.old.items line.new.items ready.new.items) }
 {
     if byte == b'\n' {
         ready.extend_from_slice(line.as_slice())?;

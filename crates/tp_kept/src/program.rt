@@ -14,8 +14,8 @@ use tp_report::{Fault, Sink, StdSink, write_all, write_fault};
 use tp_script::{Failed, Source, StdSource};
 use tp_session::converse;
 
-/// Answers a kept session, writes the line of a fault to the other writer, and answers the exit status: 0 done, 1
-/// a fault.
+/// Answers a kept session, writes the line of a fault to the other writer, and answers the exit status: 0
+/// done, 1 a fault.
 pub fn keep_to_end<R: Source + Drop, W: Sink + Drop, D: Device + Drop, E: Sink>(
     alloc: Global,
     kept: &mut Kept<R, W, D>,
@@ -75,8 +75,8 @@ impl From<AllocError> for Unopened {
     }
 }
 
-/// Answers a session whose lines are in a journal in this file: what the file has is recovered first. Beside the
-/// file it makes `FILE.new` and `FILE.lock`. Answers the exit status: 0 done, 1 a fault.
+/// Answers a session whose lines are in a journal in this file: what the file has is recovered first. Beside
+/// the file it makes `FILE.new` and `FILE.lock`. Answers the exit status: 0 done, 1 a fault.
 pub fn keep_session(rt: &HostRuntime, path: &str) -> u8 {
     let alloc = rt.alloc();
     let mut faults = StdSink::new(rt.stderr());

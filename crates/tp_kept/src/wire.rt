@@ -8,6 +8,7 @@ ghost use Rattle.tp_kept.specs.Ready.{IsReady};
 use crate::cause::Cause;
 use crate::events::{MUTED, SHOWN};
 use crate::kept::Kept;
+use crate::sure::lacks_memory;
 use crate::writing::write_noted;
 use tp_journal::Device;
 use tp_report::Sink;
@@ -34,6 +35,10 @@ impl<R: Source + Drop, W: Sink + Drop, D: Device + Drop> Wire for Kept<R, W, D> 
 
     fn tell(&mut self, answers: &[u8]) -> Result<(), Failed> {
         if self.cause.is_some() {
+            return Err(Failed);
+        }
+        if lacks_memory(answers) {
+            self.cause = Some(Cause::NoMemory);
             return Err(Failed);
         }
         if self.recovering {

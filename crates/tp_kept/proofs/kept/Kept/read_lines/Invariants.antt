@@ -1,4 +1,4 @@
-use Rattle.std.proofs.Common.{◌≡◌, [], None, drop, false}
+use Rattle.std.proofs.Common.{◌≡◌, ◌+◌, [], None, drop, false}
 use Rattle.std.specs.Io.KnownBytes.{Consumes}
 use Rattle.tp_kept.specs.Events.{told, written}
 use Rattle.tp_kept.specs.Kept.{rest_of}
@@ -12,6 +12,7 @@ invariant-loop-read g l = record {
   used : drop l.self.at l.self.ready.items ≡ [];
   resumed : l.self.recovering ≡ false;
   fine : l.self.cause ≡ None;
+  left : l.self.left + l.read ≡ l.fn.self.left;
   empty : l.batch.items ≡ [];
   rest : Consumes (rest_of [] l.fn.self.line.items (g.R.Source.rest l.fn.self.reader)) (rest_of [] l.self.line.items (g.R.Source.rest l.self.reader)) [];
   writer : l.self.writer ≡ l.fn.self.writer;

@@ -4,12 +4,13 @@ ghost use Rattle.tp_journal.specs.Journal.{IsOpen};
 ghost use Rattle.tp_journal.specs.History.{counts_after, faults_after, leaves_after, left_after, only_after};
 ghost use Rattle.tp_journal.specs.History.{seen_after, spare_after, spare_leaves_after};
 
-use crate::record::{GROWN, OPENED, Record, SPARE_SYNCED, SPARE_WRITTEN, SWAPPED, SYNCED, WRITTEN};
-use crate::zeros::text_len;
-use crate::{AppendError, Device, Failed, Journal, OpenError, recover};
 use anyhow::Result;
 use std::alloc::Global;
 use std::io;
+use tp_journal::{
+    AppendError, Device, Failed, GROWN, Journal, OPENED, OpenError, Record, SPARE_SYNCED,
+    SPARE_WRITTEN, SWAPPED, SYNCED, WRITTEN, recover,
+};
 
 /// A disk in memory, which fails at one call: that does the half of what it was to do.
 #[derive(Drop)]
@@ -168,7 +169,7 @@ fn run(alloc: Global, calls_left: usize) -> Result<Left> {
     step(alloc, &mut left, &mut journal, &long, false)?;
     step(alloc, &mut left, &mut journal, b"four\n", true)?;
     step(alloc, &mut left, &mut journal, b"five\n", false)?;
-    left.disk = journal.device.disk.to_vec(alloc)?;
+    left.disk = journal.device().disk.to_vec(alloc)?;
     Ok(left)
 }
 
@@ -212,8 +213,9 @@ fn put(
 
 /// The text on a journal's disk.
 fn text_of(alloc: Global, journal: &Journal<Fake>) -> Result<Vec<u8>> {
-    let disk = &journal.device.disk;
-    Ok(disk[..text_len(disk)].to_vec(alloc)?)
+    let disk = &journal.device().disk;
+    let len = disk.iter().take_while(|byte| **byte != 0).count();
+    Ok(disk[..len].to_vec(alloc)?)
 }
 
 /// Whether a text is the one that was there after so many acknowledged batches.
