@@ -43,6 +43,7 @@ returns-clause-computed c fresh =
       stay = e.stays;
       survivors = c.deref.result.now;
       found = subst (AreSurvivors c.args.old.now.limits c.find_all.new.keeper.seen) (sym c.deref.ensures.value) e.found;
+      in_hand = subst (AreInHand c.args.old_passes.now) (sym c.deref.ensures.value) e.in_hand;
       made = made;
     })
 
@@ -56,5 +57,6 @@ returns-clause-would_not_fit c fresh full =
       stay = e.stays;
       survivors = c.deref.result.now;
       found = subst (AreSurvivors c.args.old.now.limits c.find_all.new.keeper.seen) (sym c.deref.ensures.value) e.found;
+      in_hand = subst (AreInHand c.args.old_passes.now) (sym c.deref.ensures.value) e.in_hand;
       full = none_so c.stand_again.result _ _ full (c.stand_again.ensures.computed fresh);
     }
