@@ -65,7 +65,12 @@ fn has_low(manager: &Manager, passes: &[Pass]) -> bool
 
 /// The fault that is told, with what these passes of the new manager have left, and whether an element is
 /// held. Full only where the stop was.
-pub(crate) fn fault_after(stop: Stop, manager: &Manager, passes: &[Pass], is_held: bool) -> RollFault
+pub(crate) fn fault_after(
+    stop: Stop,
+    manager: &Manager,
+    passes: &[Pass],
+    is_held: bool,
+) -> RollFault
     requires own { All (IsOf manager.now) passes.now }
     ensures late { IsLate manager.now.limits passes.now (is_held ≡ true) result }
     ensures full { result ≡ faults.Full → stop ≡ stops.Full }
