@@ -3,3 +3,4 @@ pub mod CallerHandles
 pub mod Answered
 pub mod HomeHandles
 pub mod Unmade
+pub mod Uncarried

@@ -8,7 +8,7 @@ use crate::fault::Fault;
 use std::alloc::Global;
 use tp_manager::{Keeper, Manager, Pass};
 use tp_model::types::Refusal;
-use tp_rollover::{Moved, RollFault, roll_over};
+use tp_rollover::{Moved, RollFault, has_open, roll_over};
 
 /// Why a rollover was refused.
 fn fault_of(fault: RollFault) -> Fault
@@ -24,7 +24,8 @@ fn fault_of(fault: RollFault) -> Fault
     }
 }
 
-/// The rollover between two managers whose passes are these.
+/// The rollover between two managers whose passes are these. `Busy` where one of the old one's has a unit
+/// open: a caller's handle has it in hand.
 pub(crate) fn carry(
     alloc: Global,
     old: &Manager,
@@ -50,6 +51,9 @@ pub(crate) fn carry(
         (λ f. StayPut old_keeper.old old_keeper.new old_passes.old old_passes.new
         × IsUncarried old.now.limits new.now.limits old_passes.old new_passes.old f) }
 {
+    if has_open(old_passes) {
+        return Err(Fault::Busy);
+    }
     match roll_over(
         alloc, old, old_keeper, old_passes, new, new_keeper, new_passes,
     ) {

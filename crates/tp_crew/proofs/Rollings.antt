@@ -24,7 +24,10 @@ use Rattle.tp_crew.specs.declared.crew.Crew.{Crew}
 use Rattle.tp_crew.specs.Crew.{IsSteadyCrew, folds}
 use Rattle.tp_crew.specs.CrewPasses.{Shows, desks_in}
 use Rattle.tp_crew.specs.Rolling.{IsCrewFault, RefusedSteps}
+use Rattle.tp_rollover.specs.Answers.{Rolls}
+use Rattle.tp_rollover.specs.declared.moved.Moved.{Moved}
 use Rattle.tp_rollover.proofs.Assembly.{free_stays}
+use Rattle.tp_rollover.proofs.Freed.{free_again}
 use Rattle.tp_rollover.proofs.Sums.{all_make}
 use Rattle.tp_crew.proofs.CrewLemmas.{served_new, served_same}
 
@@ -61,13 +64,17 @@ gathered_after l h keeper keeper1 keeper2 olds olds1 olds2 parts all all' given 
     omega (arith, f, made)
 
 -- a steady crew meets no other fault
-pub crew_fault : (l : Limits) (passes : List PassShown) (fault : RollFault) → AreFree passes → IsRefusedFor l passes fault → IsCrewFault l passes fault
-crew_fault l passes NoMemory free due = tt
-crew_fault l passes BadLimits free due = due
-crew_fault l passes NoPass free due = due
-crew_fault l passes Busy free due = due free
-crew_fault l passes Full free due = due.1
-crew_fault l passes Unequal free due = tt
+pub crew_fault : (l : Limits) (passes : List PassShown) (fault : RollFault) → IsRefusedFor l passes fault → IsCrewFault l passes fault
+crew_fault l passes NoMemory due = due
+crew_fault l passes BadLimits due = due
+crew_fault l passes NoPass due = due
+crew_fault l passes Busy due = due
+crew_fault l passes Full due = due
+crew_fault l passes Unequal due = due
+
+-- its passes are free in the new manager too
+pub rolled_free : (l k : Limits) (m m' : ManagerShown) (old' new' : KeeperShown) (olds olds' news : List PassShown) (moved : List Moved) → Rolls l k old' new' olds olds' news moved → All (IsFreePass m) olds → All (IsOf m') news → All (IsFreePass m') news
+rolled_free l k m m' old' new' olds olds' news moved rolls free own = both_all m' news own (free_again l k old' new' olds olds' news moved rolls (free_all m olds free))
 
 module _ {X : Type 0} {F : X → Type 0} (behaviour : DynBox X Global F → Behaviour) (registers : DynBox X Global F → List ℕ)
     (pending : DynBox X Global F → Option Pending) where

@@ -10,11 +10,11 @@ use Rattle.tp_manager.specs.Shown.{PassShown}
 use Rattle.tp_rollover.specs.Anew.{made_anew}
 use Rattle.tp_rollover.specs.Carries.{WouldNotFit}
 use Rattle.tp_rollover.specs.Faults.{AreFree}
-use Rattle.tp_rollover.specs.Managed.{IsRefusedFor, IsUnsurveyed}
 use Rattle.tp_rollover.specs.declared.moved.Moved.{Moved}
 use Rattle.tp_rollover.specs.declared.moved.RollFault.{RollFault}
 use Rattle.tp_rollover.specs.declared.moved.RollFault.TheVariants as faults
 use Rattle.tp_rollover.specs.declared.survivors.Survivor.{Survivor}
+use Rattle.tp_rollover.proofs.Freed.{free_unheld}
 use Rattle.tp_report.specs.Answer.{line, rolled_text}
 use Rattle.tp_report.specs.declared.answer.Renamed.{Renamed}
 use Rattle.tp_script.specs.Script.{ServerView}
@@ -22,7 +22,7 @@ use Rattle.tp_script.specs.Script.{HeadView, head_view}
 use Rattle.tp_script.specs.declared.head.Head.{Head}
 use Rattle.tp_commands.specs.Acting.{DeskShown, PlaceShown}
 use Rattle.tp_perform.specs.Restore.{IsUnrestoredFor, Restored}
-use Rattle.tp_perform.specs.Rollover.{BeginsAgain, RollRefused, RolledOver, renamed, roll_refused_text}
+use Rattle.tp_perform.specs.Rollover.{BeginsAgain, IsUnrolledFor, RollRefused, RolledOver, renamed, roll_refused_text}
 use Rattle.tp_perform.specs.Scenes.{Scene, passes_in}
 use Rattle.tp_reference.specs.declared.plain_desk.PlainDesk.{PlainDesk}
 use Rattle.tp_alone.specs.Thread.{AreTogether, thread_of}
@@ -30,7 +30,7 @@ use Rattle.tp_alone.proofs.Idle.{alone_idle}
 use Rattle.tp_session.specs.Answers.{restored_text}
 use Rattle.tp_session.specs.Dump.{dump_text}
 use Rattle.tp_session.specs.Hands.{unit_of}
-use Rattle.tp_session.specs.Live.{DumpTold, HoldsUnits, Live, LiveGathers, RestoreTold, RolloverTold, survivors_of}
+use Rattle.tp_session.specs.Live.{DumpTold, HoldsUnits, IsUnsurveyedFor, Live, LiveGathers, RestoreTold, RolloverTold, survivors_of}
 use Rattle.tp_exact.specs.Alive.{alive_of}
 use Rattle.tp_exact.specs.Dumps.{DumpComputed}
 use Rattle.tp_exact.specs.PlainSession.{SessionState, anew, anew_as, dump_of, is_open, unless_refused}
@@ -195,18 +195,18 @@ module _ (head : Head) (old new : Live) (text : List ℕ) (s : SessionState) (is
       answered (anew told survivors s) free
       (subst (λ o. IsStep h new text (anew_as told s o)) (sym (ap (λ (z : Limits). made_anew z z.parts survivors (start z)) limits_are ∙ none)) (text_is, stands))
 
-  unfit : WouldNotFit l (passes_in scene) l.parts (start l) → made_anew l l.parts (alive_of s.report.manager) (start l) ≡ None
-  unfit w =
+  unfit : AreFree (passes_in scene) → WouldNotFit l (passes_in scene) l.parts (start l) → made_anew l l.parts (alive_of s.report.manager) (start l) ≡ None
+  unfit free w =
       let same : thread_of l w.looked w.keeper.seen ≡ s.report.manager = (alone_idle l old.stand.keeper w.keeper (passes_in scene) w.looked old.stand.keeper.seen w.keeper.seen is.stands.together w.stay w.together).1 ∙ sym is.stands.manager in
-      let alive : w.survivors ≡ alive_of s.report.manager = described_so l w.keeper.seen w.survivors w.together.legal w.found ∙ ap alive_of same in
+      let alive : w.survivors ≡ alive_of s.report.manager = described_so l w.keeper.seen w.survivors w.together.legal w.found (free_unheld (passes_in scene) w.survivors free w.in_hand) ∙ ap alive_of same in
       subst (λ ss. made_anew l l.parts ss (start l) ≡ None) alive w.full
 
-  unrolled_for : (why : RollFault) → IsRefusedFor l (passes_in scene) why → text ≡ line (roll_refused_text why) → StandsLive h new s → Answered (anew rolled_text (alive_of s.report.manager) s)
+  unrolled_for : (why : RollFault) → IsUnrolledFor l (passes_in scene) why → text ≡ line (roll_refused_text why) → StandsLive h new s → Answered (anew rolled_text (alive_of s.report.manager) s)
   unrolled_for faults.NoMemory due text_is stands = failed (anew rolled_text (alive_of s.report.manager) s) faults.NoMemory tt due text_is stands
   unrolled_for faults.BadLimits due text_is stands = absurd due
   unrolled_for faults.NoPass due text_is stands = absurd due
   unrolled_for faults.Busy due text_is stands = busy (anew rolled_text (alive_of s.report.manager) s) (is_open s) refl due text_is stands
-  unrolled_for faults.Full due text_is stands = no_room rolled_text (alive_of s.report.manager) (unfit due.1) due.0 text_is stands
+  unrolled_for faults.Full due text_is stands = no_room rolled_text (alive_of s.report.manager) (unfit due.0 due.1) due.0 text_is stands
   unrolled_for faults.Unequal due text_is stands = failed (anew rolled_text (alive_of s.report.manager) s) faults.Unequal tt due text_is stands
 
   unrestored_for : (survivors : List Survivor) (why : RollFault) → IsUnrestoredFor l survivors (passes_in scene) why → text ≡ line (roll_refused_text why) → StandsLive h new s → Answered (anew restored_text survivors s)
@@ -217,7 +217,7 @@ module _ (head : Head) (old new : Live) (text : List ℕ) (s : SessionState) (is
   unrestored_for survivors faults.Full due text_is stands = no_room restored_text survivors due.1 due.0 text_is stands
   unrestored_for survivors faults.Unequal due text_is stands = failed (anew restored_text survivors s) faults.Unequal tt due text_is stands
 
-  unsurveyed_for : (done : List ℕ × SessionState) (why : RollFault) → IsUnsurveyed (passes_in scene) why → text ≡ line (roll_refused_text why) → StandsLive h new s → Answered done
+  unsurveyed_for : (done : List ℕ × SessionState) (why : RollFault) → IsUnsurveyedFor (passes_in scene) why → text ≡ line (roll_refused_text why) → StandsLive h new s → Answered done
   unsurveyed_for done faults.NoMemory due text_is stands = failed done faults.NoMemory tt due text_is stands
   unsurveyed_for done faults.BadLimits due text_is stands = absurd due
   unsurveyed_for done faults.NoPass due text_is stands = absurd due
@@ -257,7 +257,7 @@ module _ (head : Head) (old new : Live) (text : List ℕ) (s : SessionState) (is
   rolled works r =
       let c = r.carries in
       let same : thread_of l c.looked c.keeper.seen ≡ s.report.manager = (alone_idle l old.stand.keeper c.keeper (passes_in scene) c.looked old.stand.keeper.seen c.keeper.seen is.stands.together c.stay c.together).1 ∙ sym is.stands.manager in
-      let alive : c.survivors ≡ alive_of s.report.manager = described_so l c.keeper.seen c.survivors c.together.legal c.found ∙ ap alive_of same in
+      let alive : c.survivors ≡ alive_of s.report.manager = described_so l c.keeper.seen c.survivors c.together.legal c.found (free_unheld (passes_in scene) c.survivors r.idle c.in_hand) ∙ ap alive_of same in
       let m : State = thread_of l (passes_in new.stand.scene) new.stand.keeper.seen in
       let stands = stands_anew m (ap (λ (z : Limits). thread_of z (passes_in new.stand.scene) new.stand.keeper.seen) (sym r.limits)) r.rolls.new_together r.free r.places works in
       answered (anew rolled_text (alive_of s.report.manager) s) r.idle (subst (λ ss. IsStep h new text (anew rolled_text ss s)) alive (made_so rolled_text c.survivors r.moved m c.made r.text_is stands))
@@ -265,7 +265,7 @@ module _ (head : Head) (old new : Live) (text : List ℕ) (s : SessionState) (is
   pub by_rollover : RolloverTold old text new → Answered (anew rolled_text (alive_of s.report.manager) s)
   by_rollover t = elim t.rolls [
     | inl r ↦ rolled t.works r
-    | inr r ↦ unrolled_for r.why r.due r.text_is (stands_on (IsRefusedFor l) t.works r)
+    | inr r ↦ unrolled_for r.why r.due r.text_is (stands_on (IsUnrolledFor l) t.works r)
   ]
 
   restored : (moved : List Moved) → new.works ≡ old.works → Restored (survivors_of h) old.stand moved new.stand → text ≡ line (restored_text (map renamed moved)) → Answered (anew restored_text (survivors_of h) s)

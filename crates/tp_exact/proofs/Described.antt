@@ -11,8 +11,9 @@ use Rattle.tp_model.specs.declared.types.Status.{Status}
 use Rattle.tp_model.specs.declared.types.Status.TheVariants as status
 use Rattle.tp_model.proofs.Bridges.{element_of-id, in_none, is_born}
 use Rattle.tp_model.proofs.Later.{births_inside}
-use Rattle.tp_rollover.specs.Survivors.{AreSurvivors, Ascending, IsSurvivor}
+use Rattle.tp_rollover.specs.Survivors.{AreSurvivors, AreUnheld, Ascending, IsLiving, IsStanding, IsSurvivor}
 use Rattle.tp_rollover.specs.declared.survivors.Survivor.{Survivor}
+use Rattle.tp_rollover.proofs.Carrying.{each_of}
 use Rattle.tp_exact.specs.Alive.{if_alive, is_alive, with_root}
 
 alive_is : (x : Status) → IsKillable x → is_alive x ≡ true
@@ -22,12 +23,26 @@ alive_is (status.Held u n) killable = absurd killable
 alive_is (status.Consumed u) killable = absurd killable
 alive_is status.Killed killable = absurd killable
 
+killable_lives : (x : Status) → IsKillable x → IsLiving x
+killable_lives (status.Waiting n) killable = tt
+killable_lives (status.Parked n) killable = tt
+killable_lives (status.Held u n) killable = absurd killable
+killable_lives (status.Consumed u) killable = absurd killable
+killable_lives status.Killed killable = absurd killable
+
 killable_is : (x : Status) → is_alive x ≡ true → IsKillable x
 killable_is (status.Waiting n) is = tt
 killable_is (status.Parked n) is = tt
 killable_is (status.Held u n) is = absurd cc
 killable_is (status.Consumed u) is = absurd cc
 killable_is status.Killed is = absurd cc
+
+-- what no pass holds is described as it stands
+pub stands_so : (l : Limits) (h : List Event) (s : Survivor) → IsSurvivor l h s → s.holder ≡ None → (status_of l.attempts h s.id ≡ s.status) × IsKillable s.status
+stands_so l h s is none = subst (λ o. IsStanding l (status_of l.attempts h s.id) s.status o) none is.stands
+
+pub each_so : (l : Limits) (h : List Event) (survivors : List Survivor) → AreSurvivors l h survivors → AreUnheld survivors → (s : Survivor) → In s survivors → IsSurvivor l h s × (s.holder ≡ None)
+each_so l h survivors are unheld s at = (are.described s at, each_of (λ (s : Survivor). s.holder ≡ None) survivors s unheld at)
 
 -- such ids are no less
 no_less : (low : ℕ) (xs : List Survivor) (s : Survivor) → Ascending low (map (λ (x : Survivor). x.id) xs) → In s xs → low ≤ s.id
@@ -39,27 +54,32 @@ first_least : (x : Survivor) (xs : List Survivor) (s : Survivor) → Ascending (
 first_least x xs s up here = omega arith
 first_least x xs s up (there q) = let a = no_less (x.id + 1) xs s up q in omega (arith, a)
 
-abbrev made : ℕ → ℕ → ℕ → List ℕ → Status → ℕ → ℕ → List ℕ → List Survivor
-made id root stage body x n root_stage root_body = record { id = id; root = root; stage = stage; body = body; status = x; rounds = n; root_stage = root_stage; root_body = root_body } ∷ []
+abbrev made : ℕ → ℕ → ℕ → List ℕ → Status → Option ℕ → ℕ → ℕ → List ℕ → List Survivor
+made id root stage body x holder n root_stage root_body = record { id = id; root = root; stage = stage; body = body; status = x; holder = holder; rounds = n; root_stage = root_stage; root_body = root_body } ∷ []
 
-module _ (limit : ℕ) (h : List Event) where
+module _ (l : Limits) (h : List Event) where
+  abbrev limit : ℕ
+  limit = l.attempts
+
   abbrev at : ℕ → List Survivor
   at id = if_alive limit h id (element_of h id)
 
   -- one that was described is that
-  is_at : (s : Survivor) → IsSurvivor limit h s → at s.id ≡ s ∷ []
-  is_at s is =
-      let alive : is_alive (status_of limit h s.id) ≡ true = alive_is (status_of limit h s.id) (subst IsKillable (sym is.status) is.alive) in
+  is_at : (s : Survivor) → IsSurvivor l h s × (s.holder ≡ None) → at s.id ≡ s ∷ []
+  is_at s (is, none) =
+      let stands = stands_so l h s is none in
+      let alive : is_alive (status_of limit h s.id) ≡ true = alive_is (status_of limit h s.id) (subst IsKillable (sym stands.0) stands.1) in
       ap (if_alive limit h s.id) is.born
       ∙ (ap (λ b. if b then with_root limit h s.id is.item (element_of h is.item.root) else []) alive
       ∙ (ap (with_root limit h s.id is.item) (ap (element_of h) is.root ∙ is.began)
-      ∙ (ap (λ r. made s.id r is.item.stage is.item.body (status_of limit h s.id) (rounds h s.id) is.request.stage is.request.body) is.root
-      ∙ (ap (λ r. made s.id s.root r is.item.body (status_of limit h s.id) (rounds h s.id) is.request.stage is.request.body) is.stage
-      ∙ (ap (λ r. made s.id s.root s.stage r (status_of limit h s.id) (rounds h s.id) is.request.stage is.request.body) is.body
-      ∙ (ap (λ r. made s.id s.root s.stage s.body r (rounds h s.id) is.request.stage is.request.body) is.status
-      ∙ (ap (λ r. made s.id s.root s.stage s.body s.status r is.request.stage is.request.body) is.rounds_are
-      ∙ (ap (λ r. made s.id s.root s.stage s.body s.status s.rounds r is.request.body) is.root_stage
-      ∙ ap (λ r. made s.id s.root s.stage s.body s.status s.rounds s.root_stage r) is.root_body))))))))
+      ∙ (ap (λ r. made s.id r is.item.stage is.item.body (status_of limit h s.id) None (rounds h s.id) is.request.stage is.request.body) is.root
+      ∙ (ap (λ r. made s.id s.root r is.item.body (status_of limit h s.id) None (rounds h s.id) is.request.stage is.request.body) is.stage
+      ∙ (ap (λ r. made s.id s.root s.stage r (status_of limit h s.id) None (rounds h s.id) is.request.stage is.request.body) is.body
+      ∙ (ap (λ r. made s.id s.root s.stage s.body r None (rounds h s.id) is.request.stage is.request.body) stands.0
+      ∙ (ap (λ r. made s.id s.root s.stage s.body s.status r (rounds h s.id) is.request.stage is.request.body) (sym none)
+      ∙ (ap (λ r. made s.id s.root s.stage s.body s.status s.holder r is.request.stage is.request.body) is.rounds_are
+      ∙ (ap (λ r. made s.id s.root s.stage s.body s.status s.holder s.rounds r is.request.body) is.root_stage
+      ∙ ap (λ r. made s.id s.root s.stage s.body s.status s.holder s.rounds s.root_stage r) is.root_body)))))))))
 
   -- an id at which nothing is alive has no description
   abbrev Alive : ℕ → Type 0
@@ -79,7 +99,7 @@ module _ (limit : ℕ) (h : List Event) where
       by_item (Some x) found = by_status x found (is_alive (status_of limit h id)) refl
 
   abbrev Each : List Survivor → Type 0
-  Each xs = (s : Survivor) → In s xs → IsSurvivor limit h s
+  Each xs = (s : Survivor) → In s xs → IsSurvivor l h s × (s.holder ≡ None)
 
   abbrev AreAll : ℕ → List Survivor → Type 0
   AreAll low xs = (x : Element) → IsBorn h x → IsKillable (status_of limit h x.id) → low ≤ x.id → (s : Survivor) × In s xs × (s.id ≡ x.id)
@@ -127,9 +147,9 @@ module _ (limit : ℕ) (h : List Event) where
         by_first n low alive.0 found.0 xs alive.3 found.1 found.2 (by_ids n (low + 1)) up each all below
   ]
 
-pub described_so : (l : Limits) (h : List Event) (survivors : List Survivor) → IsLegal l h → AreSurvivors l h survivors → survivors ≡ flat_map (λ id. if_alive l.attempts h id (element_of h id)) (range_with_len 0 (rows_of l))
-described_so l h survivors legal a =
-    by_ids l.attempts h (rows_of l) 0 survivors a.once a.described (λ x born killable more. a.each x born killable) below
+pub described_so : (l : Limits) (h : List Event) (survivors : List Survivor) → IsLegal l h → AreSurvivors l h survivors → AreUnheld survivors → survivors ≡ flat_map (λ id. if_alive l.attempts h id (element_of h id)) (range_with_len 0 (rows_of l))
+described_so l h survivors legal a unheld =
+    by_ids l h (rows_of l) 0 survivors a.once (each_so l h survivors a unheld) (λ x born killable more. a.each x born (killable_lives (status_of l.attempts h x.id) killable)) below
   where
     below : (s : Survivor) → In s survivors → s.id < 0 + rows_of l
     below s q =

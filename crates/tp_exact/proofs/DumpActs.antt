@@ -75,7 +75,7 @@ module _ (head : Head) (old : Live) (s : SessionState) (is : StandsLive (head_vi
   -- all that is alive is computed
   alive_so : (done : Live) (survivors : List Survivor) → LiveLooks old done → FoundAlive old survivors done → survivors ≡ alive_of s.report.manager
   alive_so done survivors looks found =
-      described_so l done.stand.keeper.seen survivors found.together.legal found.found
+      described_so l done.stand.keeper.seen survivors found.together.legal found.found found.unheld
       ∙ ap alive_of (same done looks.manager found.together looks.looked.passes)
 
   lines_so : (survivors : List Survivor) → survivors ≡ alive_of s.report.manager → lines_of h old survivors ≡ dump_of h s

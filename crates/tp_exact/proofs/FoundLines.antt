@@ -1,5 +1,5 @@
 -- The `alive` lines of a dump, read one after another.
-use Rattle.std.proofs.Common.{◌≡◌, ℕ, ◌+◌, ◌<◌, ◌≤◌, Option, Some, List, [], ◌∷◌, ◌++◌, length, map, refl, sym, ◌∙◌, ap, subst, append_assoc, arith}
+use Rattle.std.proofs.Common.{◌≡◌, ℕ, ◌+◌, ◌<◌, ◌≤◌, Option, None, Some, List, [], ◌∷◌, ◌++◌, length, map, refl, sym, ◌∙◌, ap, subst, append_assoc, arith}
 use Rattle.std.proofs.lemmas.List.{length-append}
 use Rattle.std.proofs.lemmas.Nat.{mul-le}
 use Rattle.tp_model.specs.declared.types.Element.{Element}
@@ -23,6 +23,7 @@ use Rattle.tp_session.specs.Told.{HeadLine, HeadLines}
 use Rattle.tp_exact.specs.AliveReads.{FoundLinesRead, IsBody64, IsFit}
 use Rattle.tp_exact.specs.Dumps.{line_of}
 use Rattle.tp_exact.proofs.AliveReads.{alive_line_reads}
+use Rattle.tp_exact.proofs.Described.{each_so, stands_so}
 use Rattle.tp_exact.proofs.Tries.{Fits, fits}
 
 few_rows : (l : Limits) → AreLimits l → rows_of l ≤ 10240
@@ -49,11 +50,11 @@ module _ (l : Limits) (h : List Event) (limits : AreLimits l) (legal : IsLegal l
   some_same : (x y : Element) (o : Option Element) → o ≡ Some x → o ≡ Some y → x ≡ y
   some_same x y o p q = let e : Some x ≡ Some y = sym p ∙ q in cc
 
-  fit : (s : Survivor) → IsSurvivor l.attempts h s → IsBody64 s.body → IsBody64 s.root_body → IsFit s
-  fit s is body root_body = record {
+  fit : (s : Survivor) → IsSurvivor l h s × (s.holder ≡ None) → IsBody64 s.body → IsBody64 s.root_body → IsFit s
+  fit s (is, none) body root_body = record {
     id = row s.id is.item is.born;
     root = row s.root is.request is.began;
-    attempts = (let n = few_tries l.attempts s.status is.alive (subst (Fits l.attempts) is.status (fits l h s.id legal limits.attempts.0)) in let most = limits.attempts.1 in omega (arith, n, most));
+    attempts = (let n = few_tries l.attempts s.status (stands_so l h s is none).1 (subst (Fits l.attempts) (stands_so l h s is none).0 (fits l h s.id legal limits.attempts.0)) in let most = limits.attempts.1 in omega (arith, n, most));
     rounds_are = (let n = (rounds_by_words l h s.id legal).1 in let e = is.rounds_are in omega (arith, n, e));
     stage = (let t = born_staged l h legal is.item (find_in s.id (born h) is.item is.born).0 in let e = is.stage in (omega (arith, t, e), omega (arith, t, e)));
     root_stage = (let t = born_staged l h legal is.request (find_in s.root (born h) is.request is.began).0 in let e = is.root_stage in (omega (arith, t, e), omega (arith, t, e)));
@@ -63,7 +64,7 @@ module _ (l : Limits) (h : List Event) (limits : AreLimits l) (legal : IsLegal l
         (sym is.root_stage ∙ (ap (λ (x : Element). x.stage) same ∙ is.stage), sym is.root_body ∙ (ap (λ (x : Element). x.body) same ∙ is.body)));
   }
 
-  all_read : (survivors : List Survivor) (head : HeadView) (past : ℕ) → ((s : Survivor) → In s survivors → IsSurvivor l.attempts h s) → ((s : Survivor) → In s survivors → IsBody64 s.body × IsBody64 s.root_body)
+  all_read : (survivors : List Survivor) (head : HeadView) (past : ℕ) → ((s : Survivor) → In s survivors → IsSurvivor l h s × (s.holder ≡ None)) → ((s : Survivor) → In s survivors → IsBody64 s.body × IsBody64 s.root_body)
       → length head.alive + length survivors ≤ MAX_ALIVE → HeadLines past (map alive_text survivors) head [] (record head { alive = head.alive ++ map line_of survivors })
   all_read [] head past each bodies room = (refl, ap (λ (a : List AliveLine). record head { alive = a }) (append_nil head.alive))
   all_read (s ∷ ss) head past each bodies room =
@@ -76,4 +77,4 @@ module _ (l : Limits) (h : List Event) (limits : AreLimits l) (legal : IsLegal l
       ([], [], next, subst (λ r. HeadLine (past + 1) r head [] next) (sym read) (refl, refl), subst (HeadLines (past + 1) (map alive_text ss) next []) whole rest, refl)
 
 pub found_lines_read : FoundLinesRead
-found_lines_read old done survivors h past limits found bodies room = all_read old.stand.manager.limits done.stand.keeper.seen limits found.together.legal survivors h past found.found.described bodies room
+found_lines_read old done survivors h past limits found bodies room = all_read old.stand.manager.limits done.stand.keeper.seen limits found.together.legal survivors h past (each_so old.stand.manager.limits done.stand.keeper.seen survivors found.found found.unheld) bodies room

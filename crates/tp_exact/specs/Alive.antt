@@ -14,7 +14,7 @@ use Rattle.tp_rollover.specs.declared.survivors.Survivor.{Survivor}
 abbrev pub is_alive : Status → Bool
 is_alive status = is_waiting status || is_parked status
 
--- an element with this id and this root, as it stands
+-- an element with this id and this root, as it stands; no pass holds it
 abbrev pub with_root : ℕ → List Event → ℕ → Element → Option Element → List Survivor
 with_root limit h id item None = []
 with_root limit h id item (Some root) = record {
@@ -23,6 +23,7 @@ with_root limit h id item (Some root) = record {
   stage = item.stage;
   body = item.body;
   status = status_of limit h id;
+  holder = None;
   rounds = rounds h id;
   root_stage = root.stage;
   root_body = root.body;

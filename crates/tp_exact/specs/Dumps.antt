@@ -55,4 +55,5 @@ RestoredDump =
     → Restored (survivors_of head) first moved new
     → (survivors_of head ≡ survivors)
     × RollsOver old.stand.manager.limits new.manager.limits 0 done.stand.keeper.seen
-    (done.stand.keeper.seen ++ kills 0 moved) new.keeper.seen moved
+    (done.stand.keeper.seen ++ kills old.stand.manager.limits.attempts done.stand.keeper.seen 0 moved)
+    new.keeper.seen moved

@@ -21,7 +21,8 @@ use Rattle.tp_alone.specs.Thread.{Stays, thread_of}
 use Rattle.tp_rollover.specs.Answers.{Rolls}
 use Rattle.tp_rollover.specs.Carries.{Carries}
 use Rattle.tp_rollover.specs.Faults.{AreFree}
-use Rattle.tp_rollover.specs.Managed.{GoesOn, IsManaged, IsRefusedFor, StaysManaged}
+use Rattle.tp_rollover.specs.Managed.{GoesOn, IsManaged, StaysManaged}
+use Rattle.tp_rollover.proofs.Freed.{free_again}
 use Rattle.tp_rollover.proofs.Heads.{stay_same}
 use Rattle.tp_rollover.specs.declared.moved.RollFault.{RollFault}
 use Rattle.tp_rollover.specs.declared.managed.Managed.{Managed}
@@ -64,6 +65,10 @@ pub first_free : (m : ManagerShown) (ps : List PassShown) → All (IsOf m) ps �
 first_free m [] own free = All-nil (IsFreePass m)
 first_free m (p ∷ ps) own free =
     All-cons (IsFreePass m) p [] (record { own = All-head (IsOf m) p ps own; free = All-head (λ (p : PassShown). p.open_unit ≡ None) p ps free }) (All-nil (IsFreePass m))
+
+-- none of the new manager's has one open, where none of the old one's had
+pub gone_free : (old new : Managed) (moved : List Moved) → GoesOn old new moved → AreFree old.passes.items → AreFree new.passes.items
+gone_free old new moved on free = free_again old.manager.limits new.manager.limits on.keeper new.keeper old.passes.items on.passes new.passes.items moved on.rolls free
 
 -- a pass that stays has done nothing but look
 pub stayed : (p q : PassShown) → Stays p q → Looks p q
@@ -176,7 +181,7 @@ module _ {X : Type 0} {F : X → Type 0} (behaviour : DynBox X Global F → Beha
       omega (arith, long, one, two, three, four, five, six)
 
   -- where it went on
-  module _ (old new : Managed) (moved : List Moved) (ss : List Box) (os ns : List (Place X F)) (managed : IsManaged old) (managed' : IsManaged new) (on : GoesOn old new moved)
+  module _ (old new : Managed) (moved : List Moved) (ss : List Box) (os ns : List (Place X F)) (managed : IsManaged old) (managed' : IsManaged new) (on : GoesOn old new moved) (idle : AreFree old.passes.items) (free : AreFree new.passes.items)
       (ready : AreReady behaviour registers pending old.manager old.passes.items ss os) (enough : 1 + length ss ≤ length old.passes.items)
       (lie : Lie (workers (length ss) new.passes.items) ss ns) (began : firsts ns ≡ all_firsts (workers (length ss) new.passes.items) ss)
       (dropped : map (λ (o : Place X F). o.is_dropped) ns ≡ map (λ (o : Place X F). o.is_dropped) os) where
@@ -184,13 +189,13 @@ module _ {X : Type 0} {F : X → Type 0} (behaviour : DynBox X Global F → Beha
     as_long = managed'.parts ∙ (ap (λ (l : Limits). l.parts) on.limits ∙ sym managed.parts)
 
     pub ready_again : AreReady behaviour registers pending new.manager new.passes.items ss ns
-    ready_again = record { own = managed'.own; client = first_free new.manager new.passes.items managed'.own on.free; lie = lie }
+    ready_again = record { own = managed'.own; client = first_free new.manager new.passes.items managed'.own free; lie = lie }
 
     pub held_again : units_held (length ss) new.passes.items ≡ units_held (length ss) old.passes.items
-    held_again = none_held (length ss) old.passes.items new.passes.items as_long on.idle on.free
+    held_again = none_held (length ss) old.passes.items new.passes.items as_long idle free
 
     worker_free : (ps : List PassShown) → AreFree ps → AreFree (workers (length ss) ps)
-    worker_free ps free = All-take (λ (p : PassShown). p.open_unit ≡ None) (length ss) _ (All-drop (λ (p : PassShown). p.open_unit ≡ None) 1 ps free)
+    worker_free ps none = All-take (λ (p : PassShown). p.open_unit ≡ None) (length ss) _ (All-drop (λ (p : PassShown). p.open_unit ≡ None) 1 ps none)
 
     pub rolled : (text : List ℕ) → text ≡ line (rolled_text (map renamed moved))
         → (a : Scene) × (b : Scene) × IsScene behaviour registers pending old.passes.items ss os a × RollsOn (stand old a) text (stand new b) × IsScene behaviour registers pending new.passes.items ss ns b
@@ -199,7 +204,7 @@ module _ {X : Type 0} {F : X → Type 0} (behaviour : DynBox X Global F → Beha
         let b = scene_there behaviour registers pending new.passes.items ss ns (omega (arith, enough, as_long)) in
         let olds : passes_in a.0 ≡ old.passes.items = all_in behaviour registers pending old.manager old.passes.items ss os a.0 ready a.1 in
         let news : passes_in b.0 ≡ new.passes.items = all_in behaviour registers pending new.manager new.passes.items ss ns b.0 ready_again b.1 in
-        let again = all_again (workers (length ss) old.passes.items) (workers (length ss) new.passes.items) ss os ns ready.lie (worker_free old.passes.items on.idle) lie (worker_free new.passes.items on.free) began dropped in (
+        let again = all_again (workers (length ss) old.passes.items) (workers (length ss) new.passes.items) ss os ns ready.lie (worker_free old.passes.items idle) lie (worker_free new.passes.items free) began dropped in (
           a.0,
           b.0,
           a.1,
@@ -214,8 +219,8 @@ module _ {X : Type 0} {F : X → Type 0} (behaviour : DynBox X Global F → Beha
             carries = let l = old.manager.limits in
                 subst (λ zs. Carries l zs l.parts (start l) moved (thread_of l (passes_in b.0) new.keeper.seen)) (sym olds)
                 (subst (λ zs. Carries l old.passes.items l.parts (start l) moved (thread_of l zs new.keeper.seen)) (sym news) on.carries);
-            idle = subst AreFree (sym olds) on.idle;
-            free = subst AreFree (sym news) on.free;
+            idle = subst AreFree (sym olds) idle;
+            free = subst AreFree (sym news) free;
             own = subst (All (IsOf new.manager)) (sym news) managed'.own;
             places = subst (λ zs. AllZip BeginsAgain zs b.0.places) (sym a.1.1)
                 (subst (λ zs. AllZip BeginsAgain (places_shown behaviour registers pending (workers (length ss) old.passes.items) ss os) zs) (sym b.1.1) again);

@@ -2,13 +2,13 @@
 use Rattle.std.specs.Prelude.{◌≡◌, ◌⊎◌, ℕ, List, All, None, Some, length, map}
 use Rattle.std.specs.List.{AllZip}
 use Rattle.tp_manager.specs.Shown.{IsOf, KeeperShown, PassShown}
+use Rattle.tp_model.specs.declared.types.Limits.{Limits}
 use Rattle.tp_model.specs.declared.types.Refusal.TheVariants as refusals
 use Rattle.tp_plain.specs.OneThread.{start}
 use Rattle.tp_alone.specs.Thread.{Stays, thread_of}
 use Rattle.tp_rollover.specs.Answers.{Rolls}
-use Rattle.tp_rollover.specs.Carries.{Carries}
+use Rattle.tp_rollover.specs.Carries.{Carries, WouldNotFit}
 use Rattle.tp_rollover.specs.Faults.{AreFree}
-use Rattle.tp_rollover.specs.Managed.{IsRefusedFor}
 use Rattle.tp_rollover.specs.declared.managed.Managed.{Managed}
 use Rattle.tp_rollover.specs.declared.moved.Moved.{Moved}
 use Rattle.tp_rollover.specs.declared.moved.RollFault.{RollFault}
@@ -84,7 +84,16 @@ pub record RollRefused (is_due : List PassShown → RollFault → Type 0) (old :
   pub gathered : Gathered old.manager keeper new.keeper between new.scene
   pub text_is : text ≡ line (roll_refused_text why)
 
+-- Why it was refused, of a manager with these limits and passes: Busy where a unit is open, and else one of these
+-- three, Full only where what is alive finds no room in a new manager.
+abbrev pub IsUnrolledFor : Limits → List PassShown → RollFault → Type 0
+IsUnrolledFor l passes faults.Busy = ¬ AreFree passes
+IsUnrolledFor l passes faults.NoMemory = AreFree passes
+IsUnrolledFor l passes faults.Full = AreFree passes × WouldNotFit l passes l.parts (start l)
+IsUnrolledFor l passes faults.Unequal = AreFree passes
+IsUnrolledFor l passes other = ⊥
+
 -- one or the other
 abbrev pub RollsOn : Stand → List ℕ → Stand → Type 0
 RollsOn old text new = RolledOver old text new
-    ⊎ RollRefused (IsRefusedFor old.manager.limits) old text new
+    ⊎ RollRefused (IsUnrolledFor old.manager.limits) old text new

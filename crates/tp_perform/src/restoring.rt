@@ -15,11 +15,12 @@ ghost use Rattle.tp_perform.specs.Told.{AreReady, IsScene, units_held};
 use crate::rollover::{begin_all_again, gather_all};
 use std::alloc::Global;
 use tp_commands::Place;
-use tp_rollover::{Managed, Moved, RollFault, Successor, Survivor, has_open};
+use tp_rollover::{Managed, Moved, RollFault, Successor, Survivor, are_held, has_open};
 use tp_server::Server;
 
 /// A manager with the same limits takes the place of this one. In it is alive what was described, each element
-/// once, and nothing else. `Busy` where a unit of work is open.
+/// once, and nothing else. `Busy` where a unit of work is open. `Unequal` where a pass is to hold one of these: a
+/// session's workers begin with nothing in hand.
 fn take_up(
     alloc: Global,
     managed: &mut Managed,
@@ -41,6 +42,9 @@ fn take_up(
 {
     if has_open(&managed.passes) {
         return Err(RollFault::Busy);
+    }
+    if are_held(survivors) {
+        return Err(RollFault::Unequal);
     }
     match Managed::restored(alloc, managed.manager.limits(), survivors) {
         Ok(next) => {

@@ -1,12 +1,12 @@
 //! The command `rollover`: what is alive goes on in a new manager, and the desks begin anew in it.
-ghost use Rattle.std.specs.Prelude.{◌≡◌, ◌+◌, ◌≤◌, List, ℕ, None, IfOk, All, length, map, string_bytes};
+ghost use Rattle.std.specs.Prelude.{◌≡◌, ◌+◌, ◌≤◌, List, ℕ, None, IfErr, IfOk, OnErr, OnOk, All, length, map, string_bytes};
 ghost use Rattle.tp_manager.specs.Accounts.{Gathers};
 ghost use Rattle.tp_manager.specs.Bounds.{gather_steps};
 ghost use Rattle.tp_report.specs.Answer.{line, rolled_text};
 ghost use Rattle.tp_rollover.specs.Faults.{AreFree};
-ghost use Rattle.tp_rollover.specs.Managed.{IsManaged};
+ghost use Rattle.tp_rollover.specs.Managed.{GoesOn, IsManaged, StaysManaged};
 ghost use Rattle.tp_commands.specs.Places.{AllLie, all_firsts, firsts, workers};
-ghost use Rattle.tp_perform.specs.Rollover.{RollsOn, renamed, roll_refused_text, stand};
+ghost use Rattle.tp_perform.specs.Rollover.{IsUnrolledFor, RollsOn, renamed, roll_refused_text, stand};
 ghost use Rattle.tp_perform.specs.Scenes.{Scene};
 ghost use Rattle.tp_perform.specs.Told.{AreReady, IsScene, units_held};
 
@@ -16,7 +16,7 @@ use tp_commands::{Place, begin_again};
 use tp_manager::Pass;
 use tp_model::types::Refusal;
 use tp_report::{Answer, Renamed, line};
-use tp_rollover::{Managed, Moved, RollFault};
+use tp_rollover::{Managed, Moved, RollFault, has_open};
 use tp_server::Server;
 
 /// What the elements that were carried over are called.
@@ -88,6 +88,25 @@ pub(crate) fn begin_all_again(
     begin_again(&passes[1..1 + servers.len()], servers, places);
 }
 
+/// What is alive goes on in a new manager, if no unit of work is open. `Busy` where one is.
+fn go_on(alloc: Global, managed: &mut Managed) -> Result<Vec<Moved>, RollFault>
+    requires managed { IsManaged managed.old }
+    ensures managed { IsManaged managed.new }
+    ensures moved { IfOk result (λ moved. GoesOn managed.old managed.new moved.items) }
+    ensures idle { OnOk result (AreFree managed.old.passes.items) }
+    ensures free { OnOk result (AreFree managed.new.passes.items) }
+    ensures refused { OnErr result (StaysManaged managed.old managed.new) }
+    ensures fault { IfErr result (IsUnrolledFor managed.old.manager.limits managed.old.passes.items) }
+{
+    if has_open(&managed.passes) {
+        return Err(RollFault::Busy);
+    }
+    match managed.roll_over(alloc) {
+        Ok(moved) => Ok(moved),
+        Err(fault) => Err(fault),
+    }
+}
+
 /// Has what is alive, each element once, go on in a new manager with the same limits, in which the desks
 /// begin anew with the same registers, and answers `rolled over N OLD:NEW ..`, with what was carried over.
 /// Where it is refused, nothing has changed, and all passes gather. What is promised in `rolled` is so too
@@ -118,7 +137,7 @@ pub fn roll_over_line(
         × RollsOn (stand managed.old old) (string_bytes text) (stand managed.new new)
         × IsScene behaviour registers pending managed.new.passes.items servers.now places.new new) }
 {
-    match managed.roll_over(alloc) {
+    match go_on(alloc, managed) {
         Ok(moved) => {
             begin_all_again(&managed.passes, servers, places);
             rolled_line(alloc, &moved)

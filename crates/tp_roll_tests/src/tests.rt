@@ -1,5 +1,6 @@
 //! Scenes of rollovers: what is carried over, how it stands in the new manager, and each fault.
 mod crews;
+mod held;
 mod plays;
 mod scenes;
 mod storms;
@@ -191,22 +192,6 @@ fn another_limit(rt: HostRuntime) {
         &rt,
         &[side(&before, &after), within(three, &new_after)],
         Err(RollFault::BadLimits),
-    );
-}
-
-/// With a unit open nothing is done. It goes on in the old manager.
-#[test]
-fn a_unit_is_open(rt: HostRuntime) {
-    let before = [(0, Submits(1, body(10), 0)), (1, Takes(0))];
-    let after = [
-        (1, bears(&rt, 0, &[])),
-        (0, Shows(0, Status::Consumed { unit: 16 })),
-    ];
-    let new_after = [(0, Submits(1, body(20), 0))];
-    rolls(
-        &rt,
-        &[side(&before, &after), side(&[], &new_after)],
-        Err(RollFault::Busy),
     );
 }
 

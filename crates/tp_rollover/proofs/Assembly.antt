@@ -1,16 +1,12 @@
 -- The parts of a rollover put together.
-use Rattle.std.proofs.Common.{◌≡◌, ℕ, suc, ◌+◌, ◌<◌, ◌≤◌, None, Result, Ok, Err, IfOk, All, List, [], ◌∷◌, ◌++◌, length, refl, sym, ◌∙◌, ap, subst, inr, ⊎_elim, append_assoc, arith}
+use Rattle.std.proofs.Common.{◌≡◌, ℕ, suc, ◌+◌, ◌≤◌, None, Result, Ok, Err, IfOk, All, List, [], ◌∷◌, length, refl, sym, ◌∙◌, ap, subst, arith}
 use Rattle.std.specs.List.{AllZip}
-use Rattle.std.proofs.lemmas.List.{append_cancel_left}
 use Rattle.std.proofs.lemmas.List.Elements.{All-cons}
-use mathlib.Core.List.{IsPrefix}
 use Rattle.tp_model.specs.declared.types.Limits.{Limits}
 use Rattle.tp_model.specs.declared.event.Event.{Event}
-use Rattle.tp_model.specs.declared.event.Event.TheVariants.{Kill}
 use Rattle.tp_model.specs.Counts.{counts}
 use Rattle.tp_model.specs.History.{In, events_by, here, there}
 use Rattle.tp_model.specs.Steps.{IsLegal}
-use Rattle.tp_model.proofs.Bridges.{begins_trans, in_either, in_left, in_right}
 use Rattle.tp_model.proofs.Later.{births_inside}
 use Rattle.tp_manager.specs.Accounts.{AreAll, AreNumberedFrom, Gathers}
 use Rattle.tp_manager.specs.Shown.{IsOf, KeeperShown, ManagerShown, PassShown}
@@ -20,24 +16,19 @@ use Rattle.tp_alone.proofs.Gatherings.{gathered_together}
 use Rattle.tp_alone.proofs.Idle.{alone_idle}
 use Rattle.tp_rollover.specs.Answers.{IsHistoryOf, IsReadyToKill, Rolls}
 use Rattle.tp_rollover.specs.Checks.{CountsOnly}
-use Rattle.tp_rollover.specs.Closing.{AreEnds, IsStuck, Made, NoKill, StopsAmong}
-use Rattle.tp_rollover.specs.Alike.{StandAlike}
+use Rattle.tp_rollover.specs.Closing.{AreLiving, Buries}
+use Rattle.tp_rollover.specs.Alike.{StandAlike, StandUnheld}
 use Rattle.tp_rollover.specs.Finding.{AreSurvivorsOf, CountsAlive}
 use Rattle.tp_rollover.specs.Passes.{numbers}
-use Rattle.tp_rollover.specs.Phases.{KillsAll, StopsKilling}
-use Rattle.tp_rollover.specs.Rolls.{AscendFrom, IsCarried, RollsOver, kills}
-use Rattle.tp_rollover.specs.Survivors.{AreSurvivors, Restores, StandAgain}
+use Rattle.tp_rollover.specs.Rolls.{RollsOver}
+use Rattle.tp_rollover.specs.Survivors.{AreSurvivors, StandAgain}
 use Rattle.tp_rollover.specs.Told.{ToldFirst, seen_first}
 use Rattle.tp_rollover.specs.declared.moved.Moved.{Moved}
 use Rattle.tp_rollover.specs.declared.survivors.Survivor.{Survivor}
-use Rattle.tp_rollover.proofs.Carrying.{all_are_named, all_carried, stand_alive}
-use Rattle.tp_rollover.proofs.Ends.{not_stuck}
+use Rattle.tp_rollover.proofs.Carrying.{all_are_named, all_carried, carried_living, hands_go_on, stand_alive}
 use Rattle.tp_rollover.proofs.Heads.{tail_all}
-use Rattle.tp_rollover.proofs.Killing.{made_trans}
-use Rattle.tp_rollover.proofs.Lists.{from_map}
 use Rattle.tp_rollover.proofs.Others.{only_named}
 use Rattle.tp_rollover.proofs.Seen.{between, stays_trans}
-use Rattle.tp_rollover.proofs.Since.{since, until}
 
 pub stay_trans : (ps qs rs : List PassShown) → AllZip Stays ps qs → AllZip Stays qs rs → AllZip Stays ps rs
 stay_trans [] [] rs a b = b
@@ -83,80 +74,25 @@ nothing_happened l k k' ps qs rs h h' before a b after some =
     let end : seen_first rs ≡ h' = first_is l k' rs h' after (zip_some ps rs all some) in
     (same, at, first_between ps qs rs a b (end ∙ (same ∙ sym at)))
 
--- ids that ascend
-low_less : (id : Moved → ℕ) (low : ℕ) (xs : List Moved) (m : Moved) (ys : List Moved) → AscendFrom id low (xs ++ m ∷ ys) → low ≤ id m
-low_less id low [] m ys a = a.0
-low_less id low (x ∷ xs) m ys a = let r = low_less id (id x + 1) xs m ys a.1 in let s = a.0 in omega arith
-
-earlier_less : (id : Moved → ℕ) (low : ℕ) (xs : List Moved) (m : Moved) (ys : List Moved) (x : Moved) → AscendFrom id low (xs ++ m ∷ ys) → In x xs → id x < id m
-earlier_less id low [] m ys x a p = elim p [ ]
-earlier_less id low (z ∷ xs) m ys x a here = let r = low_less id (id x + 1) xs m ys a.1 in omega arith
-earlier_less id low (z ∷ xs) m ys x a (there p) = earlier_less id (id z + 1) xs m ys x a.1 p
-
--- the kills
-kills_end : (c : ℕ) (ms : List Moved) → AreEnds (kills c ms)
-kills_end c ms e p = let t = from_map (λ (m : Moved). Kill c m.old) ms e p in inr (c, t.0.old, sym t.2)
-
-kill_id : (c d i j : ℕ) → Kill c i ≡ Kill d j → i ≡ j
-kill_id c d i j e = cc
-
--- the first pass can't have found one that it couldn't kill
-module _ (l : Limits) (keeper keeper' : KeeperShown) (ps qs rs : List PassShown) (h h' g : List Event) (moved : List Moved)
-    (before : AreTogether l keeper ps h) (rest : AllZip Stays qs rs) (after : AreTogether l keeper' rs h') (all_carry : (m : Moved) → In m moved → IsCarried l.attempts h g m) (once : AscendFrom (λ m. m.old) 0 moved) where
-  never_first : (p q r : PassShown) (os ts : List PassShown) → AreTogether l keeper (p ∷ os) h → AllZip Stays (q ∷ os) (r ∷ ts) → AreTogether l keeper' (r ∷ ts) h' → StopsAmong l.attempts moved p q → ⊥
-  never_first p q r os ts together stay end s =
-      let t = s.stops in
-      let es = kills p.number s.done ++ t.events in
-      let made : Made es p q = made_trans (kills p.number s.done) t.events p s.middle q s.killed t.made in
-      let grown : h' ≡ h ++ es = since l keeper keeper' p q r os ts h h' es together made stay end in
-      let from : IsPrefix h t.point = begins_trans h s.middle.seen t.point (subst (λ z. IsPrefix z s.middle.seen) (together.each p here).seen s.killed.sees) t.opened in
-      let to : IsPrefix t.point h' = begins_trans t.point q.seen h' t.closed (until l keeper keeper' p q r os ts h h' es together made stay end) in
-      let parts : from.0 ++ to.0 ≡ es = append_cancel_left h (from.0 ++ to.0) es (sym (append_assoc h from.0 to.0) ∙ (ap (λ z. z ++ to.0) from.1 ∙ (to.1 ∙ grown))) in
-      let inside : (e : Event) → In e from.0 → In e es = λ e p. subst (In e) parts (in_left to.0 p) in
-      let in_moved : In s.one moved = subst (In s.one) (sym s.parts) (in_right s.done here) in
-      let carried : IsCarried l.attempts h g s.one = all_carry s.one in_moved in
-      let ends : AreEnds from.0 = λ e p. ⊎_elim (λ a. kills_end _ s.done e a) (λ b. t.ends e b) (in_either (kills _ s.done) t.events (inside e p)) in
-      let ascend : AscendFrom (λ m. m.old) 0 (s.done ++ s.one ∷ s.rest) = subst (AscendFrom (λ m. m.old) 0) s.parts once in
-      let none : NoKill s.one.old t.events → NoKill s.one.old from.0 = λ no_kills c p. ⊎_elim
-      (λ a. let m = from_map (λ (m : Moved). Kill _ m.old) s.done (Kill c s.one.old) a in
-      let same : m.0.old ≡ s.one.old = kill_id _ c m.0.old s.one.old m.2 in
-      let less : m.0.old < s.one.old = earlier_less (λ m. m.old) 0 s.done s.one s.rest m.0 ascend m.1 in omega arith)
-      (λ b. no_kills c b)
-      (in_either (kills _ s.done) t.events (inside (Kill c s.one.old) p)) in
-      not_stuck l.attempts s.one.old h from.0 t.events carried.old ends none carried.was.0 carried.alive
-      (subst (λ z. IsStuck l.attempts s.one.old t.events z) (sym from.1) t.stuck)
-
-  pub never_stops : StopsKilling l.attempts moved ps qs → ⊥
-  never_stops s = go rs rest after
-    where
-      go : (zs : List PassShown) → AllZip Stays qs zs → AreTogether l keeper' zs h' → ⊥
-      go [] zip t = subst (λ z. AllZip Stays z []) s.is zip
-      go (r ∷ ts) zip t = never_first s.old s.new r s.others ts (subst (λ z. AreTogether l keeper z h) s.was before) (subst (λ z. AllZip Stays z (r ∷ ts)) s.is zip) t s.stops
-
-  -- so it has killed all, and the old history goes on by that
-  pub all_killed : KillsAll moved ps qs → h' ≡ h ++ kills 0 moved
-  all_killed s = go rs rest after
-    where
-      go : (zs : List PassShown) → AllZip Stays qs zs → AreTogether l keeper' zs h' → h' ≡ h ++ kills 0 moved
-      go [] zip t = absurd (subst (λ z. AllZip Stays z []) s.is zip)
-      go (r ∷ ts) zip t =
-          let b : AreTogether l keeper (s.old ∷ s.others) h = subst (λ z. AreTogether l keeper z h) s.was before in
-          since l keeper keeper' s.old s.new r s.others ts h h' (kills 0 moved) b (subst (λ c. Made (kills c moved) s.old s.new) b.all.1.0 s.made) (subst (λ z. AllZip Stays z (r ∷ ts)) s.is zip) t
-
 -- what was alive, what stands again, and the kills, make a rollover
-pub rolled : (l k : Limits) (h h' g : List Event) (survivors : List Survivor) (moved : List Moved) → k.attempts ≡ l.attempts → IsLegal l h' → IsLegal k g → AreSurvivors l h survivors → StandAgain k g survivors moved → h' ≡ h ++ kills 0 moved
+pub rolled : (l k : Limits) (h h' g : List Event) (survivors : List Survivor) (moved : List Moved) → k.attempts ≡ l.attempts → IsLegal l h' → IsLegal k g → AreSurvivors l h survivors → StandAgain k g survivors moved → Buries l.attempts 0 h h' moved
     → RollsOver l k 0 h h' g moved
-rolled l k h h' g survivors moved limit legal' new_legal found again killed = record {
+rolled l k h h' g survivors moved limit legal' new_legal found again buries = record {
   legal = (legal', new_legal);
   limit = limit;
-  carried = all_carried l k h g survivors moved limit found again;
-  each = all_are_named l h k.attempts g survivors moved found again.each;
+  carried = all_carried l k h g survivors moved found again;
+  each = all_are_named l k h g survivors moved found again.each;
   once = again.once;
   families = again.families;
   rest = λ y born. again.rest y born (births_inside k g new_legal y born);
-  idle = found.idle;
-  killed = killed;
+  given_up = buries.given_up;
+  own = buries.own;
+  killed = buries.killed;
 }
+
+-- what stands again was alive
+pub all_living : (l k : Limits) (h g : List Event) (survivors : List Survivor) (moved : List Moved) → AreSurvivors l h survivors → StandAgain k g survivors moved → AreLiving l.attempts h moved
+all_living l k h g survivors moved found again = record { each = λ m p. carried_living l k h g m (all_carried l k h g survivors moved found again m p); once = again.once.0 }
 
 -- the history that the old passes had made
 pub history_of : (l : Limits) (keeper : KeeperShown) (olds news : List PassShown) (h : List Event) (end : KeeperShown) → AreTogether l keeper news h → AllZip Stays olds news → end.given ≡ keeper.given → IsHistoryOf end olds h
@@ -224,55 +160,33 @@ module _ (m : ManagerShown) (a c : ℕ) (k0 k1 k2 : KeeperShown) (ps0 ps1 ps2 ps
   pub restored : Gathers m.limits a k0 k1 ps0 ps1 → AreAll k1 ps1 → k1.given ≡ k0.given → All (IsOf m) ps1 → CountsOnly (length moved) (counts m.limits.attempts k1.seen)
       → AllZip Stays ps1 ps2 → ToldFirst ps1 ps2 (λ g. StandAlike m.limits.attempts g survivors moved) → 1 ≤ length ps1
       → Gathers m.limits c k1 k2 ps2 ps3 → AreAll k2 ps3 → k2.given ≡ k1.given → All (IsOf m) ps3
-      → Restores m.limits k2 ps3 survivors moved
+      → StandUnheld m.limits k2.seen survivors moved × AreTogether m.limits k2 ps3 k2.seen
   restored g1 all1 given1 own1 counted stay told some g2 all2 given2 own2 =
       let t1 = gathered m a k0 k1 ps0 ps1 g1 all1 given1 own1 in
       let t2 = gathered m c k1 k2 ps2 ps3 g2 all2 given2 own2 in
       let same = nothing_happened m.limits k1 k2 ps1 ps2 ps3 k1.seen k2.seen t1.0 stay t2.1 t2.0 some in
       let stand = subst (λ g. StandAlike m.limits.attempts g survivors moved) (same.1 ∙ sym same.0) (told same.2) in
-      let counts_so : CountsOnly (length moved) (counts m.limits.attempts k2.seen) = subst (λ z. CountsOnly (length moved) (counts m.limits.attempts z)) (sym same.0) counted in
-      record {
-        again = record {
+      let counts_so : CountsOnly (length moved) (counts m.limits.attempts k2.seen) = subst (λ z. CountsOnly (length moved) (counts m.limits.attempts z)) (sym same.0) counted in (
+        record {
           each = stand.each;
           once = stand.once;
           families = stand.families;
           rest = only_named m.limits k2.seen moved t2.0.legal stand.once (stand_alive m.limits.attempts k2.seen survivors moved stand.each) counts_so;
-        };
-        together = t2.0;
-      }
+        },
+        t2.0,
+      )
 
 -- with the kills
-pub rolled_over : (m m' : ManagerShown) (c : ℕ) (ok2 ok3 nk2 : KeeperShown) (olds0 olds5 olds6 olds7 news4 : List PassShown) (moved : List Moved)
-    → m'.limits.attempts ≡ m.limits.attempts → IsReadyToKill m.limits m'.limits ok2 nk2 olds0 olds5 news4 moved → KillsAll moved olds5 olds6
-    → Gathers m.limits c ok2 ok3 olds6 olds7 → AreAll ok3 olds7 → ok3.given ≡ ok2.given → All (IsOf m) olds7
-    → RollsOver m.limits m'.limits 0 ok2.seen ok3.seen nk2.seen moved
-rolled_over m m' c ok2 ok3 nk2 olds0 olds5 olds6 olds7 news4 moved limit r kill g all given own =
-    let t = gathered m c ok2 ok3 olds6 olds7 g all given own in
-    let carry = all_carried m.limits m'.limits ok2.seen nk2.seen r.survivors moved limit r.found r.again in
-    let grown = all_killed m.limits ok2 ok3 olds5 olds6 olds7 ok2.seen ok3.seen nk2.seen moved r.old_together t.1 t.0 carry r.again.once.0 kill in
-    rolled m.limits m'.limits ok2.seen ok3.seen nk2.seen r.survivors moved limit t.0.legal r.new_together.legal r.found r.again grown
-
-pub rolls : (m m' : ManagerShown) (c : ℕ) (ok2 ok3 nk2 : KeeperShown) (olds0 olds5 olds6 olds7 news4 : List PassShown) (moved : List Moved)
-    → m'.limits.attempts ≡ m.limits.attempts → IsReadyToKill m.limits m'.limits ok2 nk2 olds0 olds5 news4 moved → KillsAll moved olds5 olds6
-    → Gathers m.limits c ok2 ok3 olds6 olds7 → AreAll ok3 olds7 → ok3.given ≡ ok2.given → All (IsOf m) olds7
-    → Rolls m.limits m'.limits ok3 nk2 olds0 olds7 news4 moved
-rolls m m' c ok2 ok3 nk2 olds0 olds5 olds6 olds7 news4 moved limit r kill g all given own =
-    let t = gathered m c ok2 ok3 olds6 olds7 g all given own in
-    record {
-      before = ok2.seen;
-      history = record { own = r.history.own; others = λ d low. r.history.others d (subst (λ n. n ≤ d) given low) };
-      over = rolled_over m m' c ok2 ok3 nk2 olds0 olds5 olds6 olds7 news4 moved limit r kill g all given own;
-      old_together = t.0;
-      new_together = r.new_together;
-    }
-
-pub never : (m m' : ManagerShown) (c : ℕ) (ok2 ok3 nk2 : KeeperShown) (olds0 olds5 olds6 olds7 news4 : List PassShown) (moved : List Moved)
-    → m'.limits.attempts ≡ m.limits.attempts → IsReadyToKill m.limits m'.limits ok2 nk2 olds0 olds5 news4 moved → StopsKilling m.limits.attempts moved olds5 olds6
-    → Gathers m.limits c ok2 ok3 olds6 olds7 → AreAll ok3 olds7 → ok3.given ≡ ok2.given → All (IsOf m) olds7 → ⊥
-never m m' c ok2 ok3 nk2 olds0 olds5 olds6 olds7 news4 moved limit r stops g all given own =
-    let t = gathered m c ok2 ok3 olds6 olds7 g all given own in
-    let carry = all_carried m.limits m'.limits ok2.seen nk2.seen r.survivors moved limit r.found r.again in
-    never_stops m.limits ok2 ok3 olds5 olds6 olds7 ok2.seen ok3.seen nk2.seen moved r.old_together t.1 t.0 carry r.again.once.0 stops
+pub rolls : (l k : Limits) (ok2 ok3 nk2 : KeeperShown) (olds0 olds2 olds3 news : List PassShown) (moved : List Moved) → k.attempts ≡ l.attempts → IsReadyToKill l k ok2 nk2 olds0 olds2 news moved
+    → AreTogether l ok3 olds3 ok3.seen → ok3.given ≡ ok2.given → Buries l.attempts 0 ok2.seen ok3.seen moved → Rolls l k ok3 nk2 olds0 olds3 news moved
+rolls l k ok2 ok3 nk2 olds0 olds2 olds3 news moved limit r together given buries = record {
+  before = ok2.seen;
+  history = record { own = r.history.own; others = λ d low. r.history.others d (subst (λ n. n ≤ d) given low) };
+  over = rolled l k ok2.seen ok3.seen nk2.seen r.survivors moved limit together.legal r.new_together.legal r.found r.again buries;
+  hands = hands_go_on l k ok2.seen nk2.seen olds0 news r.survivors moved r.found r.again r.in_hand r.hands;
+  old_together = together;
+  new_together = r.new_together;
+}
 
 -- one clause of a call that was answered comes of another
 pub if_ok : {A E : Type 0} (r : Result A E) (P Q : A → Type 0) → ((x : A) → P x → Q x) → IfOk r P → IfOk r Q

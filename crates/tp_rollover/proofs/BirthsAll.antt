@@ -5,7 +5,7 @@ use Rattle.std.specs.Option.{option_and_then}
 use Rattle.std.specs.Result.{IsErrAnd}
 use Rattle.tp_model.specs.declared.types.Limits.{Limits}
 use Rattle.tp_plain.specs.OneThread.{State}
-use Rattle.tp_rollover.specs.Anew.{Bearing, Placing, all_born, born_from, families_of, named_in, next_born}
+use Rattle.tp_rollover.specs.Anew.{Bearing, Placing, all_born, born_from, families_of, kept_for, named_in, next_born}
 use Rattle.tp_rollover.specs.Lone.{Agrees}
 use Rattle.tp_rollover.specs.Runs.{BearsOn, ComesShort, GoesFurther}
 use Rattle.tp_rollover.specs.declared.births.Family.{Family}
@@ -65,14 +65,14 @@ module _ (l : Limits) (p : ℕ) where
     pub comes : born_from l p turns (drop (length moved) survivors) moved b ≡ all
 
   -- at the start
-  pub all_start : (survivors : List Survivor) (s : State) (moved : List Moved) (cursor : Cursor) (families : List Family) → moved ≡ [] → cursor ≡ record { at = 0; block = None } → families ≡ families_of l survivors
+  pub all_start : (survivors : List Survivor) (s : State) (moved : List Moved) (cursor : Cursor) (families : List Family) → moved ≡ [] → cursor ≡ record { at = 0; block = None; kept = kept_for survivors } → families ≡ families_of l survivors
       → IsSoFar survivors moved (record { placing = record { manager = s; cursor = cursor }; families = families }) (all_born l p survivors s)
   all_start survivors s moved cursor families none start counted = record {
     turns = length survivors;
     enough = omega arith;
     comes = ap (λ (ms : List Moved). born_from l p (length survivors) (drop (length ms) survivors) ms (record { placing = record { manager = s; cursor = cursor }; families = families })) none
         ∙ (ap (λ at. born_from l p (length survivors) survivors [] (record { placing = record { manager = s; cursor = at }; families = families })) start
-        ∙ ap (λ fs. born_from l p (length survivors) survivors [] (record { placing = record { manager = s; cursor = record { at = 0; block = None } }; families = fs })) counted);
+        ∙ ap (λ fs. born_from l p (length survivors) survivors [] (record { placing = record { manager = s; cursor = record { at = 0; block = None; kept = kept_for survivors } }; families = fs })) counted);
   }
 
   module _ (survivors : List Survivor) (from : ℕ) (moved : List Moved) (b : Bearing) (all : Option (List Moved × State)) (so_far : IsSoFar survivors moved b all) (is : from ≡ length moved) where

@@ -1,5 +1,5 @@
 -- Groups of elements that are born together.
-use Rattle.std.proofs.Common.{◌≡◌, ℕ, zero, suc, ◌+◌, ◌-◌, ◌<◌, ◌≤◌, ◌==◌, ◌++◌, ◌⊎◌, inl, inr, Bool, true, false, List, [], ◌∷◌, cond, drop, get_or, length, length-append, map, replicate, take, refl, sym, ◌∙◌, ap, arith}
+use Rattle.std.proofs.Common.{◌≡◌, ℕ, zero, suc, ◌+◌, ◌-◌, ◌<◌, ◌≤◌, ◌==◌, ◌++◌, ◌⊎◌, inl, inr, Bool, true, false, List, [], ◌∷◌, cond, drop, get_or, length, length-append, map, replicate, take, refl, sym, ◌∙◌, ap, arith, None}
 use Rattle.std.proofs.lemmas.Bool.{and_from, eq-eqb, false≢true, true≢false}
 use Rattle.std.proofs.lemmas.List.{append-nil, at_drop_more, length-map, take_at}
 use Rattle.tp_model.specs.Drafts.{DraftView}
@@ -11,7 +11,7 @@ use Rattle.tp_rollover.specs.declared.survivors.Survivor.{Survivor}
 
 -- what stands past the end of a list
 abbrev pub blank : Survivor
-blank = record { id = 0; root = 0; stage = 0; body = []; status = Waiting 0; rounds = 0; root_stage = 0; root_body = [] }
+blank = record { id = 0; root = 0; stage = 0; body = []; status = Waiting 0; holder = None; rounds = 0; root_stage = 0; root_body = [] }
 
 -- one more neighbour of the first
 pub one_more : (l : Limits) (first : Survivor) (xs : List Survivor) (i : ℕ) (d : Survivor) → i < 4 → i < length xs → (get_or xs i d).root ≡ first.root → home_of l (get_or xs i d).id ≡ home_of l first.id

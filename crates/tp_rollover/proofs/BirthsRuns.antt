@@ -81,8 +81,8 @@ module _ (l : Limits) (p : ℕ) (cursor : Cursor) (families : List Family) (insi
   -- the pass in whose part births go on is next again
   next_is : (s : State) (home : ℕ) → start_at p cursor.at home ≡ cursor.at → 1 ≤ (pass_at s cursor.at).left → next_pass p s home 1 0 cursor ≡ Some (cursor.at, cursor)
   next_is s home begins some =
-      let holds : has_left s 1 0 cursor.at ≡ true = and_from (nat_le 1 (pass_at s cursor.at).left) (nat_le 0 (units_left s cursor.at)) (le-leb 1 (pass_at s cursor.at).left some) (le-leb 0 (units_left s cursor.at) (omega arith)) in
-      next_first p s home 1 0 cursor cursor.at (sym begins) cursor.at (sym (first_hit (has_left s 1 0) cursor.at p inside holds))
+      let holds : has_left cursor.kept s 1 0 cursor.at ≡ true = and_from (nat_le 1 (pass_at s cursor.at).left) (nat_le 0 (units_left s cursor.at)) (le-leb 1 (pass_at s cursor.at).left some) (le-leb 0 (units_left s cursor.at) (omega arith)) in
+      next_first p s home 1 0 cursor cursor.at (sym begins) cursor.at (sym (first_hit (has_left cursor.kept s 1 0) cursor.at p inside holds))
 
   -- what one of them leaves
   abbrev made_root : ℕ × State → Option (Group × Bearing)

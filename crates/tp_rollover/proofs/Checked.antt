@@ -7,22 +7,22 @@ use Rattle.tp_model.specs.declared.types.Limits.{Limits}
 use Rattle.tp_model.specs.declared.types.Look.{Look}
 use Rattle.tp_model.specs.declared.event.Event.{Event}
 use Rattle.tp_model.specs.History.{In, here, status_of}
-use Rattle.tp_model.specs.Steps.{IsKillable}
 use Rattle.tp_model.proofs.Bridges.{begins_trans, born_at, in_left, in_right}
 use Rattle.tp_manager.specs.Calls.{IsLook}
 use Rattle.tp_manager.specs.Requeues.{HasHadRounds}
 use Rattle.tp_manager.specs.Shown.{PassShown}
 use Rattle.tp_alone.specs.Thread.{Stays}
-use Rattle.tp_rollover.specs.Alike.{AllStandAgain, IsAlike, IsRootAlike}
+use Rattle.tp_rollover.specs.Alike.{AllStandUnheld, IsAlike, IsRootAlike, StandsUnheld}
 use Rattle.tp_rollover.specs.Checks.{AreFamilies, AreInTables, HasPut}
 use Rattle.tp_rollover.specs.Finding.{AreAliveBelow, AreDescribed, IsAliveAt, IsDescribed, listed}
-use Rattle.tp_rollover.specs.Rolls.{AscendFrom}
-use Rattle.tp_rollover.specs.Survivors.{StandsAgain}
+use Rattle.tp_rollover.specs.Checks.{AscendFrom}
+use Rattle.tp_rollover.specs.Survivors.{IsLiving, IsStanding}
 use Rattle.tp_rollover.specs.Told.{HoldsAsSeen}
 use Rattle.tp_rollover.specs.declared.moved.Moved.{Moved}
 use Rattle.tp_rollover.specs.declared.survivors.Survivor.{Survivor}
 use Rattle.tp_rollover.proofs.Lists.{drop_here, in_all_taken, in_take_more, take_more, zip_more, zip_snoc}
 use Rattle.tp_rollover.proofs.Seen.{between, told_first, told_second}
+use Rattle.tp_model.specs.declared.types.Status.{Status}
 
 -- one more row
 
@@ -34,11 +34,11 @@ alive_next limit row h found o below at x born less =
     elim (eqb_tells x.id row) [
       | inl p ↦
           let t = at.0 x (born_at h row x born p.1) in
-          (λ u n e. t.0 u n (ap (status_of limit h) (sym p.1) ∙ e), λ alive. in_right found (in_listed o x.id (t.1 (subst (λ i. IsKillable (status_of limit h i)) p.1 alive) ∙ ap Some (sym p.1))))
+          (λ alive. in_right found (in_listed o x.id (t (subst (λ i. IsLiving (status_of limit h i)) p.1 alive) ∙ ap Some (sym p.1))))
       | inr p ↦
           let not : x.id ≢ row = p.1 in
           let t = below x born (omega arith) in
-          (t.0, λ alive. in_left (listed o) (t.1 alive))
+          (λ alive. in_left (listed o) (t alive))
     ]
 
 pub alive_none : (limit : ℕ) (found : List ℕ) (h : List Event) → AreAliveBelow limit 0 found h
@@ -48,7 +48,7 @@ alive_none limit found h x born less = absurd (omega (arith, less))
 
 pub stands_one : (k : Limits) (s : Survivor) (m : Moved) (p q r t : PassShown) (is root : Look) (n : ℕ) → Stays p q → Stays q r → Stays r t
     → HoldsAsSeen p q (IsLook k m.new is) → HoldsAsSeen q r (HasHadRounds m.new n) → HoldsAsSeen r t (IsLook k m.new_root root) → IsAlike s m is → IsRootAlike s root → n ≡ s.rounds
-    → HoldsAsSeen p t (λ g. StandsAgain k.attempts g s m)
+    → HoldsAsSeen p t (λ g. StandsUnheld k.attempts g s m)
 stands_one k s m p q r t is root n a b c look had look_root alike root_alike same e =
     let both : IsPrefix p.seen r.seen = begins_trans p.seen q.seen r.seen a.sees b.sees in
     let at_r : r.seen ≡ p.seen = between p.seen r.seen t.seen both c.sees e in
@@ -74,18 +74,18 @@ stands_one k s m p q r t is root n a b c look had look_root alike root_alike sam
       itself = alike.itself;
     }
 
-pub described_one : (l : Limits) (id : ℕ) (s : Survivor) (p q r t : PassShown) (is root : Look) (n : ℕ) → Stays p q → Stays q r → Stays r t
-    → HoldsAsSeen p q (IsLook l id is) → HoldsAsSeen q r (IsLook l is.element.root root) → HoldsAsSeen r t (HasHadRounds id n) → IsKillable is.status
-    → s ≡ record { id = id; root = is.element.root; stage = is.element.stage; body = is.element.body; status = is.status; rounds = n; root_stage = root.element.stage; root_body = root.element.body }
-    → HoldsAsSeen p t (λ h. IsDescribed l.attempts h id s)
-described_one l id s p q r t is root n a b c look look_root had alive what e =
+pub described_one : (l : Limits) (id : ℕ) (s : Survivor) (p q r t : PassShown) (is root : Look) (n : ℕ) (status : Status) (holder : Option ℕ) → Stays p q → Stays q r → Stays r t
+    → HoldsAsSeen p q (IsLook l id is) → HoldsAsSeen q r (IsLook l is.element.root root) → HoldsAsSeen r t (HasHadRounds id n) → IsStanding l is.status status holder
+    → s ≡ record { id = id; root = is.element.root; stage = is.element.stage; body = is.element.body; status = status; holder = holder; rounds = n; root_stage = root.element.stage; root_body = root.element.body }
+    → HoldsAsSeen p t (λ h. IsDescribed l h id s)
+described_one l id s p q r t is root n status holder a b c look look_root had stands what e =
     let both : IsPrefix p.seen r.seen = begins_trans p.seen q.seen r.seen a.sees b.sees in
     let at_r : r.seen ≡ p.seen = between p.seen r.seen t.seen both c.sees e in
     let at_q : q.seen ≡ p.seen = between p.seen q.seen r.seen a.sees b.sees at_r in
     let item = look at_q in
     let request = told_second (IsLook l is.element.root root) p.seen q.seen r.seen a.sees b.sees look_root at_r in
     let rounds_are = told_second (HasHadRounds id n) p.seen r.seen t.seen both c.sees had e in
-    subst (λ z. IsDescribed l.attempts p.seen id z) (sym what) (
+    subst (λ z. IsDescribed l p.seen id z) (sym what) (
       refl,
       record {
         item = is.element;
@@ -93,8 +93,7 @@ described_one l id s p q r t is root n a b c look look_root had alive what e =
         root = refl;
         stage = refl;
         body = refl;
-        status = sym item.1;
-        alive = alive;
+        stands = subst (λ z. IsStanding l z status holder) item.1 stands;
         rounds_are = rounds_are.1;
         request = root.element;
         began = request.0;
@@ -106,14 +105,14 @@ described_one l id s p q r t is root n a b c look look_root had alive what e =
 -- and of one more
 
 pub stand_then : (limit : ℕ) (survivors : List Survivor) (moved : List Moved) (i : ℕ) (d : Survivor) (e : Moved) (p q r : PassShown) → i < length survivors → i < length moved → Stays p q → Stays q r
-    → HoldsAsSeen p q (λ g. AllStandAgain limit g (take i survivors) (take i moved)) → HoldsAsSeen q r (λ g. StandsAgain limit g (get_or survivors i d) (get_or moved i e))
-    → HoldsAsSeen p r (λ g. AllStandAgain limit g (take (i + 1) survivors) (take (i + 1) moved))
+    → HoldsAsSeen p q (λ g. AllStandUnheld limit g (take i survivors) (take i moved)) → HoldsAsSeen q r (λ g. StandsUnheld limit g (get_or survivors i d) (get_or moved i e))
+    → HoldsAsSeen p r (λ g. AllStandUnheld limit g (take (i + 1) survivors) (take (i + 1) moved))
 stand_then limit survivors moved i d e p q r less less' a b before one same =
-    let x = told_first (λ g. AllStandAgain limit g (take i survivors) (take i moved)) p.seen q.seen r.seen a.sees b.sees before same in
-    let y = told_second (λ g. StandsAgain limit g (get_or survivors i d) (get_or moved i e)) p.seen q.seen r.seen a.sees b.sees one same in
-    zip_more (StandsAgain limit p.seen) survivors moved i d e less less' x y
+    let x = told_first (λ g. AllStandUnheld limit g (take i survivors) (take i moved)) p.seen q.seen r.seen a.sees b.sees before same in
+    let y = told_second (λ g. StandsUnheld limit g (get_or survivors i d) (get_or moved i e)) p.seen q.seen r.seen a.sees b.sees one same in
+    zip_more (StandsUnheld limit p.seen) survivors moved i d e less less' x y
 
-pub described_then : (limit : ℕ) (ids : List ℕ) (found found' : List Survivor) (i d : ℕ) (s : Survivor) (p q r : PassShown) → i < length ids → found' ≡ found ++ s ∷ [] → Stays p q → Stays q r
+pub described_then : (limit : Limits) (ids : List ℕ) (found found' : List Survivor) (i d : ℕ) (s : Survivor) (p q r : PassShown) → i < length ids → found' ≡ found ++ s ∷ [] → Stays p q → Stays q r
     → HoldsAsSeen p q (λ h. AreDescribed limit h (take i ids) found) → HoldsAsSeen q r (λ h. IsDescribed limit h (get_or ids i d) s) → HoldsAsSeen p r (λ h. AreDescribed limit h (take (i + 1) ids) found')
 described_then limit ids found found' i d s p q r less is a b before one same =
     let x = told_first (λ h. AreDescribed limit h (take i ids) found) p.seen q.seen r.seen a.sees b.sees before same in
@@ -121,7 +120,7 @@ described_then limit ids found found' i d s p q r less is a b before one same =
     subst (λ zs. AreDescribed limit p.seen zs found') (sym (take_more ids i d less))
     (subst (AreDescribed limit p.seen (take i ids ++ get_or ids i d ∷ [])) (sym is) (zip_snoc (IsDescribed limit p.seen) (take i ids) found (get_or ids i d) s x y))
 
-pub described_end : (limit : ℕ) (h : List Event) (ids : List ℕ) (found : List Survivor) (i : ℕ) → length ids ≤ i → i ≤ length ids → AreDescribed limit h (take i ids) found → AreDescribed limit h ids found
+pub described_end : (limit : Limits) (h : List Event) (ids : List ℕ) (found : List Survivor) (i : ℕ) → length ids ≤ i → i ≤ length ids → AreDescribed limit h (take i ids) found → AreDescribed limit h ids found
 described_end limit h ids found i low high all = subst (λ zs. AreDescribed limit h zs found) (ap (λ k. take k ids) (let e : i ≡ length ids = omega (arith, low, high) in e) ∙ take-length ids) all
 
 -- roots in two tables

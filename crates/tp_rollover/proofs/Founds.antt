@@ -10,15 +10,15 @@ use Rattle.tp_model.specs.declared.types.Status.TheVariants.{Waiting, Held, Cons
 use Rattle.tp_model.specs.declared.event.Event.{Event}
 use Rattle.tp_model.specs.Counts.{counts, is_held, is_parked, is_waiting}
 use Rattle.tp_model.specs.History.{In, IsBorn, born, element_of, status_of}
-use Rattle.tp_model.specs.Steps.{IsKillable, IsLegal, rows_of}
+use Rattle.tp_model.specs.Steps.{IsLegal, rows_of}
 use Rattle.tp_model.proofs.Bridges.{append_nil, element_of-id, in_either, in_one}
 use Rattle.tp_model.proofs.RowTallies.{rows_sum}
 use Rattle.tp_rollover.specs.Finding.{AreAlive, AreAliveBelow, CountsAlive, IsAliveAt, listed}
 use Rattle.tp_rollover.specs.declared.moved.Moved.{Moved}
-use Rattle.tp_rollover.specs.Survivors.{Ascending}
+use Rattle.tp_rollover.specs.Survivors.{Ascending, IsLiving}
 use Rattle.tp_rollover.proofs.Lists.{ascending_more}
 use Rattle.tp_rollover.proofs.Others.{all_named, sum_both}
-use Rattle.tp_rollover.proofs.Tallies.{alive_one, by_rows, one_if, over}
+use Rattle.tp_rollover.proofs.Tallies.{by_rows, living_one, one_if, over}
 use Rattle.tp_manager.specs.Shown.{PassShown}
 use Rattle.tp_alone.specs.Thread.{Stays}
 use Rattle.tp_rollover.specs.Told.{HoldsAsSeen}
@@ -29,14 +29,14 @@ use Rattle.tp_rollover.proofs.Seen.{told_first, told_second}
 -- whether an element is alive, and whether that of a row is, as numbers
 
 abbrev alive_in : ℕ → List Event → Element → ℕ
-alive_in limit h x = one_if (is_waiting (status_of limit h x.id)) + one_if (is_parked (status_of limit h x.id))
+alive_in limit h x = one_if (is_waiting (status_of limit h x.id)) + one_if (is_parked (status_of limit h x.id)) + one_if (is_held (status_of limit h x.id))
 
 abbrev pub row_alive : ℕ → List Event → ℕ → ℕ
 row_alive limit h i = over (alive_in limit h) (element_of h i)
 
-not_one : (s : Status) → ¬ IsKillable s → one_if (is_waiting s) + one_if (is_parked s) ≡ 0
+not_one : (s : Status) → ¬ IsLiving s → one_if (is_waiting s) + one_if (is_parked s) + one_if (is_held s) ≡ 0
 not_one (Waiting n) not = absurd (not tt)
-not_one (Held u n) not = refl
+not_one (Held u n) not = absurd (not tt)
 not_one (Consumed u) not = refl
 not_one (Parked n) not = absurd (not tt)
 not_one Killed not = refl
@@ -51,10 +51,10 @@ at_counted limit row None h at = go (element_of h row) refl
     go None is = ap (over (alive_in limit h)) is
     go (Some x) is =
         ap (over (alive_in limit h)) is
-        ∙ not_one (status_of limit h x.id) (λ alive. none_some row ((at.0 x is).1 (subst (λ i. IsKillable (status_of limit h i)) (element_of-id h row x is) alive)))
+        ∙ not_one (status_of limit h x.id) (λ alive. none_some row (at.0 x is (subst (λ i. IsLiving (status_of limit h i)) (element_of-id h row x is) alive)))
 at_counted limit row (Some a) h at =
     let there = at.1 a refl in
-    ap (over (alive_in limit h)) there.born ∙ alive_one (status_of limit h there.item.id) (subst (λ i. IsKillable (status_of limit h i)) (sym (element_of-id h row there.item there.born)) there.alive)
+    ap (over (alive_in limit h)) there.born ∙ living_one (status_of limit h there.item.id) (subst (λ i. IsLiving (status_of limit h i)) (sym (element_of-id h row there.item there.born)) there.living)
 
 -- what is summed over rows, and over those after them
 split : (F : ℕ → ℕ) (a n m k : ℕ) → n + m ≡ k → sum_by F (range_with_len a k) ≡ sum_by F (range_with_len a n) + sum_by F (range_with_len (a + n) m)
@@ -114,32 +114,23 @@ module _ (l : Limits) (h : List Event) (n : ℕ) (found : List ℕ) (legal : IsL
   total =
       sym (by_rows (alive_in l.attempts h) h 0 (rows_of l))
       ∙ (rows_sum l h legal (alive_in l.attempts h)
-      ∙ (sum_both (λ x. one_if (is_waiting (status_of l.attempts h x.id))) (λ x. one_if (is_parked (status_of l.attempts h x.id))) (born h) ∙ counted.alive))
-
-  held : sum_by (λ i. over (λ x. one_if (is_held (status_of l.attempts h x.id))) (element_of h i)) (range_with_len 0 (rows_of l)) ≡ 0
-  held = sym (by_rows (λ x. one_if (is_held (status_of l.attempts h x.id))) h 0 (rows_of l)) ∙ (rows_sum l h legal (λ x. one_if (is_held (status_of l.attempts h x.id))) ∙ counted.held)
+      ∙ (sum_both (λ x. one_if (is_waiting (status_of l.attempts h x.id)) + one_if (is_parked (status_of l.attempts h x.id))) (λ x. one_if (is_held (status_of l.attempts h x.id))) (born h)
+      ∙ (ap (λ n. n + (counts l.attempts h).held) (sum_both (λ x. one_if (is_waiting (status_of l.attempts h x.id))) (λ x. one_if (is_parked (status_of l.attempts h x.id))) (born h)) ∙ counted)))
 
   pub all_found : (row : ℕ) → row ≤ rows_of l → FoundBelow l.attempts row found h → n ≤ length found → AreAlive l found h
   all_found row inside below enough x is less = ⊎_elim
       (λ p. let low : x.id + 1 ≤ row = p.1 in below.0 x is (omega arith))
-      (λ p. (no_held p.1, none_alive p.1))
+      (λ p. none_alive p.1)
       (leb_tells (x.id + 1) row)
     where
-      no_held : row < x.id + 1 → (u m : ℕ) → ¬ (status_of l.attempts h x.id ≡ Held u m)
-      no_held low u m e =
-          let nothing = zero_at (λ y. one_if (is_held (status_of l.attempts h y.id))) 0 (rows_of l) held x is (omega arith) (omega arith) in
-          let one = ap (λ s. one_if (is_held s)) e in
-          let is_one : one_if (is_held (Held u m)) ≡ 1 = refl in
-          omega arith
-
-      none_alive : row < x.id + 1 → IsKillable (status_of l.attempts h x.id) → In x.id found
+      none_alive : row < x.id + 1 → IsLiving (status_of l.attempts h x.id) → In x.id found
       none_alive low alive =
           let parts = split (row_alive l.attempts h) 0 row (rows_of l - row) (rows_of l) (omega arith) in
           let sum = total in
           let front = below.1 in
           let rest : sum_by (row_alive l.attempts h) (range_with_len (0 + row) (rows_of l - row)) ≡ 0 = omega arith in
           let nothing = zero_at (alive_in l.attempts h) (0 + row) (rows_of l - row) rest x is (omega arith) (omega arith) in
-          let one = alive_one (status_of l.attempts h x.id) alive in
+          let one = living_one (status_of l.attempts h x.id) alive in
           absurd (omega arith)
 
 -- the ids ascend, and are below the next row

@@ -26,7 +26,7 @@ stays_again ps qs p q is stays = subst (λ z. AllZip Stays z (q ∷ qs)) (sym is
 
 -- no unit is open in one more
 
-default_same : {A : Type 0} (xs : List A) (i : ℕ) (d e : A) → i < length xs → get_or xs i d ≡ get_or xs i e
+pub default_same : {A : Type 0} (xs : List A) (i : ℕ) (d e : A) → i < length xs → get_or xs i d ≡ get_or xs i e
 default_same [] i d e less = absurd (omega (arith, less))
 default_same (x ∷ xs) zero d e less = refl
 default_same (x ∷ xs) (suc i) d e less = default_same xs i d e (omega (arith, less))

@@ -1,11 +1,13 @@
 pub mod PairLaws
 pub mod Seen
-pub mod Ends
-pub mod Since
 pub mod Lists
 pub mod Checked
 pub mod Heads
-pub mod Killing
+pub mod Holding
+pub mod GivingUp
+pub mod Standing
+pub mod Burying
+pub mod KillRuns
 pub mod Others
 pub mod Founds
 pub mod Assembly
@@ -15,8 +17,10 @@ pub mod Steps
 pub mod Sums
 pub mod Replaying
 mod Worked
+mod WorkedHeld
 pub mod Carrying
 pub mod Restored
+pub mod Freed
 pub mod Calling
 pub mod BirthsPlaces
 pub mod BirthsGroups

@@ -1,5 +1,5 @@
 -- What is made anew in a manager in which nothing has happened.
-use Rattle.std.proofs.Common.{◌≡◌, ℕ, ◌*◌, All, Option, Some, List, length, slice_index, sym, ◌∙◌, ap}
+use Rattle.std.proofs.Common.{◌≡◌, ℕ, ◌*◌, All, Option, Some, None, List, length, slice_index, sym, ◌∙◌, ap, subst, Result, Ok, Err, IfOk, OnOk}
 use Rattle.std.specs.List.{AllZip}
 use Rattle.std.specs.Option.{option_and_then}
 use Rattle.tp_model.specs.declared.types.Limits.{Limits}
@@ -10,12 +10,14 @@ use Rattle.tp_alone.specs.Thread.{IsFresh, Stays}
 use Rattle.tp_alone.proofs.Apart.{zip_long, zip_right}
 use Rattle.tp_alone.proofs.Idle.{alone_idle}
 use Rattle.tp_alone.proofs.Starts.{alone_start}
-use Rattle.tp_rollover.specs.Anew.{all_born, all_replayed, made_anew}
+use Rattle.tp_rollover.specs.Anew.{all_born, all_held, all_replayed, kept_for, made_anew, made_unheld}
 use Rattle.tp_rollover.specs.Carries.{AreFresh}
-use Rattle.tp_rollover.specs.Lone.{AreLone, lone}
+use Rattle.tp_rollover.specs.Lone.{AreLone, lone, Agrees}
 use Rattle.tp_rollover.specs.declared.moved.Moved.{Moved}
 use Rattle.tp_rollover.specs.declared.survivors.Survivor.{Survivor}
 use Rattle.tp_rollover.proofs.Assembly.{gathered, stay_trans}
+use Rattle.tp_rollover.specs.declared.stops.Stop.{Stop}
+use Rattle.tp_rollover.specs.declared.stops.Stop.TheVariants.{Full}
 
 -- passes that have done nothing but look are as they were
 fresh_stays : (l : Limits) (p q : PassShown) → Stays p q → IsFresh l p → IsFresh l q
@@ -45,17 +47,17 @@ module _ (m : ManagerShown) (n : ℕ) (k0 k1 : KeeperShown) (ps0 ps1 : List Pass
 -- the births, and what follows on them
 module _ (l : Limits) (p q : ℕ) (survivors : List Survivor) (s t : State) (long : q ≡ p) (same : t ≡ s) where
   abbrev pub from_born : List Moved × State → Option (List Moved × State)
-  from_born born = option_and_then (λ done. Some (born.0, done)) (all_replayed p s.limits.attempts survivors born.0 (0, born.1))
+  from_born born = option_and_then (λ done. Some (born.0, done)) (all_replayed p (kept_for survivors) s.limits.attempts survivors born.0 (0, born.1))
 
-  pub made_born : made_anew l p survivors s ≡ option_and_then from_born (all_born l q survivors t)
+  pub made_born : made_unheld l p survivors s ≡ option_and_then from_born (all_born l q survivors t)
   made_born = ap (λ z. option_and_then from_born (all_born l p survivors z)) (sym same) ∙ ap (λ n. option_and_then from_born (all_born l n survivors t)) (sym long)
 
   -- then the replays
   module _ (moved : List Moved) (after : State) (born : all_born l q survivors t ≡ Some (moved, after)) (r : ℕ) (long' : r ≡ p) where
-    pub made_then : made_anew l p survivors s ≡ option_and_then (λ done. Some (moved, done)) (all_replayed r s.limits.attempts survivors moved (0, after))
-    made_then = made_born ∙ (ap (option_and_then from_born) born ∙ ap (λ n. option_and_then (λ done. Some (moved, done)) (all_replayed n s.limits.attempts survivors moved (0, after))) (sym long'))
+    pub made_then : made_unheld l p survivors s ≡ option_and_then (λ done. Some (moved, done)) (all_replayed r (kept_for survivors) s.limits.attempts survivors moved (0, after))
+    made_then = made_born ∙ (ap (option_and_then from_born) born ∙ ap (λ n. option_and_then (λ done. Some (moved, done)) (all_replayed n (kept_for survivors) s.limits.attempts survivors moved (0, after))) (sym long'))
 
-    pub made_all : (done : State) → all_replayed r s.limits.attempts survivors moved (0, after) ≡ Some done → (end : State) → end ≡ done → made_anew l p survivors s ≡ Some (moved, end)
+    pub made_all : (done : State) → all_replayed r (kept_for survivors) s.limits.attempts survivors moved (0, after) ≡ Some done → (end : State) → end ≡ done → made_unheld l p survivors s ≡ Some (moved, end)
     made_all done is end still = made_then ∙ (ap (option_and_then (λ z. Some (moved, z))) is ∙ ap (λ z. Some (moved, z)) (sym still))
 
 -- the account, the looks, and the last gathering
@@ -66,3 +68,27 @@ still_lone m n c k3 k4 k5 ps3 ps4 ps5 ps6 is g1 all1 given1 own1 stay g2 all2 gi
     let t1 = gathered m n k3 k4 ps3 ps4 g1 all1 given1 own1 in
     let t2 = gathered m c k4 k5 ps5 ps6 g2 all2 given2 own2 in
     (alone_idle m.limits k3 k5 ps3 ps6 k3.seen k5.seen is.together (stay_trans ps3 ps5 ps6 (stay_trans ps3 ps4 ps5 t1.1 stay) t2.1) t2.0).1
+
+-- what was done is what is computed
+pub made_so : {A B : Type 0} (r : Result A Stop) (value : A → B) (computed : Option B) (P : A → Type 0) → Agrees r value computed → ((x : A) → computed ≡ Some (value x) → P x) → IfOk r P
+made_so (Ok x) value computed P agrees so = so x agrees
+made_so (Err e) value computed P agrees so = tt
+
+-- and it is full where that is
+pub none_so : {A B : Type 0} (r : Result A Stop) (value : A → B) (computed : Option B) → r ≡ Err Full → Agrees r value computed → computed ≡ None
+none_so r value computed full agrees = subst (λ z. Agrees z value computed) full agrees
+
+pub on_ok : {A E : Type 0} (r : Result A E) (P : Type 0) → P → OnOk r P
+on_ok (Ok x) P is = is
+on_ok (Err e) P is = tt
+
+-- and once those are held that are
+module _ (l : Limits) (p q : ℕ) (survivors : List Survivor) (s t : State) (moved : List Moved) (long : q ≡ p) (made : made_unheld l p survivors s ≡ Some (moved, t)) where
+  abbrev pub from_unheld : List Moved × State → Option (List Moved × State)
+  from_unheld x = option_and_then (λ done. Some (x.0, done)) (all_held p survivors x.0 x.1)
+
+  pub made_held : made_anew l p survivors s ≡ option_and_then (λ done. Some (moved, done)) (all_held q survivors moved t)
+  made_held = ap (option_and_then from_unheld) made ∙ ap (λ n. option_and_then (λ done. Some (moved, done)) (all_held n survivors moved t)) (sym long)
+
+  pub made_so_far : (end : State) → all_held q survivors moved t ≡ Some end → made_anew l p survivors s ≡ Some (moved, end)
+  made_so_far end held = made_held ∙ ap (option_and_then (λ done. Some (moved, done))) held

@@ -9,8 +9,10 @@ use Rattle.tp_plain.specs.OneThread.{start}
 use Rattle.tp_manager.specs.Shown.{IsKeptBy, IsOf, KeeperShown, ManagerShown, PassShown}
 use Rattle.tp_alone.specs.Thread.{IsFresh, thread_of}
 use Rattle.tp_rollover.specs.Anew.{made_anew}
+use Rattle.tp_rollover.specs.Answers.{Rolls}
+use Rattle.tp_rollover.specs.Survivors.{Restores}
 use Rattle.tp_rollover.specs.Carries.{AreFresh, Carries, IsMade, WouldNotFit}
-use Rattle.tp_rollover.specs.Faults.{AreFree, IsDue, IsRestoreDue}
+use Rattle.tp_rollover.specs.Faults.{IsDue, IsRestoreDue}
 use Rattle.tp_rollover.specs.Lone.{lone}
 use Rattle.tp_rollover.specs.Managed.{IsManaged, IsNewPass, IsRefusedFor, IsUnrestored}
 use Rattle.tp_rollover.specs.declared.managed.Managed.{Managed}
@@ -30,27 +32,27 @@ all_more old new ps p next given all =
     let long = length-append ps (p ∷ []) in
     (omega (arith, long, all.0, given), from_more 0 ps p (omega (arith, next, all.0)) all.1)
 
--- the faults that a manager with all its passes can meet, where none has a unit open
+-- the faults that a manager with all its passes can meet
 not_empty : (ps : List PassShown) → 1 ≤ length ps → ps ≡ [] → ⊥
 not_empty ps some none = let e = ap length none in omega (arith, some, e)
 
-pub refused_for : (l k : Limits) (olds news news' : List PassShown) (fault : RollFault) → k.attempts ≡ l.attempts → 1 ≤ length olds → 1 ≤ length news → AreFree olds
+pub refused_for : (l k : Limits) (olds news news' : List PassShown) (fault : RollFault) → k.attempts ≡ l.attempts → 1 ≤ length olds → 1 ≤ length news
     → (fault ≡ Full → WouldNotFit l olds l.parts (start l)) → IsDue l k olds news news' fault → IsRefusedFor l olds fault
-refused_for l k olds news news' NoMemory same some some' free short due = free
-refused_for l k olds news news' BadLimits same some some' free short due = due same
-refused_for l k olds news news' NoPass same some some' free short due = ⊎_elim (λ none. not_empty olds some none) (λ none. not_empty news some' none) due.1
-refused_for l k olds news news' Busy same some some' free short due = due.2
-refused_for l k olds news news' Full same some some' free short due = (free, short refl)
-refused_for l k olds news news' Unequal same some some' free short due = free
+refused_for l k olds news news' NoMemory same some some' short due = tt
+refused_for l k olds news news' BadLimits same some some' short due = due same
+refused_for l k olds news news' NoPass same some some' short due = ⊎_elim (λ none. not_empty olds some none) (λ none. not_empty news some' none) due.1
+refused_for l k olds news news' Busy same some some' short due = due
+refused_for l k olds news news' Full same some some' short due = short refl
+refused_for l k olds news news' Unequal same some some' short due = tt
 
 -- and those that none of descriptions can be made for
-pub unrestored_for : (l k : Limits) (news news' : List PassShown) (fault : RollFault) → AreLimits l → 1 ≤ length news → IsRestoreDue k news news' fault → IsUnrestored l fault
-unrestored_for l k news news' NoMemory limits some due = limits
-unrestored_for l k news news' BadLimits limits some due = absurd due
-unrestored_for l k news news' NoPass limits some due = absurd (not_empty news some due)
-unrestored_for l k news news' Busy limits some due = absurd due
-unrestored_for l k news news' Full limits some due = limits
-unrestored_for l k news news' Unequal limits some due = limits
+pub unrestored_for : (l k : Limits) (survivors : List Survivor) (news news' : List PassShown) (fault : RollFault) → AreLimits l → 1 ≤ length news → IsRestoreDue k survivors news news' fault → IsUnrestored l fault
+unrestored_for l k survivors news news' NoMemory limits some due = limits
+unrestored_for l k survivors news news' BadLimits limits some due = absurd due
+unrestored_for l k survivors news news' NoPass limits some due = absurd (not_empty news some due)
+unrestored_for l k survivors news news' Busy limits some due = absurd due
+unrestored_for l k survivors news news' Full limits some due = limits
+unrestored_for l k survivors news news' Unequal limits some due = limits
 
 -- what doesn't fit into a manager with the same limits, by as many passes
 pub unfit_same : (l k : Limits) (p q : ℕ) (olds : List PassShown) → k ≡ l → q ≡ p → WouldNotFit l olds q (start k) → WouldNotFit l olds p (start l)
@@ -101,9 +103,6 @@ module _ (m : Managed) (keeper : KeeperShown) (qs : List PassShown) (h : IsManag
     parts = ap length again_is ∙ (as_long ∙ h.parts);
   }
 
-  pub free_again : AreFree qs → AreFree (with_items m.passes qs).items
-  free_again free = subst AreFree (sym again_is) free
-
   -- and what was carried over into it
   pub carries_again : (l : Limits) (p : ℕ) (olds : List PassShown) (moved : List Moved) → m.manager.limits ≡ l → p ≡ l.parts → Carries l olds p (start m.manager.limits) moved (lone m.manager keeper qs)
       → Carries l olds l.parts (start l) moved (thread_of l (with_items m.passes qs).items keeper.seen)
@@ -119,3 +118,9 @@ module _ (m : Managed) (keeper : KeeperShown) (qs : List PassShown) (h : IsManag
       let t = subst (λ n. made_anew m.manager.limits n survivors (start m.manager.limits) ≡ Some (moved, lone m.manager keeper qs)) long made in
       let u = subst (λ z. made_anew z l.parts survivors (start z) ≡ Some (moved, thread_of z qs keeper.seen)) same t in
       subst (λ ps. made_anew l l.parts survivors (start l) ≡ Some (moved, thread_of l ps keeper.seen)) (sym again_is) u
+
+  pub rolls_again : (l k : Limits) (old' : KeeperShown) (olds olds' : List PassShown) (moved : List Moved) → Rolls l k old' keeper olds olds' qs moved → Rolls l k old' keeper olds olds' (with_items m.passes qs).items moved
+  rolls_again l k old' olds olds' moved rolls = subst (λ ps. Rolls l k old' keeper olds olds' ps moved) (sym again_is) rolls
+
+  pub restores_again : (k : Limits) (survivors : List Survivor) (moved : List Moved) → Restores k keeper qs survivors moved → Restores k keeper (with_items m.passes qs).items survivors moved
+  restores_again k survivors moved restores = subst (λ ps. Restores k keeper ps survivors moved) (sym again_is) restores

@@ -16,7 +16,7 @@ use Rattle.tp_model.proofs.Later.{births_inside}
 use Rattle.tp_model.proofs.RowTallies.{rows_sum}
 use Rattle.tp_rollover.specs.Checks.{AreOnly, CountsOnly, MovedAscend}
 use Rattle.tp_rollover.specs.Finding.{StandsAlive}
-use Rattle.tp_rollover.specs.Rolls.{AscendFrom, IsNamed}
+use Rattle.tp_rollover.specs.Checks.{AscendFrom, IsNamed}
 use Rattle.tp_rollover.specs.declared.moved.Moved.{Moved}
 use Rattle.tp_rollover.proofs.Tallies.{alive_one, by_rows, one_if, over}
 

@@ -1,48 +1,54 @@
 -- What was described and stands again, and the kills, make a rollover.
-use Rattle.std.proofs.Common.{◌≢◌, ℕ, ◌+◌, ◌<◌, ◌≤◌, List, [], ◌∷◌, ◌++◌, refl, sym, ◌∙◌, ap, subst, append_assoc, arith}
-use Rattle.std.specs.Option.{option_or}
+use Rattle.std.proofs.Common.{◌≡◌, ℕ, ◌+◌, ◌<◌, List, [], ◌∷◌, ◌++◌, inl, refl, sym, ap, subst, append_assoc, arith}
 use Rattle.tp_model.specs.declared.types.Limits.{Limits}
-use Rattle.tp_model.specs.declared.types.Status.TheVariants.{Killed}
+use Rattle.tp_model.specs.declared.types.Status.{Status}
+use Rattle.tp_model.specs.declared.types.Status.TheVariants.{Waiting, Held, Consumed, Parked, Killed}
 use Rattle.tp_model.specs.declared.event.Event.{Event}
-use Rattle.tp_model.specs.declared.event.Event.TheVariants.{Kill}
-use Rattle.tp_model.specs.History.{In, element_of, here, status_of, there}
-use Rattle.tp_model.specs.Steps.{IsKillable, IsLegal, Step}
+use Rattle.tp_model.specs.declared.event.Event.TheVariants.{Abort, Kill}
+use Rattle.tp_model.specs.History.{In, here, status_of, there}
+use Rattle.tp_model.specs.Steps.{IsLegal}
 use Rattle.tp_model.proofs.Bridges.{append_nil}
-use Rattle.tp_model.proofs.Histories.{element_of-append, legal_more, status_of-snoc}
-use Rattle.tp_model.proofs.Lists.{if_other}
-use Rattle.tp_rollover.specs.Finding.{StandsAlive}
+use Rattle.tp_model.proofs.Histories.{element_of-kept, legal_more}
+use Rattle.tp_plain.proofs.Kills.{may_abort, may_kill_after}
+use Rattle.tp_rollover.specs.Checks.{AscendFrom}
+use Rattle.tp_rollover.specs.Finding.{StandsLiving}
 use Rattle.tp_rollover.specs.Laws.{RestoredIsRolledOver}
-use Rattle.tp_rollover.specs.Rolls.{AscendFrom, kills}
+use Rattle.tp_rollover.specs.Rolls.{ends, kills}
+use Rattle.tp_rollover.specs.Survivors.{IsLiving}
 use Rattle.tp_rollover.specs.declared.moved.Moved.{Moved}
-use Rattle.tp_rollover.proofs.Assembly.{rolled}
-use Rattle.tp_rollover.proofs.Carrying.{all_carried}
+use Rattle.tp_rollover.proofs.Assembly.{all_living, rolled}
+use Rattle.tp_rollover.proofs.Burying.{end_of_one, kills_next, legal_apart, not_first, others_stay}
 
--- what isn't killed stands alive as it did
-others_stand : (limit c i j : ℕ) (h : List Event) → j ≢ i → StandsAlive limit i h → StandsAlive limit i (h ++ Kill c j ∷ [])
-others_stand limit c i j h other s = record {
-  item = s.item;
-  born = element_of-append h (Kill c j ∷ []) i ∙ ap (λ o. option_or o (element_of (Kill c j ∷ []) i)) s.born;
-  alive = subst IsKillable (sym (status_of-snoc limit h (Kill c j) i ∙ if_other j i Killed (status_of limit h i) other)) s.alive;
-}
+module _ (l : Limits) (c : ℕ) (inside : c < l.parts) where
+  -- one can be killed
+  one_legal : (h : List Event) (i : ℕ) → IsLegal l h → StandsLiving l.attempts i h → IsLegal l (h ++ end_of_one l.attempts c h i)
+  one_legal h i legal live = go (status_of l.attempts h i) refl live.living
+    where
+      go : (s : Status) → status_of l.attempts h i ≡ s → IsLiving s → IsLegal l (h ++ (ends c s ++ Kill c i ∷ []))
+      go (Waiting n) is lives = legal_more l h (Kill c i) legal (record { pass = inside; item = live.item; born = live.born; free = rw is tt })
+      go (Held u n) is lives = subst (IsLegal l) (append_assoc h (Abort c u ∷ []) (Kill c i ∷ []))
+          (legal_more l (h ++ Abort c u ∷ []) (Kill c i) (legal_more l h (Abort c u) legal (may_abort l h c i u n inside legal is)) (may_kill_after l h c i u n live.item inside live.born is))
+      go (Consumed u) is lives = absurd lives
+      go (Parked n) is lives = legal_more l h (Kill c i) legal (record { pass = inside; item = live.item; born = live.born; free = rw is tt })
+      go Killed is lives = absurd lives
 
-ids_above : (low : ℕ) (ms : List Moved) (m : Moved) → AscendFrom (λ m. m.old) low ms → In m ms → low ≤ m.old
-ids_above low [] m up p = elim p [ ]
-ids_above low (x ∷ ms) m up here = up.0
-ids_above low (x ∷ ms) m up (there p) = let less = ids_above (x.old + 1) ms m up.1 p in let first = up.0 in omega (arith, less, first)
-
--- so all of them can be killed, in their order
-kills_legal : (l : Limits) (c low : ℕ) (h : List Event) (ms : List Moved) → c < l.parts → IsLegal l h → AscendFrom (λ m. m.old) low ms → ((m : Moved) → In m ms → StandsAlive l.attempts m.old h)
-    → IsLegal l (h ++ kills c ms)
-kills_legal l c low h [] inside legal up alive = subst (IsLegal l) (sym (append_nil h)) legal
-kills_legal l c low h (m ∷ ms) inside legal up alive =
-    let first = alive m here in
-    let step : Step l h (Kill c m.old) = record { pass = inside; item = first.item; born = first.born; free = first.alive } in
-    let rest = kills_legal l c (m.old + 1) (h ++ Kill c m.old ∷ []) ms inside (legal_more l h (Kill c m.old) legal step) up.1
-    (λ n p. others_stand l.attempts c n.old m.old h (λ same. let less = ids_above (m.old + 1) ms n up.1 p in omega (arith, less, same)) (alive n (there p))) in
-    subst (IsLegal l) (append_assoc h (Kill c m.old ∷ []) (kills c ms)) rest
+  -- so all of them can be, in their order
+  kills_legal : (low : ℕ) (h : List Event) (ms : List Moved) → IsLegal l h → AscendFrom (λ m. m.old) low ms → ((m : Moved) → In m ms → StandsLiving l.attempts m.old h) → IsLegal l (h ++ kills l.attempts h c ms)
+  kills_legal low h [] legal up live = subst (IsLegal l) (sym (append_nil h)) legal
+  kills_legal low h (m ∷ ms) legal up live =
+      let apart = legal_apart l h legal in
+      let next = h ++ end_of_one l.attempts c h m.old in
+      let rest = kills_legal (m.old + 1) next ms (one_legal h m.old legal (live m here)) up.1
+      (λ x p. (let one = live x (there p) in record {
+        item = one.item;
+        born = element_of-kept h (end_of_one l.attempts c h m.old) x.old one.item one.born;
+        living = subst IsLiving (sym (others_stay l.attempts c m.old h apart x.old (not_first m ms x up.1 p))) one.living;
+      })) in
+      subst (IsLegal l) (kills_next l.attempts h c m ms apart up.1) rest
 
 pub restored_rolls : RestoredIsRolledOver
 restored_rolls l k h g survivors moved limits same legal new_legal found again =
-    let carried = all_carried l k h g survivors moved same found again in
-    let killed = kills_legal l 0 0 h moved (let some = limits.parts.0 in omega (arith, some)) legal again.once.0 (λ m p. let c = carried m p in record { item = c.old; born = c.was.0; alive = c.alive }) in
-    rolled l k h (h ++ kills 0 moved) g survivors moved same killed new_legal found again refl
+    let live = all_living l k h g survivors moved found again in
+    let killed = kills_legal l 0 (let some = limits.parts.0 in omega (arith, some)) 0 h moved legal live.once live.each in
+    rolled l k h (h ++ kills l.attempts h 0 moved) g survivors moved same killed new_legal found again
+    (record { given_up = []; own = inl refl; killed = sym (ap (λ z. z ++ kills l.attempts z 0 moved) (append_nil h)) })

@@ -70,10 +70,10 @@ makes_more i k n old middle new less made follows =
 
 -- ---- between its calls
 
-goes_same : (p : PassShown) → Goes p p
+pub goes_same : (p : PassShown) → Goes p p
 goes_same p = record { number = refl; sees = ([], append-nil p.seen); kept = λ b held. held; later = λ b held. inl held; drawn = omega arith }
 
-goes_trans : (p q r : PassShown) → Goes p q → Goes q r → Goes p r
+pub goes_trans : (p q r : PassShown) → Goes p q → Goes q r → Goes p r
 goes_trans p q r a b = record {
   number = b.number ∙ a.number;
   sees = begins_trans p.seen q.seen r.seen a.sees b.sees;
@@ -218,7 +218,7 @@ module _ (m : ManagerShown) (keeper keeper' : KeeperShown) (olds news : List Pas
   abbrev old : PassShown
   old = get_or olds at d
 
-  behind : AreTogether m.limits keeper' news keeper'.seen × AllZip Stays (take at olds ++ new ∷ drop (suc at) olds) news
+  pub behind : AreTogether m.limits keeper' news keeper'.seen × AllZip Stays (take at olds ++ new ∷ drop (suc at) olds) news
   behind = let t = assembly.gathered m q keeper keeper' (slice_set olds at new) news gathers all kept.1 owns in (t.0, subst (λ ps. AllZip Stays ps news) (set_place olds at new less) t.1)
 
   pub lone_behind : AreLone m keeper' news × (keeper'.given ≡ keeper.given)

@@ -85,7 +85,7 @@ module _ (l : Limits) (q i n a : ℕ) (k k1 k2 k3 : KeeperShown) (ps ps1 ps2 ps3
       omega (arith, e, f, g, made)
 
 -- all rounds are made before the attempts of the last
-enough : (further times limit a b : ℕ) → further ≤ 3 → times ≤ limit → (further * limit * a + further * b) + times * a ≤ 4 * limit * a + 3 * b
+pub enough : (further times limit a b : ℕ) → further ≤ 3 → times ≤ limit → (further * limit * a + further * b) + times * a ≤ 4 * limit * a + 3 * b
 enough further times limit a b few within =
     let e = stays_less further 3 limit a b few in
     let f = no_more times limit a within in

@@ -1,21 +1,23 @@
 -- The steps of the parts of a rollover, together.
 use Rattle.std.proofs.Math.Nat.{mul-add}
-use Rattle.std.proofs.Common.{◌≡◌, ℕ, ◌+◌, ◌*◌, ◌≤◌, List, [], ◌∷◌, ◌++◌, length, sym, ◌∙◌, ap, subst, arith, length-append}
+use Rattle.std.proofs.Common.{◌≡◌, ℕ, ◌+◌, ◌*◌, ◌≤◌, if◌then◌else◌, is_some, All, List, [], ◌∷◌, ◌++◌, length, refl, sym, ◌∙◌, ap, subst, arith, length-append}
 use Rattle.tp_model.specs.declared.types.Account.{Account}
 use Rattle.tp_model.specs.declared.types.Limits.{Limits}
 use Rattle.tp_model.specs.declared.event.Event.{Event}
 use Rattle.tp_model.specs.Accounts.{account_of}
 use Rattle.tp_manager.specs.Accounts.{AreAll, steps_together}
-use Rattle.tp_manager.specs.Bounds.{account_steps, gather_steps, kill_steps}
+use Rattle.tp_manager.specs.Bounds.{abort_steps, account_steps, gather_steps, kill_steps}
 use Rattle.tp_manager.specs.Shown.{KeeperShown, PassShown}
-use Rattle.tp_rollover.specs.Alike.{AllStandAgain}
-use Rattle.tp_rollover.specs.Bounds.{AllMake, PassesMake, alive_after, bear_steps, compare_steps, describe_steps, made_by_all, most_new_steps, most_replay_steps, new_steps, old_steps, renew_steps, replays_for, search_steps, steps_made, survey_steps}
+use Rattle.tp_rollover.specs.Bounds.{AllMake, PassesMake, alive_after, bear_steps, compare_steps, describe_steps, made_by_all, most_new_steps, most_replay_steps, new_steps, old_steps, renew_steps, replays_for, search_steps, steps_made, survey_steps, unheld_steps}
+use Rattle.tp_rollover.specs.Bounds.{IsWithin, check_steps, gathered, give_up_steps, holds_for}
 use Rattle.tp_rollover.specs.Finding.{CountsAlive}
 use Rattle.tp_rollover.specs.Survivors.{StandsAgain}
 use Rattle.tp_rollover.specs.declared.moved.Moved.{Moved}
 use Rattle.tp_rollover.specs.declared.survivors.Survivor.{Survivor}
 use Rattle.tp_rollover.proofs.Lists.{zip_as_many}
-use Rattle.tp_rollover.proofs.Replaying.{same_replays}
+use Rattle.std.specs.List.{AllZip}
+use Rattle.tp_alone.specs.Thread.{Stays}
+use Rattle.tp_rollover.proofs.Replaying.{all_within, same_replays}
 use Rattle.tp_rollover.proofs.Steps.{no_more, together_make}
 
 -- what a gathering or an account took
@@ -25,7 +27,7 @@ all_make n keeper keeper' olds news all all' given made = let e = together_make 
 
 -- an account counts what is alive
 pub count_is : (limit : ℕ) (a : Account) (h : List Event) (n : ℕ) → a ≡ account_of limit h → CountsAlive n a.total → alive_after limit h ≡ n
-count_is limit a h n is counts = ap (λ (b : Account). b.total.waiting + b.total.parked) (sym is) ∙ counts.alive
+count_is limit a h n is counted = ap (λ (b : Account). b.total.waiting + b.total.parked + b.total.held) (sym is) ∙ counted
 
 -- a survey has come so far
 module _ (l : Limits) (p n : ℕ) (keeper keeper1 : KeeperShown) (olds olds1 : List PassShown) (counted : AllMake (account_steps l p) keeper olds keeper1 olds1) where
@@ -76,16 +78,35 @@ module _ (k : Limits) (q n : ℕ) (k0 k1 k2 : KeeperShown) (ps0 ps1 ps2 : List P
           again_gathered = let e = each_renewed in let f = all_born in let g = all_replayed in let h = all_counted in let i = all_gathered in omega (arith, e, f, g, h, i, began, held)
 
           -- by what they have had
-          pub again_by : (survivors : List Survivor) (moved : List Moved) → n ≡ length survivors → AllStandAgain k.attempts k5.seen survivors moved → AllMake (replays_for k k2.given survivors) k2 ps2 k3 ps3 → AllMake (new_steps k q k5.seen moved) k0 ps0 k5 ps6
-          again_by survivors moved many all had =
-              let f = same_replays k q k5.seen survivors moved all in
-              let long : n ≡ length moved = many ∙ sym (zip_as_many (StandsAgain k.attempts k5.seen) survivors moved all) in
-              let born' = subst (λ z. AllMake (z * bear_steps k q 1) k1 ps1 k2 ps2) long all_born in
+          pub again_by : (survivors : List Survivor) → n ≡ length survivors → AllMake (replays_for k k2.given survivors) k2 ps2 k3 ps3 → AllMake (unheld_steps k q survivors) k0 ps0 k5 ps6
+          again_by survivors many had =
+              let born' = subst (λ z. AllMake (z * bear_steps k q 1) k1 ps1 k2 ps2) many all_born in
               let had' = subst (λ z. AllMake (replays_for k z survivors) k2 ps2 k3 ps3) (given2 ∙ given) had in
-              let held' = subst (λ z. PassesMake (z * compare_steps k) ps4 ps5) long held in
+              let held' = subst (λ z. PassesMake (z * compare_steps k) ps4 ps5) many held in
               let h = all_counted in
               let i = all_gathered in
-              omega (arith, f, born', had', h, i, began, held')
+              omega (arith, born', had', h, i, began, held')
+
+-- and once those are claimed that are held
+module _ (k : Limits) (q : ℕ) (survivors : List Survivor) (k0 k1 k2 : KeeperShown) (ps0 ps1 ps2 : List PassShown) (unheld : AllMake (unheld_steps k q survivors) k0 ps0 k1 ps1) (given : k1.given ≡ q)
+    (holds : AllMake (holds_for k k1.given survivors) k1 ps1 k2 ps2) where
+  all_held : AllMake (holds_for k q survivors) k1 ps1 k2 ps2
+  all_held = subst (λ z. AllMake (holds_for k z survivors) k1 ps1 k2 ps2) given holds
+
+  pub held_within : All (IsWithin k) survivors → AllMake (most_new_steps k q (length survivors)) k0 ps0 k2 ps2
+  held_within within =
+      let e = mul-add (length survivors) (bear_steps k q 1) (most_replay_steps k q) in
+      let f = all_within k q survivors within in
+      let g = all_held in
+      omega (arith, e, f, g, unheld)
+
+  pub held_by : (g : List Event) (moved : List Moved) → AllZip (StandsAgain k g) survivors moved → AllMake (new_steps k q g moved) k0 ps0 k2 ps2
+  held_by g moved all =
+      let long : length survivors ≡ length moved = sym (zip_as_many (StandsAgain k g) survivors moved all) in
+      let made = subst (λ z. AllMake ((z * bear_steps k q 1 + replays_for k q survivors) + check_steps k q z) k0 ps0 k1 ps1) long unheld in
+      let f = same_replays k q g survivors moved all in
+      let h = all_held in
+      omega (arith, f, h, made)
 
 -- for no more than were counted
 pub most_for : (k : Limits) (q a n : ℕ) (keeper keeper' : KeeperShown) (news news' : List PassShown) → a ≤ n → AllMake (most_new_steps k q a) keeper news keeper' news' → AllMake (most_new_steps k q n) keeper news keeper' news'
@@ -95,9 +116,18 @@ pub most_none : (k : Limits) (q n : ℕ) (keeper : KeeperShown) (news : List Pas
 most_none k q n keeper news = omega arith
 
 -- and the old ones to the end
-pub old_buried : (l : Limits) (p n : ℕ) (keeper keeper1 keeper2 : KeeperShown) (olds olds1 olds2 olds3 : List PassShown) → AllMake (survey_steps l p n) keeper olds keeper1 olds1
-    → PassesMake (n * kill_steps l) olds1 olds2 → AllMake (gather_steps l p) keeper1 olds2 keeper2 olds3 → AllMake (old_steps l p n) keeper olds keeper2 olds3
-old_buried l p n keeper keeper1 keeper2 olds olds1 olds2 olds3 prepared killed gathered = omega (arith, prepared, killed, gathered)
+pub old_buried : (l : Limits) (p q n : ℕ) (keeper keeper1 keeper2 : KeeperShown) (olds olds1 olds2 : List PassShown) → AllMake (survey_steps l p n) keeper olds keeper1 olds1 → q ≡ p
+    → AllMake (give_up_steps l q olds1 + gathered l q (n * kill_steps l)) keeper1 olds1 keeper2 olds2 → AllMake (old_steps l p n + give_up_steps l p olds1) keeper olds keeper2 olds2
+old_buried l p q n keeper keeper1 keeper2 olds olds1 olds2 prepared given buried =
+    let b = subst (λ z. AllMake (give_up_steps l z olds1 + gathered l z (n * kill_steps l)) keeper1 olds1 keeper2 olds2) given buried in
+    omega (arith, prepared, b)
+
+-- where they have done nothing but look in between
+pub gives_up_as : (l : Limits) (p : ℕ) (ps qs : List PassShown) → AllZip Stays ps qs → give_up_steps l p qs ≡ give_up_steps l p ps
+gives_up_as l p [] [] zip = refl
+gives_up_as l p [] (y ∷ qs) zip = absurd zip
+gives_up_as l p (x ∷ ps) [] zip = absurd zip
+gives_up_as l p (x ∷ ps) (y ∷ qs) zip = ap (λ o. if is_some o then gathered l p abort_steps else 0) zip.0.quiet.open_unit
 
 -- one pass more is given out
 made_more : (ps : List PassShown) (p : PassShown) → steps_made (ps ++ p ∷ []) ≡ steps_made ps + length p.trace

@@ -1,25 +1,28 @@
 -- The accounts of both managers, counted by rows.
-use Rattle.std.proofs.Common.{◌≡◌, ◌≢◌, ◌⊎◌, ℕ, zero, suc, ◌+◌, ◌<◌, ◌≤◌, ◌==◌, cond, Bool, true, false, Option, Some, None, List, [], ◌∷◌, ◌++◌, length, refl, sym, ◌∙◌, ap, subst, inl, inr, ⊎_elim, arith}
+use Rattle.std.proofs.Common.{◌≡◌, ◌≢◌, ◌⊎◌, ℕ, zero, suc, ◌+◌, ◌<◌, ◌≤◌, ◌==◌, cond, Bool, true, false, Option, Some, None, List, [], ◌∷◌, ◌++◌, length, refl, sym, ◌∙◌, ap, subst, inl, inr, ⊎_elim, append_assoc, nat_lt, arith}
 use Rattle.std.proofs.lemmas.Bool.Decides.{eqb_tells}
-use Rattle.std.proofs.lemmas.List.Sums.{fold-append, sum_by-cons}
-use Rattle.std.specs.List.{cons_option, count_by, filter_map, fold, range_with_len, sum_by}
+use Rattle.std.proofs.lemmas.List.Sums.{sum_by-cons}
+use Rattle.std.specs.List.{cons_option, count_by, filter_map, range_with_len, sum_by}
 use Rattle.tp_model.specs.declared.types.Element.{Element}
 use Rattle.tp_model.specs.declared.types.Limits.{Limits}
 use Rattle.tp_model.specs.declared.types.Status.{Status}
 use Rattle.tp_model.specs.declared.types.Status.TheVariants.{Waiting, Held, Consumed, Parked, Killed}
 use Rattle.tp_model.specs.declared.event.Event.{Event}
 use Rattle.tp_model.specs.Counts.{count_of, counts, is_consumed, is_held, is_killed, is_parked, is_waiting}
-use Rattle.tp_model.specs.History.{In, here, there, IsBorn, IsSettled, born, element_of, status_after, status_of}
+use Rattle.tp_model.specs.History.{In, here, there, IsBorn, IsSettled, aborted, born, element_of, status_after, status_of}
 use Rattle.tp_model.specs.Steps.{IsKillable, IsLegal, rows_of}
 use Rattle.tp_model.proofs.Bridges.{append_nil, element_of-id, is_born}
-use Rattle.tp_model.proofs.Histories.{born-append, legal_start, settled_stays}
+use Rattle.tp_model.proofs.Histories.{born-append, legal_start, settled_stays, status_of-snoc}
 use Rattle.tp_model.proofs.Later.{births_inside}
 use Rattle.tp_model.proofs.RowTallies.{rows_sum}
 use Rattle.tp_model.proofs.Tallies.{all_counted}
 use Rattle.tp_rollover.specs.Laws.{AccountsAddUp, RolloverAddsUp}
-use Rattle.tp_rollover.specs.Rolls.{AscendFrom, IsNamed, RollsOver, kills}
+use Rattle.tp_rollover.specs.Checks.{AscendFrom, IsNamed}
+use Rattle.tp_rollover.specs.Rolls.{IsSame, RollsOver}
+use Rattle.tp_rollover.specs.Survivors.{IsLiving}
 use Rattle.tp_rollover.specs.declared.moved.Moved.{Moved}
-use Rattle.tp_rollover.proofs.PairLaws.{old_is_over}
+use Rattle.tp_rollover.proofs.Carrying.{carried_lives}
+use Rattle.tp_rollover.proofs.PairLaws.{AreEnds, IsEnd, done, done_ends, ends_bear, grown, legal_done, old_is_over}
 
 -- what a function is over an element that may be there
 abbrev pub over : (Element → ℕ) → Option Element → ℕ
@@ -133,26 +136,33 @@ module _ (l : Limits) (h : List Event) (legal : IsLegal l h) (id : Moved → ℕ
 abbrev pub one_if : Bool → ℕ
 one_if b = cond b 1 0
 
-waiting_alive : (s : Status) → is_waiting s ≡ true → IsKillable s
+waiting_alive : (s : Status) → is_waiting s ≡ true → IsLiving s
 waiting_alive (Waiting n) e = tt
 waiting_alive (Held u n) e = absurd cc
 waiting_alive (Consumed u) e = absurd cc
 waiting_alive (Parked n) e = absurd cc
 waiting_alive Killed e = absurd cc
 
-parked_alive : (s : Status) → is_parked s ≡ true → IsKillable s
+parked_alive : (s : Status) → is_parked s ≡ true → IsLiving s
 parked_alive (Waiting n) e = absurd cc
 parked_alive (Held u n) e = absurd cc
 parked_alive (Consumed u) e = absurd cc
 parked_alive (Parked n) e = tt
 parked_alive Killed e = absurd cc
 
-killable_not_settled : (s : Status) → IsKillable s → IsSettled s → ⊥
-killable_not_settled (Waiting n) a b = b
-killable_not_settled (Held u n) a b = b
-killable_not_settled (Consumed u) a b = a
-killable_not_settled (Parked n) a b = b
-killable_not_settled Killed a b = a
+held_alive : (s : Status) → is_held s ≡ true → IsLiving s
+held_alive (Waiting n) e = absurd cc
+held_alive (Held u n) e = tt
+held_alive (Consumed u) e = absurd cc
+held_alive (Parked n) e = absurd cc
+held_alive Killed e = absurd cc
+
+living_not_settled : (s : Status) → IsLiving s → IsSettled s → ⊥
+living_not_settled (Waiting n) a b = b
+living_not_settled (Held u n) a b = b
+living_not_settled (Consumed u) a b = a
+living_not_settled (Parked n) a b = b
+living_not_settled Killed a b = a
 
 pub alive_one : (s : Status) → IsKillable s → one_if (is_waiting s) + one_if (is_parked s) ≡ 1
 alive_one (Waiting n) a = refl
@@ -161,29 +171,30 @@ alive_one (Consumed u) a = absurd a
 alive_one (Parked n) a = refl
 alive_one Killed a = absurd a
 
-alive_none : (s : Status) → IsKillable s → (one_if (is_held s) ≡ 0) × (one_if (is_killed s) ≡ 0)
-alive_none (Waiting n) a = (refl, refl)
-alive_none (Held u n) a = absurd a
-alive_none (Consumed u) a = absurd a
-alive_none (Parked n) a = (refl, refl)
-alive_none Killed a = absurd a
+pub living_one : (s : Status) → IsLiving s → one_if (is_waiting s) + one_if (is_parked s) + one_if (is_held s) ≡ 1
+living_one (Waiting n) a = refl
+living_one (Held u n) a = refl
+living_one (Consumed u) a = absurd a
+living_one (Parked n) a = refl
+living_one Killed a = absurd a
 
-held_is : (s : Status) → is_held s ≡ true → (u : ℕ) × (n : ℕ) × (s ≡ Held u n)
-held_is (Waiting n) e = absurd cc
-held_is (Held u n) e = (u, n, refl)
-held_is (Consumed u) e = absurd cc
-held_is (Parked n) e = absurd cc
-held_is Killed e = absurd cc
+living_not_killed : (s : Status) → IsLiving s → one_if (is_killed s) ≡ 0
+living_not_killed (Waiting n) a = refl
+living_not_killed (Held u n) a = refl
+living_not_killed (Consumed u) a = absurd a
+living_not_killed (Parked n) a = refl
+living_not_killed Killed a = absurd a
 
--- each of these is alive: as many wait or are parked
-either_counted : (status : Moved → Status) (ms : List Moved) → ((m : Moved) → In m ms → IsKillable (status m))
-    → count_by (λ m. is_waiting (status m)) ms + count_by (λ m. is_parked (status m)) ms ≡ length ms
+-- each of these is alive: as many wait, are parked or are held
+either_counted : (status : Moved → Status) (ms : List Moved) → ((m : Moved) → In m ms → IsLiving (status m))
+    → count_by (λ m. is_waiting (status m)) ms + count_by (λ m. is_parked (status m)) ms + count_by (λ m. is_held (status m)) ms ≡ length ms
 either_counted status [] alive = refl
 either_counted status (m ∷ ms) alive =
-    let first = alive_one (status m) (alive m here) in
+    let first = living_one (status m) (alive m here) in
     let rest = either_counted status ms (λ q p. alive q (there p)) in
     let a = sum_by-cons (λ (q : Moved). cond (is_waiting (status q)) 1 0) m ms in
     let b = sum_by-cons (λ (q : Moved). cond (is_parked (status q)) 1 0) m ms in
+    let d = sum_by-cons (λ (q : Moved). cond (is_held (status q)) 1 0) m ms in
     omega arith
 
 none_counted : (f : Moved → ℕ) (ms : List Moved) → ((m : Moved) → In m ms → f m ≡ 0) → sum_by f ms ≡ 0
@@ -194,33 +205,60 @@ none_counted f (m ∷ ms) zeros =
     let a = sum_by-cons f m ms in
     omega arith
 
--- kills make nothing, and consume nothing
+-- what doesn't ask for the unit tells the same of what stands the same
+abbrev IsBlind : (Status → Bool) → Type 0
+IsBlind test = (u v n : ℕ) → test (Held u n) ≡ test (Held v n)
 
-kills_bear_nothing : (c : ℕ) (ms : List Moved) → born (kills c ms) ≡ []
-kills_bear_nothing c [] = refl
-kills_bear_nothing c (m ∷ ms) = kills_bear_nothing c ms
+same_test : (l k : Limits) (test : Status → Bool) (is is' : Status) → IsBlind test → IsSame l k is is' → test is' ≡ test is
+same_test l k test (Waiting n) is' blind same = ap test same
+same_test l k test (Held u n) is' blind same = ap test same.1 ∙ blind same.0 u n
+same_test l k test (Consumed u) is' blind same = absurd same
+same_test l k test (Parked n) is' blind same = ap test same
+same_test l k test Killed is' blind same = absurd same
 
-killed_not_consumed : (limit i c : ℕ) (ms : List Moved) (s : Status) → is_consumed s ≡ false → is_consumed (fold (status_after limit i) s (kills c ms)) ≡ false
-killed_not_consumed limit i c [] s not = not
-killed_not_consumed limit i c (m ∷ ms) s not = killed_not_consumed limit i c ms (cond (m.old == i) Killed s) (step (m.old == i))
+-- aborts and kills consume nothing
+
+abort_not_consumed : (limit u : ℕ) (s : Status) → is_consumed s ≡ false → is_consumed (aborted limit u s) ≡ false
+abort_not_consumed limit u (Waiting n) not = refl
+abort_not_consumed limit u (Held v n) not = step (u == v)
   where
-    step : (b : Bool) → is_consumed (cond b Killed s) ≡ false
-    step true = refl
-    step false = not
+    inner : (b : Bool) → is_consumed (cond b (Waiting n) (Parked n)) ≡ false
+    inner true = refl
+    inner false = refl
 
-kills_consume_nothing : (l : Limits) (c : ℕ) (h : List Event) (ms : List Moved) (i : ℕ) → IsLegal l (h ++ kills c ms)
-    → is_consumed (status_of l.attempts (h ++ kills c ms) i) ≡ is_consumed (status_of l.attempts h i)
-kills_consume_nothing l c h ms i legal = go (status_of l.attempts h i) refl
+    step : (b : Bool) → is_consumed (cond b (cond (nat_lt n limit) (Waiting n) (Parked n)) (Held v n)) ≡ false
+    step true = inner (nat_lt n limit)
+    step false = refl
+abort_not_consumed limit u (Consumed v) not = not
+abort_not_consumed limit u (Parked n) not = refl
+abort_not_consumed limit u Killed not = refl
+
+kill_not_consumed : (b : Bool) (s : Status) → is_consumed s ≡ false → is_consumed (cond b Killed s) ≡ false
+kill_not_consumed true s not = refl
+kill_not_consumed false s not = not
+
+end_not_consumed : (limit i : ℕ) (e : Event) → IsEnd e → (s : Status) → is_consumed s ≡ false → is_consumed (status_after limit i s e) ≡ false
+end_not_consumed limit i e is s not = ⊎_elim
+    (λ t. subst (λ x. is_consumed (status_after limit i s x) ≡ false) (sym t.2) (abort_not_consumed limit t.1 s not))
+    (λ t. subst (λ x. is_consumed (status_after limit i s x) ≡ false) (sym t.2) (kill_not_consumed (t.1 == i) s not))
+    is
+
+none_consumed : (limit i : ℕ) (h es : List Event) → AreEnds es → is_consumed (status_of limit h i) ≡ false → is_consumed (status_of limit (h ++ es) i) ≡ false
+none_consumed limit i h [] are not = ap (λ z. is_consumed (status_of limit z i)) (append_nil h) ∙ not
+none_consumed limit i h (e ∷ es) are not =
+    let now : is_consumed (status_of limit (h ++ e ∷ []) i) ≡ false = ap is_consumed (status_of-snoc limit h e i) ∙ end_not_consumed limit i e (are e here) (status_of limit h i) not in
+    subst (λ z. is_consumed (status_of limit z i) ≡ false) (append_assoc h (e ∷ []) es) (none_consumed limit i (h ++ e ∷ []) es (λ x p. are x (there p)) now)
+
+ends_consume_nothing : (l : Limits) (h es : List Event) (i : ℕ) → AreEnds es → IsLegal l (h ++ es) → is_consumed (status_of l.attempts (h ++ es) i) ≡ is_consumed (status_of l.attempts h i)
+ends_consume_nothing l h es i are legal = go (status_of l.attempts h i) refl
   where
-    not : (s : Status) → is_consumed s ≡ false → status_of l.attempts h i ≡ s → is_consumed (status_of l.attempts (h ++ kills c ms) i) ≡ is_consumed (status_of l.attempts h i)
-    not s n e =
-        ap is_consumed (fold-append (status_after l.attempts i) (Waiting 0) h (kills c ms))
-        ∙ (ap (λ z. is_consumed (fold (status_after l.attempts i) z (kills c ms))) e ∙ (killed_not_consumed l.attempts i c ms s n ∙ (sym n ∙ ap is_consumed (sym e))))
+    not : (s : Status) → is_consumed s ≡ false → status_of l.attempts h i ≡ s → is_consumed (status_of l.attempts (h ++ es) i) ≡ is_consumed (status_of l.attempts h i)
+    not s n e = none_consumed l.attempts i h es are (ap is_consumed e ∙ n) ∙ (sym n ∙ ap is_consumed (sym e))
 
-    go : (s : Status) → status_of l.attempts h i ≡ s → is_consumed (status_of l.attempts (h ++ kills c ms) i) ≡ is_consumed (status_of l.attempts h i)
+    go : (s : Status) → status_of l.attempts h i ≡ s → is_consumed (status_of l.attempts (h ++ es) i) ≡ is_consumed (status_of l.attempts h i)
     go (Waiting n) e = not (Waiting n) refl e
     go (Held u n) e = not (Held u n) refl e
-    go (Consumed u) e = ap is_consumed (settled_stays l h (kills c ms) i (Consumed u) tt legal e ∙ sym e)
+    go (Consumed u) e = ap is_consumed (settled_stays l h es i (Consumed u) tt legal e ∙ sym e)
     go (Parked n) e = not (Parked n) refl e
     go Killed e = not Killed refl e
 
@@ -234,8 +272,8 @@ sum_alike f g same (x ∷ xs) =
     omega arith
 
 module _ (l k : Limits) (c : ℕ) (h h' g : List Event) (moved : List Moved) (r : RollsOver l k c h h' g moved) where
-  legal_before : IsLegal l h
-  legal_before = legal_start l h (kills c moved) (subst (IsLegal l) r.killed r.legal.0)
+  pub legal_before : IsLegal l h
+  legal_before = legal_start l h (done l k c h h' g moved r) (legal_done l k c h h' g moved r)
 
   in_old : (m : Moved) → In m moved → (x : Element) × (element_of h m.old ≡ Some x)
   in_old m p = let a = r.carried m p in (a.old, a.was.0)
@@ -243,16 +281,17 @@ module _ (l k : Limits) (c : ℕ) (h h' g : List Event) (moved : List Moved) (r 
   in_new : (m : Moved) → In m moved → (x : Element) × (element_of g m.new ≡ Some x)
   in_new m p = let a = r.carried m p in (a.new, a.is.0)
 
-  stands : (m : Moved) → In m moved → status_of k.attempts g m.new ≡ status_of l.attempts h m.old
-  stands m p = ap (λ n. status_of n g m.new) r.limit ∙ (r.carried m p).status
+  lives : (m : Moved) → In m moved → IsLiving (status_of l.attempts h m.old)
+  lives m p = carried_lives l k h g m (r.carried m p)
 
-  old_counted : (test : Status → Bool) → ((s : Status) → test s ≡ true → IsKillable s) → count_of l.attempts h (born h) test ≡ count_by (λ m. test (status_of l.attempts h m.old)) moved
+  old_counted : (test : Status → Bool) → ((s : Status) → test s ≡ true → IsLiving s) → count_of l.attempts h (born h) test ≡ count_by (λ m. test (status_of l.attempts h m.old)) moved
   old_counted test alive = counted l h legal_before (λ m. m.old) moved r.once.0 in_old test (λ x b e. r.each x b (alive (status_of l.attempts h x.id) e))
 
-  new_counted : (test : Status → Bool) → ((s : Status) → test s ≡ true → is_consumed s ≡ true → ⊥) → count_of k.attempts g (born g) test ≡ count_by (λ m. test (status_of l.attempts h m.old)) moved
-  new_counted test apart =
+  new_counted : (test : Status → Bool) → IsBlind test → ((s : Status) → test s ≡ true → is_consumed s ≡ true → ⊥) → count_of k.attempts g (born g) test ≡ count_by (λ m. test (status_of l.attempts h m.old)) moved
+  new_counted test blind apart =
       counted k g r.legal.1 (λ m. m.new) moved r.once.1 in_new test (λ y b e. ⊎_elim (λ n. n) (λ used. absurd (apart (status_of k.attempts g y.id) e used)) (r.rest y b))
-      ∙ sum_same (λ m. cond (test (status_of k.attempts g m.new)) 1 0) (λ m. cond (test (status_of l.attempts h m.old)) 1 0) moved (λ m p. ap (λ s. cond (test s) 1 0) (stands m p))
+      ∙ sum_same (λ m. cond (test (status_of k.attempts g m.new)) 1 0) (λ m. cond (test (status_of l.attempts h m.old)) 1 0) moved
+      (λ m p. ap (λ b. cond b 1 0) (same_test l k test (status_of l.attempts h m.old) (status_of k.attempts g m.new) blind (r.carried m p).same))
 
   waiting_apart : (s : Status) → is_waiting s ≡ true → is_consumed s ≡ true → ⊥
   waiting_apart (Waiting n) a b = cc
@@ -283,65 +322,56 @@ module _ (l k : Limits) (c : ℕ) (h h' g : List Event) (moved : List Moved) (r 
   killed_apart Killed a b = cc
 
   -- before
-  was_alive : (counts l.attempts h).waiting + (counts l.attempts h).parked ≡ length moved
+  was_alive : (counts l.attempts h).waiting + (counts l.attempts h).parked + (counts l.attempts h).held ≡ length moved
   was_alive =
       let a = old_counted is_waiting waiting_alive in
       let b = old_counted is_parked parked_alive in
-      let all = either_counted (λ m. status_of l.attempts h m.old) moved (λ m p. (r.carried m p).alive) in
+      let d = old_counted is_held held_alive in
+      let all = either_counted (λ m. status_of l.attempts h m.old) moved lives in
       omega arith
-
-  none_held : (counts l.attempts h).held ≡ 0
-  none_held =
-      counted l h legal_before (λ m. m.old) moved r.once.0 in_old is_held (λ x b e. let u = held_is (status_of l.attempts h x.id) e in absurd (r.idle x.id u.0 u.1 u.2))
-      ∙ none_counted (λ m. cond (is_held (status_of l.attempts h m.old)) 1 0) moved (λ m p. (alive_none (status_of l.attempts h m.old) (r.carried m p).alive).0)
 
   -- in the new manager
   new_waiting : (counts k.attempts g).waiting ≡ (counts l.attempts h).waiting
-  new_waiting = new_counted is_waiting waiting_apart ∙ sym (old_counted is_waiting waiting_alive)
+  new_waiting = new_counted is_waiting (λ u v n. refl) waiting_apart ∙ sym (old_counted is_waiting waiting_alive)
 
   new_parked : (counts k.attempts g).parked ≡ (counts l.attempts h).parked
-  new_parked = new_counted is_parked parked_apart ∙ sym (old_counted is_parked parked_alive)
+  new_parked = new_counted is_parked (λ u v n. refl) parked_apart ∙ sym (old_counted is_parked parked_alive)
+
+  new_held : (counts k.attempts g).held ≡ (counts l.attempts h).held
+  new_held = new_counted is_held (λ u v n. refl) held_apart ∙ sym (old_counted is_held held_alive)
 
   new_carriers : (counts k.attempts g).consumed + length moved ≡ length (born g)
   new_carriers =
-      let held = new_counted is_held held_apart ∙ none_counted (λ m. cond (is_held (status_of l.attempts h m.old)) 1 0) moved (λ m p. (alive_none (status_of l.attempts h m.old) (r.carried m p).alive).0) in
-      let killed = new_counted is_killed killed_apart ∙ none_counted (λ m. cond (is_killed (status_of l.attempts h m.old)) 1 0) moved (λ m p. (alive_none (status_of l.attempts h m.old) (r.carried m p).alive).1) in
+      let killed = new_counted is_killed (λ u v n. refl) killed_apart ∙ none_counted (λ m. cond (is_killed (status_of l.attempts h m.old)) 1 0) moved (λ m p. living_not_killed (status_of l.attempts h m.old) (lives m p)) in
       let all = all_counted k.attempts g (born g) in
       let w = new_waiting in
       let p = new_parked in
+      let d = new_held in
       let alive = was_alive in
       omega arith
 
   -- after
   as_born : born h' ≡ born h
-  as_born = ap born r.killed ∙ (born-append h (kills c moved) ∙ (ap (λ xs. born h ++ xs) (kills_bear_nothing c moved) ∙ append_nil (born h)))
+  as_born = ap born (grown l k c h h' g moved r) ∙ (born-append h (done l k c h h' g moved r) ∙ (ap (λ xs. born h ++ xs) (ends_bear (done l k c h h' g moved r) (done_ends l k c h h' g moved r)) ∙ append_nil (born h)))
 
   old_consumed : (counts l.attempts h').consumed ≡ (counts l.attempts h).consumed
   old_consumed =
       ap (λ xs. count_of l.attempts h' xs is_consumed) as_born
       ∙ sum_alike (λ x. cond (is_consumed (status_of l.attempts h' x.id)) 1 0) (λ x. cond (is_consumed (status_of l.attempts h x.id)) 1 0)
-      (λ x. ap (λ b. cond b 1 0) (ap (λ z. is_consumed (status_of l.attempts z x.id)) r.killed ∙ kills_consume_nothing l c h moved x.id (subst (IsLegal l) r.killed r.legal.0))) (born h)
+      (λ x. ap (λ b. cond b 1 0) (ap (λ z. is_consumed (status_of l.attempts z x.id)) (grown l k c h h' g moved r) ∙ ends_consume_nothing l h (done l k c h h' g moved r) x.id (done_ends l k c h h' g moved r) (legal_done l k c h h' g moved r))) (born h)
 
   none_left : (test : Status → Bool) → ((s : Status) → test s ≡ true → IsSettled s → ⊥) → count_of l.attempts h' (born h') test ≡ 0
   none_left test apart = counted l h' r.legal.0 (λ m. m.old) [] tt (λ m p. elim p [ ]) test (λ x b e. absurd (apart (status_of l.attempts h' x.id) e (old_is_over l k c h h' g moved r x b)))
 
-  held_not_settled : (s : Status) → is_held s ≡ true → IsSettled s → ⊥
-  held_not_settled (Waiting n) a b = b
-  held_not_settled (Held u n) a b = b
-  held_not_settled (Consumed u) a b = cc
-  held_not_settled (Parked n) a b = b
-  held_not_settled Killed a b = cc
-
   old_killed : (counts l.attempts h').killed ≡ (counts l.attempts h).killed + length moved
   old_killed =
-      let w = none_left is_waiting (λ s e over. killable_not_settled s (waiting_alive s e) over) in
-      let p = none_left is_parked (λ s e over. killable_not_settled s (parked_alive s e) over) in
-      let d = none_left is_held held_not_settled in
+      let w = none_left is_waiting (λ s e over. living_not_settled s (waiting_alive s e) over) in
+      let p = none_left is_parked (λ s e over. living_not_settled s (parked_alive s e) over) in
+      let d = none_left is_held (λ s e over. living_not_settled s (held_alive s e) over) in
       let u = old_consumed in
       let after = all_counted l.attempts h' (born h') in
       let before = all_counted l.attempts h (born h) in
       let long = ap length as_born in
-      let held = none_held in
       let alive = was_alive in
       omega arith
 
@@ -350,6 +380,7 @@ module _ (l k : Limits) (c : ℕ) (h h' g : List Event) (moved : List Moved) (r 
     was = was_alive;
     waiting = new_waiting;
     parked = new_parked;
+    held = new_held;
     carriers = new_carriers;
     killed = old_killed;
     consumed = old_consumed;

@@ -1,31 +1,30 @@
 -- The worked rollover, computed.
 use Rattle.std.proofs.Common.{◌≡◌, ◌≢◌, ◌⊎◌, true, ℕ, Some, None, List, [], ◌∷◌, ◌++◌, refl, sym, ◌∙◌, ap, inl, inr, ⊎_elim, lit<, lit≤}
 use Rattle.tp_model.specs.declared.types.Element.{Element}
-use Rattle.tp_model.specs.declared.types.Status.TheVariants.{Held, Parked, Waiting}
+use Rattle.tp_model.specs.declared.types.Status.TheVariants.{Parked, Waiting}
 use Rattle.tp_model.specs.declared.event.Event.{Event}
 use Rattle.tp_model.specs.declared.event.Event.TheVariants.{Enqueue, Claim, Commit, Abort, Kill}
 use Rattle.tp_model.specs.Births.{request}
 use Rattle.tp_model.specs.Counts.{is_consumed}
 use Rattle.tp_model.specs.History.{In, IsBorn, here, there, UnitClaim, born, claim_by, end_by, status_of}
-use Rattle.tp_model.specs.Steps.{IsKillable, IsLegal, IsOpen, Step}
-use Rattle.tp_model.proofs.Bridges.{born_or_not, find_in, in_one}
-use Rattle.tp_model.proofs.Histories.{legal_empty, legal_more, open_before, unborn_waits}
+use Rattle.tp_model.specs.Steps.{IsLegal, IsOpen, Step}
+use Rattle.tp_model.proofs.Bridges.{find_in, in_one}
+use Rattle.tp_model.proofs.Histories.{legal_empty, legal_more, open_before}
 use Rattle.tp_model.proofs.Lists.{none_if, some_if}
-use Rattle.tp_rollover.specs.Alike.{AllStandAgain}
-use Rattle.tp_rollover.specs.Checks.{AreFamilies, AreOnly}
-use Rattle.tp_rollover.specs.Rolls.{IsNamed}
-use Rattle.tp_rollover.specs.Survivors.{AreSurvivors, IsSurvivor, StandAgain}
+use Rattle.std.specs.List.{AllZip}
+use Rattle.tp_rollover.specs.Checks.{AreFamilies, AreOnly, IsNamed}
+use Rattle.tp_rollover.specs.Survivors.{AreSurvivors, IsLiving, IsSurvivor, StandAgain, StandsAgain}
 use Rattle.tp_rollover.specs.Worked.{WorkedPair, anew, before, described, first_moved, output, second_moved, small, survivor, word}
 use Rattle.tp_rollover.specs.declared.survivors.Survivor.{Survivor}
 use Rattle.tp_rollover.specs.declared.moved.Moved.{Moved}
 use Rattle.tp_rollover.proofs.Assembly.{rolled}
 
 -- each of a list, as a product
-abbrev Each : {A : Type 0} → (A → Type 0) → List A → Type 0
+abbrev pub Each : {A : Type 0} → (A → Type 0) → List A → Type 0
 Each P [] = Unit {0}
 Each P (x ∷ xs) = P x × Each P xs
 
-from_each : {A : Type 0} (P : A → Type 0) (xs : List A) (x : A) → Each P xs → In x xs → P x
+pub from_each : {A : Type 0} (P : A → Type 0) (xs : List A) (x : A) → Each P xs → In x xs → P x
 from_each P [] x each q = elim q [ ]
 from_each P (y ∷ xs) x each here = each.0
 from_each P (y ∷ xs) x each (there q) = from_each P xs x each.1 q
@@ -146,31 +145,27 @@ both = first_moved ∷ second_moved ∷ []
 
 -- an element of the old manager that is alive is described
 abbrev Described : Element → Type 0
-Described x = ((u n : ℕ) → ¬ (status_of 1 before x.id ≡ Held u n)) × (IsKillable (status_of 1 before x.id) → (s : Survivor) × In s described × (s.id ≡ x.id))
+Described x = IsLiving (status_of 1 before x.id) → (s : Survivor) × In s described × (s.id ≡ x.id)
 
 each_element : (x : Element) → IsBorn before x → Described x
 each_element x is = from_each Described (born before) x
-    ((λ u n p. absurd cc, λ k. absurd k), ((λ u n p. absurd cc, λ k. absurd k), ((λ u n p. absurd cc, λ k. (survivor 2 2 20 (Waiting 0), here, refl)), ((λ u n p. absurd cc, λ k. (survivor 3 3 30 (Parked 1), there here, refl)), tt))))
+    (λ k. absurd k, (λ k. absurd k, (λ k. (survivor 2 2 20 (Waiting 0), here, refl), (λ k. (survivor 3 3 30 (Parked 1), there here, refl), tt))))
     (find_in x.id (born before) x is).0
 
 so_described : AreSurvivors small before described
 so_described = record {
-  each = λ x is alive. (each_element x is).1 alive;
-  described = λ s p. from_each (IsSurvivor 1 before) described s (
-    record { item = output 2 2 20; born = refl; root = refl; stage = refl; body = refl; status = refl; alive = tt; rounds_are = refl; request = request 0 1 (word 5); began = refl; root_stage = refl; root_body = refl },
-    (record { item = output 3 3 30; born = refl; root = refl; stage = refl; body = refl; status = refl; alive = tt; rounds_are = refl; request = request 0 1 (word 5); began = refl; root_stage = refl; root_body = refl }, tt),
+  each = λ x is alive. each_element x is alive;
+  described = λ s p. from_each (IsSurvivor small before) described s (
+    record { item = output 2 2 20; born = refl; root = refl; stage = refl; body = refl; stands = (refl, tt); rounds_are = refl; request = request 0 1 (word 5); began = refl; root_stage = refl; root_body = refl },
+    (record { item = output 3 3 30; born = refl; root = refl; stage = refl; body = refl; stands = (refl, tt); rounds_are = refl; request = request 0 1 (word 5); began = refl; root_stage = refl; root_body = refl }, tt),
   ) p;
   once = (lit≤ tt, (lit≤ tt, tt));
-  idle = λ i u n held. ⊎_elim
-      (λ t. (each_element t.0 t.1).0 u n (ap (status_of 1 before) t.2 ∙ held))
-      (λ unborn. (let q : Waiting 0 ≡ Held u n = sym (unborn_waits small before legal_before i unborn) ∙ held in absurd cc))
-      (born_or_not before i);
 }
 
-stand_both : AllStandAgain 1 anew described both
+stand_both : AllZip (StandsAgain small anew) described both
 stand_both = (
-  record { named = (refl, refl); item = output 1 2 20; born = refl; root = refl; stage = refl; body = refl; status = refl; alive = tt; rounds_are = refl; request = request 0 1 (word 5); began = refl; by_client = refl; root_stage = refl; root_body = refl; itself = λ e. absurd cc },
-  (record { named = (refl, refl); item = output 2 3 30; born = refl; root = refl; stage = refl; body = refl; status = refl; alive = tt; rounds_are = refl; request = request 0 1 (word 5); began = refl; by_client = refl; root_stage = refl; root_body = refl; itself = λ e. absurd cc }, tt),
+  record { named = (refl, refl); item = output 1 2 20; born = refl; root = refl; stage = refl; body = refl; stands = (refl, tt); rounds_are = refl; request = request 0 1 (word 5); began = refl; by_client = refl; root_stage = refl; root_body = refl; itself = λ e. absurd cc },
+  (record { named = (refl, refl); item = output 2 3 30; born = refl; root = refl; stage = refl; body = refl; stands = (refl, tt); rounds_are = refl; request = request 0 1 (word 5); began = refl; by_client = refl; root_stage = refl; root_body = refl; itself = λ e. absurd cc }, tt),
 )
 
 -- both are of the family of 0, in either manager
@@ -197,7 +192,7 @@ pub pair : WorkedPair
 pair = record {
   described_so = so_described;
   again = stand;
-  over = rolled small small before (before ++ Kill 0 2 ∷ Kill 0 3 ∷ []) anew described both refl legal_after legal_anew so_described stand refl;
+  over = rolled small small before (before ++ Kill 0 2 ∷ Kill 0 3 ∷ []) anew described both refl legal_after legal_anew so_described stand (record { given_up = []; own = inl refl; killed = refl });
   waits = refl;
   parked = refl;
   counts_before = refl;

@@ -1,14 +1,16 @@
 -- What was described is made anew in a manager where nobody else acts: which pass makes which element, what
 -- it is called there, and what is left, computed. `None`: the manager is full before all is there. p are how
 -- many passes act.
-use Rattle.std.specs.Prelude.{ℕ, zero, suc, ◌+◌, ◌-◌, ◌/◌, ◌==◌, ◌&&◌, ◌++◌, Bool, if◌then◌else◌, min, max}
-use Rattle.std.specs.Prelude.{Option, Some, None, Result, Ok, Err, List, [], ◌∷◌, drop, length, map, nat_le}
-use Rattle.std.specs.Prelude.{nat_lt, replicate, slice_index_or, slice_set, take}
+use Rattle.std.specs.Prelude.{ℕ, zero, suc, ◌+◌, ◌-◌, ◌/◌, ◌==◌, ◌&&◌, ◌++◌, Bool, false, true, min}
+use Rattle.std.specs.Prelude.{Option, Some, None, is_none, Result, Ok, Err, List, [], ◌∷◌, drop, length}
+use Rattle.std.specs.Prelude.{if◌then◌else◌, map, max, nat_le, nat_lt, replicate, slice_index_or}
+use Rattle.std.specs.Prelude.{slice_set, take}
 use Rattle.std.specs.List.{fold}
 use Rattle.std.specs.Option.{option_and_then}
 use Rattle.tp_model.specs.Drafts.{DraftView}
 use Rattle.tp_model.specs.Steps.{rows_of}
 use Rattle.tp_model.specs.declared.types.Limits.{Limits}
+use Rattle.tp_model.specs.declared.types.TheConstants.{MAX_PASSES}
 use Rattle.tp_model.specs.declared.types.Outcome.{Outcome}
 use Rattle.tp_model.specs.declared.types.Outcome.TheVariants.{Committed}
 use Rattle.tp_model.specs.declared.types.Refusal.{Refusal}
@@ -56,13 +58,29 @@ requeued c id s = option_and_then (λ done. Some done.1) (given (requeue_of s c 
 abbrev pub units_left : State → ℕ → ℕ
 units_left s c = s.limits.units - (pass_at s c).claimed
 
+-- the passes, with one more that is to hold an element
+abbrev pub with_holder : Option ℕ → List Bool → List Bool
+with_holder None kept = kept
+with_holder (Some c) kept = if nat_lt c (length kept) then slice_set kept c true else kept
+
+-- which passes are to hold one of these: each of them keeps a unit for it
+abbrev pub kept_for : List Survivor → List Bool
+kept_for survivors = fold (λ kept s. with_holder s.holder kept) (replicate MAX_PASSES false) survivors
+
+-- how many units pass c has to have left, to use so many and keep the one
+abbrev pub least_units : List Bool → ℕ → ℕ → ℕ
+least_units kept zero c = 0
+least_units kept (suc n) c = if slice_index_or kept c false then suc n + 1 else suc n
+
 -- so many rows and units are left to pass c
-abbrev pub has_left : State → ℕ → ℕ → ℕ → Bool
-has_left s rows units c = nat_le rows (pass_at s c).left && nat_le units (units_left s c)
+abbrev pub has_left : List Bool → State → ℕ → ℕ → ℕ → Bool
+has_left kept s rows units c =
+    nat_le rows (pass_at s c).left && nat_le (least_units kept units c) (units_left s c)
 
 -- it has the units, and too few rows, so that it draws a spare block
-abbrev pub would_draw : State → ℕ → ℕ → ℕ → Bool
-would_draw s rows units c = nat_lt (pass_at s c).left rows && nat_le units (units_left s c)
+abbrev pub would_draw : List Bool → State → ℕ → ℕ → ℕ → Bool
+would_draw kept s rows units c =
+    nat_lt (pass_at s c).left rows && nat_le (least_units kept units c) (units_left s c)
 
 -- the first of n numbers from this one on of which that holds
 abbrev pub first_from : (ℕ → Bool) → ℕ → ℕ → Option ℕ
@@ -76,27 +94,28 @@ last_below holds (suc n) = if holds n then Some n else last_below holds n
 
 -- the pass that goes on in spare blocks: the one that did, as long as it has the units, or else the last one
 -- that would draw
-abbrev pub drawer : ℕ → State → ℕ → ℕ → Option ℕ → Option ℕ
-drawer p s rows units None = last_below (would_draw s rows units) p
-drawer p s rows units (Some c) =
-    if nat_lt c p && nat_le units (units_left s c) then Some c else last_below (would_draw s rows units) p
+abbrev pub drawer : List Bool → ℕ → State → ℕ → ℕ → Option ℕ → Option ℕ
+drawer kept p s rows units None = last_below (would_draw kept s rows units) p
+drawer kept p s rows units (Some c) =
+    if nat_lt c p && nat_le (least_units kept units c) (units_left s c)
+    then Some c else last_below (would_draw kept s rows units) p
 
 -- in which pass's part the elements of a pass go on: in its own, unless parts behind it are in use
 abbrev pub start_at : ℕ → ℕ → ℕ → ℕ
 start_at p at home = if nat_lt at home && nat_lt home p then home else at
 
 -- the pass was found in whose part there is room, or else the one in spare blocks
-abbrev pub found_at : Option ℕ → Option ℕ → ℕ → Option ℕ → Option (ℕ × Cursor)
-found_at (Some c) drawing p block = Some (c, record { at = c; block = block })
-found_at None (Some c) p block = Some (c, record { at = p; block = Some c })
-found_at None None p block = None
+abbrev pub found_at : Option ℕ → Option ℕ → ℕ → Cursor → Option (ℕ × Cursor)
+found_at (Some c) drawing p cursor = Some (c, record { at = c; block = cursor.block; kept = cursor.kept })
+found_at None (Some c) p cursor = Some (c, record { at = p; block = Some c; kept = cursor.kept })
+found_at None None p cursor = None
 
 -- the pass that makes so many elements next, with so many units, and how far the passes are used then
 abbrev pub next_pass : ℕ → State → ℕ → ℕ → ℕ → Cursor → Option (ℕ × Cursor)
 next_pass p s home rows units cursor =
     let from = start_at p cursor.at home in
-    found_at (first_from (has_left s rows units) from (p - from)) (drawer p s rows units cursor.block) p
-    cursor.block
+    found_at (first_from (has_left cursor.kept s rows units) from (p - from))
+    (drawer cursor.kept p s rows units cursor.block) p cursor
 
 -- ---- births
 
@@ -242,42 +261,70 @@ born_from l p (suc n) (s ∷ rest) moved b =
 -- all of them are, which were in a manager with these limits
 abbrev pub all_born : Limits → ℕ → List Survivor → State → Option (List Moved × State)
 all_born l p survivors s = born_from l p (length survivors) survivors [] (record {
-  placing = record { manager = s; cursor = record { at = 0; block = None } };
+  placing = record { manager = s; cursor = record { at = 0; block = None; kept = kept_for survivors } };
   families = families_of l survivors;
 })
 
 -- ---- attempts and rounds
 
--- the element is claimed and given up n times, by the passes from this one on that have a unit
-abbrev pub tried : ℕ → ℕ → ℕ → ℕ × State → Option (ℕ × State)
-tried p id zero x = Some x
-tried p id (suc n) x =
-    option_and_then (λ c. option_and_then (λ after. tried p id n (c, after)) (attempted c id x.1))
-    (first_from (has_left x.1 0 1) x.0 (p - x.0))
+-- the element is claimed and given up n times, by the passes from this one on that have a unit for it
+abbrev pub tried : ℕ → List Bool → ℕ → ℕ → ℕ × State → Option (ℕ × State)
+tried p kept id zero x = Some x
+tried p kept id (suc n) x =
+    option_and_then (λ c. option_and_then (λ after. tried p kept id n (c, after)) (attempted c id x.1))
+    (first_from (has_left kept x.1 0 1) x.0 (p - x.0))
 
 -- it is given n rounds of all attempts
-abbrev pub renewed : ℕ → ℕ → ℕ → ℕ → ℕ × State → Option (ℕ × State)
-renewed p id limit zero x = Some x
-renewed p id limit (suc n) x =
-    option_and_then (λ done. option_and_then (λ after. renewed p id limit n (done.0, after)) (requeued 0 id done.1))
-    (tried p id limit x)
+abbrev pub renewed : ℕ → List Bool → ℕ → ℕ → ℕ → ℕ × State → Option (ℕ × State)
+renewed p kept id limit zero x = Some x
+renewed p kept id limit (suc n) x =
+    option_and_then
+    (λ done. option_and_then (λ after. renewed p kept id limit n (done.0, after)) (requeued 0 id done.1))
+    (tried p kept id limit x)
 
 -- it is given what was described
-abbrev pub replayed : ℕ → ℕ → Survivor → ℕ → ℕ × State → Option (ℕ × State)
-replayed p limit s id x =
-    option_and_then (tried p id (attempts_had s.status)) (renewed p id limit s.rounds x)
+abbrev pub replayed : ℕ → List Bool → ℕ → Survivor → ℕ → ℕ × State → Option (ℕ × State)
+replayed p kept limit s id x =
+    option_and_then (tried p kept id (attempts_had s.status)) (renewed p kept id limit s.rounds x)
 
 -- and so is each, under its new id
-abbrev pub all_replayed : ℕ → ℕ → List Survivor → List Moved → ℕ × State → Option State
-all_replayed p limit [] moved x = Some x.1
-all_replayed p limit (s ∷ survivors) [] x = None
-all_replayed p limit (s ∷ survivors) (m ∷ moved) x =
-    option_and_then (all_replayed p limit survivors moved) (replayed p limit s m.new x)
+abbrev pub all_replayed : ℕ → List Bool → ℕ → List Survivor → List Moved → ℕ × State → Option State
+all_replayed p kept limit [] moved x = Some x.1
+all_replayed p kept limit (s ∷ survivors) [] x = None
+all_replayed p kept limit (s ∷ survivors) (m ∷ moved) x =
+    option_and_then (all_replayed p kept limit survivors moved) (replayed p kept limit s m.new x)
+
+-- ---- units
+
+-- pass c claims the element
+abbrev pub taken_by : ℕ → ℕ → State → Option State
+taken_by c id s = option_and_then (λ claimed. Some claimed.1) (given (claim_id_of s c id))
+
+-- the pass that is to hold the element, if one is, claims it: one of the p passes, which has nothing in hand
+abbrev pub held_by : ℕ → Option ℕ → ℕ → State → Option State
+held_by p None id s = Some s
+held_by p (Some c) id s = if nat_lt c p && is_none (pass_at s c).holding then taken_by c id s else None
+
+-- and so each, in their order, under its new id
+abbrev pub all_held : ℕ → List Survivor → List Moved → State → Option State
+all_held p [] moved s = Some s
+all_held p (one ∷ survivors) [] s = None
+all_held p (one ∷ survivors) (m ∷ moved) s =
+    option_and_then (all_held p survivors moved) (held_by p one.holder m.new s)
 
 -- ---- all of it
 
--- What each is called, in their order, and what the manager is then. They were in one with these limits.
+-- What each is called, in their order, and what the manager is before any of them is held. They were in one
+-- with these limits.
+abbrev pub made_unheld : Limits → ℕ → List Survivor → State → Option (List Moved × State)
+made_unheld l p survivors s =
+    option_and_then (λ born. option_and_then (λ done. Some (born.0, done))
+    (all_replayed p (kept_for survivors) s.limits.attempts survivors born.0 (0, born.1)))
+    (all_born l p survivors s)
+
+-- and once they are, what it is then
 abbrev pub made_anew : Limits → ℕ → List Survivor → State → Option (List Moved × State)
 made_anew l p survivors s =
-    option_and_then (λ born. option_and_then (λ done. Some (born.0, done))
-    (all_replayed p s.limits.attempts survivors born.0 (0, born.1))) (all_born l p survivors s)
+    option_and_then
+    (λ made. option_and_then (λ done. Some (made.0, done)) (all_held p survivors made.0 made.1))
+    (made_unheld l p survivors s)

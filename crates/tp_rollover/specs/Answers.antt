@@ -5,8 +5,9 @@ use Rattle.tp_model.specs.declared.event.Event.{Event}
 use Rattle.tp_model.specs.History.{In, events_by}
 use Rattle.tp_manager.specs.Shown.{KeeperShown, PassShown}
 use Rattle.tp_alone.specs.Thread.{AreTogether}
+use Rattle.tp_rollover.specs.Hands.{HandsGoOn}
 use Rattle.tp_rollover.specs.Rolls.{RollsOver}
-use Rattle.tp_rollover.specs.Survivors.{AreSurvivors, StandAgain}
+use Rattle.tp_rollover.specs.Survivors.{AreHands, AreInHand, AreSurvivors, StandAgain}
 use Rattle.tp_rollover.specs.declared.moved.Moved.{Moved}
 use Rattle.tp_rollover.specs.declared.survivors.Survivor.{Survivor}
 
@@ -21,6 +22,7 @@ pub record Rolls (l k : Limits) (old' new' : KeeperShown) (olds olds' news' : Li
   pub before : List Event
   pub history : IsHistoryOf old' olds before
   pub over : RollsOver l k 0 before old'.seen new'.seen moved
+  pub hands : HandsGoOn l k before new'.seen olds news' moved
   pub old_together : AreTogether l old' olds' old'.seen
   pub new_together : AreTogether k new' news' new'.seen
 
@@ -33,5 +35,7 @@ pub record IsReadyToKill (l k : Limits) (old' new' : KeeperShown) (olds olds' ne
   pub new_together : AreTogether k new' news' new'.seen
   pub survivors : List Survivor
   pub found : AreSurvivors l old'.seen survivors
+  pub in_hand : AreInHand olds survivors
   pub again : StandAgain k new'.seen survivors moved
+  pub hands : AreHands k new'.seen news' survivors moved
   pub some : 1 ≤ length olds'

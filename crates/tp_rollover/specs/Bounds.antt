@@ -1,6 +1,6 @@
 -- How many atomic steps a rollover makes at most, by the bounds of the calls that it makes. l are the limits
 -- of the manager whose passes make them.
-use Rattle.std.specs.Prelude.{◌≡◌, ℕ, zero, suc, ◌+◌, ◌*◌, ◌≤◌, List, [], ◌∷◌, length}
+use Rattle.std.specs.Prelude.{◌≡◌, ℕ, zero, suc, ◌+◌, ◌*◌, ◌≤◌, List, [], ◌∷◌, if◌then◌else◌, is_some, length}
 use Rattle.tp_model.specs.declared.types.Limits.{Limits}
 use Rattle.tp_model.specs.declared.types.Status.{Status}
 use Rattle.tp_model.specs.declared.types.Status.TheVariants.{Waiting, Held, Parked}
@@ -36,9 +36,9 @@ made_by_all keeper passes = steps_made passes + keeper.steps
 abbrev pub AllMake : ℕ → KeeperShown → List PassShown → KeeperShown → List PassShown → Type 0
 AllMake n keeper olds keeper' news = made_by_all keeper' news ≤ made_by_all keeper olds + n
 
--- how many elements are alive after this history
+-- how many elements are alive or held after this history
 abbrev pub alive_after : ℕ → List Event → ℕ
-alive_after limit h = (counts limit h).waiting + (counts limit h).parked
+alive_after limit h = (counts limit h).waiting + (counts limit h).parked + (counts limit h).held
 
 -- how many attempts an element with this status has had in its round
 abbrev pub attempts_had : Status → ℕ
@@ -95,6 +95,24 @@ replay_steps l q attempts further = attempts * attempt_steps l q + further * gat
 abbrev pub replays_of : Limits → ℕ → List Event → List Moved → ℕ
 replays_of l q g moved = replay_steps l q (all_tries l.attempts g moved) (all_rounds g moved)
 
+-- an element is claimed by the pass that is to hold it
+abbrev pub hold_steps : Limits → ℕ → ℕ
+hold_steps l q = gathered l q claim_id_steps
+
+-- if one is
+abbrev pub hold_of : Limits → ℕ → Survivor → ℕ
+hold_of l q s = if is_some s.holder then hold_steps l q else 0
+
+-- it can have had so many attempts in its round, with the one in hand, and so many further rounds
+abbrev pub IsWithin : Limits → Survivor → Type 0
+IsWithin l s = (attempts_had s.status + (if is_some s.holder then 1 else 0) ≤ l.attempts)
+    × (s.rounds ≤ MAX_ROUNDS)
+
+-- and all that are held
+abbrev pub holds_for : Limits → ℕ → List Survivor → ℕ
+holds_for l q [] = 0
+holds_for l q (s ∷ ss) = hold_of l q s + holds_for l q ss
+
 -- what was described of one, and of all of them
 abbrev pub replay_of : Limits → ℕ → Survivor → ℕ
 replay_of l q s = replay_steps l q (attempts_had s.status + s.rounds * l.attempts) s.rounds
@@ -119,6 +137,11 @@ renew_steps l q = bear_steps l q 1 + most_replay_steps l q
 abbrev pub survey_steps : Limits → ℕ → ℕ → ℕ
 survey_steps l p n = account_steps l p + (search_steps l n + n * describe_steps l) + gather_steps l p
 
+-- the first of them gives up what it has in hand, if it has something
+abbrev pub give_up_steps : Limits → ℕ → List PassShown → ℕ
+give_up_steps l p [] = 0
+give_up_steps l p (q ∷ qs) = if is_some q.open_unit then gathered l p abort_steps else 0
+
 -- and with the kills of them, after which they gather once more
 abbrev pub old_steps : Limits → ℕ → ℕ → ℕ
 old_steps l p n = survey_steps l p n + (n * kill_steps l + gather_steps l p)
@@ -136,6 +159,11 @@ most_new_steps l q n = n * renew_steps l q + check_steps l q n
 abbrev pub new_steps : Limits → ℕ → List Event → List Moved → ℕ
 new_steps l q g moved = (length moved * bear_steps l q 1 + replays_of l q g moved)
     + check_steps l q (length moved)
+
+-- and by what was described of these, up to where those are claimed that are held
+abbrev pub unheld_steps : Limits → ℕ → List Survivor → ℕ
+unheld_steps l q survivors = (length survivors * bear_steps l q 1 + replays_for l q survivors)
+    + check_steps l q (length survivors)
 
 -- a manager that is made for n elements gives its passes out before, by a step each
 abbrev pub most_successor_steps : Limits → ℕ → ℕ

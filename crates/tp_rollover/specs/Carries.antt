@@ -7,7 +7,7 @@ use Rattle.tp_plain.specs.OneThread.{State}
 use Rattle.tp_manager.specs.Shown.{KeeperShown, PassShown}
 use Rattle.tp_alone.specs.Thread.{AreTogether, IsFresh, Stays}
 use Rattle.tp_rollover.specs.Anew.{made_anew}
-use Rattle.tp_rollover.specs.Survivors.{AreSurvivors}
+use Rattle.tp_rollover.specs.Survivors.{AreInHand, AreSurvivors}
 use Rattle.tp_rollover.specs.declared.moved.Moved.{Moved}
 use Rattle.tp_rollover.specs.declared.moved.RollFault.{RollFault}
 use Rattle.tp_rollover.specs.declared.moved.RollFault.TheVariants.{Full}
@@ -32,6 +32,7 @@ pub record WouldNotFit (l : Limits) (olds : List PassShown) (p : ℕ) (before : 
   pub stay : AllZip Stays olds looked
   pub survivors : List Survivor
   pub found : AreSurvivors l keeper.seen survivors
+  pub in_hand : AreInHand olds survivors
   pub full : made_anew l p survivors before ≡ None
 
 -- The passes of a manager with limits l did nothing but look, and looked together. What was alive then was
@@ -44,4 +45,5 @@ pub record Carries (l : Limits) (olds : List PassShown) (p : ℕ) (before : Stat
   pub stay : AllZip Stays olds looked
   pub survivors : List Survivor
   pub found : AreSurvivors l keeper.seen survivors
+  pub in_hand : AreInHand olds survivors
   pub made : made_anew l p survivors before ≡ Some (moved, after)

@@ -1,5 +1,6 @@
 -- What the checks of a rollover find. g is the new manager's history.
-use Rattle.std.specs.Prelude.{◌≡◌, ◌⊎◌, ◌↔◌, ℕ, ◌+◌, ◌<◌, true, Option, None, Some, List, slice_index_or}
+use Rattle.std.specs.Prelude.{◌≡◌, ◌⊎◌, ◌↔◌, ℕ, ◌+◌, ◌<◌, ◌≤◌, true, Option, None, Some, List, []}
+use Rattle.std.specs.Prelude.{◌∷◌, slice_index_or}
 use Rattle.tp_model.specs.declared.types.Counts.{Counts}
 use Rattle.tp_model.specs.declared.types.Element.{Element}
 use Rattle.tp_model.specs.declared.types.Limits.{Limits}
@@ -7,8 +8,16 @@ use Rattle.tp_model.specs.declared.event.Event.{Event}
 use Rattle.tp_model.specs.Counts.{is_consumed}
 use Rattle.tp_model.specs.History.{In, IsBorn, status_of}
 use Rattle.tp_model.specs.Steps.{rows_of}
-use Rattle.tp_rollover.specs.Rolls.{AscendFrom, IsNamed}
 use Rattle.tp_rollover.specs.declared.moved.Moved.{Moved}
+
+-- these numbers ascend
+abbrev pub AscendFrom : (Moved → ℕ) → ℕ → List Moved → Type 0
+AscendFrom id low [] = Unit {0}
+AscendFrom id low (m ∷ ms) = (low ≤ id m) × AscendFrom id (id m + 1) ms
+
+-- element i is named
+abbrev pub IsNamed : (Moved → ℕ) → ℕ → List Moved → Type 0
+IsNamed id i moved = (m : Moved) × In m moved × (id m ≡ i)
 
 -- each that is born there is named or consumed
 abbrev pub AreOnly : Limits → List Moved → List Event → Type 0

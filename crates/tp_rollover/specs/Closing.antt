@@ -1,65 +1,58 @@
--- What the kills at the end of a rollover leave.
-use Rattle.std.specs.Prelude.{◌≡◌, ◌⊎◌, ℕ, ◌≤◌, List, [], ◌∷◌, ◌++◌}
-use mathlib.Core.List.{IsPrefix}
-use Rattle.tp_model.specs.declared.types.Status.TheVariants.{Held, Consumed, Killed}
+-- The end of the old manager: its first pass gives up what it has in hand, and kills what was carried over,
+-- one after another, with no look together between the kills.
+use Rattle.std.specs.Prelude.{◌≡◌, List, [], ◌∷◌, ◌++◌, Result, Ok, Err, if◌then◌else◌, is_some, ℕ}
+use Rattle.tp_model.specs.declared.types.Killed.{Killed}
+use Rattle.tp_model.specs.declared.types.Limits.{Limits}
+use Rattle.tp_model.specs.declared.types.Refusal.{Refusal}
 use Rattle.tp_model.specs.declared.event.Event.{Event}
-use Rattle.tp_model.specs.declared.event.Event.TheVariants.{Abort, Kill}
-use Rattle.tp_model.specs.History.{In, IsUnborn, status_of}
-use Rattle.tp_manager.specs.Calls.{KeepsRun}
+use Rattle.tp_model.specs.History.{In}
+use Rattle.tp_plain.specs.Computed.{abort_of}
+use Rattle.tp_plain.specs.OneThread.{State, pass_at}
+use Rattle.tp_manager.specs.Bounds.{kill_steps}
+use Rattle.tp_manager.specs.Calls.{Follows}
 use Rattle.tp_manager.specs.Shown.{PassShown}
-use Rattle.tp_rollover.specs.Rolls.{kills}
+use Rattle.tp_alone.specs.Laws.{KillAnswers}
+use Rattle.tp_rollover.specs.Checks.{AscendFrom}
+use Rattle.tp_rollover.specs.Finding.{StandsLiving}
+use Rattle.tp_rollover.specs.Rolls.{IsGivenUp, kills}
 use Rattle.tp_rollover.specs.declared.moved.Moved.{Moved}
 
--- the pass has made these events and has used no row
-pub record Made (es : List Event) (old new : PassShown) : Type 0 where
-  pub number : new.number ≡ old.number
-  pub mine : new.mine ≡ old.mine ++ es
-  pub open_unit : new.open_unit ≡ old.open_unit
-  pub run : KeepsRun old new
-  pub sees : IsPrefix old.seen new.seen
-  pub drawn : old.seen_blocks ≤ new.seen_blocks
+-- pass c gives up what it has in hand, if it has something
+abbrev pub given_up : ℕ → State → State
+given_up c s = if is_some (pass_at s c).holding then (abort_of s c).1 else s
+
+-- each of these was alive after this history, and their ids ascend
+pub record AreLiving (limit : ℕ) (h : List Event) (moved : List Moved) : Type 0 where
+  pub each : (m : Moved) → In m moved → StandsLiving limit m.old h
+  pub once : AscendFrom (λ m. m.old) 0 moved
+
+-- a pass was to kill an element, with this answer
+pub record KillsOne (l : Limits) (id : ℕ) (answer : Result Killed Refusal) (old new : PassShown)
+    : Type 0 where
+  pub limits : new.limits ≡ l
   pub turn : new.from ≡ old.from
+  pub follows : Follows (kill_steps l) old new
+  pub says : KillAnswers id l old new answer
 
--- the kill of an element by a pass
-abbrev pub ended : ℕ → ℕ → List Event
-ended c id = Kill c id ∷ []
+-- it has killed all these
+abbrev pub KillsEach : Limits → List Moved → PassShown → PassShown → Type 0
+KillsEach l [] old new = new ≡ old
+KillsEach l (m ∷ moved) old new = (middle : PassShown) × (killed : Killed)
+    × KillsOne l m.old (Ok killed) old middle × KillsEach l moved middle new
 
--- an abort, or the kill of an element
-abbrev pub IsEndOrKill : Event → Type 0
-IsEndOrKill e = ((c u : ℕ) × (e ≡ Abort c u)) ⊎ ((c i : ℕ) × (e ≡ Kill c i))
-
--- these events are such
-abbrev pub AreEnds : List Event → Type 0
-AreEnds es = (e : Event) → In e es → IsEndOrKill e
-
--- none of these events kills the element
-abbrev pub NoKill : ℕ → List Event → Type 0
-NoKill id es = (c : ℕ) → ¬ In (Kill c id) es
-
--- the element can't be killed after this history: it isn't born, is held, or is consumed; or it is killed,
--- and none of these events did that
-abbrev pub IsStuck : ℕ → ℕ → List Event → List Event → Type 0
-IsStuck limit id es h = IsUnborn h id
-    ⊎ (((u n : ℕ) × (status_of limit h id ≡ Held u n))
-    ⊎ (((u : ℕ) × (status_of limit h id ≡ Consumed u))
-    ⊎ ((status_of limit h id ≡ Killed) × NoKill id es)))
-
--- the pass has made aborts and kills, and has found a history after which the element couldn't be killed
-pub record Stops (limit id : ℕ) (old new : PassShown) : Type 0 where
-  pub events : List Event
-  pub ends : AreEnds events
-  pub made : Made events old new
-  pub point : List Event
-  pub opened : IsPrefix old.seen point
-  pub closed : IsPrefix point new.seen
-  pub stuck : IsStuck limit id events point
-
--- it has killed the first of these elements, and has then found one that it couldn't kill
-pub record StopsAmong (limit : ℕ) (moved : List Moved) (old new : PassShown) : Type 0 where
+-- it has killed some, and the next one was refused
+pub record KillsShort (l : Limits) (moved : List Moved) (old new : PassShown) : Type 0 where
   pub done : List Moved
-  pub one : Moved
+  pub next : Moved
   pub rest : List Moved
-  pub parts : moved ≡ done ++ one ∷ rest
+  pub moved_are : moved ≡ done ++ next ∷ rest
   pub middle : PassShown
-  pub killed : Made (kills old.number done) old middle
-  pub stops : Stops limit one.old middle new
+  pub all : KillsEach l done old middle
+  pub why : Refusal
+  pub refused : KillsOne l next.old (Err why) middle new
+
+-- the history goes on from h to h' by what pass c does to the end
+pub record Buries (limit c : ℕ) (h h' : List Event) (moved : List Moved) : Type 0 where
+  pub given_up : List Event
+  pub own : IsGivenUp limit h c given_up
+  pub killed : h' ≡ (h ++ given_up) ++ kills limit (h ++ given_up) c moved

@@ -1,14 +1,18 @@
 -- The laws over the pair of managers.
-use Rattle.std.specs.Prelude.{◌≡◌, ◌≢◌, ℕ, ◌+◌, ◌++◌, List, length}
+use Rattle.std.specs.Prelude.{◌≡◌, ◌≢◌, ℕ, ◌+◌, ◌++◌, List, length, map}
 use mathlib.Core.List.{IsPrefix}
 use Rattle.tp_model.specs.declared.types.Element.{Element}
 use Rattle.tp_model.specs.declared.types.Limits.{Limits}
-use Rattle.tp_model.specs.declared.types.Status.TheVariants.{Killed}
+use Rattle.tp_model.specs.declared.types.Status.TheVariants.{Held, Killed}
 use Rattle.tp_model.specs.declared.event.Event.{Event}
+use Rattle.tp_model.specs.declared.event.Event.TheVariants.{Kill}
 use Rattle.tp_model.specs.Counts.{counts}
 use Rattle.tp_model.specs.Families.{IsSettledFamily}
 use Rattle.tp_model.specs.History.{In, IsBorn, IsSettled, born, status_of}
 use Rattle.tp_model.specs.Steps.{AreLimits, IsLegal}
+use Rattle.tp_manager.specs.Shown.{KeeperShown, PassShown}
+use Rattle.tp_rollover.specs.Answers.{Rolls}
+use Rattle.tp_rollover.specs.Faults.{AreFree}
 use Rattle.tp_rollover.specs.Rolls.{RollsOver, kills}
 use Rattle.tp_rollover.specs.Survivors.{AreSurvivors, StandAgain}
 use Rattle.tp_rollover.specs.declared.moved.Moved.{Moved}
@@ -41,11 +45,13 @@ OldIsOver =
     (l k : Limits) (c : ℕ) (h h' g : List Event) (moved : List Moved) → RollsOver l k c h h' g moved
     → (x : Element) → IsBorn h' x → IsSettled (status_of l.attempts h' x.id)
 
--- the accounts add up: what was alive is alive, and what was born beside it is consumed
+-- the accounts add up: what was alive is alive, held or not, and what was born beside it is consumed
 pub record AccountsAddUp (l k : Limits) (h h' g : List Event) (moved : List Moved) : Type 0 where
-  pub was : (counts l.attempts h).waiting + (counts l.attempts h).parked ≡ length moved
+  pub was : (counts l.attempts h).waiting + (counts l.attempts h).parked + (counts l.attempts h).held
+      ≡ length moved
   pub waiting : (counts k.attempts g).waiting ≡ (counts l.attempts h).waiting
   pub parked : (counts k.attempts g).parked ≡ (counts l.attempts h).parked
+  pub held : (counts k.attempts g).held ≡ (counts l.attempts h).held
   pub carriers : (counts k.attempts g).consumed + length moved ≡ length (born g)
   pub killed : (counts l.attempts h').killed ≡ (counts l.attempts h).killed + length moved
   pub consumed : (counts l.attempts h').consumed ≡ (counts l.attempts h).consumed
@@ -63,4 +69,17 @@ RestoredIsRolledOver =
     (l k : Limits) (h g : List Event) (survivors : List Survivor) (moved : List Moved)
     → AreLimits l → k.attempts ≡ l.attempts → IsLegal l h → IsLegal k g
     → AreSurvivors l h survivors → StandAgain k g survivors moved
-    → RollsOver l k 0 h (h ++ kills 0 moved) g moved
+    → RollsOver l k 0 h (h ++ kills l.attempts h 0 moved) g moved
+
+-- each stands with the status that it had, none was held, and the old manager goes on by the kills alone
+pub record IsPlain (l k : Limits) (h h' g : List Event) (moved : List Moved) : Type 0 where
+  pub same : (m : Moved) → In m moved → status_of k.attempts g m.new ≡ status_of l.attempts h m.old
+  pub idle : (i u n : ℕ) → ¬ (status_of l.attempts h i ≡ Held u n)
+  pub killed : h' ≡ h ++ map (λ (m : Moved). Kill 0 m.old) moved
+
+-- where no pass of the old manager has a unit open, it is so, and none of the new one has
+abbrev pub FreeIsPlain : Type 0
+FreeIsPlain =
+    (l k : Limits) (old' new' : KeeperShown) (olds olds' news' : List PassShown) (moved : List Moved)
+    → (r : Rolls l k old' new' olds olds' news' moved) → AreFree olds
+    → IsPlain l k r.before old'.seen new'.seen moved × AreFree news'

@@ -4,15 +4,16 @@ pub mod Worked
 pub mod Told
 pub mod Passes
 pub mod Finding
+pub mod Holds
 pub mod Checks
 pub mod Closing
-pub mod Phases
 pub mod Answers
 pub mod Faults
 pub mod Managed
 pub mod Bounds
 pub mod Births
 pub mod Alike
+pub mod Hands
 pub mod Survivors
 pub mod Lone
 pub mod Anew

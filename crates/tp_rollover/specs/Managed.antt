@@ -10,11 +10,10 @@ use Rattle.tp_plain.specs.OneThread.{start}
 use Rattle.tp_alone.specs.Thread.{Stays, thread_of}
 use Rattle.tp_rollover.specs.Answers.{Rolls}
 use Rattle.tp_rollover.specs.Carries.{Carries, WouldNotFit}
-use Rattle.tp_rollover.specs.Faults.{AreFree}
 use Rattle.tp_rollover.specs.declared.managed.Managed.{Managed}
 use Rattle.tp_rollover.specs.declared.moved.Moved.{Moved}
 use Rattle.tp_rollover.specs.declared.moved.RollFault.{RollFault}
-use Rattle.tp_rollover.specs.declared.moved.RollFault.TheVariants.{BadLimits, Busy, Full, NoMemory, Unequal}
+use Rattle.tp_rollover.specs.declared.moved.RollFault.TheVariants.{BadLimits, Full, NoMemory, Unequal}
 
 -- The pass has seen nothing and has done nothing: all rows of its part are left to it, it has drawn no spare
 -- block and knows of none, it has no unit open, and its marks and turns are at the first row.
@@ -38,9 +37,9 @@ pub record IsManaged (m : Managed) : Type 0 where
   pub all : AreAll m.keeper m.passes.items
   pub parts : length m.passes.items ≡ m.manager.limits.parts
 
--- It has gone on in another manager, of the same limits. No unit was open, and none is. From what the old
--- passes had done before the rollover went to what the new ones have seen, and what was alive was made anew
--- as it is computed. The old manager's keeper and passes showed these at the last.
+-- It has gone on in another manager, of the same limits. From what the old passes had done before the
+-- rollover went to what the new ones have seen, and what was alive was made anew as it is computed. The old
+-- manager's keeper and passes showed these at the last.
 pub record GoesOn (old new : Managed) (moved : List Moved) : Type 0 where
   pub keeper : KeeperShown
   pub passes : List PassShown
@@ -50,8 +49,6 @@ pub record GoesOn (old new : Managed) (moved : List Moved) : Type 0 where
       new.passes.items moved
   pub carries : let l = old.manager.limits in
       Carries l old.passes.items l.parts (start l) moved (thread_of l new.passes.items new.keeper.seen)
-  pub idle : AreFree old.passes.items
-  pub free : AreFree new.passes.items
 
 -- it has the same manager, and its passes have done nothing but look
 pub record StaysManaged (old new : Managed) : Type 0 where
@@ -59,21 +56,19 @@ pub record StaysManaged (old new : Managed) : Type 0 where
   pub given : new.keeper.given ≡ old.keeper.given
   pub passes : AllZip Stays old.passes.items new.passes.items
 
--- Which fault a manager with these limits and passes is refused with: Busy where a unit is open, and else one
--- of these three, Full only where what is alive finds no room in a new manager.
+-- Which fault a manager with these limits and passes is refused with: one of these three, Full only where
+-- what is alive finds no room in a new manager.
 abbrev pub IsRefusedFor : Limits → List PassShown → RollFault → Type 0
-IsRefusedFor l passes Busy = ¬ AreFree passes
-IsRefusedFor l passes NoMemory = AreFree passes
-IsRefusedFor l passes Full = AreFree passes × WouldNotFit l passes l.parts (start l)
-IsRefusedFor l passes Unequal = AreFree passes
+IsRefusedFor l passes NoMemory = Unit {0}
+IsRefusedFor l passes Full = WouldNotFit l passes l.parts (start l)
+IsRefusedFor l passes Unequal = Unit {0}
 IsRefusedFor l passes other = ⊥
 
--- why it isn't surveyed: Busy where a unit is open, and else one of these
-abbrev pub IsUnsurveyed : List PassShown → RollFault → Type 0
-IsUnsurveyed passes Busy = ¬ AreFree passes
-IsUnsurveyed passes NoMemory = AreFree passes
-IsUnsurveyed passes Unequal = AreFree passes
-IsUnsurveyed passes other = ⊥
+-- why it isn't surveyed
+abbrev pub IsUnsurveyed : RollFault → Type 0
+IsUnsurveyed NoMemory = Unit {0}
+IsUnsurveyed Unequal = Unit {0}
+IsUnsurveyed other = ⊥
 
 -- why none with these limits is made of descriptions
 abbrev pub IsUnrestored : Limits → RollFault → Type 0

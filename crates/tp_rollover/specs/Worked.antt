@@ -1,16 +1,16 @@
--- A worked rollover, with one pass of 8 rows and 8 units, and one attempt.
-use Rattle.std.specs.Prelude.{◌≡◌, ℕ, Some, List, [], ◌∷◌, ◌++◌}
+-- Two worked rollovers: the first with one pass of 8 rows and 8 units, and one attempt.
+use Rattle.std.specs.Prelude.{◌≡◌, ℕ, None, Some, List, [], ◌∷◌, ◌++◌}
 use Rattle.tp_model.specs.declared.types.Counts.{Counts}
 use Rattle.tp_model.specs.declared.types.Element.{Element}
 use Rattle.tp_model.specs.declared.types.Limits.{Limits}
 use Rattle.tp_model.specs.declared.types.Status.{Status}
-use Rattle.tp_model.specs.declared.types.Status.TheVariants.{Waiting, Parked}
+use Rattle.tp_model.specs.declared.types.Status.TheVariants.{Waiting, Held, Parked}
 use Rattle.tp_model.specs.declared.event.Event.{Event}
 use Rattle.tp_model.specs.declared.event.Event.TheVariants.{Enqueue, Claim, Commit, Abort, Kill}
 use Rattle.tp_model.specs.Births.{request}
 use Rattle.tp_model.specs.Counts.{counts}
 use Rattle.tp_model.specs.History.{status_of}
-use Rattle.tp_rollover.specs.Rolls.{RollsOver}
+use Rattle.tp_rollover.specs.Rolls.{IsSame, RollsOver}
 use Rattle.tp_rollover.specs.Survivors.{AreSurvivors, StandAgain}
 use Rattle.tp_rollover.specs.declared.moved.Moved.{Moved}
 use Rattle.tp_rollover.specs.declared.survivors.Survivor.{Survivor}
@@ -57,6 +57,7 @@ survivor id stage w status = record {
   stage = stage;
   body = word w;
   status = status;
+  holder = None;
   rounds = 0;
   root_stage = 1;
   root_body = word 5;
@@ -77,3 +78,56 @@ pub record WorkedPair : Type 0 where
   pub counts_before : counts 1 before ≡ counted_before
   pub counts_anew : counts 1 anew ≡ counted_anew
   pub left_out : ¬ RollsOver small small 0 before (before ++ Kill 0 2 ∷ []) anew (first_moved ∷ [])
+
+-- the second one has two passes, and two attempts
+abbrev pub twice : Limits
+twice = record { parts = 2; rows = 8; units = 8; attempts = 2; spare = 0 }
+
+-- Of three requests one is consumed. Pass 1 has the second one in hand, in its second attempt, and pass 0 the
+-- third one, in its first.
+abbrev pub in_hand : List Event
+in_hand = Enqueue 0 (request 0 1 (word 4)) ∷ Claim 1 8 0 1 ∷ Commit 1 8 [] ∷ Enqueue 0 (request 1 1 (word 5))
+    ∷ Claim 1 9 1 1 ∷ Abort 1 9 ∷ Claim 1 10 1 2 ∷ Enqueue 0 (request 2 1 (word 6)) ∷ Claim 0 0 2 1 ∷ []
+
+-- pass 0 gives up its own, and kills both: the other one's unit it aborts before
+abbrev pub over_in_hand : List Event
+over_in_hand = in_hand ++ Abort 0 0 ∷ Abort 0 10 ∷ Kill 0 1 ∷ Kill 0 2 ∷ []
+
+-- in the new manager both have them in hand, in the attempts that they had
+abbrev pub in_hand_anew : List Event
+in_hand_anew = Enqueue 0 (request 0 1 (word 5)) ∷ Enqueue 0 (request 1 1 (word 6)) ∷ Claim 0 0 0 1 ∷ Abort 0 0
+    ∷ Claim 1 8 0 2 ∷ Claim 0 1 1 1 ∷ []
+
+abbrev pub moved_in_hand : ℕ → ℕ → Moved
+moved_in_hand old new = record { old = old; new = new; old_root = old; new_root = new }
+
+abbrev pub both_in_hand : List Moved
+both_in_hand = moved_in_hand 1 0 ∷ moved_in_hand 2 1 ∷ []
+
+abbrev pub survivor_in_hand : ℕ → ℕ → ℕ → ℕ → Survivor
+survivor_in_hand id c waited w = record {
+  id = id;
+  root = id;
+  stage = 1;
+  body = word w;
+  status = Waiting waited;
+  holder = Some c;
+  rounds = 0;
+  root_stage = 1;
+  root_body = word w;
+}
+
+abbrev pub described_in_hand : List Survivor
+described_in_hand = survivor_in_hand 1 1 1 5 ∷ survivor_in_hand 2 0 0 6 ∷ []
+
+-- This is a rollover too, and these descriptions are of what is in hand. It would be none where the second one
+-- were in its first attempt there, waited, or were held by the other pass.
+pub record HeldPair : Type 0 where
+  pub described_so : AreSurvivors twice in_hand described_in_hand
+  pub again : StandAgain twice in_hand_anew described_in_hand both_in_hand
+  pub over : RollsOver twice twice 0 in_hand over_in_hand in_hand_anew both_in_hand
+  pub second : status_of 2 in_hand_anew 0 ≡ Held 8 2
+  pub third : status_of 2 in_hand_anew 1 ≡ Held 1 1
+  pub attempt : ¬ IsSame twice twice (status_of 2 in_hand 1) (Held 8 1)
+  pub waits : ¬ IsSame twice twice (status_of 2 in_hand 1) (Waiting 1)
+  pub other : ¬ IsSame twice twice (status_of 2 in_hand 1) (Held 1 2)

@@ -15,8 +15,7 @@ use std::alloc::Global;
 use tp_manager::{Manager, Pass};
 use tp_model::types::{Account, Status};
 
-/// The row where its element is alive, that is where it waits or is parked, and `None` where it isn't or none
-/// is born. It isn't held, since no pass has a unit open.
+/// The row where its element waits, is parked or is held, and `None` where it is over or none is born.
 fn alive_at(manager: &Manager, pass: &mut Pass, row: u32) -> Result<Option<u32>, Stop>
     requires own { IsOf manager.now pass.old }
     ensures own { IsOf manager.now pass.new }
@@ -36,7 +35,7 @@ fn alive_at(manager: &Manager, pass: &mut Pass, row: u32) -> Result<Option<u32>,
         Status::Held {
             unit: _,
             attempt: _,
-        } => Err(Stop::Unequal),
+        } => Ok(Some(row)),
         Status::Consumed { unit: _ } => Ok(None),
         Status::Killed => Ok(None),
     }
@@ -56,18 +55,14 @@ fn keep(found: &mut Vec<u32>, one: Option<u32>) -> Result<(), Stop>
     }
 }
 
-/// How many elements an account counts as waiting or parked. `None` where it counts one as held.
+/// How many elements an account counts as waiting, parked or held.
 pub(crate) fn alive_in(account: &Account) -> Option<usize>
     ensures { IfSome result (λ n. CountsAlive n account.now.total) }
 {
     let total = account.total;
-    if total.held != 0 {
-        return None;
-    }
-    match total.waiting.checked_add(total.parked) {
-        Some(alive) => Some(alive as usize),
-        None => None,
-    }
+    let alive = total.waiting.checked_add(total.parked)?;
+    let living = alive.checked_add(total.held)?;
+    Some(living as usize)
 }
 
 /// The ids of all elements that are alive, ascending, where there are so many. The search ends with the last

@@ -16,7 +16,7 @@ ghost use Rattle.tp_rollover.specs.Runs.{BearsOn, GoesOn, newly};
 
 use crate::calls::{bear_by, submit_by, submit_run};
 use crate::moved::Moved;
-use crate::places::{Cursor, begin};
+use crate::places::{Cursor, begin, kept_for};
 use crate::stops::Stop;
 use crate::survivors::Survivor;
 use std::alloc::Global;
@@ -430,7 +430,7 @@ pub(crate) fn bear_all(
     if !are_apart(survivors, &families) {
         return Err(Stop::Unequal);
     }
-    let mut cursor = Cursor::start();
+    let mut cursor = Cursor::start(kept_for(survivors));
     for _turn in 0..survivors.len() {
         let from = moved.len();
         if from >= survivors.len() {

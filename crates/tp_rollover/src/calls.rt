@@ -1,13 +1,17 @@
 //! The calls on the new manager, each by the pass with an index. After each of them, or each run of requests
 //! by one pass, all passes look together, so that what it answers and leaves is what the manager of one
 //! thread answers and is then.
-ghost use Rattle.std.specs.Prelude.{◌≡◌, ◌*◌, ◌<◌, ◌≤◌, Some, length};
+ghost use Rattle.std.specs.Prelude.{◌≡◌, ◌*◌, ◌<◌, ◌≤◌, None, Some, length};
 ghost use Rattle.tp_plain.specs.Computed.{abort_of, claim_id_of, commit_of};
+ghost use Rattle.tp_plain.specs.OneThread.{pass_at};
 ghost use Rattle.tp_manager.specs.Bounds.{abort_steps, claim_id_steps, commit_steps, requeue_steps};
 ghost use Rattle.tp_manager.specs.Bounds.{submit_steps};
 ghost use Rattle.tp_manager.specs.Shown.{IsOf};
-ghost use Rattle.tp_rollover.specs.Anew.{attempted, born_by, first_given, given, requeued, submitted};
+ghost use Rattle.tp_rollover.specs.Anew.{attempted, born_by, first_given, given, held_by, requeued};
+ghost use Rattle.tp_rollover.specs.Anew.{submitted};
 ghost use Rattle.tp_rollover.specs.Bounds.{AllMake, PassMakes, attempt_steps, commit_on_steps, gathered};
+ghost use Rattle.tp_rollover.specs.Bounds.{give_up_steps, hold_steps};
+ghost use Rattle.tp_rollover.specs.Closing.{given_up};
 ghost use Rattle.tp_rollover.specs.Lone.{Agrees, AreLone, lone};
 ghost use Rattle.tp_rollover.specs.Runs.{Runs, roots_born};
 
@@ -256,4 +260,45 @@ pub(crate) fn attempt_by(
 {
     claim_by(manager, keeper, passes, at, id)?;
     abort_by(manager, keeper, passes, at)
+}
+
+/// The element is claimed by the pass that is to hold it.
+pub(crate) fn take_by(
+    manager: &Manager,
+    keeper: &mut Keeper,
+    passes: &mut [Pass],
+    at: usize,
+    id: u32,
+) -> Result<(), Stop>
+    requires lone { AreLone manager.now keeper.old passes.old }
+    requires at { at < length passes.old }
+    ensures lone { AreLone manager.now keeper.new passes.new × (keeper.new.given ≡ keeper.old.given) }
+    ensures steps { let l = manager.now.limits in
+        AllMake (hold_steps l keeper.old.given) keeper.old passes.old keeper.new passes.new }
+    ensures gives { Agrees result (λ _. lone manager.now keeper.new passes.new)
+        (held_by (length passes.old) (Some at) id (lone manager.now keeper.old passes.old)) }
+{
+    if passes[at].has_open() {
+        return Err(Stop::Unequal);
+    }
+    claim_by(manager, keeper, passes, at, id)?;
+    Ok(())
+}
+
+/// The unit in hand is given up, if there is one, by the first of the passes.
+pub(crate) fn give_up(manager: &Manager, keeper: &mut Keeper, passes: &mut [Pass])
+    requires lone { AreLone manager.now keeper.old passes.old }
+    requires some { 1 ≤ length passes.old }
+    ensures lone { AreLone manager.now keeper.new passes.new × (keeper.new.given ≡ keeper.old.given) }
+    ensures steps { let l = manager.now.limits in
+        AllMake (give_up_steps l keeper.old.given passes.old) keeper.old passes.old keeper.new passes.new }
+    ensures gives { lone manager.now keeper.new passes.new
+        ≡ given_up 0 (lone manager.now keeper.old passes.old) }
+    ensures free { (pass_at (lone manager.now keeper.new passes.new) 0).holding ≡ None }
+{
+    if !passes[0].has_open() {
+        return;
+    }
+    let _ = manager.abort(&mut passes[0]);
+    keeper.gather(manager, passes);
 }

@@ -3,9 +3,8 @@ ghost use Rattle.std.specs.Prelude.{◌≡◌, ◌*◌, true, length};
 ghost use Rattle.tp_manager.specs.Shown.{IsOf};
 ghost use Rattle.tp_alone.specs.Thread.{Stays};
 ghost use Rattle.tp_rollover.specs.Bounds.{PassMakes, compare_steps};
-ghost use Rattle.tp_rollover.specs.Alike.{AllStandAgain, IsAlike, IsRootAlike};
+ghost use Rattle.tp_rollover.specs.Alike.{AllStandUnheld, IsAlike, IsRootAlike, StandsUnheld};
 ghost use Rattle.tp_rollover.specs.Checks.{CountsOnly, MovedAscend};
-ghost use Rattle.tp_rollover.specs.Survivors.{StandsAgain};
 ghost use Rattle.tp_rollover.specs.Told.{HoldsAsSeen};
 
 use crate::looks::{is_alive, look, rounds_had};
@@ -44,7 +43,7 @@ fn stands_again(manager: &Manager, pass: &mut Pass, one: Survivor, named: Moved)
     ensures stays { Stays pass.old pass.new }
     ensures steps { PassMakes (compare_steps manager.now.limits) pass.old pass.new }
     ensures told { result ≡ true → HoldsAsSeen pass.old pass.new
-        (λ g. StandsAgain manager.now.limits.attempts g one named) }
+        (λ g. StandsUnheld manager.now.limits.attempts g one named) }
 {
     let Some(stands) = look(manager, pass, named.new) else {
         return false;
@@ -76,7 +75,7 @@ pub(crate) fn all_stand_again(
     ensures stays { Stays pass.old pass.new }
     ensures steps { PassMakes (length survivors.now * compare_steps manager.now.limits) pass.old pass.new }
     ensures told { result ≡ true → HoldsAsSeen pass.old pass.new
-        (λ g. AllStandAgain manager.now.limits.attempts g survivors.now moved.now) }
+        (λ g. AllStandUnheld manager.now.limits.attempts g survivors.now moved.now) }
 {
     if moved.len() != survivors.len() {
         return false;

@@ -3,9 +3,9 @@
 ghost use Rattle.std.specs.Prelude.{ℕ};
 ghost use Rattle.tp_model.specs.declared.types.Limits.{Limits};
 ghost use Rattle.tp_rollover.specs.Bounds.{PerElement};
-ghost use Rattle.tp_rollover.specs.Laws.{CancelledStays, ConsumedInOne, OldIsOver, RolloverAddsUp};
-ghost use Rattle.tp_rollover.specs.Laws.{RestoredIsRolledOver, SettledNotCarried};
-ghost use Rattle.tp_rollover.specs.Worked.{WorkedPair};
+ghost use Rattle.tp_rollover.specs.Laws.{CancelledStays, ConsumedInOne, FreeIsPlain, OldIsOver};
+ghost use Rattle.tp_rollover.specs.Laws.{RestoredIsRolledOver, RolloverAddsUp, SettledNotCarried};
+ghost use Rattle.tp_rollover.specs.Worked.{HeldPair, WorkedPair};
 
 /// A family that was cancelled in the old manager is settled in the new one.
 pub fn cancelled_stays()
@@ -23,8 +23,8 @@ pub fn old_is_over()
     ensures { OldIsOver }
 {}
 
-/// The accounts of both managers add up: as many wait and are parked in the new one as did in the old one,
-/// all else there is consumed, and in the old one as many more are killed.
+/// The accounts of both managers add up: as many wait, are parked and are held in the new one as in the old
+/// one, all else there is consumed, and in the old one as many more are killed.
 pub fn accounts_add_up()
     ensures { RolloverAddsUp }
 {}
@@ -36,12 +36,19 @@ pub fn restored_is_rolled_over()
 
 /// A worked rollover, of a family of which one element waits and one is parked, with what is counted in both
 /// managers, and how it is described in between. The laws are of such pairs. Where one that was alive is left
-/// out, it is none.
+/// out, it is none. And one of two requests that passes have in hand.
 pub fn worked_pair()
-    ensures { WorkedPair }
+    ensures worked { WorkedPair }
+    ensures held { HeldPair }
 {}
 
 /// How many steps a rollover makes for each element, in round numbers.
 pub fn steps_of_one()
     ensures { (l : Limits) (q : ℕ) → PerElement l q }
+{}
+
+/// Where no pass of the old manager has a unit open, what was carried over stands with the status that it
+/// had, no pass of the new one has a unit open, and the old one goes on by the kills alone.
+pub fn free_is_plain()
+    ensures { FreeIsPlain }
 {}

@@ -10,16 +10,15 @@ ghost use Rattle.tp_alone.specs.Thread.{AreTogether, Stays, thread_of};
 ghost use Rattle.tp_rollover.specs.declared.moved.RollFault.TheVariants as refusals;
 ghost use Rattle.tp_rollover.specs.Anew.{made_anew};
 ghost use Rattle.tp_rollover.specs.Answers.{IsHistoryOf, Rolls};
-ghost use Rattle.tp_rollover.specs.Bounds.{AllMake, alive_after, made_by_all, most_successor_steps};
-ghost use Rattle.tp_rollover.specs.Bounds.{old_steps, survey_steps, successor_steps};
+ghost use Rattle.tp_rollover.specs.Bounds.{AllMake, alive_after, give_up_steps, made_by_all};
+ghost use Rattle.tp_rollover.specs.Bounds.{most_successor_steps, old_steps, survey_steps, successor_steps};
 ghost use Rattle.tp_rollover.specs.Carries.{Carries, IsMade};
 ghost use Rattle.tp_rollover.specs.Faults.{AreFree};
 ghost use Rattle.tp_rollover.specs.Managed.{GoesOn, IsManaged, IsNewPass, IsRefusedFor, IsUnrestored};
 ghost use Rattle.tp_rollover.specs.Managed.{IsUnsurveyed, StaysManaged};
-ghost use Rattle.tp_rollover.specs.Survivors.{AreSurvivors, Restores};
+ghost use Rattle.tp_rollover.specs.Survivors.{AreInHand, AreSurvivors, Restores};
 
 use crate::moved::{Moved, RollFault};
-use crate::passes::has_open;
 use crate::restoring::restore;
 use crate::rolling::roll_over;
 use crate::surveying::survey;
@@ -89,12 +88,11 @@ pub fn succeed(
     ensures carries { IfOk result (λ next. let l = old.now.limits in
         Carries l old_passes.old l.parts (start l) next.moved.items
         (thread_of l next.managed.passes.items next.managed.keeper.seen)) }
-    ensures idle { IfOk result (λ next. AreFree old_passes.old) }
-    ensures free { IfOk result (λ next. AreFree next.managed.passes.items) }
     ensures stays { IfErr result (λ fault. AllZip Stays old_passes.old old_passes.new) }
     ensures fault { IfErr result (IsRefusedFor old.now.limits old_passes.old) }
     ensures steps { IfOk result (λ next. let n = length next.moved.items in let l = old.now.limits in
-        AllMake (old_steps l l.parts n) old_keeper.old old_passes.old old_keeper.new old_passes.new
+        AllMake (old_steps l l.parts n + give_up_steps l l.parts old_passes.old)
+        old_keeper.old old_passes.old old_keeper.new old_passes.new
         × (made_by_all next.managed.keeper next.managed.passes.items ≤ most_successor_steps l n)) }
     ensures replayed { IfOk result (λ next. made_by_all next.managed.keeper next.managed.passes.items
         ≤ successor_steps old.now.limits next.managed.keeper.seen next.moved.items) }
@@ -102,9 +100,6 @@ pub fn succeed(
         let n = alive_after l.attempts old_keeper.new.seen in
         AllMake (survey_steps l l.parts n) old_keeper.old old_passes.old old_keeper.new old_passes.new) }
 {
-    if has_open(old_passes) {
-        return Err(RollFault::Busy);
-    }
     let Ok(mut new) = Managed::new(alloc, old.limits()) else {
         return Err(RollFault::NoMemory);
     };
@@ -150,9 +145,9 @@ impl Managed {
     }
 
     /// What is alive, each element once, goes on in a new manager with the same limits, and nothing else
-    /// does. What each is there, in the order of their ids, which is the same in both managers (`roll_over`).
-    /// `Busy` exactly where a pass has a unit open. Where it is refused, the manager is the same, and its
-    /// passes have done nothing but look.
+    /// does. What each is there, in the order of their ids, which is the same in both managers, and what a
+    /// pass has in hand goes on in its hand (`roll_over`). Where it is refused, the manager is the same, and
+    /// its passes have done nothing but look.
     pub fn roll_over(&mut self, alloc: Global) -> Result<Vec<Moved>, RollFault>
         requires managed { IsManaged self.old }
         ensures managed { IsManaged self.new }
@@ -160,7 +155,6 @@ impl Managed {
         ensures moved { IfOk result (λ moved. GoesOn self.old self.new moved.items) }
         ensures refused { IfErr result (λ fault. StaysManaged self.old self.new) }
         ensures fault { IfErr result (IsRefusedFor self.old.manager.limits self.old.passes.items) }
-        ensures busy { (result ≡ Err refusals.Busy) ↔ (¬ AreFree self.old.passes.items) }
         ensures steps { IfOk result (λ moved. made_by_all self.new.keeper self.new.passes.items
             ≤ most_successor_steps self.old.manager.limits (length moved.items)) }
         ensures replayed { IfOk result (λ moved. made_by_all self.new.keeper self.new.passes.items
@@ -182,20 +176,20 @@ impl Managed {
     }
 
     /// All that is alive, each element once, by ascending ids, with all that another manager needs to go on
-    /// with it (`restored`). The passes have done nothing but look, and have gathered. `Busy` exactly where a
-    /// pass has a unit open; `NoMemory`.
+    /// with it (`restored`), and with the number of the pass that has it in hand, if one has. The passes have
+    /// done nothing but look, and have gathered. `NoMemory`.
     pub fn survey(&mut self, alloc: Global) -> Result<Vec<Survivor>, RollFault>
         requires managed { IsManaged self.old }
         ensures managed { IsManaged self.new }
         ensures stays { StaysManaged self.old self.new }
         ensures found { IfOk result (λ found.
             AreSurvivors self.old.manager.limits self.new.keeper.seen found.items) }
+        ensures in_hand { IfOk result (λ found. AreInHand self.old.passes.items found.items) }
         ensures history { OnOk result
             (IsHistoryOf self.new.keeper self.old.passes.items self.new.keeper.seen) }
         ensures together { OnOk result (AreTogether self.old.manager.limits
             self.new.keeper self.new.passes.items self.new.keeper.seen) }
-        ensures fault { IfErr result (IsUnsurveyed self.old.passes.items) }
-        ensures busy { (result ≡ Err refusals.Busy) ↔ (¬ AreFree self.old.passes.items) }
+        ensures fault { IfErr result IsUnsurveyed }
         ensures steps { let l = self.old.manager.limits in
             AllMake (survey_steps l l.parts (alive_after l.attempts self.new.keeper.seen))
             self.old.keeper self.old.passes.items self.new.keeper self.new.passes.items }
@@ -219,7 +213,6 @@ impl Managed {
         ensures computed { IsMade result
             (λ next. (next.moved.items, thread_of limits next.managed.passes.items next.managed.keeper.seen))
             (made_anew limits limits.parts survivors.now (start limits)) }
-        ensures free { IfOk result (λ next. AreFree next.managed.passes.items) }
         ensures fault { IfErr result (IsUnrestored limits) }
         ensures bad { (result ≡ Err refusals.BadLimits) ↔ (¬ AreLimits limits) }
         ensures steps { IfOk result (λ next. made_by_all next.managed.keeper next.managed.passes.items

@@ -10,7 +10,7 @@ pub struct Moved {
 }
 
 /// Why nothing was carried over or restored. The old manager stands as it did; the new one is to be given up.
-/// `BadLimits`, `NoPass` and `Busy` are told before any call, the first of them in this order that applies.
+/// `BadLimits` and `NoPass` are told before any call, the first of them in this order that applies.
 #[derive(Clone, Copy, Debug, PartialEq, Eq)]
 pub enum RollFault {
     /// Memory could not be had.
@@ -19,7 +19,8 @@ pub enum RollFault {
     BadLimits,
     /// No pass of one of the managers was given out.
     NoPass,
-    /// A pass of the old manager has a unit of work open.
+    /// A pass of the old manager has a unit of work open. No call of this crate tells it: what a pass has in
+    /// hand is carried over. It is for callers who can't go on with it.
     Busy,
     /// The new manager has not the rows or the units for what is alive. One of its passes has no unit left
     /// then, or fewer than four rows and no spare block.

@@ -1,14 +1,57 @@
 //! Which pass of the new manager makes the next elements.
-ghost use Rattle.std.specs.Prelude.{◌≡◌, ◌-◌, ◌<◌, All, IfOk, IfSome, List, length};
+ghost use Rattle.std.specs.Prelude.{◌≡◌, ◌-◌, ◌<◌, ◌≤◌, All, IfOk, IfSome, List, None, length};
 ghost use Rattle.tp_model.specs.declared.event.Event.{Event};
 ghost use Rattle.tp_manager.specs.Shown.{IsOf};
 ghost use Rattle.tp_alone.specs.Thread.{thread_of};
 ghost use Rattle.tp_rollover.specs.Anew.{drawer, first_from, has_left, last_below, next_pass, start_at};
-ghost use Rattle.tp_rollover.specs.Anew.{would_draw};
+ghost use Rattle.tp_rollover.specs.Anew.{kept_for, least_units, with_holder, would_draw};
 ghost use Rattle.tp_rollover.specs.Lone.{Agrees};
 
 use crate::stops::Stop;
+use crate::survivors::Survivor;
 use tp_manager::{Manager, Pass};
+use tp_model::types::MAX_PASSES;
+
+/// Which passes are to hold an element. Each keeps a unit for it.
+pub(crate) type Kept = [bool; MAX_PASSES as usize];
+
+/// The pass that is to hold an element, if one is, keeps a unit.
+fn keep(kept: &mut Kept, holder: Option<u16>)
+    ensures { kept.new ≡ with_holder holder kept.old }
+{
+    let Some(holder) = holder else {
+        return;
+    };
+    let at = usize::from(holder);
+    if at < kept.len() {
+        kept[at] = true;
+    }
+}
+
+/// Which passes are to hold one of these.
+pub(crate) fn kept_for(survivors: &[Survivor]) -> Kept
+    ensures { result ≡ kept_for survivors.now }
+{
+    let mut kept = [false; MAX_PASSES as usize];
+    for place in 0..survivors.len() {
+        keep(&mut kept, survivors[place].holder);
+    }
+    kept
+}
+
+/// How many units the pass has to have left, to use so many and keep the one.
+fn least_units(kept: &Kept, units: u16, at: usize) -> u16
+    requires few { units ≤ 1 }
+    ensures { result ≡ least_units kept.now units at }
+{
+    if units == 0 {
+        return 0;
+    }
+    if at < kept.len() && kept[at] {
+        return units + 1;
+    }
+    units
+}
 
 /// How far the passes of the new manager are used. Ids ascend: the parts are used one after another, and then
 /// spare blocks.
@@ -18,25 +61,31 @@ pub(crate) struct Cursor {
     pub at: usize,
     /// The pass that draws spare blocks.
     pub block: Option<usize>,
+    /// Which passes keep a unit.
+    pub kept: Kept,
 }
 
-/// The first pass from this one on that has so many rows and units of work left.
+/// The first pass from this one on that has so many rows and units of work left, beside the unit that it
+/// keeps.
 pub(crate) fn first_with(
     manager: &Manager,
     passes: &[Pass],
+    kept: &Kept,
     from: usize,
     rows: u16,
     units: u16,
 ) -> Option<usize>
     requires own { All (IsOf manager.now) passes.now }
+    requires few { units ≤ 1 }
     ensures inside { IfSome result (λ at. at < length passes.now) }
     ensures first { (h : List Event) → result
-        ≡ first_from (has_left (thread_of manager.now.limits passes.now h) rows units) from
+        ≡ first_from (has_left kept.now (thread_of manager.now.limits passes.now h) rows units) from
         (length passes.now - from) }
 {
     for at in from..passes.len() {
         let room = manager.room(&passes[at]);
-        if room.rows >= rows && room.units >= units {
+        let least = least_units(kept, units, at);
+        if room.rows >= rows && room.units >= least {
             return Some(at);
         }
     }
@@ -44,16 +93,25 @@ pub(crate) fn first_with(
 }
 
 /// The last pass that has the units, and too few rows, so that it draws a spare block.
-fn last_drawing(manager: &Manager, passes: &[Pass], rows: u16, units: u16) -> Option<usize>
+fn last_drawing(
+    manager: &Manager,
+    passes: &[Pass],
+    kept: &Kept,
+    rows: u16,
+    units: u16,
+) -> Option<usize>
     requires own { All (IsOf manager.now) passes.now }
+    requires few { units ≤ 1 }
     ensures inside { IfSome result (λ at. at < length passes.now) }
     ensures last { (h : List Event) → result
-        ≡ last_below (would_draw (thread_of manager.now.limits passes.now h) rows units) (length passes.now) }
+        ≡ last_below (would_draw kept.now (thread_of manager.now.limits passes.now h) rows units)
+        (length passes.now) }
 {
     for back in 0..passes.len() {
         let at = passes.len() - 1 - back;
         let room = manager.room(&passes[at]);
-        if room.rows < rows && room.units >= units {
+        let least = least_units(kept, units, at);
+        if room.rows < rows && room.units >= least {
             return Some(at);
         }
     }
@@ -65,23 +123,26 @@ fn last_drawing(manager: &Manager, passes: &[Pass], rows: u16, units: u16) -> Op
 fn drawing(
     manager: &Manager,
     passes: &[Pass],
+    kept: &Kept,
     block: Option<usize>,
     rows: u16,
     units: u16,
 ) -> Option<usize>
     requires own { All (IsOf manager.now) passes.now }
+    requires few { units ≤ 1 }
     ensures inside { IfSome result (λ at. at < length passes.now) }
     ensures drawer { (h : List Event) → result
-        ≡ drawer (length passes.now) (thread_of manager.now.limits passes.now h) rows units block }
+        ≡ drawer kept.now (length passes.now) (thread_of manager.now.limits passes.now h) rows units block }
 {
     let Some(at) = block else {
-        return last_drawing(manager, passes, rows, units);
+        return last_drawing(manager, passes, kept, rows, units);
     };
     if at >= passes.len() {
-        return last_drawing(manager, passes, rows, units);
+        return last_drawing(manager, passes, kept, rows, units);
     }
-    if manager.room(&passes[at]).units < units {
-        return last_drawing(manager, passes, rows, units);
+    let least = least_units(kept, units, at);
+    if manager.room(&passes[at]).units < least {
+        return last_drawing(manager, passes, kept, rows, units);
     }
     Some(at)
 }
@@ -100,10 +161,15 @@ pub(crate) fn begin(passes: usize, at: usize, home: usize) -> usize
 }
 
 impl Cursor {
-    pub(crate) fn start() -> Cursor
-        ensures { result ≡ record { at = 0; block = None } }
+    /// Nothing is used, and these passes keep a unit.
+    pub(crate) fn start(kept: Kept) -> Cursor
+        ensures { result ≡ record { at = 0; block = None; kept = kept } }
     {
-        Cursor { at: 0, block: None }
+        Cursor {
+            at: 0,
+            block: None,
+            kept,
+        }
     }
 
     /// The pass that makes so many elements next, with so many units of work. It is `home` where the parts
@@ -118,19 +184,20 @@ impl Cursor {
         units: u16,
     ) -> Result<usize, Stop>
         requires own { All (IsOf manager.now) passes.now }
+        requires few { units ≤ 1 }
         ensures inside { IfOk result (λ at. at < length passes.now) }
         ensures gives { (h : List Event) → Agrees result (λ at. (at, self.new))
             (next_pass (length passes.now) (thread_of manager.now.limits passes.now h) home rows units
             self.old) }
     {
         let from = begin(passes.len(), self.at, home);
-        match first_with(manager, passes, from, rows, units) {
+        match first_with(manager, passes, &self.kept, from, rows, units) {
             Some(at) => {
                 self.at = at;
                 Ok(at)
             }
             None => {
-                let Some(at) = drawing(manager, passes, self.block, rows, units) else {
+                let Some(at) = drawing(manager, passes, &self.kept, self.block, rows, units) else {
                     return Err(Stop::Full);
                 };
                 self.at = passes.len();

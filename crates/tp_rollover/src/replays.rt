@@ -1,23 +1,24 @@
 //! Elements that are born anew are given the attempts and rounds that were described.
-ghost use Rattle.std.specs.Prelude.{◌≡◌, ◌*◌, IfSome, OnOk, length};
-ghost use Rattle.tp_rollover.specs.Anew.{all_replayed, renewed, replayed, tried};
+ghost use Rattle.std.specs.Prelude.{◌≡◌, ◌*◌, All, IfSome, OnOk, length, true};
+ghost use Rattle.tp_rollover.specs.Anew.{all_replayed, kept_for, renewed, replayed, tried};
 ghost use Rattle.tp_rollover.specs.Bounds.{AllMake, attempt_steps, attempts_had, most_replay_steps};
-ghost use Rattle.tp_rollover.specs.Bounds.{replay_of, replay_steps, replays_for};
+ghost use Rattle.tp_rollover.specs.Bounds.{IsWithin, replay_of, replay_steps, replays_for};
 ghost use Rattle.tp_rollover.specs.Lone.{Agrees, AreLone, lone};
 
 use crate::calls::{attempt_by, requeue_by};
 use crate::moved::Moved;
-use crate::places::first_with;
+use crate::places::{Kept, first_with, kept_for};
 use crate::stops::Stop;
 use crate::survivors::Survivor;
 use tp_manager::{Keeper, Manager, Pass};
-use tp_model::types::{MAX_ROUNDS, Status};
+use tp_model::types::{Limits, MAX_ROUNDS, Status};
 
 /// The element is claimed and given up so many times, by the passes from `from` on, which goes on.
 fn attempts(
     manager: &Manager,
     keeper: &mut Keeper,
     passes: &mut [Pass],
+    kept: &Kept,
     from: &mut usize,
     id: u32,
     times: u8,
@@ -27,10 +28,10 @@ fn attempts(
     ensures steps { AllMake (times * attempt_steps manager.now.limits keeper.old.given)
         keeper.old passes.old keeper.new passes.new }
     ensures gives { Agrees result (λ _. (from.new, lone manager.now keeper.new passes.new))
-        (tried (length passes.old) id times (from.old, lone manager.now keeper.old passes.old)) }
+        (tried (length passes.old) kept.now id times (from.old, lone manager.now keeper.old passes.old)) }
 {
     for _time in 0..times {
-        let Some(at) = first_with(manager, passes, *from, 0, 1) else {
+        let Some(at) = first_with(manager, passes, kept, *from, 0, 1) else {
             return Err(Stop::Full);
         };
         *from = at;
@@ -44,6 +45,7 @@ fn rounds(
     manager: &Manager,
     keeper: &mut Keeper,
     passes: &mut [Pass],
+    kept: &Kept,
     from: &mut usize,
     id: u32,
     times: u8,
@@ -54,11 +56,19 @@ fn rounds(
         AllMake (replay_steps l keeper.old.given (times * l.attempts) times)
         keeper.old passes.old keeper.new passes.new }
     ensures gives { Agrees result (λ _. (from.new, lone manager.now keeper.new passes.new))
-        (renewed (length passes.old) id manager.now.limits.attempts times
+        (renewed (length passes.old) kept.now id manager.now.limits.attempts times
         (from.old, lone manager.now keeper.old passes.old)) }
 {
     for _round in 0..times {
-        attempts(manager, keeper, passes, from, id, manager.limits().attempts)?;
+        attempts(
+            manager,
+            keeper,
+            passes,
+            kept,
+            from,
+            id,
+            manager.limits().attempts,
+        )?;
         if passes.len() == 0 {
             return Err(Stop::Unequal);
         }
@@ -83,11 +93,26 @@ fn attempts_of(status: Status) -> Option<u8>
     }
 }
 
+/// Whether an element can have had so many attempts in its round, with the one in hand, and its rounds.
+fn is_within(limits: Limits, one: Survivor, times: u8) -> bool
+    requires times { times ≡ attempts_had one.status }
+    ensures { result ≡ true → IsWithin limits one }
+{
+    if one.rounds > MAX_ROUNDS {
+        return false;
+    }
+    if one.holder.is_some() {
+        return times < limits.attempts;
+    }
+    times <= limits.attempts
+}
+
 /// The new element is given what was described. `Unequal` where that is more than an element can have had.
 fn replay(
     manager: &Manager,
     keeper: &mut Keeper,
     passes: &mut [Pass],
+    kept: &Kept,
     from: &mut usize,
     one: Survivor,
     id: u32,
@@ -99,17 +124,18 @@ fn replay(
     ensures told { OnOk result (AllMake (replay_of manager.now.limits keeper.old.given one)
         keeper.old passes.old keeper.new passes.new) }
     ensures gives { Agrees result (λ _. (from.new, lone manager.now keeper.new passes.new))
-        (replayed (length passes.old) manager.now.limits.attempts one id
+        (replayed (length passes.old) kept.now manager.now.limits.attempts one id
         (from.old, lone manager.now keeper.old passes.old)) }
+    ensures within { OnOk result (IsWithin manager.now.limits one) }
 {
     let Some(times) = attempts_of(one.status) else {
         return Err(Stop::Unequal);
     };
-    if times > manager.limits().attempts || one.rounds > MAX_ROUNDS {
+    if !is_within(manager.limits(), one, times) {
         return Err(Stop::Unequal);
     }
-    rounds(manager, keeper, passes, from, id, one.rounds)?;
-    attempts(manager, keeper, passes, from, id, times)
+    rounds(manager, keeper, passes, kept, from, id, one.rounds)?;
+    attempts(manager, keeper, passes, kept, from, id, times)
 }
 
 /// Each new element is given what was described.
@@ -128,9 +154,11 @@ pub(crate) fn replay_all(
     ensures told { OnOk result (AllMake (replays_for manager.now.limits keeper.old.given survivors.now)
         keeper.old passes.old keeper.new passes.new) }
     ensures gives { Agrees result (λ _. lone manager.now keeper.new passes.new)
-        (all_replayed (length passes.old) manager.now.limits.attempts survivors.now moved.now
-        (0, lone manager.now keeper.old passes.old)) }
+        (all_replayed (length passes.old) (kept_for survivors.now) manager.now.limits.attempts survivors.now
+        moved.now (0, lone manager.now keeper.old passes.old)) }
+    ensures within { OnOk result (All (IsWithin manager.now.limits) survivors.now) }
 {
+    let kept = kept_for(survivors);
     let mut from = 0;
     for place in 0..survivors.len() {
         if place >= moved.len() {
@@ -140,6 +168,7 @@ pub(crate) fn replay_all(
             manager,
             keeper,
             passes,
+            &kept,
             &mut from,
             survivors[place],
             moved[place].new,

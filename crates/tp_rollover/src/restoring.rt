@@ -1,16 +1,16 @@
 //! What was described is made alive in a manager in which nothing has happened.
-ghost use Rattle.std.specs.Prelude.{◌≡◌, ◌↔◌, ◌*◌, ◌≤◌, [], All, Err, IfErr, IfOk, OnOk, length};
+ghost use Rattle.std.specs.Prelude.{◌≡◌, ◌↔◌, ◌+◌, ◌*◌, ◌≤◌, [], All, Err, IfErr, IfOk, OnOk, length};
 ghost use Rattle.std.specs.List.{AllZip};
 ghost use Rattle.tp_manager.specs.Accounts.{AreAll};
 ghost use Rattle.tp_manager.specs.Shown.{IsKeptBy, IsOf};
 ghost use Rattle.tp_plain.specs.OneThread.{start};
-ghost use Rattle.tp_alone.specs.Thread.{Stays};
-ghost use Rattle.tp_rollover.specs.Alike.{StandAlike};
-ghost use Rattle.tp_rollover.specs.Anew.{made_anew};
+ghost use Rattle.tp_alone.specs.Thread.{AreTogether, Stays};
+ghost use Rattle.tp_rollover.specs.Alike.{StandAlike, StandUnheld};
+ghost use Rattle.tp_rollover.specs.Anew.{made_anew, made_unheld};
 ghost use Rattle.tp_rollover.specs.Bounds.{AllMake, PassMakes, PassesMake, compare_steps, most_new_steps};
-ghost use Rattle.tp_rollover.specs.Bounds.{new_steps};
+ghost use Rattle.tp_rollover.specs.Bounds.{IsWithin, new_steps, unheld_steps};
 ghost use Rattle.tp_rollover.specs.Carries.{AreFresh, IsMade};
-ghost use Rattle.tp_rollover.specs.Faults.{AreFree, IsRestoreDue};
+ghost use Rattle.tp_rollover.specs.Faults.{IsRestoreDue};
 ghost use Rattle.tp_rollover.specs.Lone.{Agrees, lone};
 ghost use Rattle.tp_rollover.specs.Survivors.{Restores};
 ghost use Rattle.tp_rollover.specs.Told.{HoldsAsSeen, ToldFirst};
@@ -20,11 +20,12 @@ ghost use Rattle.tp_rollover.specs.declared.stops.Stop.TheVariants as stops;
 use crate::births::bear_all;
 use crate::checking::{all_stand_again, ascend, counts_only};
 use crate::families::are_families;
+use crate::holds::hold_all;
 use crate::moved::{Moved, RollFault};
 use crate::passes::has_open;
 use crate::replays::replay_all;
 use crate::stops::{Stop, fault_after};
-use crate::survivors::Survivor;
+use crate::survivors::{Survivor, are_held};
 use std::alloc::Global;
 use tp_manager::{Keeper, Manager, Pass};
 
@@ -85,7 +86,49 @@ fn hold(
     hold_by(alloc, of, survivors, manager, first, moved)
 }
 
-/// All that was described, each element once, stands in this manager as it did in `of`. What each is there.
+/// All that was described, each element once, stands in this manager as it did in `of`, but that what was
+/// held waits as it did before. What each is there.
+fn stand_unheld(
+    alloc: Global,
+    of: &Manager,
+    survivors: &[Survivor],
+    manager: &Manager,
+    keeper: &mut Keeper,
+    passes: &mut [Pass],
+) -> Result<Vec<Moved>, Stop>
+    requires keeper { IsKeptBy manager.now keeper.old }
+    requires own { All (IsOf manager.now) passes.old }
+    requires all { AreAll keeper.old passes.old }
+    ensures keeper { IsKeptBy manager.now keeper.new × (keeper.new.given ≡ keeper.old.given) }
+    ensures own { All (IsOf manager.now) passes.new }
+    ensures all { AreAll keeper.new passes.new }
+    ensures together { OnOk result (AreTogether manager.now.limits keeper.new passes.new keeper.new.seen) }
+    ensures restored { IfOk result (λ moved.
+        StandUnheld manager.now.limits keeper.new.seen survivors.now moved.items) }
+    ensures computed { AreFresh manager.now.limits passes.old
+        → Agrees result (λ moved. (moved.items, lone manager.now keeper.new passes.new))
+        (made_unheld of.now.limits (length passes.old) survivors.now (start manager.now.limits)) }
+    ensures within { OnOk result (All (IsWithin manager.now.limits) survivors.now) }
+    ensures steps { AllMake (most_new_steps manager.now.limits keeper.old.given (length survivors.now))
+        keeper.old passes.old keeper.new passes.new }
+    ensures replayed { OnOk result
+        (AllMake (unheld_steps manager.now.limits keeper.old.given survivors.now)
+        keeper.old passes.old keeper.new passes.new) }
+{
+    keeper.gather(manager, passes);
+    let moved = bear_all(alloc, of, survivors, manager, keeper, passes)?;
+    replay_all(manager, keeper, passes, survivors, &moved)?;
+    let account = keeper.account(manager, passes);
+    if !counts_only(&account, &moved) {
+        return Err(Stop::Unequal);
+    }
+    hold(alloc, of, survivors, manager, passes, &moved)?;
+    keeper.gather(manager, passes);
+    Ok(moved)
+}
+
+/// All that was described, each element once, stands in this manager as it did in `of`, each that was held in
+/// the hand of the pass of the same number. What each is there.
 pub(crate) fn stand_again(
     alloc: Global,
     of: &Manager,
@@ -111,24 +154,21 @@ pub(crate) fn stand_again(
         AllMake (new_steps manager.now.limits keeper.old.given keeper.new.seen moved.items)
         keeper.old passes.old keeper.new passes.new) }
 {
-    keeper.gather(manager, passes);
-    let moved = bear_all(alloc, of, survivors, manager, keeper, passes)?;
-    replay_all(manager, keeper, passes, survivors, &moved)?;
-    let account = keeper.account(manager, passes);
-    if !counts_only(&account, &moved) {
+    let moved = stand_unheld(alloc, of, survivors, manager, keeper, passes)?;
+    if has_open(passes) {
         return Err(Stop::Unequal);
     }
-    hold(alloc, of, survivors, manager, passes, &moved)?;
-    keeper.gather(manager, passes);
+    hold_all(manager, keeper, passes, survivors, &moved)?;
     Ok(moved)
 }
 
 /// What was described (`survey`), each element once, is made alive in this manager, and nothing else is. What
 /// each is there, in their order. Each goes on as an element of the pass in whose part it was, by the limits
-/// of this manager. The slice holds every pass of it that was given out, in order of number, and in it
-/// nothing has happened. Where it fails the manager is to be given up: `NoPass` exactly where no pass was
-/// given out, `Full` where it has not the rows or the units, `Unequal` where the descriptions contradict each
-/// other or these limits, `NoMemory`.
+/// of this manager. What a pass held, the pass of the same number has in hand, in the same attempt; no other
+/// pass has a unit open. The slice holds every pass of the manager that was given out, in order of number,
+/// and in it nothing has happened. Where it fails the manager is to be given up: `NoPass` exactly where no
+/// pass was given out, `Full` where it has not the rows or the units, `Unequal` where the descriptions
+/// contradict each other or these limits, `NoMemory`.
 pub fn restore(
     alloc: Global,
     manager: &Manager,
@@ -147,8 +187,8 @@ pub fn restore(
     ensures computed { AreFresh manager.now.limits passes.old → IsMade result
         (λ moved. (moved.items, lone manager.now keeper.new passes.new))
         (made_anew manager.now.limits (length passes.old) survivors.now (start manager.now.limits)) }
-    ensures free { OnOk result (AreFree passes.new) }
-    ensures due { IfErr result (IsRestoreDue manager.now.limits passes.old passes.new) }
+    ensures due { IfErr result
+        (IsRestoreDue manager.now.limits survivors.now passes.old passes.new) }
     ensures no_pass { (result ≡ Err faults.NoPass) ↔ (passes.old ≡ []) }
     ensures steps { AllMake (most_new_steps manager.now.limits keeper.old.given (length survivors.now))
         keeper.old passes.old keeper.new passes.new }
@@ -159,12 +199,8 @@ pub fn restore(
     if passes.len() == 0 {
         return Err(RollFault::NoPass);
     }
-    let moved = match stand_again(alloc, manager, survivors, manager, keeper, passes) {
-        Ok(moved) => moved,
-        Err(stop) => return Err(fault_after(stop, manager, passes)),
-    };
-    if has_open(passes) {
-        return Err(RollFault::Unequal);
+    match stand_again(alloc, manager, survivors, manager, keeper, passes) {
+        Ok(moved) => Ok(moved),
+        Err(stop) => Err(fault_after(stop, manager, passes, are_held(survivors))),
     }
-    Ok(moved)
 }

@@ -1,23 +1,20 @@
 //! The rollover.
-ghost use Rattle.std.specs.Prelude.{◌≡◌, ◌≢◌, ◌*◌, ◌≤◌, All, Err, None, IfErr, IfOk, length, true, false};
+ghost use Rattle.std.specs.Prelude.{◌≡◌, ◌≢◌, ◌+◌, All, Err, IfErr, IfOk, OnOk, length, true, false};
 ghost use Rattle.std.specs.List.{AllZip};
 ghost use Rattle.tp_manager.specs.Accounts.{AreAll};
-ghost use Rattle.tp_manager.specs.Bounds.{kill_steps};
 ghost use Rattle.tp_manager.specs.Shown.{IsKeptBy, IsOf};
 ghost use Rattle.tp_plain.specs.OneThread.{start};
 ghost use Rattle.tp_alone.specs.Thread.{Stays};
 ghost use Rattle.tp_rollover.specs.Answers.{IsReadyToKill, Rolls};
-ghost use Rattle.tp_rollover.specs.Bounds.{AllMake, PassesMake, alive_after, most_new_steps, new_steps};
-ghost use Rattle.tp_rollover.specs.Bounds.{old_steps, survey_steps};
+ghost use Rattle.tp_rollover.specs.Bounds.{AllMake, alive_after, give_up_steps, most_new_steps};
+ghost use Rattle.tp_rollover.specs.Bounds.{new_steps, old_steps, survey_steps};
 ghost use Rattle.tp_rollover.specs.Carries.{AreFresh, Carries, WouldNotFit};
 ghost use Rattle.tp_rollover.specs.declared.stops.Stop.TheVariants as stops;
-ghost use Rattle.tp_rollover.specs.Lone.{lone};
+ghost use Rattle.tp_rollover.specs.Lone.{AreLone, lone};
 ghost use Rattle.tp_rollover.specs.declared.moved.RollFault.TheVariants as faults;
-ghost use Rattle.tp_rollover.specs.Faults.{AreFree, IsDue, LacksPass};
-ghost use Rattle.tp_rollover.specs.Passes.{numbers};
-ghost use Rattle.tp_rollover.specs.Phases.{KillsAll, StopsKilling};
+ghost use Rattle.tp_rollover.specs.Faults.{IsDue, LacksPass};
 
-use crate::closing::kill_all;
+use crate::closing::bury;
 use crate::moved::{Moved, RollFault};
 use crate::passes::{has_open, lacks_pass};
 use crate::restoring::stand_again;
@@ -32,24 +29,6 @@ fn are_alike(old: &Manager, new: &Manager) -> bool
     ensures other { result ≡ false → new.now.limits.attempts ≢ old.now.limits.attempts }
 {
     new.limits().attempts == old.limits().attempts
-}
-
-/// The first of the passes kills what was carried over. Whether it did.
-fn bury(manager: &Manager, passes: &mut [Pass], moved: &[Moved]) -> bool
-    requires own { All (IsOf manager.now) passes.old }
-    requires free { All (λ p. p.open_unit ≡ None) passes.old }
-    requires some { 1 ≤ length passes.old }
-    ensures own { All (IsOf manager.now) passes.new }
-    ensures numbers { numbers passes.new ≡ numbers passes.old }
-    ensures steps { PassesMake (length moved.now * kill_steps manager.now.limits) passes.old passes.new }
-    ensures done { result ≡ true → KillsAll moved.now passes.old passes.new }
-    ensures stops { result ≡ false
-        → StopsKilling manager.now.limits.attempts moved.now passes.old passes.new }
-{
-    let Some((first, _rest)) = passes.split_first_mut() else {
-        unreachable!();
-    };
-    kill_all(manager, first, moved)
 }
 
 /// All up to the kills: what is alive has been born in the new manager, and was found to stand there as it
@@ -72,6 +51,7 @@ fn prepare(
     ensures own { All (IsOf old.now) old_passes.new }
     ensures new_own { All (IsOf new.now) new_passes.new }
     ensures all { AreAll old_keeper.new old_passes.new }
+    ensures lone { OnOk result (AreLone old.now old_keeper.new old_passes.new) }
     ensures new_all { AreAll new_keeper.new new_passes.new }
     ensures stays { AllZip Stays old_passes.old old_passes.new }
     ensures steps { let n = alive_after old.now.limits.attempts old_keeper.new.seen in
@@ -96,10 +76,13 @@ fn prepare(
 }
 
 /// All that is alive in the old manager, each element once, goes on in the new one, and nothing else does.
-/// What each is there, in the order of their ids, which is the same in both managers. In the old one all is
-/// consumed or killed then, and no pass of the new one has a unit open. The slices hold every pass of their
-/// manager that was given out, in order of number (`Keeper::has_all` tests this), and in the new one nothing
-/// has happened. Where it fails, nothing has changed in the old manager, and the new one is to be given up.
+/// What each is there, in the order of their ids, which is the same in both managers. What a pass of the old
+/// one held, the pass of the same number has in hand in the new one, in the same attempt; no other pass there
+/// has a unit open, so one whose unit was lost has none. In the old one all is consumed or killed then: its
+/// first pass has given up what it had in hand, and the others have still to end their units, which were
+/// aborted. The slices hold every pass of their manager that was given out, in order of number
+/// (`Keeper::has_all` tests this), and in the new one nothing has happened. Where it fails, nothing has
+/// changed in the old manager, and the new one is to be given up.
 pub fn roll_over(
     alloc: Global,
     old: &Manager,
@@ -124,7 +107,6 @@ pub fn roll_over(
         (lone new.now new_keeper.new new_passes.new)) }
     ensures would_not_fit { AreFresh new.now.limits new_passes.old → result ≡ Err faults.Full
         → WouldNotFit old.now.limits old_passes.old (length new_passes.old) (start new.now.limits) }
-    ensures free { IfOk result (λ moved. AreFree new_passes.new) }
     ensures refused { IfErr result (λ fault. AllZip Stays old_passes.old old_passes.new) }
     ensures due { IfErr result (λ fault. IsDue old.now.limits new.now.limits old_passes.old new_passes.old
         new_passes.new fault) }
@@ -132,11 +114,9 @@ pub fn roll_over(
     ensures no_pass { new.now.limits.attempts ≡ old.now.limits.attempts
         → LacksPass old_passes.old new_passes.old
         → result ≡ Err faults.NoPass }
-    ensures busy { new.now.limits.attempts ≡ old.now.limits.attempts
-        → ¬ LacksPass old_passes.old new_passes.old
-        → ¬ AreFree old_passes.old → result ≡ Err faults.Busy }
     ensures steps { IfOk result (λ moved. let n = length moved.items in
-        AllMake (old_steps old.now.limits old_keeper.old.given n)
+        AllMake (old_steps old.now.limits old_keeper.old.given n
+        + give_up_steps old.now.limits old_keeper.old.given old_passes.old)
         old_keeper.old old_passes.old old_keeper.new old_passes.new
         × AllMake (most_new_steps new.now.limits new_keeper.old.given n)
         new_keeper.old new_passes.old new_keeper.new new_passes.new) }
@@ -156,22 +136,13 @@ pub fn roll_over(
     if lacks_pass(old_passes, new_passes) {
         return Err(RollFault::NoPass);
     }
-    if has_open(old_passes) {
-        return Err(RollFault::Busy);
-    }
+    let is_held = has_open(old_passes);
     let moved = match prepare(
         alloc, old, old_keeper, old_passes, new, new_keeper, new_passes,
     ) {
         Ok(moved) => moved,
-        Err(stop) => return Err(fault_after(stop, new, new_passes)),
+        Err(stop) => return Err(fault_after(stop, new, new_passes, is_held)),
     };
-    if has_open(new_passes) {
-        return Err(RollFault::Unequal);
-    }
-    let done = bury(old, old_passes, &moved);
-    old_keeper.gather(old, old_passes);
-    if !done {
-        unreachable!();
-    }
+    bury(old, old_keeper, old_passes, &moved);
     Ok(moved)
 }

@@ -1,7 +1,7 @@
 //! Why a rollover stops once it has begun, and the fault that is told then.
 ghost use Rattle.std.specs.Prelude.{◌≡◌, All, true};
 ghost use Rattle.tp_manager.specs.Shown.{IsOf};
-ghost use Rattle.tp_rollover.specs.Faults.{HasShort, IsLate, IsShort};
+ghost use Rattle.tp_rollover.specs.Faults.{HasLow, HasShort, IsLate, IsLow, IsShort};
 ghost use Rattle.tp_rollover.specs.declared.moved.RollFault.TheVariants as faults;
 ghost use Rattle.tp_rollover.specs.declared.stops.Stop.TheVariants as stops;
 
@@ -42,20 +42,49 @@ fn has_short(manager: &Manager, passes: &[Pass]) -> bool
     false
 }
 
-/// The fault that is told, with what these passes of the new manager have left. Full only where the stop was.
-pub(crate) fn fault_after(stop: Stop, manager: &Manager, passes: &[Pass]) -> RollFault
+/// Whether the pass has one unit left.
+fn is_low(manager: &Manager, pass: &Pass) -> bool
+    requires own { IsOf manager.now pass.now }
+    ensures { result ≡ true → IsLow manager.now.limits pass.now }
+{
+    manager.room(pass).units == 1
+}
+
+/// Whether one of the passes has.
+fn has_low(manager: &Manager, passes: &[Pass]) -> bool
     requires own { All (IsOf manager.now) passes.now }
-    ensures late { IsLate manager.now.limits passes.now result }
+    ensures { result ≡ true → HasLow manager.now.limits passes.now }
+{
+    for place in 0..passes.len() {
+        if is_low(manager, &passes[place]) {
+            return true;
+        }
+    }
+    false
+}
+
+/// The fault that is told, with what these passes of the new manager have left, and whether an element is
+/// held. Full only where the stop was.
+pub(crate) fn fault_after(
+    stop: Stop,
+    manager: &Manager,
+    passes: &[Pass],
+    is_held: bool,
+) -> RollFault
+    requires own { All (IsOf manager.now) passes.now }
+    ensures late { IsLate manager.now.limits passes.now (is_held ≡ true) result }
     ensures full { result ≡ faults.Full → stop ≡ stops.Full }
 {
     match stop {
         Stop::NoMemory => RollFault::NoMemory,
         Stop::Full => {
             if has_short(manager, passes) {
-                RollFault::Full
-            } else {
-                RollFault::Unequal
+                return RollFault::Full;
             }
+            if is_held && has_low(manager, passes) {
+                return RollFault::Full;
+            }
+            RollFault::Unequal
         }
         Stop::Unequal => RollFault::Unequal,
     }

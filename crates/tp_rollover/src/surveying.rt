@@ -7,18 +7,17 @@ ghost use Rattle.tp_alone.specs.Thread.{AreTogether, Stays};
 ghost use Rattle.tp_rollover.specs.Answers.{IsHistoryOf};
 ghost use Rattle.tp_rollover.specs.Bounds.{AllMake, PassMakes, PassesMake, alive_after, describe_steps};
 ghost use Rattle.tp_rollover.specs.Bounds.{search_steps, survey_steps};
-ghost use Rattle.tp_rollover.specs.Faults.{AreFree, IsSurveyDue};
+ghost use Rattle.tp_rollover.specs.Faults.{IsSurveyDue};
 ghost use Rattle.tp_rollover.specs.Finding.{AreSurvivorsOf};
-ghost use Rattle.tp_rollover.specs.Survivors.{AreSurvivors};
+ghost use Rattle.tp_rollover.specs.Survivors.{AreInHand, AreSurvivors};
 ghost use Rattle.tp_rollover.specs.Told.{HoldsAsSeen, ToldFirst};
 ghost use Rattle.tp_rollover.specs.declared.moved.RollFault.TheVariants as faults;
 ghost use Rattle.tp_rollover.specs.declared.stops.Stop.TheVariants as stops;
 
 use crate::alive::{alive_in, find_alive};
 use crate::moved::RollFault;
-use crate::passes::has_open;
 use crate::stops::Stop;
-use crate::survivors::{Survivor, describe_all};
+use crate::survivors::{Survivor, are_in_hand, describe_all};
 use std::alloc::Global;
 use tp_manager::{Keeper, Manager, Pass};
 
@@ -68,7 +67,7 @@ fn find(
 }
 
 /// All that is alive, described, once all passes have gathered.
-pub(crate) fn find_all(
+fn find_together(
     alloc: Global,
     manager: &Manager,
     keeper: &mut Keeper,
@@ -101,11 +100,45 @@ pub(crate) fn find_all(
     Ok(found)
 }
 
+/// The same, where each pass that holds an element has a unit open.
+pub(crate) fn find_all(
+    alloc: Global,
+    manager: &Manager,
+    keeper: &mut Keeper,
+    passes: &mut [Pass],
+) -> Result<Vec<Survivor>, Stop>
+    requires keeper { IsKeptBy manager.now keeper.old }
+    requires own { All (IsOf manager.now) passes.old }
+    requires all { AreAll keeper.old passes.old }
+    ensures keeper { IsKeptBy manager.now keeper.new × (keeper.new.given ≡ keeper.old.given) }
+    ensures own { All (IsOf manager.now) passes.new }
+    ensures all { AreAll keeper.new passes.new }
+    ensures stays { AllZip Stays passes.old passes.new }
+    ensures steps { let l = manager.now.limits in
+        AllMake (survey_steps l keeper.old.given (alive_after l.attempts keeper.new.seen))
+        keeper.old passes.old keeper.new passes.new }
+    ensures full { ¬ (result ≡ Err stops.Full) }
+    ensures few { IfOk result (λ found.
+        length found.items ≤ alive_after manager.now.limits.attempts keeper.new.seen) }
+    ensures found { IfOk result (λ found. AreSurvivors manager.now.limits keeper.new.seen found.items) }
+    ensures in_hand { IfOk result (λ found. AreInHand passes.old found.items) }
+    ensures history { OnOk result (IsHistoryOf keeper.new passes.old keeper.new.seen) }
+    ensures together { OnOk result (AreTogether manager.now.limits keeper.new passes.new keeper.new.seen) }
+    ensures some { OnOk result (1 ≤ length passes.new) }
+{
+    let found = find_together(alloc, manager, keeper, passes)?;
+    if !are_in_hand(passes, &found) {
+        return Err(Stop::Unequal);
+    }
+    Ok(found)
+}
+
 /// All that is alive, each element once, by ascending ids, with all that another manager needs to go on with
-/// it (`restore`). The slice holds every pass of the manager that was given out, in order of number
-/// (`Keeper::has_all` tests this). They have done nothing but look, and have gathered. `NoPass` exactly where
-/// no pass was given out, else `Busy` exactly where one has a unit of work open; `NoMemory`. `Unequal` would
-/// be an error of this crate; it came in no test.
+/// it (`restore`), and with the number of the pass that has it in hand, if one has. The slice holds every
+/// pass of the manager that was given out, in order of number (`Keeper::has_all` tests this). They have done
+/// nothing but look, and have gathered. A pass whose unit was lost, since what it took was killed, cancelled
+/// or released, holds none of these. `NoPass` exactly where no pass was given out; `NoMemory`. `Unequal`
+/// would be an error of this crate; it came in no test.
 pub fn survey(
     alloc: Global,
     manager: &Manager,
@@ -120,20 +153,17 @@ pub fn survey(
     ensures all { AreAll keeper.new passes.new }
     ensures stays { AllZip Stays passes.old passes.new }
     ensures found { IfOk result (λ found. AreSurvivors manager.now.limits keeper.new.seen found.items) }
+    ensures in_hand { IfOk result (λ found. AreInHand passes.old found.items) }
     ensures history { OnOk result (IsHistoryOf keeper.new passes.old keeper.new.seen) }
     ensures together { OnOk result (AreTogether manager.now.limits keeper.new passes.new keeper.new.seen) }
     ensures due { IfErr result (IsSurveyDue passes.old) }
     ensures no_pass { (result ≡ Err faults.NoPass) ↔ (passes.old ≡ []) }
-    ensures busy { (result ≡ Err faults.Busy) ↔ (¬ AreFree passes.old) }
     ensures steps { let l = manager.now.limits in
         AllMake (survey_steps l keeper.old.given (alive_after l.attempts keeper.new.seen))
         keeper.old passes.old keeper.new passes.new }
 {
     if passes.len() == 0 {
         return Err(RollFault::NoPass);
-    }
-    if has_open(passes) {
-        return Err(RollFault::Busy);
     }
     match find_all(alloc, manager, keeper, passes) {
         Ok(found) => Ok(found),

@@ -1,20 +1,23 @@
 //! What is alive, described so that another manager can go on with it.
-ghost use Rattle.std.specs.Prelude.{◌≡◌, ◌*◌, Err, IfOk, length};
+ghost use Rattle.std.specs.Prelude.{◌≡◌, ◌*◌, Err, IfOk, IfSome, false, length, true};
 ghost use Rattle.tp_rollover.specs.declared.stops.Stop.TheVariants as stops;
+ghost use Rattle.tp_manager.specs.Accounts.{AreNumberedFrom};
 ghost use Rattle.tp_manager.specs.Shown.{IsOf};
 ghost use Rattle.tp_alone.specs.Thread.{Stays};
 ghost use Rattle.tp_rollover.specs.Bounds.{PassMakes, describe_steps};
 ghost use Rattle.tp_rollover.specs.Finding.{AreDescribed, IsDescribed};
+ghost use Rattle.tp_rollover.specs.Survivors.{AreInHand, AreUnheld, IsStanding};
+ghost use Rattle.tp_rollover.specs.Hands.{HasOpen};
 ghost use Rattle.tp_rollover.specs.Told.{HoldsAsSeen};
 
-use crate::looks::{is_alive, look, rounds_had};
+use crate::looks::{look, rounds_had};
 use crate::stops::Stop;
 use std::alloc::Global;
 use tp_manager::{Manager, Pass};
-use tp_model::types::{Body, Status};
+use tp_model::types::{Body, Limits, Status};
 
-/// An element that is alive: it waits or is parked. With its root it is all that another manager needs to go
-/// on with it.
+/// An element that is alive: it waits, is parked, or a pass has it in hand. With its root it is all that
+/// another manager needs to go on with it.
 #[derive(Clone, Copy, Debug, PartialEq, Eq)]
 pub struct Survivor {
     /// Its id.
@@ -25,14 +28,77 @@ pub struct Survivor {
     pub stage: u8,
     /// Its body.
     pub body: Body,
-    /// Whether it waits or is parked, and how many attempts it had in its round.
+    /// Whether it waits or is parked, and how many attempts it had in its round. Of one that a pass holds:
+    /// how it waited before that pass claimed it.
     pub status: Status,
+    /// The number of the pass that holds it, if one does.
+    pub holder: Option<u16>,
     /// How many further rounds it was given, at most three.
     pub rounds: u8,
     /// The stage of its root, 1 to 14.
     pub root_stage: u8,
     /// The body of its root.
     pub root_body: Body,
+}
+
+/// How an element with this status is described, and which pass holds it. `None` where it is over.
+fn standing(limits: Limits, status: Status) -> Option<(Status, Option<u16>)>
+    ensures { IfSome result (λ stands. IsStanding limits status stands.0 stands.1) }
+{
+    match status {
+        Status::Waiting { attempts: _ } => Some((status, None)),
+        Status::Held { unit, attempt } => {
+            let attempts = attempt.checked_sub(1)?;
+            Some((
+                Status::Waiting { attempts },
+                Some(unit / limits.units.max(1)),
+            ))
+        }
+        Status::Consumed { unit: _ } => None,
+        Status::Parked { attempts: _ } => Some((status, None)),
+        Status::Killed => None,
+    }
+}
+
+/// Whether a pass holds one of these.
+pub fn are_held(survivors: &[Survivor]) -> bool
+    ensures held { result ≡ true → ¬ AreUnheld survivors.now }
+    ensures unheld { result ≡ false → AreUnheld survivors.now }
+{
+    for place in 0..survivors.len() {
+        if survivors[place].holder.is_some() {
+            return true;
+        }
+    }
+    false
+}
+
+/// Whether the pass that holds it, if one does, has a unit open.
+fn is_in_hand(passes: &[Pass], holder: Option<u16>) -> bool
+    requires numbered { AreNumberedFrom 0 passes.now }
+    ensures { result ≡ true → IfSome holder (HasOpen passes.now) }
+{
+    let Some(holder) = holder else {
+        return true;
+    };
+    let at = usize::from(holder);
+    if at >= passes.len() {
+        return false;
+    }
+    passes[at].has_open()
+}
+
+/// Whether each pass that holds one of these has a unit open.
+pub(crate) fn are_in_hand(passes: &[Pass], survivors: &[Survivor]) -> bool
+    requires numbered { AreNumberedFrom 0 passes.now }
+    ensures { result ≡ true → AreInHand passes.now survivors.now }
+{
+    for place in 0..survivors.len() {
+        if !is_in_hand(passes, survivors[place].holder) {
+            return false;
+        }
+    }
+    true
 }
 
 /// Describes the element with this id, which was found alive.
@@ -43,14 +109,14 @@ fn describe(manager: &Manager, pass: &mut Pass, id: u32) -> Result<Survivor, Sto
     ensures steps { PassMakes (describe_steps manager.now.limits) pass.old pass.new }
     ensures full { ¬ (result ≡ Err stops.Full) }
     ensures told { IfOk result (λ found.
-        HoldsAsSeen pass.old pass.new (λ h. IsDescribed manager.now.limits.attempts h id found)) }
+        HoldsAsSeen pass.old pass.new (λ h. IsDescribed manager.now.limits h id found)) }
 {
     let Some(found) = look(manager, pass, id) else {
         return Err(Stop::Unequal);
     };
-    if !is_alive(found.status) {
+    let Some((status, holder)) = standing(manager.limits(), found.status) else {
         return Err(Stop::Unequal);
-    }
+    };
     let Some(root) = look(manager, pass, found.element.root) else {
         return Err(Stop::Unequal);
     };
@@ -64,7 +130,8 @@ fn describe(manager: &Manager, pass: &mut Pass, id: u32) -> Result<Survivor, Sto
         root: found.element.root,
         stage: found.element.stage,
         body,
-        status: found.status,
+        status,
+        holder,
         rounds,
         root_stage: root.element.stage,
         root_body,
@@ -85,7 +152,7 @@ pub(crate) fn describe_all(
     ensures many { IfOk result (λ found. length found.items ≡ length ids.now) }
     ensures full { ¬ (result ≡ Err stops.Full) }
     ensures told { IfOk result (λ found. HoldsAsSeen pass.old pass.new
-        (λ h. AreDescribed manager.now.limits.attempts h ids.now found.items)) }
+        (λ h. AreDescribed manager.now.limits h ids.now found.items)) }
 {
     let Ok(mut found) = Vec::with_capacity(alloc, ids.len()) else {
         return Err(Stop::NoMemory);

@@ -8,8 +8,8 @@ use Rattle.tp_server.specs.Pending.{Pending}
 use Rattle.tp_manager.specs.Shown.{IsOf, ManagerShown, PassShown}
 use Rattle.tp_alone.specs.Thread.{AreTogether, Stays}
 use Rattle.tp_rollover.specs.Answers.{IsHistoryOf}
-use Rattle.tp_rollover.specs.Managed.{IsManaged, IsUnsurveyed, StaysManaged}
-use Rattle.tp_rollover.specs.Survivors.{AreSurvivors}
+use Rattle.tp_rollover.specs.Managed.{IsManaged, StaysManaged}
+use Rattle.tp_rollover.specs.Survivors.{AreSurvivors, AreUnheld}
 use Rattle.tp_rollover.specs.declared.managed.Managed.{Managed}
 use Rattle.tp_rollover.specs.declared.moved.RollFault.{RollFault}
 use Rattle.tp_rollover.specs.declared.survivors.Survivor.{Survivor}
@@ -25,10 +25,14 @@ use Rattle.tp_perform.proofs.Gatherings.{Looks, all_in, only_passes, ready_on, s
 use Rattle.tp_perform.proofs.Rollovers.{own_of, stayed}
 use Rattle.tp_perform.proofs.Slices.{scene_there}
 use Rattle.tp_session.specs.Dump.{dump_lines, dump_text}
-use Rattle.tp_session.specs.Live.{FoundAlive, HoldsUnits, IsHeld, IsLive, Leads, Live, LiveLooks, Surveyed, TellsDump, Unsurveyed, is_open, lines_of}
+use Rattle.tp_session.specs.Live.{FoundAlive, HoldsUnits, IsHeld, IsLive, IsUnsurveyedFor, Leads, Live, LiveLooks, Surveyed, TellsDump, Unsurveyed, is_open, lines_of}
 use Rattle.tp_session.specs.declared.held.Held.{Held}
 use Rattle.tp_session.proofs.LiveLemmas.{is_live, live_of}
 use Rattle.tp_session.proofs.OpenLemmas.{live_open, live_units}
+
+pub both_ok : {T E : Type 0} (r : Result T E) (P Q : T → Type 0) → IfOk r P → IfOk r Q → IfOk r (λ x. P x × Q x)
+both_ok (Ok x) P Q p q = (p, q)
+both_ok (Err e) P Q p q = tt
 
 -- of what came out well more is so
 pub all_ok : {T E : Type 0} (r : Result T E) (P : T → Type 0) (Q S : Type 0) → IfOk r P → OnOk r Q → OnOk r S → IfOk r (λ x. P x × Q × S)
@@ -105,16 +109,17 @@ module _ {X : Type 0} {F : X → Type 0} (behaviour : DynBox X Global F → Beha
           is = is_live behaviour registers pending (with_managed old m) b.0 b.1;
         }
 
-    pub found_leads : (survivors : List Survivor) → AreSurvivors old.managed.manager.limits m.keeper.seen survivors → IsHistoryOf m.keeper old.managed.passes.items m.keeper.seen → AreTogether old.managed.manager.limits m.keeper m.passes.items m.keeper.seen
+    pub found_leads : (survivors : List Survivor) → AreSurvivors old.managed.manager.limits m.keeper.seen survivors → AreUnheld survivors → IsHistoryOf m.keeper old.managed.passes.items m.keeper.seen → AreTogether old.managed.manager.limits m.keeper m.passes.items m.keeper.seen
         → Leads behaviour registers pending (λ x y. LiveLooks x y × FoundAlive x survivors y) old (with_managed old m)
-    found_leads survivors found history together = looked_leads (λ x y. FoundAlive x survivors y) (λ a b olds news. record {
+    found_leads survivors found unheld history together = looked_leads (λ x y. FoundAlive x survivors y) (λ a b olds news. record {
       found = found;
+      unheld = unheld;
       history = subst (λ zs. IsHistoryOf m.keeper zs m.keeper.seen) (sym olds) history;
       together = subst (λ zs. AreTogether old.managed.manager.limits m.keeper zs m.keeper.seen) (sym news) together;
     })
 
-    pub missed_leads : (why : RollFault) → IsUnsurveyed old.managed.passes.items why → Leads behaviour registers pending (λ x y. LiveLooks x y × IsUnsurveyed (passes_in x.stand.scene) why) old (with_managed old m)
-    missed_leads why due = looked_leads (λ x y. IsUnsurveyed (passes_in x.stand.scene) why) (λ a b olds news. subst (λ zs. IsUnsurveyed zs why) (sym olds) due)
+    pub missed_leads : (why : RollFault) → IsUnsurveyedFor old.managed.passes.items why → Leads behaviour registers pending (λ x y. LiveLooks x y × IsUnsurveyedFor (passes_in x.stand.scene) why) old (with_managed old m)
+    missed_leads why due = looked_leads (λ x y. IsUnsurveyedFor (passes_in x.stand.scene) why) (λ a b olds news. subst (λ zs. IsUnsurveyedFor zs why) (sym olds) due)
 
   -- ---- what a dump tells
 

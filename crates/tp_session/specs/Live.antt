@@ -14,10 +14,12 @@ use Rattle.tp_server.specs.Pending.{Pending}
 use Rattle.tp_manager.specs.Shown.{ManagerShown, PassShown}
 use Rattle.tp_alone.specs.Thread.{AreTogether}
 use Rattle.tp_rollover.specs.Answers.{IsHistoryOf}
-use Rattle.tp_rollover.specs.Managed.{IsManaged, IsUnsurveyed}
-use Rattle.tp_rollover.specs.Survivors.{AreSurvivors}
+use Rattle.tp_rollover.specs.Faults.{AreFree}
+use Rattle.tp_rollover.specs.Managed.{IsManaged}
+use Rattle.tp_rollover.specs.Survivors.{AreSurvivors, AreUnheld}
 use Rattle.tp_rollover.specs.declared.moved.Moved.{Moved}
 use Rattle.tp_rollover.specs.declared.moved.RollFault.{RollFault}
+use Rattle.tp_rollover.specs.declared.moved.RollFault.TheVariants as faults
 use Rattle.tp_rollover.specs.declared.survivors.Survivor.{Survivor}
 use Rattle.tp_report.specs.Answer.{account_text, answer_text, line}
 use Rattle.tp_report.specs.declared.answer.Answer.TheVariants as answer
@@ -138,6 +140,7 @@ survivor_of limit a = record {
   stage = a.draft.stage;
   body = a.draft.body;
   status = status_at limit a.attempts;
+  holder = None;
   rounds = a.rounds;
   root_stage = a.root_draft.stage;
   root_body = a.root_draft.body;
@@ -178,6 +181,7 @@ lines_of h l survivors = let places = l.stand.scene.places in
 -- passes had done, which all of them have seen.
 pub record FoundAlive (old : Live) (survivors : List Survivor) (new : Live) : Type 0 where
   pub found : AreSurvivors old.stand.manager.limits new.stand.keeper.seen survivors
+  pub unheld : AreUnheld survivors
   pub history : IsHistoryOf new.stand.keeper (passes_in old.stand.scene) new.stand.keeper.seen
   pub together : AreTogether old.stand.manager.limits new.stand.keeper (passes_in new.stand.scene)
       new.stand.keeper.seen
@@ -187,10 +191,17 @@ abbrev pub Surveyed : HeadView → Live → List ℕ → Live → Type 0
 Surveyed h old text new = (survivors : List Survivor) × FoundAlive old survivors new
     × (text ≡ dump_text (lines_of h old survivors))
 
+-- why it isn't found, by these passes: Busy where one has a unit open, and else one of these
+abbrev pub IsUnsurveyedFor : List PassShown → RollFault → Type 0
+IsUnsurveyedFor passes faults.Busy = ¬ AreFree passes
+IsUnsurveyedFor passes faults.NoMemory = AreFree passes
+IsUnsurveyedFor passes faults.Unequal = AreFree passes
+IsUnsurveyedFor passes other = ⊥
+
 -- it wasn't found, and the line tells why
 pub record Unsurveyed (old : Live) (text : List ℕ) : Type 0 where
   pub why : RollFault
-  pub due : IsUnsurveyed (passes_in old.stand.scene) why
+  pub due : IsUnsurveyedFor (passes_in old.stand.scene) why
   pub text_is : text ≡ line (roll_refused_text why)
 
 -- With a unit of work open a dump is refused, and nothing is done; else the passes look for what is alive.

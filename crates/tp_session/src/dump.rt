@@ -1,12 +1,15 @@
 //! The act `dump`: the lines of a session that leads to this state.
-ghost use Rattle.std.specs.Prelude.{◌≡◌, ◌⊎◌, IfErr, IfOk, length, map, string_bytes};
-ghost use Rattle.tp_rollover.specs.Managed.{IsUnsurveyed};
+ghost use Rattle.std.specs.Prelude.{◌≡◌, ◌⊎◌, IfErr, IfOk, OnOk, length, map, string_bytes};
+ghost use Rattle.tp_alone.specs.Thread.{AreTogether};
+ghost use Rattle.tp_rollover.specs.Answers.{IsHistoryOf};
+ghost use Rattle.tp_rollover.specs.Managed.{IsManaged, StaysManaged};
+ghost use Rattle.tp_rollover.specs.Survivors.{AreSurvivors, AreUnheld};
 ghost use Rattle.tp_perform.specs.Scenes.{passes_in};
 ghost use Rattle.tp_script.specs.Script.{head_view};
 ghost use Rattle.tp_session.specs.Dump.{dump_lines, dump_text};
 ghost use Rattle.tp_session.specs.Left.{began_in};
 ghost use Rattle.tp_session.specs.Live.{DumpTold, FoundAlive, IsHeld, Leads, LiveLooks, Surveyed, TellsDump};
-ghost use Rattle.tp_session.specs.Live.{Unsurveyed, is_open};
+ghost use Rattle.tp_session.specs.Live.{IsUnsurveyedFor, Unsurveyed, is_open};
 
 use crate::acts::{gather, is_open};
 use crate::dump_lines::{
@@ -19,7 +22,7 @@ use std::string::String;
 use tp_commands::Place;
 use tp_perform::rollover::refused_line;
 use tp_report::{Answer, line};
-use tp_rollover::{RollFault, Survivor};
+use tp_rollover::{Managed, RollFault, Survivor, has_open};
 use tp_script::Head;
 use tp_server::Server;
 
@@ -48,7 +51,30 @@ fn dump_text(
     told(alloc, lines.as_slice())
 }
 
-/// The passes look for what is alive, and answer it.
+/// The passes look for what is alive, and answer it, if none has a unit open. `Busy` where one has.
+fn survey_free(alloc: Global, managed: &mut Managed) -> Result<Vec<Survivor>, RollFault>
+    requires managed { IsManaged managed.old }
+    ensures managed { IsManaged managed.new }
+    ensures stays { StaysManaged managed.old managed.new }
+    ensures found { IfOk result (λ found.
+        AreSurvivors managed.old.manager.limits managed.new.keeper.seen found.items) }
+    ensures unheld { IfOk result (λ found. AreUnheld found.items) }
+    ensures history { OnOk result
+        (IsHistoryOf managed.new.keeper managed.old.passes.items managed.new.keeper.seen) }
+    ensures together { OnOk result (AreTogether managed.old.manager.limits managed.new.keeper
+        managed.new.passes.items managed.new.keeper.seen) }
+    ensures fault { IfErr result (IsUnsurveyedFor managed.old.passes.items) }
+{
+    if has_open(&managed.passes) {
+        return Err(RollFault::Busy);
+    }
+    match managed.survey(alloc) {
+        Ok(found) => Ok(found),
+        Err(fault) => Err(fault),
+    }
+}
+
+/// The same, of a session.
 fn survey_held(alloc: Global, head: &Head, held: &mut Held) -> Result<Vec<Survivor>, RollFault>
     requires held { IsHeld behaviour registers pending head.now held.old }
     ensures held { IsHeld behaviour registers pending head.now held.new }
@@ -57,9 +83,9 @@ fn survey_held(alloc: Global, head: &Head, held: &mut Held) -> Result<Vec<Surviv
     ensures found { IfOk result (λ survivors. Leads behaviour registers pending (λ old done.
         LiveLooks old done × FoundAlive old survivors.items done) held.old held.new) }
     ensures refused { IfErr result (λ why. Leads behaviour registers pending (λ old done.
-        LiveLooks old done × IsUnsurveyed (passes_in old.stand.scene) why) held.old held.new) }
+        LiveLooks old done × IsUnsurveyedFor (passes_in old.stand.scene) why) held.old held.new) }
 {
-    held.managed.survey(alloc)
+    survey_free(alloc, &mut held.managed)
 }
 
 /// The same. Answers the lines that lead there.

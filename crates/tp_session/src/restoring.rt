@@ -40,6 +40,7 @@ fn survivor_of(limit: u8, line: &AliveLine) -> Survivor
         stage: line.draft.stage(),
         body: line.draft.body(),
         status: status_at(limit, line.attempts),
+        holder: None,
         rounds: line.rounds,
         root_stage: line.root_draft.stage(),
         root_body: line.root_draft.body(),

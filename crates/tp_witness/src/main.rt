@@ -30,7 +30,7 @@ use std::sync::atomic::AtomicU64;
 use std::thread::Threads;
 use tp_manager::{Manager, Pass};
 use tp_model::types::Limits;
-use tp_rollover::{Managed, RollFault};
+use tp_rollover::{Managed, RollFault, has_open};
 
 /// Few rows and units, so that threads meet at the same elements and draw spare blocks, and run out of all
 /// three.
@@ -89,6 +89,9 @@ fn play<R: AllocGlobal + Print + Threads + Sync>(
         Ok(moved) => {
             let moved = moved.as_slice();
             println!(rt; "carried {moved:?}")?;
+            if has_open(&managed.passes) {
+                return Err(ProgramFault::NoRollover);
+            }
             play_in(rt, &mut managed, round, !seed, turns)
         }
         Err(RollFault::Full) => Ok(()),

@@ -27,6 +27,10 @@ pub(super) enum Call {
     Takes(u32),
     /// An abort of what is in hand.
     Aborts,
+    /// An abort of what is in hand, which another pass had aborted.
+    IsOver,
+    /// Nothing is in hand.
+    IsFree,
     /// A commit of what is in hand, with the first so many of these as its outputs.
     Commits([Draft; 4], usize, Outcome),
     /// A kill of the element.
@@ -55,6 +59,14 @@ fn aborts(manager: &Manager, pass: &mut Pass) -> bool
     ensures { IsOf manager.now pass.new }
 {
     pass.has_open() && manager.abort(pass) == Ended::Aborted
+}
+
+/// Whether an abort finds the unit aborted.
+fn is_over(manager: &Manager, pass: &mut Pass) -> bool
+    requires { IsOf manager.now pass.old }
+    ensures { IsOf manager.now pass.new }
+{
+    pass.has_open() && manager.abort(pass) == Ended::AlreadyAborted
 }
 
 /// Whether a commit has this outcome.
@@ -121,6 +133,8 @@ fn answers(manager: &Manager, pass: &mut Pass, call: Call) -> bool
         Call::Submits(stage, body, id) => manager.submit(pass, stage, body) == Ok(id),
         Call::Takes(id) => takes(manager, pass, id),
         Call::Aborts => aborts(manager, pass),
+        Call::IsOver => is_over(manager, pass),
+        Call::IsFree => !pass.has_open(),
         Call::Commits(drafts, count, outcome) => commits(manager, pass, &drafts, count, outcome),
         Call::Kills(id) => kills(manager, pass, id),
         Call::Cancels(root) => cancels(manager, pass, root),

@@ -29,14 +29,8 @@ fn finds(
         return false;
     }
     match survey(alloc, manager, keeper, passes) {
-        Ok(found) => match answer {
-            Ok(wanted) => found.as_slice() == wanted,
-            Err(_) => false,
-        },
-        Err(fault) => match answer {
-            Ok(_) => false,
-            Err(wanted) => fault == wanted,
-        },
+        Ok(found) => answer == Ok(found.as_slice()),
+        Err(fault) => answer == Err(fault),
     }
 }
 
@@ -110,6 +104,7 @@ fn request(id: u32, stage: u8, word: u64) -> Survivor {
         stage,
         body: body(word),
         status: NEW,
+        holder: None,
         rounds: 0,
         root_stage: stage,
         root_body: body(word),
@@ -124,6 +119,7 @@ fn of_zero(id: u32, stage: u8, word: u64, status: Status, rounds: u8, root: u64)
         stage,
         body: body(word),
         status,
+        holder: None,
         rounds,
         root_stage: 1,
         root_body: body(root),
@@ -212,4 +208,148 @@ fn moved_to_another(rt: HostRuntime) {
     let found = surveyed_anew(&rt);
     let new = Managed::restored(rt.alloc(), LIMITS, &found).expect(&rt, "no manager");
     assert!(&rt; new.moved.is_empty() && new.managed.manager.limits() == LIMITS);
+}
+
+/// A request that pass 1 has in hand in its second attempt, and one that pass 0 has in its first.
+fn in_hand() -> [Survivor; 2] {
+    let first = request(0, 1, 70);
+    let second = request(8, 2, 80);
+    [
+        Survivor {
+            status: Status::Waiting { attempts: 1 },
+            holder: Some(1),
+            ..first
+        },
+        Survivor {
+            holder: Some(0),
+            ..second
+        },
+    ]
+}
+
+#[test]
+fn held_elements(rt: HostRuntime) {
+    let calls = [
+        (0, Submits(1, body(70), 0)),
+        (1, Submits(2, body(80), 8)),
+        (0, Takes(0)),
+        (0, Aborts),
+        (1, Takes(0)),
+        (0, Takes(8)),
+    ];
+    surveyed(&rt, &calls, Ok(&in_hand()));
+}
+
+#[test]
+fn held_elements_again(rt: HostRuntime) {
+    let wanted = [moved(0, 0, 0, 0), moved(8, 8, 8, 8)];
+    let calls = [
+        (
+            0,
+            Shows(
+                0,
+                Status::Held {
+                    unit: LIMITS.units,
+                    attempt: 2,
+                },
+            ),
+        ),
+        (
+            0,
+            Shows(
+                8,
+                Status::Held {
+                    unit: 1,
+                    attempt: 1,
+                },
+            ),
+        ),
+        (1, Aborts),
+        (1, stands(0, 1, 0, 70, Status::Parked { attempts: 2 }, 0)),
+        (0, Aborts),
+        (0, stands(8, 2, 8, 80, Status::Waiting { attempts: 1 }, 0)),
+    ];
+    restored(&rt, LIMITS, &in_hand(), Ok(&wanted), &calls);
+}
+
+/// One pass is to hold two.
+#[test]
+fn two_in_one_hand(rt: HostRuntime) {
+    let [first, second] = in_hand();
+    let both = [
+        first,
+        Survivor {
+            holder: Some(1),
+            ..second
+        },
+    ];
+    restored(&rt, LIMITS, &both, Err(RollFault::Unequal), &[]);
+}
+
+/// A pass that isn't there is to hold one.
+#[test]
+fn no_such_holder(rt: HostRuntime) {
+    let [first, _second] = in_hand();
+    let one = [Survivor {
+        holder: Some(2),
+        ..first
+    }];
+    restored(&rt, LIMITS, &one, Err(RollFault::Unequal), &[]);
+}
+
+/// A reply can't be held.
+#[test]
+fn a_held_reply(rt: HostRuntime) {
+    let reply = of_zero(1, 15, 73, NEW, 0, 70);
+    let one = [Survivor {
+        holder: Some(1),
+        ..reply
+    }];
+    restored(&rt, LIMITS, &one, Err(RollFault::Unequal), &[]);
+}
+
+/// It was in its second attempt, and there is one at most.
+#[test]
+fn held_too_often(rt: HostRuntime) {
+    let once = Limits {
+        attempts: 1,
+        ..LIMITS
+    };
+    let [first, _second] = in_hand();
+    restored(&rt, once, &[first], Err(RollFault::Unequal), &[]);
+}
+
+/// With one unit each the pass that is to hold it keeps its own, and the other one replays the first attempt.
+#[test]
+fn one_unit_each(rt: HostRuntime) {
+    let few = Limits { units: 1, ..LIMITS };
+    let [first, second] = in_hand();
+    let by_first = [Survivor {
+        holder: Some(0),
+        ..first
+    }];
+    let wanted = [moved(0, 0, 0, 0)];
+    let calls = [(
+        0,
+        Shows(
+            0,
+            Status::Held {
+                unit: 0,
+                attempt: 2,
+            },
+        ),
+    )];
+    restored(&rt, few, &by_first, Ok(&wanted), &calls);
+    let calls = [(
+        0,
+        Shows(
+            0,
+            Status::Held {
+                unit: 1,
+                attempt: 2,
+            },
+        ),
+    )];
+    restored(&rt, few, &[first], Ok(&wanted), &calls);
+    restored(&rt, few, &[first, second], Err(RollFault::Full), &[]);
 }

@@ -4,7 +4,7 @@ use Rattle.tp_rollover.proofs.Lists.{zip_all}
 use Rattle.tp_rollover.proofs.Seen.{stays_trans}
 use Rattle.tp_rollover.proofs.Steps.{next_of, no_more, once_more}
 use Rattle.tp_rollover.specs.Bounds.{compare_steps}
-use Rattle.tp_rollover.specs.Survivors.{StandsAgain}
+use Rattle.tp_rollover.specs.Alike.{StandsUnheld}
 use Rattle.tp_rollover.proofs.checking.all_stand_again.Goals as goal
 
 pub loop-place-preserved : goal.loop-place-preserved
@@ -32,4 +32,4 @@ returns-clause-steps c =
 
 pub returns-clause-told : goal.returns-clause-told
 returns-clause-told c told same =
-    zip_all (StandsAgain c.args.manager.now.limits.attempts c.args.pass.now.seen) c.args.survivors.now c.args.moved.now c.loop-place.place c.loop-place-test.false c.loop-place.auto.place-end (omega (arith, c.if-moved-survivors.false)) (c.loop-place.invariant.told same)
+    zip_all (StandsUnheld c.args.manager.now.limits.attempts c.args.pass.now.seen) c.args.survivors.now c.args.moved.now c.loop-place.place c.loop-place-test.false c.loop-place.auto.place-end (omega (arith, c.if-moved-survivors.false)) (c.loop-place.invariant.told same)

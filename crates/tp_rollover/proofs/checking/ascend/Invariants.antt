@@ -1,6 +1,6 @@
 use Rattle.std.proofs.Common.{drop}
 use Rattle.tp_rollover.specs.Checks.{MovedAscend}
-use Rattle.tp_rollover.specs.Rolls.{AscendFrom}
+use Rattle.tp_rollover.specs.Checks.{AscendFrom}
 use Rattle.tp_rollover.proofs.checking.ascend.Given as goal
 
 -- where what is left goes on ascending, all do

@@ -1,11 +1,8 @@
-use Rattle.std.proofs.Common.{◌∙◌, Err, ap, arith, length, refl}
+use Rattle.std.proofs.Common.{◌∙◌, Err, ap, arith, length}
 use Rattle.tp_model.specs.declared.types.Limits.{Limits}
 use Rattle.tp_rollover.proofs.Heads.{stay_same}
-use Rattle.tp_rollover.proofs.Managing.{all_fresh, carries_again, free_again, managed_again, refused_for, unfit_same}
+use Rattle.tp_rollover.proofs.Managing.{all_fresh, carries_again, managed_again, refused_for, unfit_same}
 use Rattle.tp_rollover.proofs.managed.succeed.Goals as goal
-
-pub returns-then-has_open-clause-stays : goal.returns-then-has_open-clause-stays
-returns-then-has_open-clause-stays c = stay_same c.args.old_passes.now
 
 pub returns-in_default-clause-stays : goal.returns-in_default-clause-stays
 returns-in_default-clause-stays c = stay_same c.args.old_passes.now
@@ -15,11 +12,6 @@ returns-in-Ok-roll_over-clause-managed c =
     let e = c.roll_over.ensures in
     managed_again c.in-Ok.new c.roll_over.new.new_keeper c.roll_over.new.new_passes c.in-Ok.ensures.managed e.new_keeper.0 e.new_keeper.1 e.own.1 e.all.1
 
-pub returns-in-Ok-roll_over-clause-free : goal.returns-in-Ok-roll_over-clause-free
-returns-in-Ok-roll_over-clause-free c =
-    let e = c.roll_over.ensures in
-    free_again c.in-Ok.new c.roll_over.new.new_keeper c.roll_over.new.new_passes c.in-Ok.ensures.managed e.new_keeper.0 e.new_keeper.1 e.own.1 e.all.1 c.in-Ok-roll_over.ensures.free
-
 pub returns-in-Err-clause-fault : goal.returns-in-Err-clause-fault
 returns-in-Err-clause-fault c =
     let new = c.in-Ok.new in
@@ -28,7 +20,7 @@ returns-in-Err-clause-fault c =
     let long = ap length c.deref_mut.ensures.value ∙ (c.in-Ok.ensures.managed.parts ∙ ap (λ (l : Limits). l.parts) same) in
     let fresh = all_fresh new.manager news new.passes.items c.deref_mut.ensures.value c.in-Ok.ensures.new c.in-Ok.ensures.managed.own in
     refused_for c.args.old.now.limits new.manager.limits c.args.old_passes.now news c.roll_over.new.new_passes c.in-Err.fault (ap (λ (l : Limits). l.attempts) same)
-    (omega (arith, c.requires.parts, c.requires.limits.parts.0)) (omega (arith, long, c.requires.limits.parts.0)) (c.if-has_open.ensures.free refl)
+    (omega (arith, c.requires.parts, c.requires.limits.parts.0)) (omega (arith, long, c.requires.limits.parts.0))
     (λ full. unfit_same c.args.old.now.limits new.manager.limits c.args.old.now.limits.parts (length news) c.args.old_passes.now same long (c.in-Err.ensures.would_not_fit fresh (ap Err full)))
     c.in-Err.ensures.due
 

@@ -11,13 +11,13 @@ use Rattle.tp_rollover.proofs.replays.attempts.Goals as goal
 pub returns-in_default-clause-gives : goal.returns-in_default-clause-gives
 returns-in_default-clause-gives c =
     c.loop-time.invariant.goes_on
-    ∙ tried_none (length c.args.passes.now) (length c.loop-time.passes) c.args.id c.args.times c.loop-time._time c.loop-time.from (lone c.args.manager.now c.loop-time.keeper c.loop-time.passes) c.loop-time-test.true c.loop-time.auto.passes (c.in_default.ensures.first c.loop-time.keeper.seen)
+    ∙ tried_none (length c.args.passes.now) (length c.loop-time.passes) c.args.kept.now c.args.id c.args.times c.loop-time._time c.loop-time.from (lone c.args.manager.now c.loop-time.keeper c.loop-time.passes) c.loop-time-test.true c.loop-time.auto.passes (c.in_default.ensures.first c.loop-time.keeper.seen)
 
 pub returns-in_err-attempt_by-clause-gives : goal.returns-in_err-attempt_by-clause-gives
 returns-in_err-attempt_by-clause-gives c =
-    stops_first c.from_residual.result c.in_err-attempt_by.field-0.0 _ _ _ c.from_residual.ensures.1 (λ after. tried (length c.args.passes.now) c.args.id (c.args.times - (c.loop-time._time + 1)) (c.in-Some.at, after)) _
+    stops_first c.from_residual.result c.in_err-attempt_by.field-0.0 _ _ _ c.from_residual.ensures.1 (λ after. tried (length c.args.passes.now) c.args.kept.now c.args.id (c.args.times - (c.loop-time._time + 1)) (c.in-Some.at, after)) _
     (c.loop-time.invariant.goes_on
-    ∙ tried_at (length c.args.passes.now) (length c.loop-time.passes) c.args.id c.args.times c.loop-time._time c.loop-time.from (lone c.args.manager.now c.loop-time.keeper c.loop-time.passes) c.loop-time-test.true c.loop-time.auto.passes c.in-Some.at (c.in-Some.ensures.first c.loop-time.keeper.seen))
+    ∙ tried_at (length c.args.passes.now) (length c.loop-time.passes) c.args.kept.now c.args.id c.args.times c.loop-time._time c.loop-time.from (lone c.args.manager.now c.loop-time.keeper c.loop-time.passes) c.loop-time-test.true c.loop-time.auto.passes c.in-Some.at (c.in-Some.ensures.first c.loop-time.keeper.seen))
     c.in_err-attempt_by.ensures.gives
 
 pub loop-time-preserved : goal.loop-time-preserved
@@ -32,6 +32,6 @@ loop-time-preserved c =
           let made = subst (λ z. AllMake (attempt_steps l z) c.loop-time.keeper c.loop-time.passes c.attempt_by.new.keeper c.attempt_by.new.passes) i.given c.attempt_by.ensures.steps in
           omega (arith, more, i.made, made));
       goes_on = i.goes_on
-          ∙ (tried_at (length c.args.passes.now) (length c.loop-time.passes) c.args.id c.args.times c.loop-time._time c.loop-time.from (lone c.args.manager.now c.loop-time.keeper c.loop-time.passes) c.loop-time-test.true c.loop-time.auto.passes c.in-Some.at (c.in-Some.ensures.first c.loop-time.keeper.seen)
-          ∙ ap (option_and_then (λ after. tried (length c.args.passes.now) c.args.id (c.args.times - (c.loop-time._time + 1)) (c.in-Some.at, after))) c.in_ok-attempt_by.ensures.gives);
+          ∙ (tried_at (length c.args.passes.now) (length c.loop-time.passes) c.args.kept.now c.args.id c.args.times c.loop-time._time c.loop-time.from (lone c.args.manager.now c.loop-time.keeper c.loop-time.passes) c.loop-time-test.true c.loop-time.auto.passes c.in-Some.at (c.in-Some.ensures.first c.loop-time.keeper.seen)
+          ∙ ap (option_and_then (λ after. tried (length c.args.passes.now) c.args.kept.now c.args.id (c.args.times - (c.loop-time._time + 1)) (c.in-Some.at, after))) c.in_ok-attempt_by.ensures.gives);
     }

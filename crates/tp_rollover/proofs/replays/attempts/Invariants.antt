@@ -9,6 +9,6 @@ invariant-loop-time l = record {
   are_lone : AreLone l.manager l.keeper l.passes;
   given : l.keeper.given ≡ l.initial.keeper.given;
   made : AllMake (l._time * attempt_steps l.manager.limits l.initial.keeper.given) l.initial.keeper l.initial.passes l.keeper l.passes;
-  goes_on : tried (length l.initial.passes) l.id l.times (l.initial.from, lone l.manager l.initial.keeper l.initial.passes)
-      ≡ tried (length l.initial.passes) l.id (l.times - l._time) (l.from, lone l.manager l.keeper l.passes);
+  goes_on : tried (length l.initial.passes) l.kept l.id l.times (l.initial.from, lone l.manager l.initial.keeper l.initial.passes)
+      ≡ tried (length l.initial.passes) l.kept l.id (l.times - l._time) (l.from, lone l.manager l.keeper l.passes);
 }

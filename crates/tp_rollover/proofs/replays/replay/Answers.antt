@@ -1,15 +1,19 @@
-use Rattle.std.proofs.Common.{◌≡◌, ◌*◌, ap, arith, subst}
+use Rattle.std.proofs.Common.{◌*◌, arith, refl, subst}
 use Rattle.tp_model.specs.declared.types.Limits.{Limits}
-use Rattle.tp_rollover.specs.Bounds.{AllMake, attempt_steps}
+use Rattle.tp_rollover.specs.Bounds.{AllMake, IsWithin, attempt_steps}
 use Rattle.tp_rollover.proofs.Steps.{replayed, rounds_within}
 use Rattle.tp_rollover.proofs.replays.replay.Goals as goal
 
 pub returns-in_err-rounds-clause-steps : goal.returns-in_err-rounds-clause-steps
-returns-in_err-rounds-clause-steps c = rounds_within c.args.manager.now.limits c.args.keeper.now.given c.args.one.rounds c.args.keeper.now c.rounds.new.keeper c.args.passes.now c.rounds.new.passes (omega (arith, c.if-one-gt-MAX_ROUNDS.false)) c.rounds.ensures.steps
+returns-in_err-rounds-clause-steps c =
+    let within = c.if-not-is_within.ensures refl in
+    rounds_within c.args.manager.now.limits c.args.keeper.now.given c.args.one.rounds c.args.keeper.now c.rounds.new.keeper c.args.passes.now c.rounds.new.passes within.1 c.rounds.ensures.steps
 
 pub returns-clause-steps : goal.returns-clause-steps
 returns-clause-steps c =
-    let same : c.limits.result.attempts ≡ c.args.manager.now.limits.attempts = ap (λ (l : Limits). l.attempts) c.limits.ensures in
+    let within = subst (λ (l : Limits). IsWithin l c.args.one) c.limits.ensures (c.if-not-is_within.ensures refl) in
+    let few = within.0 in
+    let times = c.in-Some.ensures in
     let made = subst (λ z. AllMake (c.in-Some.times * attempt_steps c.args.manager.now.limits z) c.rounds.new.keeper c.rounds.new.passes c.attempts.new.keeper c.attempts.new.passes) c.rounds.ensures.lone.1 c.attempts.ensures.steps in
     replayed c.args.manager.now.limits c.args.keeper.now.given c.args.one.rounds c.in-Some.times c.args.keeper.now c.rounds.new.keeper c.attempts.new.keeper c.args.passes.now c.rounds.new.passes c.attempts.new.passes
-    (omega (arith, c.if-one-gt-MAX_ROUNDS.false)) c.rounds.ensures.steps made (omega (arith, same, c.if-times-limits.false))
+    within.1 c.rounds.ensures.steps made (omega (arith, few, times))

@@ -1,9 +1,13 @@
 use Rattle.std.proofs.Common.{ap, arith, length, subst, sym}
 use Rattle.tp_rollover.specs.Bounds.{alive_after}
-use Rattle.tp_rollover.specs.Survivors.{AreSurvivors}
+use Rattle.tp_rollover.specs.Survivors.{AreInHand, AreSurvivors}
 use Rattle.tp_rollover.proofs.Assembly.{if_ok}
+use Rattle.tp_rollover.proofs.MadeAnew.{made_so, none_so, on_ok}
 use Rattle.tp_rollover.proofs.Sums.{most_for}
 use Rattle.tp_rollover.proofs.rolling.prepare.Goals as goal
+
+pub returns-clause-lone : goal.returns-clause-lone
+returns-clause-lone c = on_ok c.stand_again.result _ (record { kept = c.find_all.ensures.keeper.0; own = c.find_all.ensures.own; together = c.in_ok-alive.ensures.together })
 
 pub returns-clause-steps : goal.returns-clause-steps
 returns-clause-steps c =
@@ -17,13 +21,42 @@ returns-clause-steps c =
 pub returns-clause-ready : goal.returns-clause-ready
 returns-clause-ready c =
     let e = c.in_ok-alive.ensures in
-    let found = subst (AreSurvivors c.args.old.now.limits c.find_all.new.keeper.seen) (sym c.deref.ensures.value) e.found in
     if_ok c.stand_again.result _ _ (λ moved t. record {
       history = e.history;
       old_together = e.together;
       new_together = t.together;
       survivors = c.deref.result.now;
-      found = found;
+      found = subst (AreSurvivors c.args.old.now.limits c.find_all.new.keeper.seen) (sym c.deref.ensures.value) e.found;
+      in_hand = subst (AreInHand c.args.old_passes.now) (sym c.deref.ensures.value) e.in_hand;
       again = t.again;
+      hands = t.hands;
       some = e.some;
     }) c.stand_again.ensures.restored
+
+pub returns-clause-computed : goal.returns-clause-computed
+returns-clause-computed c fresh =
+    let e = c.in_ok-alive.ensures in
+    made_so c.stand_again.result _ _ _ (c.stand_again.ensures.computed fresh) (λ moved made. record {
+      keeper = c.find_all.new.keeper;
+      looked = c.find_all.new.passes;
+      together = e.together;
+      stay = e.stays;
+      survivors = c.deref.result.now;
+      found = subst (AreSurvivors c.args.old.now.limits c.find_all.new.keeper.seen) (sym c.deref.ensures.value) e.found;
+      in_hand = subst (AreInHand c.args.old_passes.now) (sym c.deref.ensures.value) e.in_hand;
+      made = made;
+    })
+
+pub returns-clause-would_not_fit : goal.returns-clause-would_not_fit
+returns-clause-would_not_fit c fresh full =
+    let e = c.in_ok-alive.ensures in
+    record {
+      keeper = c.find_all.new.keeper;
+      looked = c.find_all.new.passes;
+      together = e.together;
+      stay = e.stays;
+      survivors = c.deref.result.now;
+      found = subst (AreSurvivors c.args.old.now.limits c.find_all.new.keeper.seen) (sym c.deref.ensures.value) e.found;
+      in_hand = subst (AreInHand c.args.old_passes.now) (sym c.deref.ensures.value) e.in_hand;
+      full = none_so c.stand_again.result _ _ full (c.stand_again.ensures.computed fresh);
+    }

@@ -1,8 +1,11 @@
-use Rattle.std.proofs.Common.{refl}
+use Rattle.std.proofs.Common.{refl, subst}
+use Rattle.tp_model.specs.declared.types.Limits.{Limits}
+use Rattle.tp_rollover.specs.Survivors.{IsStanding}
 use Rattle.tp_rollover.proofs.Checked.{described_one}
 use Rattle.tp_rollover.proofs.survivors.describe.Goals as goal
 
 pub returns-clause-told : goal.returns-clause-told
 returns-clause-told c =
-    described_one c.args.manager.now.limits c.args.id _ c.args.pass.now c.look.new.pass c.look-2.new.pass c.rounds_had.new.pass c.in-Some.found c.in-Some-look.root c.in-Some-rounds_had.rounds c.look.ensures.stays c.look-2.ensures.stays c.rounds_had.ensures.stays
-    c.in-Some.ensures.told c.in-Some-look.ensures.told c.in-Some-rounds_had.ensures.told (c.if-not-is_alive.ensures refl) refl
+    let stands = subst (λ (l : Limits). IsStanding l c.in-Some.found.status c.in-Some-standing.status c.in-Some-standing.holder) c.limits.ensures c.in-Some-standing.ensures in
+    described_one c.args.manager.now.limits c.args.id _ c.args.pass.now c.look.new.pass c.look-2.new.pass c.rounds_had.new.pass c.in-Some.found c.in-Some-look.root c.in-Some-rounds_had.rounds c.in-Some-standing.status c.in-Some-standing.holder c.look.ensures.stays c.look-2.ensures.stays c.rounds_had.ensures.stays
+    c.in-Some.ensures.told c.in-Some-look.ensures.told c.in-Some-rounds_had.ensures.told stands refl

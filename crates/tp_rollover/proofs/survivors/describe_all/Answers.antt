@@ -12,11 +12,11 @@ loop-place-preserved c =
       own = c.describe.ensures.own;
       stays = stays_trans c.args.pass.now c.loop-place.pass c.describe.new.pass i.stays c.describe.ensures.stays;
       many = search rules;
-      told = described_then c.args.manager.now.limits.attempts c.args.ids.now c.loop-place.found.items c.push.new.self.items c.loop-place.place _ c.in_ok-one.one c.args.pass.now c.loop-place.pass c.describe.new.pass c.loop-place-test.true (search rules)
+      told = described_then c.args.manager.now.limits c.args.ids.now c.loop-place.found.items c.push.new.self.items c.loop-place.place _ c.in_ok-one.one c.args.pass.now c.loop-place.pass c.describe.new.pass c.loop-place-test.true (search rules)
           i.stays c.describe.ensures.stays i.told c.in_ok-one.ensures.told;
       made = (let more = once_more c.loop-place.place (describe_steps c.args.manager.now.limits) in omega (arith, more, i.made, c.describe.ensures.steps));
     }
 
 pub returns-clause-told : goal.returns-clause-told
 returns-clause-told c same =
-    described_end c.args.manager.now.limits.attempts c.args.pass.now.seen c.args.ids.now c.loop-place.found.items c.loop-place.place c.loop-place-test.false c.loop-place.auto.place-end (c.loop-place.invariant.told same)
+    described_end c.args.manager.now.limits c.args.pass.now.seen c.args.ids.now c.loop-place.found.items c.loop-place.place c.loop-place-test.false c.loop-place.auto.place-end (c.loop-place.invariant.told same)

@@ -11,6 +11,6 @@ invariant-loop-place l = record {
   own : IsOf l.manager l.pass;
   stays : Stays l.initial.pass l.pass;
   many : length l.found.items ≡ l.place;
-  told : HoldsAsSeen l.initial.pass l.pass (λ h. AreDescribed l.manager.limits.attempts h (take l.place l.ids) l.found.items);
+  told : HoldsAsSeen l.initial.pass l.pass (λ h. AreDescribed l.manager.limits h (take l.place l.ids) l.found.items);
   made : PassMakes (l.place * describe_steps l.manager.limits) l.initial.pass l.pass;
 }

@@ -1,7 +1,7 @@
 use Rattle.std.proofs.Common.{◌∙◌, ap, arith, length, subst}
 use Rattle.tp_model.specs.declared.types.Limits.{Limits}
 use Rattle.tp_model.specs.Steps.{AreLimits}
-use Rattle.tp_rollover.proofs.Managing.{all_fresh, fault_same, free_again, made_again, made_same, managed_again, unrestored_for}
+use Rattle.tp_rollover.proofs.Managing.{all_fresh, fault_same, made_again, made_same, managed_again, unrestored_for}
 use Rattle.tp_rollover.proofs.managed.Managed.restored.Goals as goal
 
 pub returns-in-Err-clause-fault : goal.returns-in-Err-clause-fault
@@ -10,7 +10,7 @@ returns-in-Err-clause-fault c =
     let same = c.in-Ok.ensures.limits in
     let limits = subst AreLimits same c.in-Ok.ensures.managed.limits in
     let long = ap length c.deref_mut.ensures.value ∙ (c.in-Ok.ensures.managed.parts ∙ ap (λ (l : Limits). l.parts) same) in
-    unrestored_for c.args.limits new.manager.limits c.deref_mut.result.now c.restore.new.passes c.in-Err.fault limits (omega (arith, long, limits.parts.0))
+    unrestored_for c.args.limits new.manager.limits c.args.survivors.now c.deref_mut.result.now c.restore.new.passes c.in-Err.fault limits (omega (arith, long, limits.parts.0))
     c.in-Err.ensures.due
 
 pub returns-in-Ok-restore-clause-computed : goal.returns-in-Ok-restore-clause-computed
@@ -22,11 +22,6 @@ returns-in-Ok-restore-clause-computed c =
     let fresh = all_fresh new.manager c.deref_mut.result.now new.passes.items c.deref_mut.ensures.value c.in-Ok.ensures.new c.in-Ok.ensures.managed.own in
     made_again new c.restore.new.keeper c.restore.new.passes c.in-Ok.ensures.managed e.keeper.0 e.keeper.1 e.own e.all
     c.args.limits (length c.deref_mut.result.now) c.args.survivors.now c.in-Ok-restore.moved.items same long (c.in-Ok-restore.ensures.computed fresh)
-
-pub returns-in-Ok-restore-clause-free : goal.returns-in-Ok-restore-clause-free
-returns-in-Ok-restore-clause-free c =
-    let e = c.restore.ensures in
-    free_again c.in-Ok.new c.restore.new.keeper c.restore.new.passes c.in-Ok.ensures.managed e.keeper.0 e.keeper.1 e.own e.all c.in-Ok-restore.ensures.free
 
 pub returns-in-Err-clause-computed : goal.returns-in-Err-clause-computed
 returns-in-Err-clause-computed c =

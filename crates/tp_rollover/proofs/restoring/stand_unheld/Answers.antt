@@ -1,0 +1,140 @@
+use Rattle.std.proofs.Common.{◌≡◌, ◌∙◌, List, Some, length, refl, subst, sym}
+use Rattle.tp_model.specs.declared.types.Account.{Account}
+use Rattle.tp_plain.specs.OneThread.{start}
+use Rattle.tp_manager.specs.Bounds.{account_steps, gather_steps}
+use Rattle.tp_rollover.specs.Alike.{StandAlike}
+use Rattle.tp_rollover.specs.Anew.{all_born, all_replayed, kept_for}
+use Rattle.tp_rollover.specs.Checks.{CountsOnly}
+use Rattle.tp_rollover.specs.Lone.{lone}
+use Rattle.tp_rollover.specs.Told.{ToldFirst}
+use Rattle.tp_rollover.specs.declared.moved.Moved.{Moved}
+use Rattle.tp_rollover.proofs.Agreeing.{as_long, stops_first}
+use Rattle.tp_rollover.proofs.Assembly.{all_numbers, restored, stays_numbers}
+use Rattle.tp_rollover.proofs.MadeAnew.{as_many, from_born, lone_first, made_all, made_born, made_then, starts, still_lone}
+use Rattle.tp_rollover.proofs.Sums.{again_born, again_by, again_counted, again_gathered, again_held, again_replayed, all_make}
+use Rattle.tp_rollover.proofs.restoring.stand_unheld.Goals as goal
+
+pub bear_all-requires : goal.bear_all-requires
+bear_all-requires c = record { lone = lone_first c.args.manager.now _ c.args.keeper.now c.gather.new.self c.args.passes.now c.gather.new.passes c.gather.ensures.gathers c.gather.ensures.all c.gather.ensures.keeper c.gather.ensures.own }
+
+pub returns-in_err-moved-clause-computed : goal.returns-in_err-moved-clause-computed
+returns-in_err-moved-clause-computed c fresh =
+    let m = c.args.manager.now in
+    let g = c.gather.ensures in
+    let long = as_many m _ c.args.keeper.now c.gather.new.self c.args.passes.now c.gather.new.passes g.gathers g.all g.keeper g.own in
+    let begins = starts m _ c.args.keeper.now c.gather.new.self c.args.passes.now c.gather.new.passes g.gathers g.all g.keeper g.own fresh in
+    stops_first c.from_residual.result c.in_err-moved.field-0.0 _ _ _ c.from_residual.ensures.1
+    (from_born c.args.of.now.limits (length c.args.passes.now) (length c.gather.new.passes) c.args.survivors.now (start m.limits) (lone m c.gather.new.self c.gather.new.passes) long begins) _
+    (made_born c.args.of.now.limits (length c.args.passes.now) (length c.gather.new.passes) c.args.survivors.now (start m.limits) (lone m c.gather.new.self c.gather.new.passes) long begins)
+    c.in_err-moved.ensures.gives
+
+pub returns-in_err-moved-clause-steps : goal.returns-in_err-moved-clause-steps
+returns-in_err-moved-clause-steps c =
+    let l = c.args.manager.now.limits in
+    let q = c.args.keeper.now.given in
+    again_born l q (length c.args.survivors.now) c.args.keeper.now c.gather.new.self c.bear_all.new.keeper c.args.passes.now c.gather.new.passes c.bear_all.new.passes
+    (all_make (gather_steps l q) c.args.keeper.now c.gather.new.self c.args.passes.now c.gather.new.passes c.requires.all c.gather.ensures.all c.gather.ensures.keeper.1 c.gather.ensures.steps) c.gather.ensures.keeper.1 c.bear_all.ensures.steps
+
+pub returns-in_err-replay_all-clause-computed : goal.returns-in_err-replay_all-clause-computed
+returns-in_err-replay_all-clause-computed c fresh =
+    let m = c.args.manager.now in
+    let g = c.gather.ensures in
+    let long = as_many m _ c.args.keeper.now c.gather.new.self c.args.passes.now c.gather.new.passes g.gathers g.all g.keeper g.own in
+    let long' = as_long m c.gather.new.self c.bear_all.new.keeper c.gather.new.passes c.bear_all.new.passes (lone_first m _ c.args.keeper.now c.gather.new.self c.args.passes.now c.gather.new.passes g.gathers g.all g.keeper g.own) c.bear_all.ensures.lone.0 c.bear_all.ensures.lone.1 ∙ long in
+    let begins = starts m _ c.args.keeper.now c.gather.new.self c.args.passes.now c.gather.new.passes g.gathers g.all g.keeper g.own fresh in
+    stops_first c.from_residual-in_err-replay_all.result c.in_err-replay_all.field-0.0 _ _ _ c.from_residual-in_err-replay_all.ensures.1
+    (λ done. Some (c.deref.result.now, done)) _
+    (made_then c.args.of.now.limits (length c.args.passes.now) (length c.gather.new.passes) c.args.survivors.now (start m.limits) (lone m c.gather.new.self c.gather.new.passes) long begins c.deref.result.now (lone m c.bear_all.new.keeper c.bear_all.new.passes)
+    (subst (λ ms. all_born c.args.of.now.limits (length c.gather.new.passes) c.args.survivors.now (lone m c.gather.new.self c.gather.new.passes) ≡ Some (ms, lone m c.bear_all.new.keeper c.bear_all.new.passes)) (sym c.deref.ensures.value) c.in_ok-moved.ensures.gives) (length c.bear_all.new.passes) long')
+    c.in_err-replay_all.ensures.gives
+
+pub returns-in_err-replay_all-clause-steps : goal.returns-in_err-replay_all-clause-steps
+returns-in_err-replay_all-clause-steps c =
+    let l = c.args.manager.now.limits in
+    let q = c.args.keeper.now.given in
+    again_replayed l q (length c.args.survivors.now) c.args.keeper.now c.gather.new.self c.bear_all.new.keeper c.args.passes.now c.gather.new.passes c.bear_all.new.passes
+    (all_make (gather_steps l q) c.args.keeper.now c.gather.new.self c.args.passes.now c.gather.new.passes c.requires.all c.gather.ensures.all c.gather.ensures.keeper.1 c.gather.ensures.steps) c.gather.ensures.keeper.1 c.bear_all.ensures.steps
+    c.replay_all.new.keeper c.replay_all.new.passes c.bear_all.ensures.lone.1 c.replay_all.ensures.steps
+
+pub returns-then-not-counts_only-clause-steps : goal.returns-then-not-counts_only-clause-steps
+returns-then-not-counts_only-clause-steps c =
+    let l = c.args.manager.now.limits in
+    let q = c.args.keeper.now.given in
+    again_counted l q (length c.args.survivors.now) c.args.keeper.now c.gather.new.self c.bear_all.new.keeper c.args.passes.now c.gather.new.passes c.bear_all.new.passes
+    (all_make (gather_steps l q) c.args.keeper.now c.gather.new.self c.args.passes.now c.gather.new.passes c.requires.all c.gather.ensures.all c.gather.ensures.keeper.1 c.gather.ensures.steps) c.gather.ensures.keeper.1 c.bear_all.ensures.steps
+    c.replay_all.new.keeper c.replay_all.new.passes c.bear_all.ensures.lone.1 c.replay_all.ensures.steps
+    c.account-account.new.self c.account-account.new.passes c.replay_all.ensures.lone.1
+    (all_make (account_steps l c.replay_all.new.keeper.given) c.replay_all.new.keeper c.account-account.new.self c.replay_all.new.passes c.account-account.new.passes c.replay_all.ensures.lone.0.together.all c.account-account.ensures.all c.account-account.ensures.keeper.1 c.account-account.ensures.steps)
+
+pub returns-in_err-hold-clause-all : goal.returns-in_err-hold-clause-all
+returns-in_err-hold-clause-all c = all_numbers c.account-account.new.self c.account-account.new.self c.account-account.new.passes c.hold.new.passes refl (stays_numbers c.account-account.new.passes c.hold.new.passes c.hold.ensures.stays) c.account-account.ensures.all
+
+pub returns-in_err-hold-clause-steps : goal.returns-in_err-hold-clause-steps
+returns-in_err-hold-clause-steps c =
+    let l = c.args.manager.now.limits in
+    let q = c.args.keeper.now.given in
+    again_held l q (length c.args.survivors.now) c.args.keeper.now c.gather.new.self c.bear_all.new.keeper c.args.passes.now c.gather.new.passes c.bear_all.new.passes
+    (all_make (gather_steps l q) c.args.keeper.now c.gather.new.self c.args.passes.now c.gather.new.passes c.requires.all c.gather.ensures.all c.gather.ensures.keeper.1 c.gather.ensures.steps) c.gather.ensures.keeper.1 c.bear_all.ensures.steps
+    c.replay_all.new.keeper c.replay_all.new.passes c.bear_all.ensures.lone.1 c.replay_all.ensures.steps
+    c.account-account.new.self c.account-account.new.passes c.replay_all.ensures.lone.1
+    (all_make (account_steps l c.replay_all.new.keeper.given) c.replay_all.new.keeper c.account-account.new.self c.replay_all.new.passes c.account-account.new.passes c.replay_all.ensures.lone.0.together.all c.account-account.ensures.all c.account-account.ensures.keeper.1 c.account-account.ensures.steps)
+    c.hold.new.passes c.hold.ensures.steps
+
+pub gather-requires-2-clause-all : goal.gather-requires-2-clause-all
+gather-requires-2-clause-all c = all_numbers c.account-account.new.self c.account-account.new.self c.account-account.new.passes c.hold.new.passes refl (stays_numbers c.account-account.new.passes c.hold.new.passes c.hold.ensures.stays) c.account-account.ensures.all
+
+pub returns-clause-steps : goal.returns-clause-steps
+returns-clause-steps c =
+    let l = c.args.manager.now.limits in
+    let q = c.args.keeper.now.given in
+    again_gathered l q (length c.args.survivors.now) c.args.keeper.now c.gather.new.self c.bear_all.new.keeper c.args.passes.now c.gather.new.passes c.bear_all.new.passes
+    (all_make (gather_steps l q) c.args.keeper.now c.gather.new.self c.args.passes.now c.gather.new.passes c.requires.all c.gather.ensures.all c.gather.ensures.keeper.1 c.gather.ensures.steps) c.gather.ensures.keeper.1 c.bear_all.ensures.steps
+    c.replay_all.new.keeper c.replay_all.new.passes c.bear_all.ensures.lone.1 c.replay_all.ensures.steps
+    c.account-account.new.self c.account-account.new.passes c.replay_all.ensures.lone.1
+    (all_make (account_steps l c.replay_all.new.keeper.given) c.replay_all.new.keeper c.account-account.new.self c.replay_all.new.passes c.account-account.new.passes c.replay_all.ensures.lone.0.together.all c.account-account.ensures.all c.account-account.ensures.keeper.1 c.account-account.ensures.steps)
+    c.hold.new.passes c.hold.ensures.steps c.gather-2.new.self c.gather-2.new.passes c.account-account.ensures.keeper.1
+    (all_make (gather_steps l c.account-account.new.self.given) c.account-account.new.self c.gather-2.new.self c.hold.new.passes c.gather-2.new.passes (all_numbers c.account-account.new.self c.account-account.new.self c.account-account.new.passes c.hold.new.passes refl (stays_numbers c.account-account.new.passes c.hold.new.passes c.hold.ensures.stays) c.account-account.ensures.all) c.gather-2.ensures.all c.gather-2.ensures.keeper.1 c.gather-2.ensures.steps)
+
+pub returns-clause-restored : goal.returns-clause-restored
+returns-clause-restored c =
+    (restored c.args.manager.now _ _ c.replay_all.new.keeper c.account-account.new.self c.gather-2.new.self c.replay_all.new.passes c.account-account.new.passes c.hold.new.passes c.gather-2.new.passes c.args.survivors.now c.in_ok-moved.moved.items
+    c.account-account.ensures.account.gathers c.account-account.ensures.all c.account-account.ensures.keeper.1 c.account-account.ensures.own
+    (subst (λ (a : Account). CountsOnly (length c.in_ok-moved.moved.items) a.total) c.account-account.ensures.account.account_is (subst (λ (ms : List Moved). CountsOnly (length ms) c.account-account.result.total) c.deref-2.ensures.value (c.if-not-counts_only.ensures refl)))
+    c.hold.ensures.stays (subst (λ (ms : List Moved). ToldFirst c.account-account.new.passes c.hold.new.passes (λ g. StandAlike c.args.manager.now.limits.attempts g c.args.survivors.now ms)) c.deref-3.ensures.value c.in_ok-hold.ensures.told) c.in_ok-hold.ensures.some
+    c.gather-2.ensures.gathers c.gather-2.ensures.all c.gather-2.ensures.keeper.1 c.gather-2.ensures.own).0
+
+pub returns-clause-together : goal.returns-clause-together
+returns-clause-together c =
+    (restored c.args.manager.now _ _ c.replay_all.new.keeper c.account-account.new.self c.gather-2.new.self c.replay_all.new.passes c.account-account.new.passes c.hold.new.passes c.gather-2.new.passes c.args.survivors.now c.in_ok-moved.moved.items
+    c.account-account.ensures.account.gathers c.account-account.ensures.all c.account-account.ensures.keeper.1 c.account-account.ensures.own
+    (subst (λ (a : Account). CountsOnly (length c.in_ok-moved.moved.items) a.total) c.account-account.ensures.account.account_is (subst (λ (ms : List Moved). CountsOnly (length ms) c.account-account.result.total) c.deref-2.ensures.value (c.if-not-counts_only.ensures refl)))
+    c.hold.ensures.stays (subst (λ (ms : List Moved). ToldFirst c.account-account.new.passes c.hold.new.passes (λ g. StandAlike c.args.manager.now.limits.attempts g c.args.survivors.now ms)) c.deref-3.ensures.value c.in_ok-hold.ensures.told) c.in_ok-hold.ensures.some
+    c.gather-2.ensures.gathers c.gather-2.ensures.all c.gather-2.ensures.keeper.1 c.gather-2.ensures.own).1
+
+pub returns-clause-replayed : goal.returns-clause-replayed
+returns-clause-replayed c =
+    let l = c.args.manager.now.limits in
+    let q = c.args.keeper.now.given in
+    again_by l q (length c.args.survivors.now) c.args.keeper.now c.gather.new.self c.bear_all.new.keeper c.args.passes.now c.gather.new.passes c.bear_all.new.passes
+    (all_make (gather_steps l q) c.args.keeper.now c.gather.new.self c.args.passes.now c.gather.new.passes c.requires.all c.gather.ensures.all c.gather.ensures.keeper.1 c.gather.ensures.steps) c.gather.ensures.keeper.1 c.bear_all.ensures.steps
+    c.replay_all.new.keeper c.replay_all.new.passes c.bear_all.ensures.lone.1 c.replay_all.ensures.steps
+    c.account-account.new.self c.account-account.new.passes c.replay_all.ensures.lone.1
+    (all_make (account_steps l c.replay_all.new.keeper.given) c.replay_all.new.keeper c.account-account.new.self c.replay_all.new.passes c.account-account.new.passes c.replay_all.ensures.lone.0.together.all c.account-account.ensures.all c.account-account.ensures.keeper.1 c.account-account.ensures.steps)
+    c.hold.new.passes c.hold.ensures.steps c.gather-2.new.self c.gather-2.new.passes c.account-account.ensures.keeper.1
+    (all_make (gather_steps l c.account-account.new.self.given) c.account-account.new.self c.gather-2.new.self c.hold.new.passes c.gather-2.new.passes (all_numbers c.account-account.new.self c.account-account.new.self c.account-account.new.passes c.hold.new.passes refl (stays_numbers c.account-account.new.passes c.hold.new.passes c.hold.ensures.stays) c.account-account.ensures.all) c.gather-2.ensures.all c.gather-2.ensures.keeper.1 c.gather-2.ensures.steps)
+    c.args.survivors.now refl c.in_ok-replay_all.ensures.told
+
+pub returns-clause-computed : goal.returns-clause-computed
+returns-clause-computed c fresh =
+    let m = c.args.manager.now in
+    let g = c.gather.ensures in
+    let long = as_many m _ c.args.keeper.now c.gather.new.self c.args.passes.now c.gather.new.passes g.gathers g.all g.keeper g.own in
+    let long' = as_long m c.gather.new.self c.bear_all.new.keeper c.gather.new.passes c.bear_all.new.passes (lone_first m _ c.args.keeper.now c.gather.new.self c.args.passes.now c.gather.new.passes g.gathers g.all g.keeper g.own) c.bear_all.ensures.lone.0 c.bear_all.ensures.lone.1 ∙ long in
+    let begins = starts m _ c.args.keeper.now c.gather.new.self c.args.passes.now c.gather.new.passes g.gathers g.all g.keeper g.own fresh in
+    let done = lone m c.replay_all.new.keeper c.replay_all.new.passes in
+    made_all c.args.of.now.limits (length c.args.passes.now) (length c.gather.new.passes) c.args.survivors.now (start m.limits) (lone m c.gather.new.self c.gather.new.passes) long begins c.in_ok-moved.moved.items (lone m c.bear_all.new.keeper c.bear_all.new.passes)
+    c.in_ok-moved.ensures.gives (length c.bear_all.new.passes) long' done
+    (subst (λ ms. all_replayed (length c.bear_all.new.passes) (kept_for c.args.survivors.now) m.limits.attempts c.args.survivors.now ms (0, lone m c.bear_all.new.keeper c.bear_all.new.passes) ≡ Some done) c.deref.ensures.value c.in_ok-replay_all.ensures.gives) _
+    (still_lone m _ _ c.replay_all.new.keeper c.account-account.new.self c.gather-2.new.self c.replay_all.new.passes c.account-account.new.passes c.hold.new.passes c.gather-2.new.passes c.replay_all.ensures.lone.0
+    c.account-account.ensures.account.gathers c.account-account.ensures.all c.account-account.ensures.keeper.1 c.account-account.ensures.own c.hold.ensures.stays
+    c.gather-2.ensures.gathers c.gather-2.ensures.all c.gather-2.ensures.keeper.1 c.gather-2.ensures.own)
