@@ -12,7 +12,7 @@ READ_AT_ONCE = 16384
 BEHIND = 65536
 BUFFER = memoryview(bytearray(READ_AT_ONCE))
 # So many lines of all clients are handed over at once, shared by those that have any, and a few of each.
-SHARED, FEW = 256, 2
+SHARED, FEW = 512, 2
 
 
 @dataclass(frozen=True)
@@ -139,7 +139,8 @@ class Connection(asyncio.BufferedProtocol):
                 return
             self.write("\n".join([*self.out, ""]))
         self.out = []
-        self.hand_over()
+        if self.pending or self.has_said_all:
+            self.hand_over()
 
     def write(self, text: str) -> None:
         self.written += len(text)

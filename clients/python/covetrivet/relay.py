@@ -96,8 +96,8 @@ class Relay:
         # how many lines were lost with a program that ended, and whether the one that there is has answered
         self.lost, self.has_answered = 0, True
         self.when_idle: asyncio.Future[None] | None = None
-        # how many lines came in this round of the event loop, and whether in the last one one came alone
-        self.came, self.came_alone, self.is_rushing = 0, False, False
+        self.last: Caller | None = None
+        self.is_rushing = False
         self.listen()
 
     def listen(self) -> None:
@@ -108,29 +108,25 @@ class Relay:
 
     def ask(self, caller: Caller, lines: Sequence[bytes]) -> None:
         """Has these lines performed, each of which has an answer, behind all before. What comes in one round
-        of the event loop is written at once. Where lines come one at a time the answer is waited for, as it
-        costs less than the rounds that it saves. Once the program has ended nothing is done, unless another
-        one is waited for.
+        of the event loop is written at once. Of a caller that sends one line at a time, with none of others
+        in between, the answer is waited for: that costs less than the rounds that it saves. Once the program
+        has ended nothing is done, unless another one is waited for.
         """
         if self.is_over:
             return
-        if not self.came:
-            self.loop.call_soon(self.end_round)
-        is_free = not self.asked and not self.is_blocked and not self.is_waiting
-        self.came += len(lines)
+        is_alone = caller is self.last and len(lines) == 1 and not self.asked and not self.is_rushing
+        self.last = caller
         now = time.monotonic()
         self.asked.extend([Asked(caller, *words_of(it), now) for it in lines])
+        is_next = not self.new and not self.is_blocked and not self.is_waiting
         self.new += lines
-        if is_free and self.came == 1 and self.came_alone and not self.is_rushing:
+        if is_next and is_alone:
             self.rush()
-
-    def end_round(self) -> None:
-        self.came_alone, self.came = self.came == 1, 0
-        if not self.is_blocked:
-            self.write()
+        elif is_next:
+            self.loop.call_soon(self.write)
 
     def rush(self) -> None:
-        """Writes a line that came alone, and hands out its answer."""
+        """Writes a line, and hands out its answer."""
         self.is_rushing = True
         self.write()
         if not self.left and self.output.poll(MILLISECONDS_TO_RUSH):

@@ -27,7 +27,7 @@ class Answers:
                 self.due -= 1
             else:
                 self.come.append([line])
-                counted = re.fullmatch(r"dumped (\d+)", line)
+                counted = re.fullmatch(r"dumped (\d+)", line) if line.startswith("dumped") else None
                 self.due = int(counted[1]) if counted else 0
 
     def whole(self) -> int:
