@@ -75,6 +75,15 @@ impl From<AllocError> for Unopened {
     }
 }
 
+impl From<io::Error> for Unopened {
+    fn from(error: io::Error) -> Self {
+        if error.kind() == io::ErrorKind::OutOfMemory {
+            return Unopened::NoMemory;
+        }
+        Unopened::Io(error)
+    }
+}
+
 /// Answers a session whose lines are in a journal in this file: what the file has is recovered first. Beside
 /// the file it makes `FILE.new` and `FILE.lock`. Answers the exit status: 0 done, 1 a fault.
 pub fn keep_session(rt: &HostRuntime, path: &str) -> u8 {
@@ -83,8 +92,11 @@ pub fn keep_session(rt: &HostRuntime, path: &str) -> u8 {
     match keep_file(rt, alloc, path, &mut faults) {
         Ok(status) => status,
         Err(why) => {
-            if let Ok(text) = line_of(alloc, &why) {
-                let _ = write_all(&mut faults, text.as_bytes());
+            match line_of(alloc, &why) {
+                Ok(text) => {
+                    let _ = write_all(&mut faults, text.as_bytes());
+                }
+                Err(_) => write_fault(Err(Fault::NoMemory), &mut faults),
             }
             1
         }
@@ -134,10 +146,7 @@ fn keep_file<E: Sink>(
         lock: lock.as_str(),
         folder,
     };
-    let (mut device, bytes) = match FileDevice::open(rt, alloc, paths) {
-        Ok(opened) => opened,
-        Err(error) => return Err(Unopened::Io(error)),
-    };
+    let (mut device, bytes) = FileDevice::open(rt, alloc, paths)?;
     let found = match recover(alloc, &mut device, &bytes) {
         Ok(found) => found,
         Err(OpenError::Damaged(count)) => {

@@ -6,16 +6,24 @@
 //! Exit status 0: done, at the end of the input. 1: a fault, with its line on standard error. 64: other words.
 #![tactic(auto)]
 
+use std::env;
+use std::io::{self, ErrorKind};
 use std::process::ExitCode;
-use std::{env, io};
 use tp_kept::keep_session;
-use tp_report::StdSink;
+use tp_report::{Fault, StdSink, write_fault};
 use tp_script::StdSource;
 use tp_session::{Pipes, converse_to_end};
 
 fn main(rt: HostRuntime) -> ExitCode {
-    let Ok(mut words) = env::args(&rt) else {
-        return ExitCode::from(64);
+    let mut words = match env::args(&rt) {
+        Ok(words) => words,
+        Err(error) => {
+            if error.kind() == ErrorKind::OutOfMemory {
+                write_fault(Err(Fault::NoMemory), &mut StdSink::new(rt.stderr()));
+                return ExitCode::from(1);
+            }
+            return ExitCode::from(64);
+        }
     };
     let _program = words.next();
     let (option, path, other) = (words.next(), words.next(), words.next());
