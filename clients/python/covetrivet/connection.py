@@ -11,7 +11,7 @@ from covetrivet.relay import Caller
 READ_AT_ONCE = 16384
 BEHIND = 65536
 BUFFER = memoryview(bytearray(READ_AT_ONCE))
-# So many lines of all clients are handed over at once, shared by those that have any, and a few of each.
+# Each client has its share of so many lines among those whose lines aren't answered, and a few at least.
 SHARED, FEW = 512, 2
 
 

@@ -230,7 +230,11 @@ class Member:
     def step_down(self, why: str) -> None:
         """Leads no more, if it did."""
         token, self.token = self.token, None
-        self.pending, self.leader, self.next_base = [], None, None
+        self.pending, self.leader = [], None
+        # (a base that isn't in the log yet is the next one still, where no rollover has come since)
+        if self.next_base and self.replica and not self.replica.base:
+            self.replica.base = self.next_base[0]
+        self.next_base = None
         if token:
             self.told.follows(None, why)
             self.log.resign(token)

@@ -97,7 +97,7 @@ class Relay:
         self.lost, self.has_answered = 0, True
         self.when_idle: asyncio.Future[None] | None = None
         self.last: Caller | None = None
-        self.is_rushing = False
+        self.is_handing_out = False
         self.listen()
 
     def listen(self) -> None:
@@ -114,7 +114,7 @@ class Relay:
         """
         if self.is_over:
             return
-        is_alone = caller is self.last and len(lines) == 1 and not self.asked and not self.is_rushing
+        is_alone = caller is self.last and len(lines) == 1 and not self.asked and not self.is_handing_out
         self.last = caller
         now = time.monotonic()
         self.asked.extend([Asked(caller, *words_of(it), now) for it in lines])
@@ -127,11 +127,9 @@ class Relay:
 
     def rush(self) -> None:
         """Writes a line, and hands out its answer."""
-        self.is_rushing = True
         self.write()
         if not self.left and self.output.poll(MILLISECONDS_TO_RUSH):
             self.read()
-        self.is_rushing = False
 
     def write(self) -> None:
         """Writes what there is, as far as the program takes it."""
@@ -177,7 +175,11 @@ class Relay:
 
     def hand(self, answers: Sequence[str]) -> None:
         """Hands out the answers to the first lines that had none."""
-        hand_out([(self.asked.popleft(), it) for it in answers], self.hear)
+        self.is_handing_out = True
+        try:
+            hand_out([(self.asked.popleft(), it) for it in answers], self.hear)
+        finally:
+            self.is_handing_out = False
         if not self.asked:
             self.wake()
 

@@ -46,7 +46,8 @@ class EtcdHistory:
         self.log = EtcdLog(members, prefix, "reader", SECONDS_TO_TELL)
 
     def written(self) -> tuple[list[tuple[int, Record]], int]:
-        records, dumps = list[tuple[int, Record]](), 0
+        # (the first base is the head's)
+        records, dumps = list[tuple[int, Record]](), -1
         for key, value in self.puts():
             name = key.removeprefix(self.log.prefix)
             if name.startswith("log/"):
@@ -73,10 +74,10 @@ class EtcdHistory:
 
 def told_by(response: http.client.HTTPResponse) -> list[Any]:
     """Returns the events that a watch tells next."""
-    said = json.loads(response.readline())["result"]
-    if said.get("canceled"):
+    said = json.loads(response.readline())
+    if "result" not in said or said["result"].get("canceled"):
         raise ValueError(f"the watch is cancelled: {said}")
-    return list(said.get("events", ()))
+    return list(said["result"].get("events", ()))
 
 
 class PostgresHistory:

@@ -266,6 +266,7 @@ ERRORS = [
         "ServeJournals.test_what_was_not_written_is_unknown",
     ),
     Error("relay.py", "if self.is_waiting:\n", "if False:\n", "Relays.test_a_write_that_comes_late"),
+    Error("relay.py", " and not self.is_handing_out", "", "Relays.test_an_end_is_told_once"),
     Error(
         "server.py",
         "if self.in_vain < RESTARTS_IN_VAIN:",

@@ -14,6 +14,7 @@ import unittest
 from unittest import mock
 
 from covetrivet import Unknown, connect, program, submit
+from covetrivet.faults import SessionFault
 from covetrivet.pipe import Pipe
 from covetrivet.relay import Relay
 from serving import SECONDS, WIDE, Client, Serving, comes
@@ -190,6 +191,22 @@ class Relays(unittest.TestCase):
         relay.pipe.let_go()
         self.assertEqual(caller.told, ["unknown", "second"])
 
+    def test_an_end_is_told_once(self) -> None:
+        """A program that ends behind an answer which isn't one, while a caller asks for more."""
+        asyncio.run(self.end_badly())
+
+    async def end_badly(self) -> None:
+        ends: list[SessionFault] = []
+        relay = Relay(Pipe(["printf", r"x\ny\n\377\n"]), lambda *_: None, ends.append)
+        caller = Eager(relay)
+        relay.ask(caller, [b"first"])
+        relay.ask(caller, [b"second"])
+        while not ends:
+            await asyncio.sleep(0.01)
+        await asyncio.sleep(0.05)
+        relay.pipe.let_go()
+        self.assertEqual((len(ends), caller.told), (1, ["x", "y"]))
+
 
 class Caller:
     """One that takes answers."""
@@ -202,6 +219,17 @@ class Caller:
 
     def all_taken(self) -> None:
         """Nothing is left to do."""
+
+
+class Eager(Caller):
+    """One that asks for more behind its answers."""
+
+    def __init__(self, relay: Relay) -> None:
+        super().__init__()
+        self.relay = relay
+
+    def all_taken(self) -> None:
+        self.relay.ask(self, [b"more"])
 
 
 class Killed:
