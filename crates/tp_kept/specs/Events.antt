@@ -1,5 +1,6 @@
 -- What has happened to a kept session, the last first.
-use Rattle.std.specs.Prelude.{◌≡◌, ◌-◌, ◌||◌, ◌&&◌, not, ◌==◌, if◌then◌else◌, ℕ, Bool, true, false, List, [], ◌∷◌, ◌++◌}
+use Rattle.std.specs.Prelude.{◌≡◌, ◌-◌, ◌||◌, ◌&&◌, not, ◌==◌, if◌then◌else◌, ℕ, Bool, true, false}
+use Rattle.std.specs.Prelude.{List, [], ◌∷◌, ◌++◌}
 use Rattle.std.specs.Prelude.{Option, Result, OnOk, length, take}
 use Rattle.std.specs.Io.KnownBytes.{Appends}
 use Rattle.tp_script.specs.declared.source.Failed.{Failed}

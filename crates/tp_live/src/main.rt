@@ -1,9 +1,10 @@
 //! Answers a live session: its lines on standard input, one by one, the answer of each on standard output.
 //!
-//! `tp_live --journal FILE` has each line in the journal FILE, on the disk, before it is answered, and goes on
-//! where the last one stood.
+//! `tp_live --journal FILE` has each line in the journal FILE, on the disk, before it is answered, and goes
+//! on where the last one stood.
 //!
-//! Exit status 0: done, at the end of the input. 1: a fault, with its line on standard error. 64: other words.
+//! Exit status 0: done, at the end of the input. 1: a fault, with its line on standard error. 64: other
+//! words.
 #![tactic(auto)]
 
 use std::env;
