@@ -43,11 +43,15 @@ abbrev pub Declines : Behaviour → List ℕ → Work → Declined → PassShown
 Declines behaviour registers work why old new = Allows behaviour registers work.element (Err why)
     × GivesUpUnit old new
 
+-- the answer of a turn whose unit, which had taken this element, was committed with this answer
+abbrev pub settled_as : ℕ → ℕ → Outcome → Turned
+settled_as unit element (outcomes.Committed first count) = turneds.Done unit element first count
+settled_as unit element outcomes.Lost = turneds.Lost element
+settled_as unit element outcomes.Full = turneds.Full element
+
 -- the answer of a turn whose commit had this answer
 abbrev pub settled : Work → Outcome → Turned
-settled work (outcomes.Committed first count) = turneds.Done work.unit work.element.id first count
-settled work outcomes.Lost = turneds.Lost work.element.id
-settled work outcomes.Full = turneds.Full work.element.id
+settled work outcome = settled_as work.unit work.element.id outcome
 
 -- what becomes of work that was claimed, and the registers that are left
 abbrev pub WorksOff : Behaviour → List ℕ → Work → PassShown → PassShown → Turned → List ℕ → Type 0

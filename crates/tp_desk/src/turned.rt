@@ -35,16 +35,22 @@ pub enum Turned {
 }
 
 impl Turned {
-    ghost use Rattle.tp_desk.specs.Turns.{settled};
+    ghost use Rattle.tp_desk.specs.Turns.{settled, settled_as};
 
     /// The answer of a turn whose work was committed with this answer.
     pub fn settled(work: &Work, outcome: Outcome) -> Turned
         ensures { result ≡ settled work.now outcome }
     {
-        let element = work.element.id;
+        Turned::settled_as(work.unit, work.element.id, outcome)
+    }
+
+    /// The answer of a turn whose unit, which had taken this element, was committed with this answer.
+    pub fn settled_as(unit: u16, element: u32, outcome: Outcome) -> Turned
+        ensures { result ≡ settled_as unit element outcome }
+    {
         match outcome {
             Outcome::Committed { first, count } => Turned::Done {
-                unit: work.unit,
+                unit,
                 element,
                 first,
                 count,

@@ -260,6 +260,16 @@ impl Pass {
     {
         self.task.is_some()
     }
+
+    /// The unit of work that the pass has open, if it has one.
+    pub fn open_unit(&self) -> Option<u16>
+        ensures { result ≡ self.now.open_unit }
+    {
+        match self.task {
+            Some(task) => Some(task.unit),
+            None => None,
+        }
+    }
 }
 
 impl Manager {

@@ -25,7 +25,7 @@ use Rattle.tp_rollover.specs.Survivors.{AreSurvivors, StandAgain}
 use Rattle.tp_rollover.specs.Told.{ToldFirst, seen_first}
 use Rattle.tp_rollover.specs.declared.moved.Moved.{Moved}
 use Rattle.tp_rollover.specs.declared.survivors.Survivor.{Survivor}
-use Rattle.tp_rollover.proofs.Carrying.{all_are_named, all_carried, carried_living, hands_go_on, stand_alive}
+use Rattle.tp_rollover.proofs.Carrying.{are_holders, all_are_named, all_carried, carried_living, hands_go_on, stand_alive}
 use Rattle.tp_rollover.proofs.Heads.{tail_all}
 use Rattle.tp_rollover.proofs.Others.{only_named}
 use Rattle.tp_rollover.proofs.Seen.{between, stays_trans}
@@ -184,6 +184,7 @@ rolls l k ok2 ok3 nk2 olds0 olds2 olds3 news moved limit r together given buries
   history = record { own = r.history.own; others = λ d low. r.history.others d (subst (λ n. n ≤ d) given low) };
   over = rolled l k ok2.seen ok3.seen nk2.seen r.survivors moved limit together.legal r.new_together.legal r.found r.again buries;
   hands = hands_go_on l k ok2.seen nk2.seen olds0 news r.survivors moved r.found r.again r.in_hand r.hands;
+  holders = are_holders k nk2.seen news r.survivors moved r.again.each r.hands;
   old_together = together;
   new_together = r.new_together;
 }

@@ -27,17 +27,17 @@ one_more l first xs i d few less root home =
 
 -- one more that is named
 pub named_more : (root first : ℕ) (xs : List Survivor) (i : ℕ) (d : Survivor) → i < length xs
-    → named root first (take (i + 1) xs) ≡ named root first (take i xs) ++ record { old = (get_or xs i d).id; new = first + i; old_root = (get_or xs i d).root; new_root = root } ∷ []
+    → named root first (take (i + 1) xs) ≡ named root first (take i xs) ++ record { old = (get_or xs i d).id; new = first + i; old_root = (get_or xs i d).root; new_root = root; holder = (get_or xs i d).holder } ∷ []
 named_more root first xs i d less = ap (λ k. named root first (take k xs)) (let e : i + 1 ≡ suc i = omega arith in e) ∙ more root first xs i d less
   where
-    moved_as : (root n m : ℕ) (s : Survivor) (ms : List Moved) → n ≡ m → record { old = s.id; new = n; old_root = s.root; new_root = root } ∷ ms ≡ record { old = s.id; new = m; old_root = s.root; new_root = root } ∷ ms
+    moved_as : (root n m : ℕ) (s : Survivor) (ms : List Moved) → n ≡ m → record { old = s.id; new = n; old_root = s.root; new_root = root; holder = s.holder } ∷ ms ≡ record { old = s.id; new = m; old_root = s.root; new_root = root; holder = s.holder } ∷ ms
     moved_as root n m s ms same = cc
 
     more : (root first : ℕ) (xs : List Survivor) (i : ℕ) (d : Survivor) → i < length xs
-        → named root first (take (suc i) xs) ≡ named root first (take i xs) ++ record { old = (get_or xs i d).id; new = first + i; old_root = (get_or xs i d).root; new_root = root } ∷ []
+        → named root first (take (suc i) xs) ≡ named root first (take i xs) ++ record { old = (get_or xs i d).id; new = first + i; old_root = (get_or xs i d).root; new_root = root; holder = (get_or xs i d).holder } ∷ []
     more root first [] i d less = absurd (omega (arith, less))
     more root first (s ∷ xs) zero d less = moved_as root first (first + 0) s [] (omega arith)
-    more root first (s ∷ xs) (suc i) d less = ap (λ ms. record { old = s.id; new = first; old_root = s.root; new_root = root } ∷ ms)
+    more root first (s ∷ xs) (suc i) d less = ap (λ ms. record { old = s.id; new = first; old_root = s.root; new_root = root; holder = s.holder } ∷ ms)
         (more root (first + 1) xs i d (omega (arith, less))
         ∙ ap (λ ms. named root (first + 1) (take i xs) ++ ms) (moved_as root (first + 1 + i) (first + suc i) (get_or xs i d) [] (omega arith)))
 

@@ -58,6 +58,7 @@ stands_one k s m p q r t is root n a b c look had look_root alike root_alike sam
     let request = told_second (IsLook k m.new_root root) p.seen r.seen t.seen both c.sees look_root e in
     record {
       named = (alike.old, alike.old_root);
+      holder = alike.holder;
       item = is.element;
       born = item.0;
       root = alike.root;

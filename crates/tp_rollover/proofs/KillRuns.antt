@@ -1,5 +1,5 @@
 -- Kills by one pass, one after another, after which all look together.
-use Rattle.std.proofs.Common.{◌≡◌, ℕ, suc, ◌+◌, ◌<◌, All, Some, Result, Ok, Err, List, [], ◌∷◌, ◌++◌, length, map, take, drop, get_or, slice_set, refl, sym, ◌∙◌, ap, subst, inl, ⊎_elim, arith}
+use Rattle.std.proofs.Common.{◌≡◌, ℕ, suc, ◌+◌, ◌<◌, All, None, Some, Result, Ok, Err, List, [], ◌∷◌, ◌++◌, length, map, take, drop, get_or, slice_set, refl, sym, ◌∙◌, ap, subst, inl, ⊎_elim, arith}
 use Rattle.std.specs.List.{AllZip}
 use Rattle.tp_model.specs.declared.types.Killed.{Killed as KilledAnswer}
 use Rattle.tp_model.specs.declared.types.Limits.{Limits}
@@ -36,7 +36,7 @@ use Rattle.tp_rollover.proofs.Running.{behind, goes_same, goes_trans}
 
 -- what stands past the end of a list
 abbrev pub nothing : Moved
-nothing = record { old = 0; new = 0; old_root = 0; new_root = 0 }
+nothing = record { old = 0; new = 0; old_root = 0; new_root = 0; holder = None }
 
 -- one more is killed
 pub one_killed : (l : Limits) (ms : List Moved) (m : Moved) (k : KilledAnswer) (old middle new : PassShown) → KillsEach l ms old middle → KillsOne l m.old (Ok k) middle new → KillsEach l (ms ++ m ∷ []) old new

@@ -55,6 +55,7 @@ module _ (p : ℕ) (s t : State) (survivors : List Survivor) (moved : List Moved
   one_stands : (x : Survivor) (m : Moved) → StandsUnheld s.limits.attempts s.history x m → StandsHeld p t x m → StandsAgain t.limits t.history x m
   one_stands x m a held = record {
     named = a.named;
+    holder = a.holder;
     item = a.item;
     born = holds.born m.new ∙ a.born;
     root = a.root;

@@ -164,8 +164,8 @@ so_described = record {
 
 stand_both : AllZip (StandsAgain small anew) described both
 stand_both = (
-  record { named = (refl, refl); item = output 1 2 20; born = refl; root = refl; stage = refl; body = refl; stands = (refl, tt); rounds_are = refl; request = request 0 1 (word 5); began = refl; by_client = refl; root_stage = refl; root_body = refl; itself = λ e. absurd cc },
-  (record { named = (refl, refl); item = output 2 3 30; born = refl; root = refl; stage = refl; body = refl; stands = (refl, tt); rounds_are = refl; request = request 0 1 (word 5); began = refl; by_client = refl; root_stage = refl; root_body = refl; itself = λ e. absurd cc }, tt),
+  record { named = (refl, refl); holder = refl; item = output 1 2 20; born = refl; root = refl; stage = refl; body = refl; stands = (refl, tt); rounds_are = refl; request = request 0 1 (word 5); began = refl; by_client = refl; root_stage = refl; root_body = refl; itself = λ e. absurd cc },
+  (record { named = (refl, refl); holder = refl; item = output 2 3 30; born = refl; root = refl; stage = refl; body = refl; stands = (refl, tt); rounds_are = refl; request = request 0 1 (word 5); began = refl; by_client = refl; root_stage = refl; root_body = refl; itself = λ e. absurd cc }, tt),
 )
 
 -- both are of the family of 0, in either manager

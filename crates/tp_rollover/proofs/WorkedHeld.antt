@@ -224,8 +224,8 @@ so_described = record {
 
 stand_both : AllZip (StandsAgain twice in_hand_anew) described_in_hand both_in_hand
 stand_both = (
-  record { named = (refl, refl); item = request 0 1 (word 5); born = refl; root = refl; stage = refl; body = refl; stands = (8, 1, refl, refl, refl); rounds_are = refl; request = request 0 1 (word 5); began = refl; by_client = refl; root_stage = refl; root_body = refl; itself = λ e. refl },
-  (record { named = (refl, refl); item = request 1 1 (word 6); born = refl; root = refl; stage = refl; body = refl; stands = (1, 0, refl, refl, refl); rounds_are = refl; request = request 1 1 (word 6); began = refl; by_client = refl; root_stage = refl; root_body = refl; itself = λ e. refl }, tt),
+  record { named = (refl, refl); holder = refl; item = request 0 1 (word 5); born = refl; root = refl; stage = refl; body = refl; stands = (8, 1, refl, refl, refl); rounds_are = refl; request = request 0 1 (word 5); began = refl; by_client = refl; root_stage = refl; root_body = refl; itself = λ e. refl },
+  (record { named = (refl, refl); holder = refl; item = request 1 1 (word 6); born = refl; root = refl; stage = refl; body = refl; stands = (1, 0, refl, refl, refl); rounds_are = refl; request = request 1 1 (word 6); began = refl; by_client = refl; root_stage = refl; root_body = refl; itself = λ e. refl }, tt),
 )
 
 -- each is a family of its own, one further in the old manager
@@ -242,7 +242,7 @@ abbrev Told : Element → Type 0
 Told y = IsNamed (λ m. m.new) y.id both_in_hand ⊎ (is_consumed (status_of 2 in_hand_anew y.id) ≡ true)
 
 all_told : AreOnly twice both_in_hand in_hand_anew
-all_told y is less = from_each Told (born in_hand_anew) y (inl (moved_in_hand 1 0, here, refl), (inl (moved_in_hand 2 1, there here, refl), tt)) (find_in y.id (born in_hand_anew) y is).0
+all_told y is less = from_each Told (born in_hand_anew) y (inl (moved_in_hand 1 0 1, here, refl), (inl (moved_in_hand 2 1 0, there here, refl), tt)) (find_in y.id (born in_hand_anew) y is).0
 
 stand : StandAgain twice in_hand_anew described_in_hand both_in_hand
 stand = record { each = stand_both; once = ((lit≤ tt, (lit≤ tt, tt)), (lit≤ tt, (lit≤ tt, tt))); families = own_families; rest = all_told }

@@ -16,6 +16,7 @@ pub record IsAlike (s : Survivor) (m : Moved) (is : Look) : Type 0 where
   pub alive : IsKillable s.status
   pub old : m.old ≡ s.id
   pub old_root : m.old_root ≡ s.root
+  pub holder : m.holder ≡ s.holder
   pub status : is.status ≡ s.status
   pub stage : is.element.stage ≡ s.stage
   pub body : is.element.body ≡ s.body
@@ -31,6 +32,7 @@ pub record IsRootAlike (s : Survivor) (root : Look) : Type 0 where
 -- what was described waits or is parked so, under the id that it has now
 pub record StandsUnheld (limit : ℕ) (g : List Event) (s : Survivor) (m : Moved) : Type 0 where
   pub named : (m.old ≡ s.id) × (m.old_root ≡ s.root)
+  pub holder : m.holder ≡ s.holder
   pub item : Element
   pub born : element_of g m.new ≡ Some item
   pub root : item.root ≡ m.new_root

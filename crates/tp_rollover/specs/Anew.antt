@@ -244,7 +244,8 @@ next_born l p (s ∷ rest) b =
 abbrev pub named : ℕ → ℕ → List Survivor → List Moved
 named root id [] = []
 named root id (s ∷ rest) =
-    record { old = s.id; new = id; old_root = s.root; new_root = root } ∷ named root (id + 1) rest
+    record { old = s.id; new = id; old_root = s.root; new_root = root; holder = s.holder }
+    ∷ named root (id + 1) rest
 
 abbrev pub named_in : Group → List Survivor → List Moved
 named_in group rest = named group.root group.first (take group.count rest)

@@ -5,7 +5,7 @@ use Rattle.tp_model.specs.declared.event.Event.{Event}
 use Rattle.tp_model.specs.History.{In, events_by}
 use Rattle.tp_manager.specs.Shown.{KeeperShown, PassShown}
 use Rattle.tp_alone.specs.Thread.{AreTogether}
-use Rattle.tp_rollover.specs.Hands.{HandsGoOn}
+use Rattle.tp_rollover.specs.Hands.{AreHolders, HandsGoOn}
 use Rattle.tp_rollover.specs.Rolls.{RollsOver}
 use Rattle.tp_rollover.specs.Survivors.{AreHands, AreInHand, AreSurvivors, StandAgain}
 use Rattle.tp_rollover.specs.declared.moved.Moved.{Moved}
@@ -23,6 +23,7 @@ pub record Rolls (l k : Limits) (old' new' : KeeperShown) (olds olds' news' : Li
   pub history : IsHistoryOf old' olds before
   pub over : RollsOver l k 0 before old'.seen new'.seen moved
   pub hands : HandsGoOn l k before new'.seen olds news' moved
+  pub holders : AreHolders k new'.seen news' moved
   pub old_together : AreTogether l old' olds' old'.seen
   pub new_together : AreTogether k new' news' new'.seen
 

@@ -1,6 +1,7 @@
 -- What passes have in hand, and how it goes on in another manager.
-use Rattle.std.specs.Prelude.{◌≡◌, ℕ, ◌/◌, None, Some, List, max}
+use Rattle.std.specs.Prelude.{◌≡◌, ℕ, ◌/◌, IfSome, Option, None, Some, List, max}
 use Rattle.tp_model.specs.declared.types.Limits.{Limits}
+use Rattle.tp_model.specs.declared.types.Status.{Status}
 use Rattle.tp_model.specs.declared.types.Status.TheVariants.{Held}
 use Rattle.tp_model.specs.declared.event.Event.{Event}
 use Rattle.tp_model.specs.History.{In, status_of}
@@ -29,11 +30,27 @@ holder_of l u = u / max l.units 1
 abbrev pub Holds : Limits → List Event → ℕ → Type 0
 Holds l h c = (i u n : ℕ) × (status_of l.attempts h i ≡ Held u n) × (holder_of l u ≡ c)
 
+-- an element with this status is named with the pass that holds it, where one does
+abbrev pub IsHeldBy : Limits → Status → Option ℕ → Type 0
+IsHeldBy l (Held u n) holder = holder ≡ Some (holder_of l u)
+IsHeldBy l other holder = holder ≡ None
+
+-- pass c is named as the holder of one
+abbrev pub IsNamedHolder : ℕ → List Moved → Type 0
+IsNamedHolder c moved = (m : Moved) × In m moved × (m.holder ≡ Some c)
+
+-- a pass that is named as a holder has just that in hand, and the others have nothing in hand
+pub record AreHolders (k : Limits) (g : List Event) (passes : List PassShown) (moved : List Moved)
+    : Type 0 where
+  pub held : (m : Moved) → In m moved → IfSome m.holder (λ c. HasInHand k g passes c m.new)
+  pub free : (p : PassShown) → In p passes → ¬ IsNamedHolder p.number moved → p.open_unit ≡ None
+
 -- What a pass held in the old manager, where it had a unit open, the pass of that number has in hand in the
 -- new one. No other pass has anything in hand there: one whose unit was lost, since what it took was killed,
 -- cancelled or released, has nothing.
 pub record HandsGoOn (l k : Limits) (h g : List Event) (olds news : List PassShown) (moved : List Moved)
     : Type 0 where
+  pub named : (m : Moved) → In m moved → IsHeldBy l (status_of l.attempts h m.old) m.holder
   pub had : (m : Moved) → In m moved → (u n : ℕ) → status_of l.attempts h m.old ≡ Held u n
       → HasOpen olds (holder_of l u)
   pub held : (m : Moved) → In m moved → (u n : ℕ) → status_of l.attempts h m.old ≡ Held u n

@@ -18,7 +18,7 @@ use Rattle.tp_rollover.specs.declared.survivors.Survivor.{Survivor}
 
 -- what a request is called that was submitted
 abbrev pub named_root : Survivor → ℕ → Moved
-named_root s id = record { old = s.id; new = id; old_root = s.root; new_root = id }
+named_root s id = record { old = s.id; new = id; old_root = s.root; new_root = id; holder = s.holder }
 
 -- pass c submits copies of these, one after another, behind those that are named
 abbrev pub roots_born : ℕ → List Survivor → List Moved × State → Option (List Moved × State)

@@ -12,7 +12,7 @@ use Rattle.tp_model.specs.Steps.{IsKillable}
 use Rattle.tp_manager.specs.Shown.{KeeperShown, PassShown}
 use Rattle.tp_alone.specs.Thread.{AreTogether}
 use Rattle.tp_rollover.specs.Checks.{AreFamilies, AreOnly, MovedAscend}
-use Rattle.tp_rollover.specs.Hands.{HasInHand, HasOpen, holder_of}
+use Rattle.tp_rollover.specs.Hands.{AreHolders, HasInHand, HasOpen, holder_of}
 use Rattle.tp_rollover.specs.declared.moved.Moved.{Moved}
 use Rattle.tp_rollover.specs.declared.survivors.Survivor.{Survivor}
 
@@ -69,6 +69,7 @@ AreInHand passes survivors = All (λ (s : Survivor). IfSome s.holder (HasOpen pa
 -- client's element, which is like the one described, and itself where it was so.
 pub record StandsAgain (k : Limits) (g : List Event) (s : Survivor) (m : Moved) : Type 0 where
   pub named : (m.old ≡ s.id) × (m.old_root ≡ s.root)
+  pub holder : m.holder ≡ s.holder
   pub item : Element
   pub born : element_of g m.new ≡ Some item
   pub root : item.root ≡ m.new_root
@@ -111,4 +112,5 @@ pub record Restores (k : Limits) (keeper : KeeperShown) (passes : List PassShown
     (moved : List Moved) : Type 0 where
   pub again : StandAgain k keeper.seen survivors moved
   pub hands : AreHands k keeper.seen passes survivors moved
+  pub holders : AreHolders k keeper.seen passes moved
   pub together : AreTogether k keeper passes keeper.seen

@@ -32,10 +32,10 @@ before = Enqueue 0 (request 0 1 (word 5)) ∷ Claim 0 0 0 1 ∷ Commit 0 0 (outp
 
 -- the two that are alive, and what they are in the new manager
 abbrev pub first_moved : Moved
-first_moved = record { old = 2; new = 1; old_root = 0; new_root = 0 }
+first_moved = record { old = 2; new = 1; old_root = 0; new_root = 0; holder = None }
 
 abbrev pub second_moved : Moved
-second_moved = record { old = 3; new = 2; old_root = 0; new_root = 0 }
+second_moved = record { old = 3; new = 2; old_root = 0; new_root = 0; holder = None }
 
 -- there a carrier is their root, and the second one has its attempt
 abbrev pub anew : List Event
@@ -98,11 +98,11 @@ abbrev pub in_hand_anew : List Event
 in_hand_anew = Enqueue 0 (request 0 1 (word 5)) ∷ Enqueue 0 (request 1 1 (word 6)) ∷ Claim 0 0 0 1 ∷ Abort 0 0
     ∷ Claim 1 8 0 2 ∷ Claim 0 1 1 1 ∷ []
 
-abbrev pub moved_in_hand : ℕ → ℕ → Moved
-moved_in_hand old new = record { old = old; new = new; old_root = old; new_root = new }
+abbrev pub moved_in_hand : ℕ → ℕ → ℕ → Moved
+moved_in_hand old new c = record { old = old; new = new; old_root = old; new_root = new; holder = Some c }
 
 abbrev pub both_in_hand : List Moved
-both_in_hand = moved_in_hand 1 0 ∷ moved_in_hand 2 1 ∷ []
+both_in_hand = moved_in_hand 1 0 1 ∷ moved_in_hand 2 1 0 ∷ []
 
 abbrev pub survivor_in_hand : ℕ → ℕ → ℕ → ℕ → Survivor
 survivor_in_hand id c waited w = record {

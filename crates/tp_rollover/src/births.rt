@@ -314,6 +314,7 @@ fn name(moved: &mut Vec<Moved>, rest: &[Survivor], group: Group) -> Result<(), S
             new,
             old_root: rest[place].root,
             new_root: group.root,
+            holder: rest[place].holder,
         };
         if moved.push(one).is_err() {
             return Err(Stop::NoMemory);

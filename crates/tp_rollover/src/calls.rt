@@ -81,6 +81,7 @@ fn submit_each(
             new: id,
             old_root: one.root,
             new_root: id,
+            holder: one.holder,
         };
         if moved.push(named).is_err() {
             return Err(Stop::NoMemory);

@@ -20,6 +20,7 @@ fn is_alike(one: Survivor, named: Moved, is: &Look) -> bool
     is_alive(one.status)
         && named.old == one.id
         && named.old_root == one.root
+        && named.holder == one.holder
         && is.status == one.status
         && is.element.stage == one.stage
         && is.element.body == one.body

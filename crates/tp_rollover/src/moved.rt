@@ -7,6 +7,8 @@ pub struct Moved {
     pub new: u32,
     pub old_root: u32,
     pub new_root: u32,
+    /// The number of the pass that has it in hand in either manager, if one has.
+    pub holder: Option<u16>,
 }
 
 /// Why nothing was carried over or restored. The old manager stands as it did; the new one is to be given up.
@@ -23,7 +25,7 @@ pub enum RollFault {
     /// hand is carried over. It is for callers who can't go on with it.
     Busy,
     /// The new manager has not the rows or the units for what is alive. One of its passes has no unit left
-    /// then, or fewer than four rows and no spare block.
+    /// then, or one while an element is in hand, or fewer than four rows and no spare block.
     Full,
     /// What stands in the new manager isn't what is alive in the old one, or what was described: something
     /// had happened there before, or descriptions contradict each other or its limits. In a rollover into a

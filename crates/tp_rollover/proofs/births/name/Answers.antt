@@ -10,7 +10,7 @@ loop-place-preserved c =
     let g = c.args.group in
     let i = c.loop-place.place in
     let before = c.args.moved.now.items in
-    let one : ℕ → Moved = λ n. record { old = (get_or c.args.rest.now i blank).id; new = n; old_root = (get_or c.args.rest.now i blank).root; new_root = g.root } in
+    let one : ℕ → Moved = λ n. record { old = (get_or c.args.rest.now i blank).id; new = n; old_root = (get_or c.args.rest.now i blank).root; new_root = g.root; holder = (get_or c.args.rest.now i blank).holder } in
     let new : c.in-Some.new ≡ g.first + i = c.in-Some.ensures.1 ∙ ap (λ n. g.first + n) c.in-Ok.ensures.1 in
     let pushed : c.push.new.self.items ≡ c.loop-place.moved.items ++ one c.in-Some.new ∷ [] = search rules in
     pushed

@@ -5,6 +5,7 @@ use Rattle.tp_rollover.specs.Anew.{all_held, made_unheld}
 use Rattle.tp_rollover.specs.Lone.{lone}
 use Rattle.tp_rollover.specs.declared.moved.Moved.{Moved}
 use Rattle.tp_rollover.proofs.Agreeing.{stops_first}
+use Rattle.tp_rollover.proofs.Carrying.{are_holders}
 use Rattle.tp_rollover.proofs.Holding.{held_again, stands_free}
 use Rattle.tp_rollover.proofs.MadeAnew.{made_held, made_so_far}
 use Rattle.tp_rollover.proofs.Standing.{are_hands, none_in_hand, stand_again, thread_long}
@@ -65,10 +66,13 @@ returns-clause-restored c =
     let many = subst (λ n. n ≤ length free.passes) (sym long) (thread_long m.limits ps c.stand_unheld.new.keeper.seen) in
     let held' = subst (λ n. all_held n c.args.survivors.now moved free ≡ Some done) (sym long) held in
     let holds = held_again (length qs) c.args.survivors.now moved free done 0 many unheld.once.1 (stands_free m.limits free c.args.survivors.now moved refl unheld.each) held' in
+    let again = stand_again (length qs) free done c.args.survivors.now moved unheld holds in
+    let hands = are_hands m.limits qs c.hold_all.new.keeper.seen all.1 free c.args.survivors.now moved
+    (λ d less. none_in_hand m.limits ps c.stand_unheld.new.keeper.seen c.stand_unheld.ensures.all.1 (c.if-has_open.ensures.free refl) d (subst (λ n. d < n) long less)) holds in
     record {
-      again = stand_again (length qs) free done c.args.survivors.now moved unheld holds;
-      hands = are_hands m.limits qs c.hold_all.new.keeper.seen all.1 free c.args.survivors.now moved
-          (λ d less. none_in_hand m.limits ps c.stand_unheld.new.keeper.seen c.stand_unheld.ensures.all.1 (c.if-has_open.ensures.free refl) d (subst (λ n. d < n) long less)) holds;
+      again = again;
+      hands = hands;
+      holders = are_holders m.limits c.hold_all.new.keeper.seen qs c.args.survivors.now moved again.each hands;
       together = c.hold_all.ensures.lone.0.together;
     }
 
