@@ -26,7 +26,7 @@ use Rattle.tp_workers.specs.Free.{IsFreePass, numbers}
 use Rattle.tp_commands.specs.declared.place.Place.{Place}
 use Rattle.tp_commands.specs.Acting.{places_shown}
 use Rattle.tp_commands.specs.Places.{AllLie, Lies, workers}
-use Rattle.tp_perform.specs.Scenes.{Gathered, GatheredIn, OnlyPass, Scene, passes_in}
+use Rattle.tp_perform.specs.Scenes.{Gathered, GatheredIn, OnlyPass, Scene, own_passes, passes_in}
 use Rattle.tp_perform.specs.Told.{AreReady, IsScene, units_held}
 
 -- ---- lists side by side
@@ -166,6 +166,13 @@ module _ {X : Type 0} {F : X → Type 0} (behaviour : DynBox X Global F → Beha
   pub all_in : (m : ManagerShown) (ps : List PassShown) (ss : List Box) (os : List (Place X F)) (a : Scene) → AreReady behaviour registers pending m ps ss os → IsScene behaviour registers pending ps ss os a → passes_in a ≡ ps
   all_in m ps ss os a ready is =
       ap (λ zs. a.client ∷ (zs ++ a.racers)) (ap (map (λ p. p.desk.pass)) is.1 ∙ shown_passes (workers (length ss) ps) ss os ready.lie) ∙ sym is.0
+
+  -- those of the program are the first
+  pub own_in : (m : ManagerShown) (ps : List PassShown) (ss : List Box) (os : List (Place X F)) (a : Scene) → AreReady behaviour registers pending m ps ss os → IsScene behaviour registers pending ps ss os a → own_passes a ≡ take (1 + length ss) ps
+  own_in m [] ss os a ready is = let e : [] ≡ a.client ∷ (workers (length ss) [] ++ a.racers) = is.0 in absurd cc
+  own_in m (p ∷ ps) ss os a ready is =
+      let first : a.client ≡ p = (let e : p ∷ ps ≡ a.client ∷ (workers (length ss) (p ∷ ps) ++ a.racers) = is.0 in cc) in
+      ap (λ zs. a.client ∷ zs) (ap (map (λ p. p.desk.pass)) is.1 ∙ shown_passes (workers (length ss) (p ∷ ps)) ss os ready.lie) ∙ ap (λ z. z ∷ workers (length ss) (p ∷ ps)) first
 
   -- nothing else is shown
   pub only_passes : (ps qs : List PassShown) (ss : List Box) (os : List (Place X F)) → AllZip Looks ps qs → AllZip OnlyPass (places_shown behaviour registers pending ps ss os) (places_shown behaviour registers pending qs ss os)

@@ -1,74 +1,106 @@
 -- What a rollover leaves between two commands.
-use Rattle.std.proofs.Common.{◌≡◌, ◌≤◌, ◌+◌, ℕ, suc, List, [], ◌∷◌, ◌++◌, All, Option, Some, None, inl, refl, sym, ◌∙◌, ap, subst, arith, length, map, drop, take}
+use Rattle.std.proofs.Common.{◌≡◌, ◌<◌, ◌≤◌, ◌+◌, ℕ, zero, suc, List, [], ◌∷◌, ◌++◌, All, Option, Some, None, refl, sym, ◌∙◌, ap, subst, arith, get_or, length, map, drop, take}
 use Rattle.std.specs.Option.{option_map}
 use Rattle.std.specs.List.{AllZip}
 use Rattle.std.specs.declared.alloc.Global.{Global}
 use Rattle.std.specs.declared.dyn_box.DynBox.{DynBox}
 use Rattle.std.proofs.lemmas.List.{length-append, length-drop, length-take}
-use Rattle.std.proofs.lemmas.List.Elements.{All-cons, All-drop, All-head, All-nil, All-tail, All-take}
+use Rattle.std.proofs.lemmas.List.Elements.{All-cons, All-head, All-nil, All-tail, All-take}
 use Rattle.tp_model.specs.declared.types.Limits.{Limits}
+use Rattle.tp_model.specs.declared.types.Status.{Status}
+use Rattle.tp_model.specs.declared.types.Status.TheVariants.{Consumed, Held, Killed, Parked, Waiting}
 use Rattle.tp_model.specs.declared.types.Work.{Work}
 use Rattle.tp_model.specs.Drafts.{DraftView}
+use Rattle.tp_model.specs.History.{In, here, status_of, there}
 use Rattle.tp_server.specs.Behaviour.{Behaviour}
 use Rattle.tp_server.specs.Pending.{Pending}
-use Rattle.tp_manager.specs.Accounts.{AreAll, Gathers}
+use Rattle.tp_manager.specs.Accounts.{AreAll, AreNumberedFrom, Gathers}
 use Rattle.tp_manager.specs.Bounds.{gather_steps}
 use Rattle.tp_manager.specs.Shown.{IsOf, KeeperShown, ManagerShown, PassShown}
 use Rattle.tp_desk.specs.declared.aside.Aside.{Aside}
 use Rattle.tp_desk.specs.InHand.{InHand}
 use Rattle.tp_plain.specs.OneThread.{start}
 use Rattle.tp_alone.specs.Thread.{Stays, thread_of}
+use Rattle.tp_alone.proofs.Apart.{number_in}
 use Rattle.tp_rollover.specs.Answers.{Rolls}
 use Rattle.tp_rollover.specs.Carries.{Carries}
 use Rattle.tp_rollover.specs.Faults.{AreFree}
 use Rattle.tp_rollover.specs.Managed.{GoesOn, IsManaged, StaysManaged}
-use Rattle.tp_rollover.proofs.Freed.{free_again}
+use Rattle.tp_rollover.proofs.Carrying.{each_of}
 use Rattle.tp_rollover.proofs.Heads.{stay_same}
+use Rattle.tp_rollover.proofs.Lists.{in_at}
+use Rattle.tp_rollover.specs.Hands.{HasOpen, IsHeldBy, holder_of}
 use Rattle.tp_rollover.specs.declared.moved.RollFault.{RollFault}
 use Rattle.tp_rollover.specs.declared.managed.Managed.{Managed}
 use Rattle.tp_rollover.specs.declared.moved.Moved.{Moved}
-use Rattle.tp_report.specs.Answer.{line, rolled_text}
+use Rattle.tp_report.specs.Answer.{line}
 use Rattle.tp_workers.specs.Free.{IsFreePass}
 use Rattle.tp_commands.specs.declared.place.Place.{Place}
 use Rattle.tp_commands.specs.Acting.{place_shown, places_shown, work_in}
 use Rattle.tp_commands.specs.Places.{AllLie, Lies, all_firsts, first_of, firsts, workers}
-use Rattle.tp_perform.specs.Rollover.{BeginsAgain, RollRefused, RollsOn, renamed, roll_refused_text, stand}
+use Rattle.tp_perform.specs.Rollover.{BeginsAgain, IsUnrolled, IsUnrolledFor, RollRefused, RolledOver, roll_refused_text, stand}
 use Rattle.tp_perform.specs.Scenes.{OnlyPass, Scene, passes_in}
 use Rattle.tp_perform.specs.Told.{AreReady, IsScene, units_held}
-use Rattle.tp_perform.proofs.Gatherings.{Looks, all_in, gathered, held_gathered, only_passes, ready_gathered, ready_on, same_held, scene_on, zip_drop, zip_take, zip_with}
+use Rattle.tp_perform.proofs.Gatherings.{Looks, all_in, gathered, held_gathered, only_passes, own_in, ready_gathered, ready_on, same_held, scene_on, zip_drop, zip_take, zip_with}
 use Rattle.tp_perform.proofs.Slices.{scene_there}
 
 -- ---- passes without a unit
 
--- as many of them, and none of either has one open
-none_open : (ps qs : List PassShown) → length qs ≡ length ps → AreFree ps → AreFree qs → map (λ (p : PassShown). p.open_unit) qs ≡ map (λ (p : PassShown). p.open_unit) ps
-none_open [] [] long before after = refl
-none_open [] (q ∷ qs) long before after = absurd (omega (arith, long))
-none_open (p ∷ ps) [] long before after = absurd (omega (arith, long))
-none_open (p ∷ ps) (q ∷ qs) long before after =
-    let one : q.open_unit ≡ p.open_unit = All-head (λ (p : PassShown). p.open_unit ≡ None) q qs after ∙ sym (All-head (λ (p : PassShown). p.open_unit ≡ None) p ps before) in
-    ap (λ (z : Option ℕ). z ∷ map (λ (p : PassShown). p.open_unit) qs) one
-    ∙ ap (λ (zs : List (Option ℕ)). p.open_unit ∷ zs) (none_open ps qs (omega (arith, long)) (All-tail (λ (p : PassShown). p.open_unit ≡ None) p ps before) (All-tail (λ (p : PassShown). p.open_unit ≡ None) q qs after))
-
-pub none_held : (n : ℕ) (ps qs : List PassShown) → length qs ≡ length ps → AreFree ps → AreFree qs → units_held n qs ≡ units_held n ps
-none_held n ps qs long before after =
-    let one = length-drop 1 ps in
-    let two = length-drop 1 qs in
-    let three = length-drop n (drop 1 ps) in
-    let four = length-drop n (drop 1 qs) in
-    none_open (drop n (drop 1 ps)) (drop n (drop 1 qs)) (omega (arith, long, one, two, three, four))
-    (All-drop (λ (p : PassShown). p.open_unit ≡ None) n _ (All-drop (λ (p : PassShown). p.open_unit ≡ None) 1 _ before))
-    (All-drop (λ (p : PassShown). p.open_unit ≡ None) n _ (All-drop (λ (p : PassShown). p.open_unit ≡ None) 1 _ after))
+abbrev Free : PassShown → Type 0
+Free p = p.open_unit ≡ None
 
 -- the client's is free
-pub first_free : (m : ManagerShown) (ps : List PassShown) → All (IsOf m) ps → AreFree ps → All (IsFreePass m) (take 1 ps)
-first_free m [] own free = All-nil (IsFreePass m)
-first_free m (p ∷ ps) own free =
-    All-cons (IsFreePass m) p [] (record { own = All-head (IsOf m) p ps own; free = All-head (λ (p : PassShown). p.open_unit ≡ None) p ps free }) (All-nil (IsFreePass m))
+pub first_free : (m : ManagerShown) (n : ℕ) (ps : List PassShown) → All (IsOf m) ps → AreFree (take (suc n) ps) → All (IsFreePass m) (take 1 ps)
+first_free m n [] own free = All-nil (IsFreePass m)
+first_free m n (p ∷ ps) own free =
+    All-cons (IsFreePass m) p [] (record { own = All-head (IsOf m) p ps own; free = All-head Free p (take n ps) free }) (All-nil (IsFreePass m))
 
--- none of the new manager's has one open, where none of the old one's had
-pub gone_free : (old new : Managed) (moved : List Moved) → GoesOn old new moved → AreFree old.passes.items → AreFree new.passes.items
-gone_free old new moved on free = free_again old.manager.limits new.manager.limits on.keeper new.keeper old.passes.items on.passes new.passes.items moved on.rolls free
+-- and so are those of the servers
+pub desks_free : (n : ℕ) (ps : List PassShown) → AreFree (take (suc n) ps) → AreFree (workers n ps)
+desks_free n [] free = All-take Free n [] (All-nil Free)
+desks_free n (p ∷ ps) free = All-tail Free p (take n ps) free
+
+-- ---- the first so many passes, by their numbers
+
+front_low : (a n : ℕ) (ps : List PassShown) (q : PassShown) → AreNumberedFrom a ps → In q (take n ps) → In q ps × (q.number < a + n)
+front_low a zero ps q all p = elim p [ ]
+front_low a (suc n) [] q all p = elim p [ ]
+front_low a (suc n) (x ∷ ps) q all here = (here, (let e = all.0 in omega (arith, e)))
+front_low a (suc n) (x ∷ ps) q all (there p) = let t = front_low (a + 1) n ps q all.1 p in (there t.0, (let less = t.1 in omega (arith, less)))
+
+low_front : (a n : ℕ) (ps : List PassShown) (q : PassShown) → AreNumberedFrom a ps → In q ps → q.number < a + n → In q (take n ps)
+low_front a zero ps q all p less = let low = (number_in a ps q all p).0 in absurd (omega (arith, low, less))
+low_front a (suc n) [] q all p less = elim p [ ]
+low_front a (suc n) (x ∷ ps) q all here less = here
+low_front a (suc n) (x ∷ ps) q all (there p) less = there (low_front (a + 1) n ps q all.1 p (omega (arith, less)))
+
+pub front_free : (n : ℕ) (ps : List PassShown) → AreNumberedFrom 0 ps → ((q : PassShown) → In q ps → q.number < n → q.open_unit ≡ None) → AreFree (take n ps)
+front_free n ps from each = λ k d less.
+    let t = front_low 0 n ps (get_or (take n ps) k d) from (in_at (take n ps) k d less) in
+    each (get_or (take n ps) k d) t.0 t.1
+
+-- who is named as a holder had a unit open
+held_of : (l : Limits) (st : Status) (c : ℕ) → IsHeldBy l st (Some c) → (u : ℕ) × (n : ℕ) × (st ≡ Held u n) × (holder_of l u ≡ c)
+held_of l (Waiting n) c is = absurd cc
+held_of l (Held u n) c is = (u, n, refl, cc)
+held_of l (Consumed u) c is = absurd cc
+held_of l (Parked n) c is = absurd cc
+held_of l Killed c is = absurd cc
+
+-- so a pass that had none open has none open in the new manager
+pub idle_on : (l k : Limits) (old' new' : KeeperShown) (olds olds' news : List PassShown) (moved : List Moved) → Rolls l k old' new' olds olds' news moved → (q : PassShown) → In q news → ¬ HasOpen olds q.number → q.open_unit ≡ None
+idle_on l k old' new' olds olds' news moved r q p none = r.holders.free q p (λ named.
+    let m = named.0 in
+    let held = held_of l (status_of l.attempts r.before m.old) q.number (subst (IsHeldBy l (status_of l.attempts r.before m.old)) named.2 (r.hands.named m named.1)) in
+    none (subst (HasOpen olds) held.3 (r.hands.had m named.1 held.0 held.1 held.2)))
+
+-- those of the program have none there, where they had none
+pub gone_free : (own : ℕ) (old new : Managed) (moved : List Moved) → IsManaged old → IsManaged new → GoesOn old new moved → AreFree (take own old.passes.items) → AreFree (take own new.passes.items)
+gone_free own old new moved was is on free = front_free own new.passes.items is.all.1 (λ q p less.
+    idle_on old.manager.limits new.manager.limits on.keeper new.keeper old.passes.items on.passes new.passes.items moved on.rolls q p (λ has.
+    let none = each_of Free (take own old.passes.items) has.0 free (low_front 0 own old.passes.items has.0 was.all.1 has.1 (subst (λ c. c < own) (sym has.2) less)) in
+    let e : None ≡ Some has.3 = sym none ∙ has.4 in
+    absurd cc))
 
 -- a pass that stays has done nothing but look
 pub stayed : (p q : PassShown) → Stays p q → Looks p q
@@ -82,15 +114,12 @@ pub gathers_of : (old mid new : Managed) → mid.manager ≡ old.manager → Gat
     → Gathers old.manager.limits (gather_steps old.manager.limits (length mid.passes.items)) mid.keeper new.keeper mid.passes.items new.passes.items
 gathers_of old mid new same gathers = subst (λ (m : ManagerShown). Gathers m.limits (gather_steps m.limits (length mid.passes.items)) mid.keeper new.keeper mid.passes.items new.passes.items) same gathers
 
-pub stands_refused : (is_due : List PassShown → RollFault → Type 0) (old new : Managed) (a b : Scene) (text : List ℕ) → new.manager ≡ old.manager → RollRefused is_due (stand old a) text (record { manager = old.manager; keeper = new.keeper; scene = b }) → RollRefused is_due (stand old a) text (stand new b)
+pub stands_refused : (is_due : Scene → RollFault → Type 0) (old new : Managed) (a b : Scene) (text : List ℕ) → new.manager ≡ old.manager → RollRefused is_due (stand old a) text (record { manager = old.manager; keeper = new.keeper; scene = b }) → RollRefused is_due (stand old a) text (stand new b)
 stands_refused is_due old new a b text same refuses = subst (λ (m : ManagerShown). RollRefused is_due (stand old a) text (record { manager = m; keeper = new.keeper; scene = b })) (sym same) refuses
 
 -- where nothing has changed
 pub stays_still : (old new : Managed) → new ≡ old → StaysManaged old new
 stays_still old new same = subst (λ z. StaysManaged old z) (sym same) (record { manager = refl; given = refl; passes = stay_same old.passes.items })
-
-pub stands_with : (old new : Managed) (a b : Scene) (text : List ℕ) → new.manager ≡ old.manager → RollsOn (stand old a) text (record { manager = old.manager; keeper = new.keeper; scene = b }) → RollsOn (stand old a) text (stand new b)
-stands_with old new a b text same rolls = subst (λ (m : ManagerShown). RollsOn (stand old a) text (record { manager = m; keeper = new.keeper; scene = b })) (sym same) rolls
 
 module _ {X : Type 0} {F : X → Type 0} (behaviour : DynBox X Global F → Behaviour) (registers : DynBox X Global F → List ℕ) (pending : DynBox X Global F → Option Pending) where
   abbrev Box : Type 0
@@ -181,7 +210,8 @@ module _ {X : Type 0} {F : X → Type 0} (behaviour : DynBox X Global F → Beha
       omega (arith, long, one, two, three, four, five, six)
 
   -- where it went on
-  module _ (old new : Managed) (moved : List Moved) (ss : List Box) (os ns : List (Place X F)) (managed : IsManaged old) (managed' : IsManaged new) (on : GoesOn old new moved) (idle : AreFree old.passes.items) (free : AreFree new.passes.items)
+  module _ (old new : Managed) (moved : List Moved) (ss : List Box) (os ns : List (Place X F)) (managed : IsManaged old) (managed' : IsManaged new) (on : GoesOn old new moved)
+      (idle : AreFree (take (1 + length ss) old.passes.items)) (free : AreFree (take (1 + length ss) new.passes.items))
       (ready : AreReady behaviour registers pending old.manager old.passes.items ss os) (enough : 1 + length ss ≤ length old.passes.items)
       (lie : Lie (workers (length ss) new.passes.items) ss ns) (began : firsts ns ≡ all_firsts (workers (length ss) new.passes.items) ss)
       (dropped : map (λ (o : Place X F). o.is_dropped) ns ≡ map (λ (o : Place X F). o.is_dropped) os) where
@@ -189,27 +219,19 @@ module _ {X : Type 0} {F : X → Type 0} (behaviour : DynBox X Global F → Beha
     as_long = managed'.parts ∙ (ap (λ (l : Limits). l.parts) on.limits ∙ sym managed.parts)
 
     pub ready_again : AreReady behaviour registers pending new.manager new.passes.items ss ns
-    ready_again = record { own = managed'.own; client = first_free new.manager new.passes.items managed'.own free; lie = lie }
+    ready_again = record { own = managed'.own; client = first_free new.manager (length ss) new.passes.items managed'.own free; lie = lie }
 
-    pub held_again : units_held (length ss) new.passes.items ≡ units_held (length ss) old.passes.items
-    held_again = none_held (length ss) old.passes.items new.passes.items as_long idle free
-
-    worker_free : (ps : List PassShown) → AreFree ps → AreFree (workers (length ss) ps)
-    worker_free ps none = All-take (λ (p : PassShown). p.open_unit ≡ None) (length ss) _ (All-drop (λ (p : PassShown). p.open_unit ≡ None) 1 ps none)
-
-    pub rolled : (text : List ℕ) → text ≡ line (rolled_text (map renamed moved))
-        → (a : Scene) × (b : Scene) × IsScene behaviour registers pending old.passes.items ss os a × RollsOn (stand old a) text (stand new b) × IsScene behaviour registers pending new.passes.items ss ns b
-    rolled text is =
+    pub rolled : (a : Scene) × (b : Scene) × IsScene behaviour registers pending old.passes.items ss os a × RolledOver (stand old a) moved (stand new b) × IsScene behaviour registers pending new.passes.items ss ns b
+    rolled =
         let a = scene_there behaviour registers pending old.passes.items ss os (omega (arith, enough)) in
         let b = scene_there behaviour registers pending new.passes.items ss ns (omega (arith, enough, as_long)) in
         let olds : passes_in a.0 ≡ old.passes.items = all_in behaviour registers pending old.manager old.passes.items ss os a.0 ready a.1 in
         let news : passes_in b.0 ≡ new.passes.items = all_in behaviour registers pending new.manager new.passes.items ss ns b.0 ready_again b.1 in
-        let again = all_again (workers (length ss) old.passes.items) (workers (length ss) new.passes.items) ss os ns ready.lie (worker_free old.passes.items idle) lie (worker_free new.passes.items free) began dropped in (
+        let again = all_again (workers (length ss) old.passes.items) (workers (length ss) new.passes.items) ss os ns ready.lie (desks_free (length ss) old.passes.items idle) lie (desks_free (length ss) new.passes.items free) began dropped in (
           a.0,
           b.0,
           a.1,
-          inl (record {
-            moved = moved;
+          record {
             keeper = on.keeper;
             passes = on.passes;
             given = on.given;
@@ -219,16 +241,22 @@ module _ {X : Type 0} {F : X → Type 0} (behaviour : DynBox X Global F → Beha
             carries = let l = old.manager.limits in
                 subst (λ zs. Carries l zs l.parts (start l) moved (thread_of l (passes_in b.0) new.keeper.seen)) (sym olds)
                 (subst (λ zs. Carries l old.passes.items l.parts (start l) moved (thread_of l zs new.keeper.seen)) (sym news) on.carries);
-            idle = subst AreFree (sym olds) idle;
-            free = subst AreFree (sym news) free;
+            idle = subst AreFree (sym (own_in behaviour registers pending old.manager old.passes.items ss os a.0 ready a.1)) idle;
+            free = subst AreFree (sym (own_in behaviour registers pending new.manager new.passes.items ss ns b.0 ready_again b.1)) free;
             own = subst (All (IsOf new.manager)) (sym news) managed'.own;
             places = subst (λ zs. AllZip BeginsAgain zs b.0.places) (sym a.1.1)
                 (subst (λ zs. AllZip BeginsAgain (places_shown behaviour registers pending (workers (length ss) old.passes.items) ss os) zs) (sym b.1.1) again);
             racers = as_many_racers old.passes.items new.passes.items ss os ns a.0 b.0 as_long a.1 b.1;
-            text_is = is;
-          }),
+          },
           b.1,
         )
+
+  -- why it was refused, of passes, is why it was of their scene
+  pub unrolled_in : (m : ManagerShown) (ps : List PassShown) (ss : List Box) (os : List (Place X F)) (a : Scene) (why : RollFault) → AreReady behaviour registers pending m ps ss os
+      → IsUnrolledFor m.limits (take (1 + length ss) ps) ps why → IsScene behaviour registers pending ps ss os a → IsUnrolled m.limits a why
+  unrolled_in m ps ss os a why ready due is =
+      subst (λ zs. IsUnrolledFor m.limits zs (passes_in a) why) (sym (own_in behaviour registers pending m ps ss os a ready is))
+      (subst (λ zs. IsUnrolledFor m.limits (take (1 + length ss) ps) zs why) (sym (all_in behaviour registers pending m ps ss os a ready is)) due)
 
   -- where it was refused
   module _ (m : ManagerShown) (keeper kept keeper' : KeeperShown) (ps qs rs : List PassShown) (ss : List Box) (os : List (Place X F)) (ready : AreReady behaviour registers pending m ps ss os)
@@ -246,7 +274,7 @@ module _ {X : Type 0} {F : X → Type 0} (behaviour : DynBox X Global F → Beha
     pub held_refused : (n : ℕ) → units_held n rs ≡ units_held n ps
     held_refused n = held_gathered behaviour registers pending m kept keeper' qs rs ss os ready_looked gathers all given' own' n ∙ same_held n ps qs looked
 
-    pub refused : (is_due : List PassShown → RollFault → Type 0) (why : RollFault) (text : List ℕ) → 1 ≤ length ps → is_due ps why → text ≡ line (roll_refused_text why)
+    pub refused : (is_due : Scene → RollFault → Type 0) (why : RollFault) (text : List ℕ) → 1 ≤ length ps → ((a : Scene) → IsScene behaviour registers pending ps ss os a → is_due a why) → text ≡ line (roll_refused_text why)
         → (a : Scene) × (b : Scene) × IsScene behaviour registers pending ps ss os a
         × RollRefused is_due (record { manager = m; keeper = keeper; scene = a }) text (record { manager = m; keeper = keeper'; scene = b })
         × IsScene behaviour registers pending rs ss os b
@@ -261,7 +289,7 @@ module _ {X : Type 0} {F : X → Type 0} (behaviour : DynBox X Global F → Beha
           a.1,
           record {
             why = why;
-            due = subst (λ zs. is_due zs why) (sym olds) due;
+            due = due a.0 a.1;
             manager = refl;
             keeper = kept;
             given = given;

@@ -13,12 +13,12 @@ use Rattle.tp_rollover.specs.declared.moved.RollFault.{RollFault}
 use Rattle.tp_rollover.specs.declared.moved.RollFault.TheVariants as faults
 use Rattle.tp_rollover.specs.declared.survivors.Survivor.{Survivor}
 use Rattle.tp_perform.specs.Rollover.{BeginsAgain}
-use Rattle.tp_perform.specs.Scenes.{Stand, passes_in}
+use Rattle.tp_perform.specs.Scenes.{Scene, Stand, own_passes, passes_in}
 
 -- No unit was open. What was described stands again in another manager with the same limits, and nothing else
 -- is alive there. What each element is called there and what that manager is then is computed of what was
--- described. Its passes are together; there are as many of them, and none has a unit open. The desks begin
--- anew with the registers that they have.
+-- described. Its passes are together; there are as many of them. Who was described as a holder has that in hand
+-- (`Restores`), and no desk has a unit open. The desks begin anew with the registers that they have.
 pub record Restored (survivors : List Survivor) (old : Stand) (moved : List Moved) (new : Stand) : Type 0 where
   pub limits : new.manager.limits ≡ old.manager.limits
   pub restores : Restores new.manager.limits new.keeper (passes_in new.scene) survivors moved
@@ -26,7 +26,7 @@ pub record Restored (survivors : List Survivor) (old : Stand) (moved : List Move
       made_anew l l.parts survivors (start l)
       ≡ Some (moved, thread_of l (passes_in new.scene) new.keeper.seen)
   pub idle : AreFree (passes_in old.scene)
-  pub free : AreFree (passes_in new.scene)
+  pub free : AreFree (own_passes new.scene)
   pub own : All (IsOf new.manager) (passes_in new.scene)
   pub places : AllZip BeginsAgain old.scene.places new.scene.places
   pub racers : length new.scene.racers ≡ length old.scene.racers
@@ -40,3 +40,7 @@ IsUnrestoredFor l survivors passes faults.Full = AreFree passes
     × (made_anew l l.parts survivors (start l) ≡ None)
 IsUnrestoredFor l survivors passes faults.Unequal = AreFree passes
 IsUnrestoredFor l survivors passes other = ⊥
+
+-- the same of a scene
+abbrev pub IsUnrestoredIn : Limits → List Survivor → Scene → RollFault → Type 0
+IsUnrestoredIn l survivors s why = IsUnrestoredFor l survivors (passes_in s) why

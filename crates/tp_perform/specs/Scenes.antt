@@ -21,6 +21,10 @@ pub record Scene : Type 0 where
 abbrev pub passes_in : Scene → List PassShown
 passes_in s = s.client ∷ (map (λ p. p.desk.pass) s.places ++ s.racers)
 
+-- those of the program: the client's and the desks'
+abbrev pub own_passes : Scene → List PassShown
+own_passes s = s.client ∷ map (λ p. p.desk.pass) s.places
+
 module _ {X : Type 0} {F : X → Type 0} (behaviour : DynBox X Global F → Behaviour)
     (registers : DynBox X Global F → List ℕ) (pending : DynBox X Global F → Option Pending) where
   abbrev pub scene : PassShown → List PassShown → List (DynBox X Global F) → List (Place X F) → List PassShown

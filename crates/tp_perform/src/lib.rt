@@ -15,4 +15,4 @@ pub use giving_up::give_up_all;
 pub use one_command::perform_next;
 pub use race_lines::race_next;
 pub use restoring::restore;
-pub use rollover::{gather_all, roll_over_line};
+pub use rollover::{gather_all, roll_over};

@@ -1,12 +1,14 @@
 //! The command `rollover`: what is alive goes on in a new manager, and the desks begin anew in it.
-ghost use Rattle.std.specs.Prelude.{◌≡◌, ◌+◌, ◌≤◌, List, ℕ, None, IfErr, IfOk, OnErr, OnOk, All, length, map, string_bytes};
+ghost use Rattle.std.specs.Prelude.{◌≡◌, ◌+◌, ◌≤◌, None, IfErr, IfOk, OnErr, OnOk, All, length, map};
+ghost use Rattle.std.specs.Prelude.{string_bytes, take};
 ghost use Rattle.tp_manager.specs.Accounts.{Gathers};
 ghost use Rattle.tp_manager.specs.Bounds.{gather_steps};
-ghost use Rattle.tp_report.specs.Answer.{line, rolled_text};
+ghost use Rattle.tp_report.specs.Answer.{line};
 ghost use Rattle.tp_rollover.specs.Faults.{AreFree};
 ghost use Rattle.tp_rollover.specs.Managed.{GoesOn, IsManaged, StaysManaged};
 ghost use Rattle.tp_commands.specs.Places.{AllLie, all_firsts, firsts, workers};
-ghost use Rattle.tp_perform.specs.Rollover.{IsUnrolledFor, RollsOn, renamed, roll_refused_text, stand};
+ghost use Rattle.tp_perform.specs.Rollover.{IsUnrolled, IsUnrolledFor, RollRefused, RolledOver, renamed};
+ghost use Rattle.tp_perform.specs.Rollover.{roll_refused_text, stand};
 ghost use Rattle.tp_perform.specs.Scenes.{Scene};
 ghost use Rattle.tp_perform.specs.Told.{AreReady, IsScene, units_held};
 
@@ -31,14 +33,6 @@ pub fn all_renamed(alloc: Global, moved: &[Moved]) -> Result<Vec<Renamed>, Alloc
         })?;
     }
     Ok(all)
-}
-
-/// The line of a rollover that carried these over.
-fn rolled_line(alloc: Global, moved: &[Moved]) -> Result<String, AllocError>
-    ensures text { IfOk result (λ text. string_bytes text ≡ line (rolled_text (map renamed moved.now))) }
-{
-    let elements = all_renamed(alloc, moved)?;
-    line(alloc, Answer::RolledOver(&elements))
 }
 
 /// The line of a rollover that was refused, or of a restore or a dump.
@@ -70,13 +64,13 @@ pub fn gather_all(managed: &mut Managed)
         .gather(&managed.manager, managed.passes.as_mut_slice());
 }
 
-/// Has the desks begin anew. The passes are all, from the client's on, and none has a unit open.
+/// Has the desks begin anew. The passes are all, from the client's on, and no desk's has a unit open.
 pub(crate) fn begin_all_again(
     passes: &[Pass],
     servers: &[Box<dyn Server + Send>],
     places: &mut [Place],
 )
-    requires free { AreFree passes.now }
+    requires free { AreFree (workers (length servers.now) passes.now) }
     requires clear { All (λ server. pending server ≡ None) servers.now }
     requires enough { 1 + length servers.now ≤ length passes.now }
     requires as_many { length servers.now ≡ length places.old }
@@ -88,17 +82,21 @@ pub(crate) fn begin_all_again(
     begin_again(&passes[1..1 + servers.len()], servers, places);
 }
 
-/// What is alive goes on in a new manager, if no unit of work is open. `Busy` where one is.
-fn go_on(alloc: Global, managed: &mut Managed) -> Result<Vec<Moved>, RollFault>
+/// What is alive goes on in a new manager. `Busy` where one of the first so many passes has a unit of work open:
+/// they are the program's own, the client's and the desks'.
+fn go_on(alloc: Global, managed: &mut Managed, own: usize) -> Result<Vec<Moved>, RollFault>
     requires managed { IsManaged managed.old }
+    requires own { own ≤ length managed.old.passes.items }
     ensures managed { IsManaged managed.new }
     ensures moved { IfOk result (λ moved. GoesOn managed.old managed.new moved.items) }
-    ensures idle { OnOk result (AreFree managed.old.passes.items) }
-    ensures free { OnOk result (AreFree managed.new.passes.items) }
+    ensures idle { OnOk result (AreFree (take own managed.old.passes.items)) }
+    ensures free { OnOk result (AreFree (take own managed.new.passes.items)) }
     ensures refused { OnErr result (StaysManaged managed.old managed.new) }
-    ensures fault { IfErr result (IsUnrolledFor managed.old.manager.limits managed.old.passes.items) }
+    ensures fault { IfErr result (IsUnrolledFor managed.old.manager.limits
+        (take own managed.old.passes.items) managed.old.passes.items) }
 {
-    if has_open(&managed.passes) {
+    let passes = managed.passes.as_slice();
+    if has_open(&passes[..own]) {
         return Err(RollFault::Busy);
     }
     match managed.roll_over(alloc) {
@@ -108,15 +106,17 @@ fn go_on(alloc: Global, managed: &mut Managed) -> Result<Vec<Moved>, RollFault>
 }
 
 /// Has what is alive, each element once, go on in a new manager with the same limits, in which the desks
-/// begin anew with the same registers, and answers `rolled over N OLD:NEW ..`, with what was carried over.
-/// Where it is refused, nothing has changed, and all passes gather. What is promised in `rolled` is so too
-/// where the line can't be made. The passes are the client's, then one for each server, then others.
-pub fn roll_over_line(
+/// begin anew with the same registers. Answers what was carried over, by ascending ids. What a worker has in
+/// hand, its pass has in hand there. It is refused with `Busy` where a desk has a unit of work open, `Full`
+/// where the new manager has not the rows or the units, `NoMemory`, and with `Unequal`, which came in no test.
+/// Nothing has changed then, and all passes gather. The passes are the client's, then one for each server, then
+/// others.
+pub fn roll_over(
     alloc: Global,
     managed: &mut Managed,
     servers: &[Box<dyn Server + Send>],
     places: &mut [Place],
-) -> Result<String, AllocError>
+) -> Result<Vec<Moved>, RollFault>
     requires managed { IsManaged managed.old }
     requires ready { AreReady behaviour registers pending managed.old.manager managed.old.passes.items
         servers.now places.old }
@@ -126,25 +126,27 @@ pub fn roll_over_line(
     ensures ready { AreReady behaviour registers pending managed.new.manager managed.new.passes.items
         servers.now places.new }
     ensures as_many { length places.new ≡ length places.old }
-    ensures held { units_held (length servers.now) managed.new.passes.items
-        ≡ units_held (length servers.now) managed.old.passes.items }
-    ensures rolled { (old : Scene) × (new : Scene) × (text : List ℕ)
+    ensures held { OnErr result (units_held (length servers.now) managed.new.passes.items
+        ≡ units_held (length servers.now) managed.old.passes.items) }
+    ensures moved { IfOk result (λ moved. GoesOn managed.old managed.new moved.items) }
+    ensures rolled { IfOk result (λ moved. (old : Scene) × (new : Scene)
         × IsScene behaviour registers pending managed.old.passes.items servers.now places.old old
-        × RollsOn (stand managed.old old) text (stand managed.new new)
-        × IsScene behaviour registers pending managed.new.passes.items servers.now places.new new }
-    ensures rolls { IfOk result (λ text. (old : Scene) × (new : Scene)
+        × RolledOver (stand managed.old old) moved.items (stand managed.new new)
+        × IsScene behaviour registers pending managed.new.passes.items servers.now places.new new) }
+    ensures refused { IfErr result (λ why. (old : Scene) × (new : Scene)
         × IsScene behaviour registers pending managed.old.passes.items servers.now places.old old
-        × RollsOn (stand managed.old old) (string_bytes text) (stand managed.new new)
+        × RollRefused (IsUnrolled managed.old.manager.limits)
+        (stand managed.old old) (line (roll_refused_text why)) (stand managed.new new)
         × IsScene behaviour registers pending managed.new.passes.items servers.now places.new new) }
 {
-    match go_on(alloc, managed) {
+    match go_on(alloc, managed, 1 + servers.len()) {
         Ok(moved) => {
             begin_all_again(&managed.passes, servers, places);
-            rolled_line(alloc, &moved)
+            Ok(moved)
         }
         Err(why) => {
             gather_all(managed);
-            refused_line(alloc, why)
+            Err(why)
         }
     }
 }

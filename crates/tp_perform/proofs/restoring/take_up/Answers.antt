@@ -1,6 +1,5 @@
 use Rattle.std.proofs.Common.{refl}
-use Rattle.tp_perform.proofs.Restores.{refused_as}
-use Rattle.tp_rollover.proofs.Freed.{unheld_free}
+use Rattle.tp_perform.proofs.Restores.{fronts_free, refused_as}
 use Rattle.tp_perform.proofs.restoring.take_up.Goals as goal
 
 pub returns-in-Err-clause-fault : goal.returns-in-Err-clause-fault
@@ -11,4 +10,4 @@ returns-in-Err-clause-fault c =
 pub returns-in-Ok-clause-free : goal.returns-in-Ok-clause-free
 returns-in-Ok-clause-free c =
     let next = c.in-Ok.next in
-    unheld_free c.limits.result next.managed.keeper.seen next.managed.passes.items c.args.survivors.now next.moved.items c.in-Ok.ensures.restored.hands (c.if-are_held.ensures.unheld refl)
+    fronts_free c.limits.result next.managed.keeper.seen next.managed.keeper c.args.own next.managed.passes.items c.args.survivors.now next.moved.items c.in-Ok.ensures.managed.all c.in-Ok.ensures.restored.hands (c.if-are_held_by.ensures refl)

@@ -1,37 +1,21 @@
-use Rattle.std.proofs.Common.{◌≡◌, ◌∙◌, None, arith, inr, length, refl, subst, sym}
-use Rattle.std.specs.Prelude.{string_bytes}
-use Rattle.std.proofs.lemmas.Result.{IfOk-weaker}
-use Rattle.std.proofs.lemmas.List.Elements.{All-drop, All-take}
+use Rattle.std.proofs.Common.{◌≡◌, ◌∙◌, None, arith, length, refl, subst, sym}
 use Rattle.tp_manager.specs.Shown.{PassShown}
-use Rattle.tp_perform.specs.Rollover.{IsUnrolledFor}
+use Rattle.tp_perform.specs.Rollover.{IsUnrolled}
 use Rattle.tp_commands.specs.Places.{workers}
 use Rattle.tp_commands.proofs.Lies.{lie_servers}
 use Rattle.tp_perform.specs.Told.{AreReady}
-use Rattle.tp_perform.proofs.Rollovers.{all_clear, gathers_of, held_again, held_refused, own_of, ready_again, ready_refused, refused, rolled, stands_with}
-use Rattle.tp_perform.proofs.rollover.roll_over_line.Goals as goal
+use Rattle.tp_perform.proofs.Rollovers.{all_clear, desks_free, gathers_of, held_refused, own_of, ready_again, ready_refused, refused, rolled, stands_refused, unrolled_in}
+use Rattle.tp_perform.proofs.rollover.roll_over.Goals as goal
 
 pub returns-in-Ok-clause-ready : goal.returns-in-Ok-clause-ready
 returns-in-Ok-clause-ready g c =
     ready_again (λ b. (goal.Server-dyn g (b.vtable, b.value)).behaviour b.value) (λ b. (goal.Server-dyn g (b.vtable, b.value)).registers b.value) (λ b. (goal.Server-dyn g (b.vtable, b.value)).pending b.value) c.args.managed.now c.go_on.new.managed c.in-Ok.moved.items c.args.servers.now c.args.places.now c.begin_all_again.new.places c.requires.managed c.in-Ok.ensures.managed c.in-Ok.ensures.moved c.in-Ok.ensures.idle c.in-Ok.ensures.free c.requires.ready c.requires.enough
     (rw c.deref.ensures.value at c.begin_all_again.ensures.lie) (rw c.deref.ensures.value at c.begin_all_again.ensures.began) c.begin_all_again.ensures.dropped
 
-pub returns-in-Ok-clause-held : goal.returns-in-Ok-clause-held
-returns-in-Ok-clause-held g c =
-    held_again (λ b. (goal.Server-dyn g (b.vtable, b.value)).behaviour b.value) (λ b. (goal.Server-dyn g (b.vtable, b.value)).registers b.value) (λ b. (goal.Server-dyn g (b.vtable, b.value)).pending b.value) c.args.managed.now c.go_on.new.managed c.in-Ok.moved.items c.args.servers.now c.args.places.now c.begin_all_again.new.places c.requires.managed c.in-Ok.ensures.managed c.in-Ok.ensures.moved c.in-Ok.ensures.idle c.in-Ok.ensures.free c.requires.ready c.requires.enough
-    (rw c.deref.ensures.value at c.begin_all_again.ensures.lie) (rw c.deref.ensures.value at c.begin_all_again.ensures.began) c.begin_all_again.ensures.dropped
-
 pub returns-in-Ok-clause-rolled : goal.returns-in-Ok-clause-rolled
 returns-in-Ok-clause-rolled g c =
-    let t = rolled (λ b. (goal.Server-dyn g (b.vtable, b.value)).behaviour b.value) (λ b. (goal.Server-dyn g (b.vtable, b.value)).registers b.value) (λ b. (goal.Server-dyn g (b.vtable, b.value)).pending b.value) c.args.managed.now c.go_on.new.managed c.in-Ok.moved.items c.args.servers.now c.args.places.now c.begin_all_again.new.places c.requires.managed c.in-Ok.ensures.managed c.in-Ok.ensures.moved c.in-Ok.ensures.idle c.in-Ok.ensures.free c.requires.ready c.requires.enough
+    rolled (λ b. (goal.Server-dyn g (b.vtable, b.value)).behaviour b.value) (λ b. (goal.Server-dyn g (b.vtable, b.value)).registers b.value) (λ b. (goal.Server-dyn g (b.vtable, b.value)).pending b.value) c.args.managed.now c.go_on.new.managed c.in-Ok.moved.items c.args.servers.now c.args.places.now c.begin_all_again.new.places c.requires.managed c.in-Ok.ensures.managed c.in-Ok.ensures.moved c.in-Ok.ensures.idle c.in-Ok.ensures.free c.requires.ready c.requires.enough
     (rw c.deref.ensures.value at c.begin_all_again.ensures.lie) (rw c.deref.ensures.value at c.begin_all_again.ensures.began) c.begin_all_again.ensures.dropped
-    _ refl in
-    (t.0, t.1, _, t.2, t.3, t.4)
-
-pub returns-in-Ok-clause-rolls : goal.returns-in-Ok-clause-rolls
-returns-in-Ok-clause-rolls g c =
-    IfOk-weaker c.rolled_line.result _ _ (λ text is. rolled (λ b. (goal.Server-dyn g (b.vtable, b.value)).behaviour b.value) (λ b. (goal.Server-dyn g (b.vtable, b.value)).registers b.value) (λ b. (goal.Server-dyn g (b.vtable, b.value)).pending b.value) c.args.managed.now c.go_on.new.managed c.in-Ok.moved.items c.args.servers.now c.args.places.now c.begin_all_again.new.places c.requires.managed c.in-Ok.ensures.managed c.in-Ok.ensures.moved c.in-Ok.ensures.idle c.in-Ok.ensures.free c.requires.ready c.requires.enough
-    (rw c.deref.ensures.value at c.begin_all_again.ensures.lie) (rw c.deref.ensures.value at c.begin_all_again.ensures.began) c.begin_all_again.ensures.dropped
-    (string_bytes text) is) (rw c.deref-in-Ok.ensures.value at c.rolled_line.ensures.text)
 
 pub returns-in-Err-clause-held : goal.returns-in-Err-clause-held
 returns-in-Err-clause-held g c =
@@ -45,25 +29,22 @@ returns-in-Err-clause-ready g c =
     (ready_refused (λ b. (goal.Server-dyn g (b.vtable, b.value)).behaviour b.value) (λ b. (goal.Server-dyn g (b.vtable, b.value)).registers b.value) (λ b. (goal.Server-dyn g (b.vtable, b.value)).pending b.value) c.args.managed.now.manager c.args.managed.now.keeper c.go_on.new.managed.keeper c.gather_all.new.managed.keeper c.args.managed.now.passes.items c.go_on.new.managed.passes.items c.gather_all.new.managed.passes.items c.args.servers.now c.args.places.now c.requires.ready
     c.in-Err.ensures.refused.passes (own_of c.args.managed.now c.go_on.new.managed c.in-Err.ensures.managed c.in-Err.ensures.refused.manager) c.in-Err.ensures.refused.given (gathers_of c.args.managed.now c.go_on.new.managed c.gather_all.new.managed c.in-Err.ensures.refused.manager c.gather_all.ensures.gathers) c.gather_all.ensures.managed.all c.gather_all.ensures.given (own_of c.args.managed.now c.gather_all.new.managed c.gather_all.ensures.managed (c.gather_all.ensures.manager ∙ c.in-Err.ensures.refused.manager)))
 
-pub returns-in-Err-clause-rolled : goal.returns-in-Err-clause-rolled
-returns-in-Err-clause-rolled g c =
+pub returns-in-Err-clause-refused : goal.returns-in-Err-clause-refused
+returns-in-Err-clause-refused g c =
     let t = refused (λ b. (goal.Server-dyn g (b.vtable, b.value)).behaviour b.value) (λ b. (goal.Server-dyn g (b.vtable, b.value)).registers b.value) (λ b. (goal.Server-dyn g (b.vtable, b.value)).pending b.value) c.args.managed.now.manager c.args.managed.now.keeper c.go_on.new.managed.keeper c.gather_all.new.managed.keeper c.args.managed.now.passes.items c.go_on.new.managed.passes.items c.gather_all.new.managed.passes.items c.args.servers.now c.args.places.now c.requires.ready
     c.in-Err.ensures.refused.passes (own_of c.args.managed.now c.go_on.new.managed c.in-Err.ensures.managed c.in-Err.ensures.refused.manager) c.in-Err.ensures.refused.given (gathers_of c.args.managed.now c.go_on.new.managed c.gather_all.new.managed c.in-Err.ensures.refused.manager c.gather_all.ensures.gathers) c.gather_all.ensures.managed.all c.gather_all.ensures.given (own_of c.args.managed.now c.gather_all.new.managed c.gather_all.ensures.managed (c.gather_all.ensures.manager ∙ c.in-Err.ensures.refused.manager))
-    (IsUnrolledFor c.args.managed.now.manager.limits) c.in-Err.why _ (omega (arith, c.requires.enough)) c.in-Err.ensures.fault refl in
-    (t.0, t.1, _, t.2, stands_with c.args.managed.now c.gather_all.new.managed t.0 t.1 _ (c.gather_all.ensures.manager ∙ c.in-Err.ensures.refused.manager) (inr t.3), t.4)
-
-pub returns-in-Err-clause-rolls : goal.returns-in-Err-clause-rolls
-returns-in-Err-clause-rolls g c =
-    IfOk-weaker c.refused_line.result _ _ (λ text is.
-    let t = refused (λ b. (goal.Server-dyn g (b.vtable, b.value)).behaviour b.value) (λ b. (goal.Server-dyn g (b.vtable, b.value)).registers b.value) (λ b. (goal.Server-dyn g (b.vtable, b.value)).pending b.value) c.args.managed.now.manager c.args.managed.now.keeper c.go_on.new.managed.keeper c.gather_all.new.managed.keeper c.args.managed.now.passes.items c.go_on.new.managed.passes.items c.gather_all.new.managed.passes.items c.args.servers.now c.args.places.now c.requires.ready
-    c.in-Err.ensures.refused.passes (own_of c.args.managed.now c.go_on.new.managed c.in-Err.ensures.managed c.in-Err.ensures.refused.manager) c.in-Err.ensures.refused.given (gathers_of c.args.managed.now c.go_on.new.managed c.gather_all.new.managed c.in-Err.ensures.refused.manager c.gather_all.ensures.gathers) c.gather_all.ensures.managed.all c.gather_all.ensures.given (own_of c.args.managed.now c.gather_all.new.managed c.gather_all.ensures.managed (c.gather_all.ensures.manager ∙ c.in-Err.ensures.refused.manager))
-    (IsUnrolledFor c.args.managed.now.manager.limits) c.in-Err.why (string_bytes text) (omega (arith, c.requires.enough)) c.in-Err.ensures.fault is in
-    (t.0, t.1, t.2, stands_with c.args.managed.now c.gather_all.new.managed t.0 t.1 (string_bytes text) (c.gather_all.ensures.manager ∙ c.in-Err.ensures.refused.manager) (inr t.3), t.4)) c.refused_line.ensures.text
+    (IsUnrolled c.args.managed.now.manager.limits) c.in-Err.why _ (omega (arith, c.requires.enough))
+    (λ a is. unrolled_in (λ b. (goal.Server-dyn g (b.vtable, b.value)).behaviour b.value) (λ b. (goal.Server-dyn g (b.vtable, b.value)).registers b.value) (λ b. (goal.Server-dyn g (b.vtable, b.value)).pending b.value) c.args.managed.now.manager c.args.managed.now.passes.items c.args.servers.now c.args.places.now a c.in-Err.why c.requires.ready c.in-Err.ensures.fault is) refl in
+    (t.0, t.1, t.2, stands_refused (IsUnrolled c.args.managed.now.manager.limits) c.args.managed.now c.gather_all.new.managed t.0 t.1 _ (c.gather_all.ensures.manager ∙ c.in-Err.ensures.refused.manager) t.3, t.4)
 
 pub begin_all_again-requires-clause-clear : goal.begin_all_again-requires-clause-clear
 begin_all_again-requires-clause-clear g c =
     all_clear (λ b. (goal.Server-dyn g (b.vtable, b.value)).behaviour b.value) (λ b. (goal.Server-dyn g (b.vtable, b.value)).registers b.value) (λ b. (goal.Server-dyn g (b.vtable, b.value)).pending b.value) (workers (length c.args.servers.now) c.args.managed.now.passes.items) c.args.servers.now c.args.places.now c.requires.ready.lie
-    (All-take (λ (p : PassShown). p.open_unit ≡ None) (length c.args.servers.now) _ (All-drop (λ (p : PassShown). p.open_unit ≡ None) 1 _ c.in-Ok.ensures.idle))
+    (desks_free (length c.args.servers.now) c.args.managed.now.passes.items c.in-Ok.ensures.idle)
+
+pub begin_all_again-requires-clause-free : goal.begin_all_again-requires-clause-free
+begin_all_again-requires-clause-free g c =
+    rw (sym c.deref.ensures.value) at (desks_free (length c.args.servers.now) c.go_on.new.managed.passes.items c.in-Ok.ensures.free)
 
 pub begin_all_again-requires-clause-as_many : goal.begin_all_again-requires-clause-as_many
 begin_all_again-requires-clause-as_many g c =
