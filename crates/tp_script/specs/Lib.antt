@@ -11,6 +11,7 @@ pub mod ServerLines
 pub mod Commands
 pub mod Drafts
 pub mod Alive
+pub mod Hands
 pub mod Grammar
 pub mod Whole
 pub mod Reading
