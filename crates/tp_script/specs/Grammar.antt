@@ -107,12 +107,16 @@ held_line ws h = do
   line ← held_of worker w.1
   with_alive line h
 
+-- the head with one line more of what was lost
+abbrev pub with_lost : LostLine → HeadView → HeadView
+with_lost line h = record h { lost = h.lost ++ line ∷ [] }
+
 -- `lost NAME ID`: the name first, then the number
 unfoldable pub lost_line : List ℕ × List ℕ → HeadView → Result HeadView LineFault
 lost_line (name, id) h = do
   worker ← free_worker name h
   element ← number_at (2 ^ 32 - 1) id
-  Ok (record h { lost = h.lost ++ record { worker = worker; element = element } ∷ [] })
+  Ok (with_lost (record { worker = worker; element = element }) h)
 
 -- ---- commands
 

@@ -1,21 +1,16 @@
 -- What `held` and `lost` lines say of workers: what each has in hand.
-use Rattle.std.specs.Prelude.{ℕ, List, [], ◌∷◌, Bool, false, not, ◌||◌, ◌==◌, Option, Some, None, Result, Ok}
-use Rattle.std.specs.Prelude.{Err, nat_le}
+use Rattle.std.specs.Prelude.{ℕ, List, [], ◌∷◌, Bool, not, ◌||◌, ◌==◌, Some, Result, Ok, Err, nat_le}
 use Rattle.std.specs.List.{list_any}
 use Rattle.tp_script.specs.declared.fault.LineFault.{LineFault}
 use Rattle.tp_script.specs.declared.fault.LineFault.TheVariants.{Syntax, BadNumber, BadName}
 use Rattle.tp_script.specs.declared.head.AliveLine.{AliveLine}
 use Rattle.tp_script.specs.Alive.{AliveWords, alive_of, alive_words}
+use Rattle.tp_script.specs.Holders.{is_holder}
 use Rattle.tp_script.specs.LineWords.{◌>>=◌, require, known}
 use Rattle.tp_script.specs.Script.{HeadView}
 use Rattle.tp_script.specs.ServerLines.{worker_at}
 
 -- ---- workers
-
--- whether it is this worker, if there is one
-abbrev pub is_holder : ℕ → Option ℕ → Bool
-is_holder worker None = false
-is_holder worker (Some holder) = holder == worker
 
 -- whether a line above names this worker as one that has an element in hand, or that had one and lost it
 abbrev pub has_in_hand : ℕ → HeadView → Bool

@@ -5,6 +5,7 @@ pub mod Keyword
 pub mod Passes
 pub mod Ranges
 pub mod Rounds
+pub mod Holders
 pub mod Script
 pub mod LineWords
 pub mod ServerLines

@@ -1,6 +1,9 @@
 //! The lines of a head that say what is alive.
-ghost use Rattle.std.specs.Prelude.{◌≡◌, ◌&&◌, None, map, IfOk, OnErr, vec_len};
-ghost use Rattle.tp_script.specs.Rounds.{IsAliveInRange, IsHeldBy};
+ghost use Rattle.std.specs.Prelude.{◌≡◌, ◌&&◌, None, false, map, IfOk, OnErr, vec_len};
+ghost use Rattle.std.specs.Option.{ForSome};
+ghost use Rattle.tp_script.specs.Holders.{IsHeldBy};
+ghost use Rattle.tp_script.specs.Hands.{has_in_hand};
+ghost use Rattle.tp_script.specs.Rounds.{IsAliveInRange};
 ghost use Rattle.tp_script.specs.Alive.{alive_at, alive_of, alive_places, alive_words};
 ghost use Rattle.tp_script.specs.Reading.{Gives, alive_view};
 ghost use Rattle.tp_script.specs.Grammar.{alive_line, with_alive};
@@ -94,10 +97,10 @@ fn alive_at(alloc: Global, words: &[&[u8]]) -> Result<AliveLine, LineError>
 
 impl Head {
     /// Adds an element that is alive, unless there are too many then.
-    #[tactic(auto, using(crate::proofs::AliveLemmas::one_more, crate::proofs::AliveLemmas::one_more_held))]
     pub(crate) fn with_alive(&mut self, line: AliveLine) -> Result<(), LineError>
         requires in_range { IsAliveInRange line }
         requires by { IsHeldBy (vec_len self.old.workers) line }
+        requires free { ForSome line.holder (λ holder. has_in_hand holder (head_view self.old) ≡ false) }
         ensures gives { Gives (λ _. head_view self.new) result (with_alive line (head_view self.old)) }
         ensures kept { OnErr result (head_view self.new ≡ head_view self.old) }
     {

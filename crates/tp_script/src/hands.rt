@@ -1,10 +1,11 @@
 //! The lines of a head that say what workers have in hand.
-ghost use Rattle.std.specs.Prelude.{◌≡◌, ◌<◌, ◌==◌, map, IfOk, OnErr, Some, vec_len};
+ghost use Rattle.std.specs.Prelude.{◌≡◌, ◌<◌, ◌==◌, false, map, IfOk, Ok, OnErr, Some, vec_len};
 ghost use Rattle.std.specs.List.{list_any};
 ghost use Rattle.tp_script.specs.Rounds.{IsAliveInRange};
-ghost use Rattle.tp_script.specs.Hands.{free_worker, has_in_hand, held_of, held_words, is_holder};
+ghost use Rattle.tp_script.specs.Holders.{IsLostBy, is_holder};
+ghost use Rattle.tp_script.specs.Hands.{free_worker, has_in_hand, held_of, held_words};
 ghost use Rattle.tp_script.specs.Reading.{Gives, alive_view};
-ghost use Rattle.tp_script.specs.Grammar.{held_line, lost_line};
+ghost use Rattle.tp_script.specs.Grammar.{held_line, lost_line, with_lost};
 ghost use Rattle.tp_script.specs.Script.{head_view};
 
 use crate::alive::{AliveWords, alive_of, alive_words};
@@ -80,6 +81,7 @@ impl Head {
     fn free_worker(&self, name: &[u8]) -> Result<usize, LineError>
         ensures gives { Gives (λ i. i) result (free_worker name.now (head_view self.now)) }
         ensures within { IfOk result (λ i. i < vec_len self.now.workers) }
+        ensures free { IfOk result (λ i. has_in_hand i (head_view self.now) ≡ false) }
     {
         let Some(worker) = self.worker_at(name) else {
             return Err(LineFault::BadName.into());
@@ -105,9 +107,20 @@ impl Head {
         self.with_alive(line)
     }
 
+    // Adds a line of what was lost.
+    fn with_lost(&mut self, line: LostLine) -> Result<(), LineError>
+        requires by { IsLostBy (vec_len self.old.workers) line }
+        requires free { has_in_hand line.worker (head_view self.old) ≡ false }
+        ensures gives { Gives (λ _. head_view self.new) result (Ok (with_lost line (head_view self.old))) }
+        ensures kept { OnErr result (head_view self.new ≡ head_view self.old) }
+    {
+        self.lost.push(line)?;
+        Ok(())
+    }
+
     /// `lost NAME ID`: the unit of work of the worker NAME, which had taken the element ID, was lost, and the
     /// worker hasn't heard of it yet. The fault of the name comes before that of the number.
-    #[tactic(auto, unfolding(crate::specs::Grammar::lost_line), using(crate::proofs::AliveLemmas::one_more_lost))]
+    #[tactic(auto, unfolding(crate::specs::Grammar::lost_line))]
     pub(crate) fn lost_line(&mut self, words: (&[u8], &[u8])) -> Result<(), LineError>
         ensures gives { Gives (λ _. head_view self.new) result
             (lost_line (words.entry.0.now, words.entry.1.now) (head_view self.old)) }
@@ -115,7 +128,6 @@ impl Head {
     {
         let worker = self.free_worker(words.0)?;
         let element = number_at(words.1, u64::from(u32::MAX))? as u32;
-        self.lost.push(LostLine { worker, element })?;
-        Ok(())
+        self.with_lost(LostLine { worker, element })
     }
 }

@@ -1,7 +1,8 @@
 //! The head of a script or a session, and what the lines behind it ask for.
 ghost use Rattle.std.specs.Prelude.{◌≡◌, ◌≤◌, vec_len};
 ghost use Rattle.std.specs.List.{All};
-ghost use Rattle.tp_script.specs.Rounds.{IsAliveInRange, IsHeldBy, IsLostBy};
+ghost use Rattle.tp_script.specs.Holders.{IsHeldBy, IsLostBy, IsOneEach};
+ghost use Rattle.tp_script.specs.Rounds.{IsAliveInRange};
 ghost use Rattle.tp_script.specs.declared.head.TheConstants.{MAX_ALIVE, MAX_WORKERS};
 ghost use Rattle.tp_script.specs.declared.script.TheConstants.{MAX_SERVERS};
 
@@ -140,6 +141,7 @@ pub struct Head {
     ghost alive_in_range: { All IsAliveInRange alive.items },
     ghost held_by: { All (IsHeldBy (vec_len workers)) alive.items },
     ghost lost_by: { All (IsLostBy (vec_len workers)) lost.items },
+    ghost one_each: { IsOneEach alive.items lost.items },
 }
 
 impl Head {
