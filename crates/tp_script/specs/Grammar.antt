@@ -92,14 +92,15 @@ worker_line (name, stage) h = do
 -- the head with one element more that is alive
 abbrev pub with_alive : AliveLine → HeadView → Result HeadView LineFault
 with_alive line h =
-    require (nat_lt (length h.alive) MAX_ALIVE) BadLimits >>= λ _. Ok (record h { alive = h.alive ++ line ∷ [] })
+    require (nat_lt (length h.alive) MAX_ALIVE) BadLimits
+    >>= λ _. Ok (record h { alive = h.alive ++ line ∷ [] })
 
 -- `alive ID ATTEMPTS ROUNDS OUT` or `alive ID ATTEMPTS ROUNDS OUT ROOT OUT`
 unfoldable pub alive_line : List (List ℕ) → HeadView → Result HeadView LineFault
 alive_line ws h = alive_at ws >>= λ line. with_alive line h
 
--- `held NAME ID ATTEMPTS ROUNDS OUT` or `held NAME ID ATTEMPTS ROUNDS OUT ROOT OUT`: the words first, then the
--- name, then the numbers
+-- `held NAME ID ATTEMPTS ROUNDS OUT` or `held NAME ID ATTEMPTS ROUNDS OUT ROOT OUT`: the words come first, then
+-- the name, then the numbers, then how many are alive
 unfoldable pub held_line : List (List ℕ) → HeadView → Result HeadView LineFault
 held_line ws h = do
   w ← held_words ws

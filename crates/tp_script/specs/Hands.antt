@@ -31,7 +31,7 @@ abbrev pub held_words : List (List ℕ) → Result (List ℕ × AliveWords) Line
 held_words (name ∷ ws) = alive_words ws >>= λ w. Ok (name, w)
 held_words [] = Err Syntax
 
--- the numbers of these, of an element that this worker has in hand; one of its attempts at least is the worker's
+-- the numbers of these, of an element that this worker has in hand: one attempt of it is the worker's
 unfoldable pub held_of : ℕ → AliveWords → Result AliveLine LineFault
 held_of worker w = do
   line ← alive_of w

@@ -40,8 +40,8 @@ pub enum LineFault {
     /// 6: a line above 200 bytes, or a script above 65,536 bytes.
     TooLong,
     /// 7: a setting after a server, a line of the head or `restore` after a command, another first command
-    /// than `restore` after an `alive`, `held` or `lost` line, or in a script that is no session a line of any
-    /// kind after `account`.
+    /// than `restore` after an `alive`, `held` or `lost` line, or in a script that is no session a line of
+    /// any kind after `account`.
     Order,
 }
 

@@ -24,8 +24,8 @@ pub enum Driver {
 /// How many workers there may be: with the most servers and the client they have all passes.
 pub const MAX_WORKERS: usize = 23;
 
-/// How many elements a head may say are alive, in hand or not: as many as a manager has rows at most, those of
-/// all passes and the spare ones.
+/// How many elements a head may say are alive, in hand or not: as many as a manager has rows at most, those
+/// of all passes and the spare ones.
 pub const MAX_ALIVE: usize = 10_240;
 
 /// A worker line: a worker outside of the program, which works on a stage through a pass of its own.
@@ -45,8 +45,8 @@ pub struct WorkerLine {
 pub struct AliveLine {
     /// Its id before.
     pub id: u32,
-    /// How many units of work took it in its round, 0 to 7: those that were aborted, and the one that has it in
-    /// hand, if there is one.
+    /// How many units of work took it in its round, 0 to 7: those that were aborted, and the one that has it
+    /// in hand, if there is one.
     pub attempts: u8,
     /// How many further rounds it was given, 0 to 3.
     pub rounds: u8,
@@ -56,7 +56,8 @@ pub struct AliveLine {
     pub root: u32,
     /// The stage and the body of its root.
     pub root_draft: Draft,
-    /// The worker that has it in hand, by the place of its line in `Head::workers`; `None` of an `alive` line.
+    /// The worker that has it in hand, by the place of its line in `Head::workers`; `None` of an `alive`
+    /// line.
     pub holder: Option<usize>,
 }
 
