@@ -1,5 +1,5 @@
 -- What an `alive` line says of an element.
-use Rattle.std.specs.Prelude.{ℕ, ◌-◌, ◌^◌, List, [], ◌∷◌, ◌&&◌, Result, Ok, Err}
+use Rattle.std.specs.Prelude.{ℕ, ◌-◌, ◌^◌, List, [], ◌∷◌, ◌&&◌, None, Result, Ok, Err}
 use Rattle.tp_model.specs.declared.types.TheConstants.{MAX_ATTEMPTS, MAX_ROUNDS}
 use Rattle.tp_script.specs.declared.fault.LineFault.{LineFault}
 use Rattle.tp_script.specs.declared.fault.LineFault.TheVariants.{Syntax}
@@ -45,7 +45,7 @@ alive_words ws = do
   _ ← require (is_draft w.draft && is_draft w.root_draft) Syntax
   Ok w
 
--- the numbers of an `alive` line
+-- the numbers of an `alive` line; nobody has that element in hand
 unfoldable pub alive_of : AliveWords → Result AliveLine LineFault
 alive_of w = do
   id ← number_at (2 ^ 32 - 1) w.id
@@ -61,6 +61,7 @@ alive_of w = do
     draft = draft;
     root = root;
     root_draft = root_draft;
+    holder = None;
   })
 
 -- what the words after `alive` say

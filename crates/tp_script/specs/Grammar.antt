@@ -10,6 +10,7 @@ use Rattle.tp_script.specs.declared.head.Act.TheVariants as act
 use Rattle.tp_script.specs.declared.head.AliveLine.{AliveLine}
 use Rattle.tp_script.specs.declared.head.Driver.{Driver}
 use Rattle.tp_script.specs.declared.head.Driver.TheVariants as drivers
+use Rattle.tp_script.specs.declared.head.LostLine.{LostLine}
 use Rattle.tp_script.specs.declared.head.TheConstants.{MAX_ALIVE, MAX_WORKERS}
 use Rattle.tp_script.specs.declared.head.WorkerAct.{WorkerAct}
 use Rattle.tp_script.specs.declared.head.WorkerAct.TheVariants as does
@@ -22,6 +23,7 @@ use Rattle.tp_script.specs.declared.script.DeskAct.TheVariants as desk
 use Rattle.tp_script.specs.Alive.{alive_at, alive_words}
 use Rattle.tp_script.specs.Commands.{stage_at, command_at}
 use Rattle.tp_script.specs.Drafts.{draft_words, drafts_at}
+use Rattle.tp_script.specs.Hands.{free_worker, held_of, held_words}
 use Rattle.tp_script.specs.Keyword.{keyword}
 use Rattle.tp_script.specs.Passes.{is_race}
 use Rattle.tp_script.specs.Script.{HeadView}
@@ -77,7 +79,7 @@ spare_line w h = do
   n ← setting_at 0 MAX_BLOCKS w h
   Ok (record h { settings = record h.settings { spare = n } })
 
--- ---- workers, and what is alive
+-- ---- workers, what is alive, and what they have in hand
 
 -- `worker NAME STAGE`
 unfoldable pub worker_line : List ℕ × List ℕ → HeadView → Result HeadView LineFault
@@ -87,12 +89,35 @@ worker_line (name, stage) h = do
   _ ← require (nat_lt (length h.workers) MAX_WORKERS) BadLimits
   Ok (record h { workers = h.workers ++ record { name = fresh; stage = place } ∷ [] })
 
+-- the head with one element more that is alive
+abbrev pub with_alive : AliveLine → HeadView → Result HeadView LineFault
+with_alive line h =
+    require (nat_lt (length h.alive) MAX_ALIVE) BadLimits
+    >>= λ _. Ok (record h { alive = h.alive ++ line ∷ [] })
+
 -- `alive ID ATTEMPTS ROUNDS OUT` or `alive ID ATTEMPTS ROUNDS OUT ROOT OUT`
 unfoldable pub alive_line : List (List ℕ) → HeadView → Result HeadView LineFault
-alive_line ws h = do
-  line ← alive_at ws
-  _ ← require (nat_lt (length h.alive) MAX_ALIVE) BadLimits
-  Ok (record h { alive = h.alive ++ line ∷ [] })
+alive_line ws h = alive_at ws >>= λ line. with_alive line h
+
+-- `held NAME ID ATTEMPTS ROUNDS OUT` or `held NAME ID ATTEMPTS ROUNDS OUT ROOT OUT`: the words come first, then
+-- the name, then the numbers, then how many are alive
+unfoldable pub held_line : List (List ℕ) → HeadView → Result HeadView LineFault
+held_line ws h = do
+  w ← held_words ws
+  worker ← free_worker w.0 h
+  line ← held_of worker w.1
+  with_alive line h
+
+-- the head with one line more of what was lost
+abbrev pub with_lost : LostLine → HeadView → HeadView
+with_lost line h = record h { lost = h.lost ++ line ∷ [] }
+
+-- `lost NAME ID`: the name first, then the number
+unfoldable pub lost_line : List ℕ × List ℕ → HeadView → Result HeadView LineFault
+lost_line (name, id) h = do
+  worker ← free_worker name h
+  element ← number_at (2 ^ 32 - 1) id
+  Ok (with_lost (record { worker = worker; element = element }) h)
 
 -- ---- commands
 
@@ -164,12 +189,12 @@ in_head read = read >>= λ h. Ok (h, None)
 abbrev pub ends_head : HeadView → Result Act LineFault → Result (HeadView × Option Act) LineFault
 ends_head h said = said >>= λ a. Ok (h, Some a)
 
--- Where the head says what is alive, `restore` alone may be the first command. Another is out of order then,
--- unless it says nothing that a command could.
-abbrev pub unless_alive : List AliveLine → Result Act LineFault → Result Act LineFault
-unless_alive [] said = said
-unless_alive (line ∷ others) (Err Syntax) = Err Syntax
-unless_alive (line ∷ others) said = Err Order
+-- Where the head says what is alive or was lost, `restore` alone may be the first command. Another is out of
+-- order then, unless it says nothing that a command could.
+abbrev pub unless_alive : List AliveLine → List LostLine → Result Act LineFault → Result Act LineFault
+unless_alive [] [] said = said
+unless_alive alive lost (Err Syntax) = Err Syntax
+unless_alive alive lost said = Err Order
 
 -- a line of the head of this first word: what the head is then, and the command that ends it, if it is one
 unfoldable pub head_keyword : Driver → Keyword → List (List ℕ) → HeadView
@@ -182,9 +207,11 @@ head_keyword driver first.Server ws h = in_head (server_line ws h)
 head_keyword driver first.Start ws h = in_head (three ws >>= λ w. start_line w h)
 head_keyword driver first.Worker ws h = in_head (two ws >>= λ w. worker_line w h)
 head_keyword driver first.Alive ws h = in_head (alive_line ws h)
-head_keyword driver (first.Do v) ws h = ends_head h (unless_alive h.alive (act_at driver v ws h))
-head_keyword driver first.Dump ws h = ends_head h (unless_alive h.alive (dump_at ws))
-head_keyword driver first.Account ws h = ends_head h (unless_alive h.alive (account_at ws))
+head_keyword driver first.Held ws h = in_head (held_line ws h)
+head_keyword driver first.Lost ws h = in_head (two ws >>= λ w. lost_line w h)
+head_keyword driver (first.Do v) ws h = ends_head h (unless_alive h.alive h.lost (act_at driver v ws h))
+head_keyword driver first.Dump ws h = ends_head h (unless_alive h.alive h.lost (dump_at ws))
+head_keyword driver first.Account ws h = ends_head h (unless_alive h.alive h.lost (account_at ws))
 head_keyword driver first.Restore ws h = ends_head h (restore_at ws)
 
 -- the words of a line of the head
@@ -213,6 +240,8 @@ body_keyword driver first.Server ws h = out_of_order (shape_at ws)
 body_keyword driver first.Start ws h = out_of_order (three ws)
 body_keyword driver first.Worker ws h = out_of_order (two ws)
 body_keyword driver first.Alive ws h = out_of_order (alive_words ws)
+body_keyword driver first.Held ws h = out_of_order (held_words ws)
+body_keyword driver first.Lost ws h = out_of_order (two ws)
 body_keyword driver first.Restore ws h = out_of_order (none ws)
 body_keyword driver first.Dump ws h = dump_at ws
 body_keyword driver first.Account ws h = account_at ws

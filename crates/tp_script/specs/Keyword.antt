@@ -3,7 +3,8 @@ use Rattle.std.specs.Prelude.{ℕ, List, [], ◌∷◌, Option, option_map, find
 use Rattle.std.specs.Str.{bytes_eq}
 use Rattle.tp_script.specs.declared.keyword.Keyword.{Keyword}
 use Rattle.tp_script.specs.declared.keyword.Keyword.TheVariants.{Rows, Units, Limit, Spare, Server, Start, Do}
-use Rattle.tp_script.specs.declared.keyword.Keyword.TheVariants.{Worker, Alive, Restore, Dump, Account}
+use Rattle.tp_script.specs.declared.keyword.Keyword.TheVariants.{Worker, Alive, Held, Lost, Restore, Dump}
+use Rattle.tp_script.specs.declared.keyword.Keyword.TheVariants.{Account}
 use Rattle.tp_script.specs.declared.keyword.Verb.TheVariants as verb
 use Rattle.tp_script.specs.declared.script.DeskAct.TheVariants as desk
 
@@ -18,6 +19,8 @@ first_words =
     ∷ (codes "start", Start)
     ∷ (codes "worker", Worker)
     ∷ (codes "alive", Alive)
+    ∷ (codes "held", Held)
+    ∷ (codes "lost", Lost)
     ∷ (codes "submit", Do verb.Submit)
     ∷ (codes "turn", Do (verb.Desk desk.Turn))
     ∷ (codes "reply", Do verb.Reply)

@@ -5,12 +5,14 @@ pub mod Keyword
 pub mod Passes
 pub mod Ranges
 pub mod Rounds
+pub mod Holders
 pub mod Script
 pub mod LineWords
 pub mod ServerLines
 pub mod Commands
 pub mod Drafts
 pub mod Alive
+pub mod Hands
 pub mod Grammar
 pub mod Whole
 pub mod Reading

@@ -4,6 +4,7 @@ use Rattle.tp_server.specs.declared.recipe.Recipe.{Recipe}
 use Rattle.tp_script.specs.declared.head.Act.{Act}
 use Rattle.tp_script.specs.declared.head.AliveLine.{AliveLine}
 use Rattle.tp_script.specs.declared.head.Head.{Head}
+use Rattle.tp_script.specs.declared.head.LostLine.{LostLine}
 use Rattle.tp_script.specs.declared.head.WorkerLine.{WorkerLine}
 use Rattle.tp_script.specs.declared.script.Kind.{Kind}
 use Rattle.tp_script.specs.declared.script.Settings.{Settings}
@@ -30,12 +31,13 @@ pub record WorkerView : Type 0 where
   pub name : List ℕ
   pub stage : ℕ
 
--- the lines before the first command: settings, servers, workers, and what is alive
+-- the lines before the first command: settings, servers, workers, what is alive, and what was lost
 pub record HeadView : Type 0 where
   pub settings : SettingsView
   pub servers : List ServerView
   pub workers : List WorkerView
   pub alive : List AliveLine
+  pub lost : List LostLine
 
 -- a whole script: its head, what its commands ask for, and whether it asks for the closing account
 pub record ScriptView : Type 0 where
@@ -50,6 +52,7 @@ no_head = record {
   servers = [];
   workers = [];
   alive = [];
+  lost = [];
 }
 
 -- how many passes a script needs: the client's, one for each server and each worker, and those of its races
@@ -80,6 +83,7 @@ head_view h = record {
   servers = map server_view h.servers.items;
   workers = map worker_view h.workers.items;
   alive = h.alive.items;
+  lost = h.lost.items;
 }
 
 -- what a script shows

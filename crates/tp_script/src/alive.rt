@@ -1,9 +1,12 @@
 //! The lines of a head that say what is alive.
-ghost use Rattle.std.specs.Prelude.{◌≡◌, ◌&&◌, map, IfOk, OnErr};
+ghost use Rattle.std.specs.Prelude.{◌≡◌, ◌&&◌, None, false, map, IfOk, OnErr, vec_len};
+ghost use Rattle.std.specs.Option.{ForSome};
+ghost use Rattle.tp_script.specs.Holders.{IsHeldBy};
+ghost use Rattle.tp_script.specs.Hands.{has_in_hand};
 ghost use Rattle.tp_script.specs.Rounds.{IsAliveInRange};
 ghost use Rattle.tp_script.specs.Alive.{alive_at, alive_of, alive_places, alive_words};
 ghost use Rattle.tp_script.specs.Reading.{Gives, alive_view};
-ghost use Rattle.tp_script.specs.Grammar.{alive_line};
+ghost use Rattle.tp_script.specs.Grammar.{alive_line, with_alive};
 ghost use Rattle.tp_script.specs.Script.{head_view};
 
 use crate::drafts::{draft_at, is_draft};
@@ -57,11 +60,12 @@ pub(crate) fn alive_words<'a>(words: &[&'a [u8]]) -> Result<AliveWords<'a>, Line
     Ok(words)
 }
 
-// The numbers of an `alive` line.
+/// The numbers of an `alive` line. Nobody has that element in hand.
 #[tactic(auto, unfolding(crate::specs::Alive::alive_of))]
-fn alive_of(alloc: Global, words: AliveWords<'_>) -> Result<AliveLine, LineError>
+pub(crate) fn alive_of(alloc: Global, words: AliveWords<'_>) -> Result<AliveLine, LineError>
     ensures gives { Gives (λ line. line) result (alive_of (alive_view words.entry)) }
     ensures in_range { IfOk result IsAliveInRange }
+    ensures nobody { IfOk result (λ line. line.holder ≡ None) }
 {
     let id = number_at(words.id, u64::from(u32::MAX))? as u32;
     let attempts = number_at(words.attempts, u64::from(MAX_ATTEMPTS))? as u8;
@@ -76,6 +80,7 @@ fn alive_of(alloc: Global, words: AliveWords<'_>) -> Result<AliveLine, LineError
         draft,
         root,
         root_draft,
+        holder: None,
     })
 }
 
@@ -84,24 +89,36 @@ fn alive_of(alloc: Global, words: AliveWords<'_>) -> Result<AliveLine, LineError
 fn alive_at(alloc: Global, words: &[&[u8]]) -> Result<AliveLine, LineError>
     ensures gives { Gives (λ line. line) result (alive_at (map (λ x. x.now) words.now)) }
     ensures in_range { IfOk result IsAliveInRange }
+    ensures nobody { IfOk result (λ line. line.holder ≡ None) }
 {
     let words = alive_words(words)?;
     alive_of(alloc, words)
 }
 
 impl Head {
+    /// Adds an element that is alive, unless there are too many then.
+    pub(crate) fn with_alive(&mut self, line: AliveLine) -> Result<(), LineError>
+        requires in_range { IsAliveInRange line }
+        requires by { IsHeldBy (vec_len self.old.workers) line }
+        requires free { ForSome line.holder (λ holder. has_in_hand holder (head_view self.old) ≡ false) }
+        ensures gives { Gives (λ _. head_view self.new) result (with_alive line (head_view self.old)) }
+        ensures kept { OnErr result (head_view self.new ≡ head_view self.old) }
+    {
+        if self.alive.len() >= MAX_ALIVE {
+            return Err(LineFault::BadLimits.into());
+        }
+        self.alive.push(line)?;
+        Ok(())
+    }
+
     /// `alive ID ATTEMPTS ROUNDS OUT` or `alive ID ATTEMPTS ROUNDS OUT ROOT OUT`
-    #[tactic(auto, unfolding(crate::specs::Grammar::alive_line), using(crate::proofs::AliveLemmas::one_more))]
+    #[tactic(auto, unfolding(crate::specs::Grammar::alive_line))]
     pub(crate) fn alive_line(&mut self, alloc: Global, words: &[&[u8]]) -> Result<(), LineError>
         ensures gives { Gives (λ _. head_view self.new) result
             (alive_line (map (λ x. x.now) words.now) (head_view self.old)) }
         ensures kept { OnErr result (head_view self.new ≡ head_view self.old) }
     {
         let line = alive_at(alloc, words)?;
-        if self.alive.len() >= MAX_ALIVE {
-            return Err(LineFault::BadLimits.into());
-        }
-        self.alive.push(line)?;
-        Ok(())
+        self.with_alive(line)
     }
 }

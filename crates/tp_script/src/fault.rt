@@ -29,19 +29,19 @@ pub enum LineFault {
     Syntax,
     /// 2: a number word that isn't 1 to 20 digits, or outside its bounds.
     BadNumber,
-    /// 3: a setting outside its range, too many servers, workers or `alive` lines, or a race with which too
-    /// many passes are needed.
+    /// 3: a setting outside its range, too many servers, workers or elements that are alive, or a race with
+    /// which too many passes are needed.
     BadLimits,
     /// 4: a recipe that is refused, or a `start` of a register that the server doesn't have.
     BadRecipe,
-    /// 5: a name that isn't 1 to 8 small letters, that another server or worker has, or that none has, or a
-    /// command that workers don't have.
+    /// 5: a name that isn't 1 to 8 small letters, that another server or worker has, or that none has, a
+    /// command that workers don't have, or a second `held` or `lost` line of one worker.
     BadName,
     /// 6: a line above 200 bytes, or a script above 65,536 bytes.
     TooLong,
     /// 7: a setting after a server, a line of the head or `restore` after a command, another first command
-    /// than `restore` after an `alive` line, or in a script that is no session a line of any kind after
-    /// `account`.
+    /// than `restore` after an `alive`, `held` or `lost` line, or in a script that is no session a line of
+    /// any kind after `account`.
     Order,
 }
 

@@ -17,6 +17,7 @@ ghost use Rattle.tp_script.specs.Script.{head_view};
 
 use crate::alive::alive_words;
 use crate::fault::{LineError, LineFault};
+use crate::hands::held_words;
 use crate::head::{Act, Driver, Head};
 use crate::keyword::{Keyword, Verb};
 use crate::line_words::{none, number_at, one, three, two};
@@ -212,16 +213,17 @@ impl Head {
         }
     }
 
-    // The first command, unless it is `restore`: out of order where the head says what is alive.
+    // The first command, unless it is `restore`: out of order where the head says what is alive or was lost.
     fn first_command(&self, driver: Driver, read: Result<Act, LineError>) -> Result<Act, LineError>
         ensures gives { (said : Result Act LineFault) → Gives (λ a. a) read said
-            → Gives (λ a. a) result (unless_alive (head_view self.now).alive said) }
+            → Gives (λ a. a) result
+            (unless_alive (head_view self.now).alive (head_view self.now).lost said) }
         ensures in_range { IfOk read (λ a.
             IsActOf driver (vec_len self.now.servers) (vec_len self.now.workers) a)
             → IfOk result (λ a.
             IsActOf driver (vec_len self.now.servers) (vec_len self.now.workers) a) }
     {
-        if self.alive.is_empty() {
+        if self.alive.is_empty() && self.lost.is_empty() {
             return read;
         }
         match read {
@@ -257,6 +259,8 @@ impl Head {
             Keyword::Start => self.start_line(three(words)?)?,
             Keyword::Worker => self.worker_line(alloc, two(words)?)?,
             Keyword::Alive => self.alive_line(alloc, words)?,
+            Keyword::Held => self.held_line(alloc, words)?,
+            Keyword::Lost => self.lost_line(two(words)?)?,
             Keyword::Do(verb) => {
                 let act = self.first_command(driver, self.act_at(alloc, driver, verb, words))?;
                 return Ok(Some(act));
@@ -348,6 +352,14 @@ impl Head {
             }
             Keyword::Alive => {
                 alive_words(words)?;
+                Err(LineFault::Order.into())
+            }
+            Keyword::Held => {
+                held_words(words)?;
+                Err(LineFault::Order.into())
+            }
+            Keyword::Lost => {
+                two(words)?;
                 Err(LineFault::Order.into())
             }
             Keyword::Restore => {

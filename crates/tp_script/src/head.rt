@@ -1,6 +1,7 @@
 //! The head of a script or a session, and what the lines behind it ask for.
 ghost use Rattle.std.specs.Prelude.{◌≡◌, ◌≤◌, vec_len};
 ghost use Rattle.std.specs.List.{All};
+ghost use Rattle.tp_script.specs.Holders.{IsHeldBy, IsLostBy, IsOneEach};
 ghost use Rattle.tp_script.specs.Rounds.{IsAliveInRange};
 ghost use Rattle.tp_script.specs.declared.head.TheConstants.{MAX_ALIVE, MAX_WORKERS};
 ghost use Rattle.tp_script.specs.declared.script.TheConstants.{MAX_SERVERS};
@@ -23,8 +24,8 @@ pub enum Driver {
 /// How many workers there may be: with the most servers and the client they have all passes.
 pub const MAX_WORKERS: usize = 23;
 
-/// How many elements a head may say are alive: as many as a manager has rows at most, those of all passes and
-/// the spare ones.
+/// How many elements a head may say are alive, in hand or not: as many as a manager has rows at most, those
+/// of all passes and the spare ones.
 pub const MAX_ALIVE: usize = 10_240;
 
 /// A worker line: a worker outside of the program, which works on a stage through a pass of its own.
@@ -38,13 +39,14 @@ pub struct WorkerLine {
     ghost high: { stage ≤ 14 },
 }
 
-/// An `alive` line: an element that waits or is parked, as `dump` tells of it. It is alive again behind
-/// `restore`.
+/// An `alive` line: an element that waits or is parked, as `dump` tells of it. Or a `held` line: one that a
+/// worker has in hand. It is so again behind `restore`.
 #[derive(Clone, Copy)]
 pub struct AliveLine {
     /// Its id before.
     pub id: u32,
-    /// How many units of work took it in its round and were aborted, 0 to 7.
+    /// How many units of work took it in its round, 0 to 7: those that were aborted, and the one that has it
+    /// in hand, if there is one.
     pub attempts: u8,
     /// How many further rounds it was given, 0 to 3.
     pub rounds: u8,
@@ -54,6 +56,18 @@ pub struct AliveLine {
     pub root: u32,
     /// The stage and the body of its root.
     pub root_draft: Draft,
+    /// The worker that has it in hand, by the place of its line in `Head::workers`; `None` of an `alive`
+    /// line.
+    pub holder: Option<usize>,
+}
+
+/// A `lost` line: a worker whose unit of work was lost, and that hasn't heard of it yet.
+#[derive(Clone, Copy)]
+pub struct LostLine {
+    /// The worker, by the place of its line in `Head::workers`.
+    pub worker: usize,
+    /// The id before of the element that the unit had taken.
+    pub element: u32,
 }
 
 /// What a worker does.
@@ -80,7 +94,7 @@ pub enum Act {
     Account,
     /// The lines are reported that lead to this state.
     Dump,
-    /// What the head says is alive again. It is the first command.
+    /// What the head says is alive again, in hand again, or lost still. It is the first command.
     Restore,
 }
 
@@ -108,7 +122,7 @@ impl Act {
     }
 }
 
-/// The lines before the first command: settings, servers, workers, and what is alive.
+/// The lines before the first command: settings, servers, workers, what is alive, and what was lost.
 #[derive(Drop)]
 pub struct Head {
     /// The limits that they set.
@@ -117,12 +131,18 @@ pub struct Head {
     pub servers: Vec<ScriptServer>,
     /// The workers, in the order of their lines.
     pub workers: Vec<WorkerLine>,
-    /// What is alive, in the order of the lines. Lines may contradict each other.
+    /// What is alive, in hand or not, in the order of the `alive` and `held` lines. Lines may contradict each
+    /// other, but no worker has two things in hand.
     pub alive: Vec<AliveLine>,
+    /// What was lost, in the order of the lines. None of these workers has anything in hand.
+    pub lost: Vec<LostLine>,
     ghost few_servers: { vec_len servers ≤ MAX_SERVERS },
     ghost few: { vec_len workers ≤ MAX_WORKERS },
     ghost few_alive: { vec_len alive ≤ MAX_ALIVE },
     ghost alive_in_range: { All IsAliveInRange alive.items },
+    ghost held_by: { All (IsHeldBy (vec_len workers)) alive.items },
+    ghost lost_by: { All (IsLostBy (vec_len workers)) lost.items },
+    ghost one_each: { IsOneEach alive.items lost.items },
 }
 
 impl Head {
@@ -142,6 +162,7 @@ impl Head {
             servers: Vec::new(alloc),
             workers: Vec::new(alloc),
             alive: Vec::new(alloc),
+            lost: Vec::new(alloc),
         }
     }
 }

@@ -17,6 +17,10 @@ pub enum Keyword {
     Worker,
     /// The line says that an element is alive.
     Alive,
+    /// The line says that an element is in a worker's hand.
+    Held,
+    /// The line says that a worker's unit of work was lost.
+    Lost,
     /// The line is a command.
     Do(Verb),
     /// The line asks that what the head says be alive again.
@@ -52,7 +56,7 @@ pub enum Verb {
 }
 
 /// The first words that lines may have: how each is written, and what the line is.
-const FIRST_WORDS: [(&str, Keyword); 35] = [
+const FIRST_WORDS: [(&str, Keyword); 37] = [
     ("rows", Keyword::Rows),
     ("units", Keyword::Units),
     ("limit", Keyword::Limit),
@@ -61,6 +65,8 @@ const FIRST_WORDS: [(&str, Keyword); 35] = [
     ("start", Keyword::Start),
     ("worker", Keyword::Worker),
     ("alive", Keyword::Alive),
+    ("held", Keyword::Held),
+    ("lost", Keyword::Lost),
     ("submit", Keyword::Do(Verb::Submit)),
     ("turn", Keyword::Do(Verb::Desk(DeskAct::Turn))),
     ("reply", Keyword::Do(Verb::Reply)),

@@ -6,6 +6,7 @@ mod commands;
 mod drafts;
 mod fault;
 mod grammar;
+mod hands;
 mod head;
 mod keyword;
 mod line_words;
@@ -18,7 +19,9 @@ mod whole;
 mod worker_lines;
 
 pub use fault::{LineError, LineFault, ReadFault, Refused};
-pub use head::{Act, AliveLine, Driver, Head, MAX_ALIVE, MAX_WORKERS, WorkerAct, WorkerLine};
+pub use head::{
+    Act, AliveLine, Driver, Head, LostLine, MAX_ALIVE, MAX_WORKERS, WorkerAct, WorkerLine,
+};
 pub use parse::read_script;
 pub use script::{ClientAct, Command, DeskAct, Kind, MAX_SERVERS, Race, ScriptServer, Settings};
 pub use source::{BytesSource, Failed, MAX_READS, MAX_SCRIPT_BYTES, Source, StdSource, read_all};

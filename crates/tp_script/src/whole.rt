@@ -17,7 +17,7 @@ use tp_model::types::MAX_PASSES;
 /// A script that was read.
 #[derive(Drop)]
 pub struct Script {
-    /// Its settings, servers and workers, and what it says is alive.
+    /// Its settings, servers and workers, and what it says is alive, in hand or lost.
     pub head: Head,
     /// What its commands ask for, in their order.
     pub acts: Vec<Act>,

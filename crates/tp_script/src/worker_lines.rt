@@ -116,7 +116,7 @@ impl Head {
     }
 
     /// `worker NAME STAGE`
-    #[tactic(auto, unfolding(crate::specs::Grammar::worker_line))]
+    #[tactic(auto, unfolding(crate::specs::Grammar::worker_line), using(crate::proofs::AliveLemmas::held_by_more, crate::proofs::AliveLemmas::lost_by_more))]
     pub(crate) fn worker_line(
         &mut self,
         alloc: Global,
