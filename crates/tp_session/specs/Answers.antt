@@ -1,11 +1,15 @@
 -- The texts of a session that scripts don't have.
-use Rattle.std.specs.Prelude.{ℕ, List, codes, decimal, length, slice_index}
+use Rattle.std.specs.Prelude.{ℕ, zero, suc, List, [], ◌∷◌, Option, Some, None, codes, decimal, length, slice_get}
+use Rattle.std.specs.Prelude.{slice_index}
 use Rattle.std.specs.List.{flat_map}
 use Rattle.tp_model.specs.declared.types.Work.{Work}
 use Rattle.tp_report.specs.Answer.{line, named_text, renamed_text}
 use Rattle.tp_report.specs.declared.answer.Renamed.{Renamed}
 use Rattle.tp_script.specs.declared.fault.LineFault.{LineFault}
 use Rattle.tp_script.specs.Fault.{◌<>◌, fault_text}
+use Rattle.tp_script.specs.Script.{WorkerView}
+use Rattle.tp_session.specs.declared.hand.Holding.{Holding}
+use Rattle.tp_session.specs.declared.hand.Holding.TheVariants.{Open}
 use Rattle.tp_session.specs.declared.hand.WorkerAnswer.{WorkerAnswer}
 use Rattle.tp_session.specs.declared.hand.WorkerAnswer.TheVariants.{Took, Told}
 
@@ -29,3 +33,22 @@ worker_line name (Told answer) = line (named_text name answer)
 -- how many elements are alive again, and each of them: its id in its line, and its id from now on
 abbrev pub restored_text : List Renamed → List ℕ
 restored_text elements = (codes "restored " <> decimal (length elements)) <> flat_map renamed_text elements
+
+-- ` NAME:UNIT` of a worker that has a unit open
+abbrev pub unit_text : Option WorkerView → Option Holding → List ℕ
+unit_text (Some worker) (Some (Open unit element)) = codes " " <> worker.name <> codes ":" <> decimal unit
+unit_text worker work = []
+
+-- those of the first n workers
+abbrev pub unit_texts : List WorkerView → List Holding → ℕ → List ℕ
+unit_texts workers works zero = []
+unit_texts workers works (suc n) =
+    unit_texts workers works n <> unit_text (slice_get workers n) (slice_get works n)
+
+-- ` units NAME:UNIT ..`, where there is one
+abbrev pub behind_units : List ℕ → List ℕ
+behind_units [] = []
+behind_units (x ∷ xs) = codes " units" <> (x ∷ xs)
+
+abbrev pub units_text : List WorkerView → List Holding → List ℕ
+units_text workers works = behind_units (unit_texts workers works (length workers))

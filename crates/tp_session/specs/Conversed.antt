@@ -5,7 +5,6 @@ use Rattle.std.specs.List.{AllZip}
 use Rattle.std.specs.Io.KnownBytes.{Appends}
 use Rattle.tp_model.specs.declared.types.Limits.{Limits}
 use Rattle.tp_server.specs.Behaviour.{behaviour_of}
-use Rattle.tp_model.specs.declared.types.Work.{Work}
 use Rattle.tp_manager.specs.Accounts.{AreAll}
 use Rattle.tp_manager.specs.Shown.{PassShown}
 use Rattle.tp_rollover.specs.Faults.{AreFree}
@@ -24,6 +23,8 @@ use Rattle.tp_script.specs.declared.head.Head.{Head}
 use Rattle.tp_commands.specs.Acting.{AllEnded, IsSteadyPlace}
 use Rattle.tp_perform.specs.Ending.{final_lines}
 use Rattle.tp_perform.specs.Scenes.{IsNewPlace, Stand, passes_in}
+use Rattle.tp_session.specs.declared.hand.Holding.{Holding}
+use Rattle.tp_session.specs.declared.hand.Holding.TheVariants.{Nothing}
 use Rattle.tp_session.specs.Hands.{GivesUp, hands}
 use Rattle.tp_session.specs.Heard.{Hears, HearsFront, IsAllOf, IsSilent, heard}
 use Rattle.tp_session.specs.Live.{Live}
@@ -90,7 +91,7 @@ pub record LiveBegins (h : HeadView) (racers : ℕ) (first : Live) : Type 0 wher
   pub registers :
       map (λ p. p.desk.registers) first.stand.scene.places ≡ map (λ x. x.registers) h.servers
   pub each_worker : length first.works ≡ length h.workers + racers
-  pub idle : All (λ work. work ≡ None) first.works
+  pub idle : All (λ work. work ≡ Nothing) first.works
 
 -- ---- the end
 
@@ -101,7 +102,7 @@ pub record LiveEnds (last : Live) (registers : List (List ℕ)) : Type 0 where
   pub ended : AllEnded last.stand.scene.places passes registers
   pub steady : All IsSteadyPlace last.stand.scene.places
   pub workers : List PassShown
-  pub works : List (Option Work)
+  pub works : List Holding
   pub given_up : AllZip GivesUp (hands last.stand.scene.racers last.works) (hands workers works)
 
 -- the final lines: one for each server of the head, with the registers that are left

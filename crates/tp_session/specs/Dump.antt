@@ -1,7 +1,7 @@
 -- The lines of a session that a dump tells: sent to a new session they lead to this state.
-use Rattle.std.specs.Prelude.{◌==◌, ℕ, zero, suc, Bool, true, if◌then◌else◌, List, [], ◌∷◌, ◌++◌, map}
+use Rattle.std.specs.Prelude.{◌==◌, ◌+◌, ◌-◌, ℕ, zero, suc, Bool, true, false, if◌then◌else◌, List, [], ◌∷◌, ◌++◌, map}
 use Rattle.std.specs.Prelude.{Option, Some, None, codes, decimal, length, slice_get}
-use Rattle.std.specs.List.{flat_map}
+use Rattle.std.specs.List.{flat_map, list_any}
 use Rattle.tp_model.specs.declared.types.Status.{Status}
 use Rattle.tp_model.specs.declared.types.Status.TheVariants as status
 use Rattle.tp_rollover.specs.declared.survivors.Survivor.{Survivor}
@@ -15,11 +15,14 @@ use Rattle.tp_server.specs.declared.recipe.Output.{Output}
 use Rattle.tp_server.specs.declared.recipe.Recipe.{Recipe}
 use Rattle.tp_report.specs.Answer.{line}
 use Rattle.tp_script.specs.Fault.{◌<>◌}
+use Rattle.tp_script.specs.Holders.{is_holder}
 use Rattle.tp_script.specs.Script.{ServerView, SettingsView}
 use Rattle.tp_script.specs.Script.{HeadView, WorkerView}
 use Rattle.tp_script.specs.declared.script.Kind.{Kind}
 use Rattle.tp_script.specs.declared.script.Kind.TheVariants as kind
 use Rattle.tp_session.specs.Answers.{body_text}
+use Rattle.tp_session.specs.declared.hand.Holding.{Holding}
+use Rattle.tp_session.specs.declared.hand.Holding.TheVariants.{Open, Lost}
 
 -- ---- settings
 
@@ -116,11 +119,59 @@ root_text s =
     if s.root == s.id then []
     else codes " " <> decimal s.root <> codes " " <> draft_text s.root_stage s.root_body
 
--- `alive ID ATTEMPTS ROUNDS OUT` or `alive ID ATTEMPTS ROUNDS OUT ROOT OUT`
+-- ID ATTEMPTS ROUNDS OUT or ID ATTEMPTS ROUNDS OUT ROOT OUT, of one that was tried so often
+abbrev pub element_text : Survivor → ℕ → List ℕ
+element_text s attempts =
+    decimal s.id <> codes " " <> decimal attempts <> codes " " <> decimal s.rounds
+    <> codes " " <> draft_text s.stage s.body <> root_text s
+
+-- `alive ..`
 abbrev pub alive_text : Survivor → List ℕ
-alive_text s =
-    codes "alive " <> decimal s.id <> codes " " <> decimal (attempts_of s.status)
-    <> codes " " <> decimal s.rounds <> codes " " <> draft_text s.stage s.body <> root_text s
+alive_text s = codes "alive " <> element_text s (attempts_of s.status)
+
+-- `held NAME ..`, where the attempt in hand counts
+abbrev pub held_text : List ℕ → Survivor → List ℕ
+held_text name s = codes "held " <> name <> codes " " <> element_text s (attempts_of s.status + 1)
+
+-- the worker that has it in hand, if one has; the first one's pass has this number
+abbrev pub holder_in : List WorkerView → ℕ → Option ℕ → Option WorkerView
+holder_in workers first None = None
+holder_in workers first (Some pass) = slice_get workers (pass - first)
+
+abbrev pub text_by : Option WorkerView → Survivor → List ℕ
+text_by None s = alive_text s
+text_by (Some worker) s = held_text worker.name s
+
+-- the line of what is alive
+abbrev pub life_text : List WorkerView → ℕ → Survivor → List ℕ
+life_text workers first s = text_by (holder_in workers first s.holder) s
+
+-- ---- what was lost
+
+-- the element of a unit that was lost; whether the worker's pass holds one says whether it was
+abbrev pub lost_element : Bool → Holding → Option ℕ
+lost_element holds (Lost element) = Some element
+lost_element false (Open unit element) = Some element
+lost_element holds other = None
+
+-- `lost NAME ID`, where a unit was lost
+abbrev pub lost_line : WorkerView → Option ℕ → List (List ℕ)
+lost_line worker None = []
+lost_line worker (Some element) = (codes "lost " <> worker.name <> codes " " <> decimal element) ∷ []
+
+abbrev pub lost_of : Option WorkerView → Bool → Option Holding → List (List ℕ)
+lost_of (Some worker) holds (Some work) = lost_line worker (lost_element holds work)
+lost_of worker holds work = []
+
+-- whether pass c holds one of these
+abbrev pub holds_one : ℕ → List Survivor → Bool
+holds_one c survivors = list_any (λ s. is_holder c s.holder) survivors
+
+-- those of the first n workers, of which the first one's pass has this number
+abbrev pub lost_lines : List WorkerView → ℕ → List Holding → List Survivor → ℕ → List (List ℕ)
+lost_lines workers first works survivors zero = []
+lost_lines workers first works survivors (suc n) = lost_lines workers first works survivors n
+    ++ lost_of (slice_get workers n) (holds_one (first + n) survivors) (slice_get works n)
 
 -- ---- desks that were dropped
 
@@ -137,14 +188,16 @@ drop_lines servers dropped (suc n) =
 
 -- ---- all of them
 
--- The lines of a session whose servers have these registers now, whose desks were dropped or not, and in
--- which this is alive. Behind `restore` stand the commands.
-abbrev pub dump_lines : HeadView → List (List ℕ) → List Bool → List Survivor → List (List ℕ)
-dump_lines h registers dropped survivors =
+-- The lines of a session whose servers have these registers now, whose desks were dropped or not, whose workers
+-- have this in hand, and in which this is alive. Behind `restore` stand the commands.
+abbrev pub dump_lines : HeadView → List (List ℕ) → List Bool → List Holding → List Survivor → List (List ℕ)
+dump_lines h registers dropped works survivors =
     let servers = h.servers in
+    let first = 1 + length servers in
     settings_lines h.settings ++ map server_line servers
     ++ all_starts servers registers (length servers) ++ map worker_text h.workers
-    ++ map alive_text survivors ++ (codes "restore" ∷ drop_lines servers dropped (length servers))
+    ++ map (life_text h.workers first) survivors ++ lost_lines h.workers first works survivors (length h.workers)
+    ++ (codes "restore" ∷ drop_lines servers dropped (length servers))
 
 -- a line of a session in an answer
 abbrev pub quoted : List ℕ → List ℕ

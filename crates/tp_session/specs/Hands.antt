@@ -1,7 +1,6 @@
 -- What a worker outside of the program is answered, and what its pass did for it. `old` is what is in its hand
 -- before the command, and `new` what is in it after.
-use Rattle.std.specs.Prelude.{◌≡◌, ℕ, List, [], ◌∷◌, Option, Some, None, IsSome, length}
-use Rattle.std.specs.Option.{option_map}
+use Rattle.std.specs.Prelude.{◌≡◌, ◌⊎◌, ℕ, Bool, true, false, List, [], ◌∷◌, Option, Some, None, is_some, length}
 use Rattle.tp_model.specs.Drafts.{DraftView}
 use Rattle.tp_model.specs.declared.types.Claimed.TheVariants as claimeds
 use Rattle.tp_model.specs.declared.types.Ended.{Ended}
@@ -15,38 +14,51 @@ use Rattle.tp_manager.specs.Bounds.{abort_steps, claim_id_steps, claim_steps, co
 use Rattle.tp_manager.specs.Calls.{AnswersAbort, Claims, Settles}
 use Rattle.tp_manager.specs.Given.{ClaimIdFails, TakesId}
 use Rattle.tp_manager.specs.Shown.{IsOf, ManagerShown, PassShown}
-use Rattle.tp_desk.specs.Turns.{EndsOpen, settled}
+use Rattle.tp_desk.specs.Turns.{EndsOpen, settled_as}
+use Rattle.tp_desk.specs.declared.turned.Turned.{Turned}
 use Rattle.tp_desk.specs.declared.turned.Turned.TheVariants as turneds
 use Rattle.tp_report.specs.declared.answer.ServerAnswer.TheVariants as told
 use Rattle.tp_script.specs.declared.head.WorkerAct.{WorkerAct}
 use Rattle.tp_script.specs.declared.head.WorkerAct.TheVariants as acts
+use Rattle.tp_session.specs.declared.hand.Holding.{Holding}
+use Rattle.tp_session.specs.declared.hand.Holding.TheVariants.{Nothing, Open, Lost}
 use Rattle.tp_session.specs.declared.hand.WorkerAnswer.{WorkerAnswer}
 use Rattle.tp_session.specs.declared.hand.WorkerAnswer.TheVariants.{Took, Told}
 
--- a worker's pass, and the work that it has in hand
+-- a worker's pass, and what the worker has in hand
 pub record Hand : Type 0 where
   pub pass : PassShown
-  pub work : Option Work
+  pub work : Holding
 
-abbrev pub hand : PassShown → Option Work → Hand
+abbrev pub hand : PassShown → Holding → Hand
 hand pass work = record { pass = pass; work = work }
 
 -- those of all workers
-abbrev pub hands : List PassShown → List (Option Work) → List Hand
+abbrev pub hands : List PassShown → List Holding → List Hand
 hands (p ∷ ps) (w ∷ ws) = hand p w ∷ hands ps ws
 hands ps ws = []
 
--- the unit of what is in hand
-abbrev pub unit_of : Option Work → Option ℕ
-unit_of work = option_map (λ w. w.unit) work
+-- the unit of what is in hand, unless it was lost
+abbrev pub unit_of : Holding → Option ℕ
+unit_of (Open unit element) = Some unit
+unit_of other = None
 
--- the pass is of this manager, and the work in hand is of the unit that it has open
+-- whether something is in hand
+abbrev pub is_busy : Holding → Bool
+is_busy Nothing = false
+is_busy other = true
+
+-- whether it is a unit that isn't known to be lost
+abbrev pub has_unit : Holding → Bool
+has_unit work = is_some (unit_of work)
+
+-- the pass is of this manager, and has the unit open that is in hand
 pub record IsHand (m : ManagerShown) (h : Hand) : Type 0 where
   pub own : IsOf m h.pass
   pub held : h.pass.open_unit ≡ unit_of h.work
 
 -- so it is of each worker, for lists that are as long as each other
-abbrev pub AllHold : ManagerShown → List PassShown → List (Option Work) → Type 0
+abbrev pub AllHold : ManagerShown → List PassShown → List Holding → Type 0
 AllHold m [] [] = Unit {0}
 AllHold m [] (w ∷ ws) = ⊥
 AllHold m (p ∷ ps) [] = ⊥
@@ -54,25 +66,25 @@ AllHold m (p ∷ ps) (w ∷ ws) = IsHand m (hand p w) × AllHold m ps ws
 
 -- a claim from the worker's stage that took this
 pub record ClaimTook (l : Limits) (stage : ℕ) (work : Work) (old new : Hand) : Type 0 where
-  pub idle : old.work ≡ None
+  pub idle : old.work ≡ Nothing
   pub called : Called l (claim_steps l) old.pass new.pass
   pub answer : Claims l stage old.pass new.pass (claimeds.Work work)
-  pub held : new.work ≡ Some work
+  pub held : new.work ≡ Open work.unit work.element.id
 
 -- a claim of at most n steps that took nothing
 pub record TookNothing (l : Limits) (n : ℕ) (Answers : Type 0) (old new : Hand) : Type 0 where
-  pub idle : old.work ≡ None
+  pub idle : old.work ≡ Nothing
   pub called : Called l n old.pass new.pass
   pub answer : Answers
-  pub held : new.work ≡ None
+  pub held : new.work ≡ Nothing
 
 -- nothing was done, since something is in hand
 abbrev pub IsBusy : Hand → Hand → Type 0
-IsBusy old new = IsSome old.work × (new ≡ old)
+IsBusy old new = (is_busy old.work ≡ true) × (new ≡ old)
 
 -- nothing was done, since nothing is in hand
 abbrev pub IsIdle : Hand → Hand → Type 0
-IsIdle old new = (old.work ≡ None) × (new ≡ old)
+IsIdle old new = (old.work ≡ Nothing) × (new ≡ old)
 
 abbrev pub TellsClaim : Limits → ℕ → Hand → WorkerAnswer → Hand → Type 0
 TellsClaim l stage old (Took work) new = ClaimTook l stage work old new
@@ -85,10 +97,10 @@ TellsClaim l stage old other new = ⊥
 
 -- a claim of the element with this id that took it
 pub record TakeTook (l : Limits) (id : ℕ) (work : Work) (old new : Hand) : Type 0 where
-  pub idle : old.work ≡ None
+  pub idle : old.work ≡ Nothing
   pub called : Called l claim_id_steps old.pass new.pass
   pub answer : TakesId l id work old.pass new.pass
-  pub held : new.work ≡ Some work
+  pub held : new.work ≡ Open work.unit work.element.id
 
 abbrev pub TellsTake : Limits → ℕ → Hand → WorkerAnswer → Hand → Type 0
 TellsTake l id old (Took work) new = TakeTook l id work old new
@@ -100,32 +112,47 @@ TellsTake l id old (Told (told.NotTaken element why)) new =
 TellsTake l id old (Told told.Busy) new = IsBusy old new
 TellsTake l id old other new = ⊥
 
--- the work in hand was committed with just these drafts, which came to this
-pub record CommitsHand (l : Limits) (drafts : List DraftView) (outcome : Outcome) (work : Work) (old new : Hand)
-    : Type 0 where
-  pub held : old.work ≡ Some work
+-- the unit had been lost before a rollover, and the worker hears of it
+pub record HearsLost (element : ℕ) (old new : Hand) : Type 0 where
+  pub lost : old.work ≡ Lost element
+  pub same : new.pass ≡ old.pass
+  pub none_left : new.work ≡ Nothing
+
+-- the unit in hand was committed with just these drafts, which came to this
+pub record CommitsHand (l : Limits) (drafts : List DraftView) (outcome : Outcome) (unit element : ℕ)
+    (old new : Hand) : Type 0 where
+  pub held : old.work ≡ Open unit element
   pub called : Called l (commit_steps l (length drafts)) old.pass new.pass
   pub answer : Settles drafts old.pass new.pass outcome
-  pub none_left : new.work ≡ None
+  pub none_left : new.work ≡ Nothing
+
+-- it was, and this is the answer
+abbrev pub TellsSettled : Limits → List DraftView → Hand → Turned → Hand → Type 0
+TellsSettled l drafts old turned new = (unit element : ℕ) × (outcome : Outcome)
+    × CommitsHand l drafts outcome unit element old new × (turned ≡ settled_as unit element outcome)
+
+-- the worker hears of a unit that was lost before
+abbrev pub TellsLost : Hand → Turned → Hand → Type 0
+TellsLost old turned new = (element : ℕ) × HearsLost element old new × (turned ≡ turneds.Lost element)
 
 abbrev pub TellsCommit : Limits → List DraftView → Hand → WorkerAnswer → Hand → Type 0
-TellsCommit l drafts old (Told (told.Turned turned)) new = (work : Work) × (outcome : Outcome)
-    × CommitsHand l drafts outcome work old new × (turned ≡ settled work outcome)
+TellsCommit l drafts old (Told (told.Turned turned)) new =
+    TellsSettled l drafts old turned new ⊎ TellsLost old turned new
 TellsCommit l drafts old (Told told.NoneOpen) new = IsIdle old new
 TellsCommit l drafts old other new = ⊥
 
--- the work in hand was given up
+-- the unit in hand, which had taken this element, was given up
 pub record AbortsHand (l : Limits) (ended : Ended) (element : ℕ) (old new : Hand) : Type 0 where
-  pub work : Work
-  pub held : old.work ≡ Some work
+  pub unit : ℕ
+  pub held : old.work ≡ Open unit element
   pub called : Called l abort_steps old.pass new.pass
-  pub element_is : element ≡ work.element.id
   pub answer : AnswersAbort old.pass new.pass ended
-  pub none_left : new.work ≡ None
+  pub none_left : new.work ≡ Nothing
 
 abbrev pub TellsAbort : Limits → Hand → WorkerAnswer → Hand → Type 0
 TellsAbort l old (Told (told.Aborted element)) new = AbortsHand l endeds.Aborted element old new
-TellsAbort l old (Told (told.AlreadyAborted element)) new = AbortsHand l endeds.AlreadyAborted element old new
+TellsAbort l old (Told (told.AlreadyAborted element)) new =
+    AbortsHand l endeds.AlreadyAborted element old new ⊎ HearsLost element old new
 TellsAbort l old (Told told.NoneOpen) new = IsIdle old new
 TellsAbort l old other new = ⊥
 
@@ -140,4 +167,4 @@ WorkerDoes l stage acts.Abort old a new = TellsAbort l old a new
 pub record GivesUp (old new : Hand) : Type 0 where
   pub ends : EndsOpen old.pass.open_unit old.pass new.pass
   pub free : new.pass.open_unit ≡ None
-  pub none_left : new.work ≡ None
+  pub none_left : new.work ≡ Nothing

@@ -1,4 +1,5 @@
 pub mod Hands
+pub mod Carried
 pub mod Answers
 pub mod Dump
 pub mod Live

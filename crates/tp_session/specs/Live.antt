@@ -1,28 +1,27 @@
 -- What lines are told.
-use Rattle.std.specs.Prelude.{◌≡◌, ◌+◌, ◌≤◌, ◌||◌, ◌==◌, ◌⊎◌, if◌then◌else◌, ℕ, Bool, true, false, List, All}
+use Rattle.std.specs.Prelude.{◌≡◌, ◌+◌, ◌-◌, ◌≤◌, ◌||◌, ◌==◌, ◌⊎◌, if◌then◌else◌, ℕ, Bool, true, false, List, All}
 use Rattle.std.specs.Prelude.{Option, None, Some, drop, is_some, length, map}
 use Rattle.std.specs.Prelude.{slice_get, slice_set, string_bytes}
 use Rattle.std.specs.List.{list_any}
+use Rattle.std.specs.Option.{option_map}
 use Rattle.std.specs.declared.alloc.Global.{Global}
 use Rattle.std.specs.declared.dyn_box.DynBox.{DynBox}
 use Rattle.tp_model.specs.Steps.{rows_of}
 use Rattle.tp_model.specs.declared.types.Status.{Status}
 use Rattle.tp_model.specs.declared.types.Status.TheVariants as status
-use Rattle.tp_model.specs.declared.types.Work.{Work}
 use Rattle.tp_server.specs.Behaviour.{Behaviour}
 use Rattle.tp_server.specs.Pending.{Pending}
 use Rattle.tp_manager.specs.Shown.{ManagerShown, PassShown}
 use Rattle.tp_alone.specs.Thread.{AreTogether}
 use Rattle.tp_rollover.specs.Answers.{IsHistoryOf}
-use Rattle.tp_rollover.specs.Faults.{AreFree}
-use Rattle.tp_rollover.specs.Managed.{IsManaged}
-use Rattle.tp_rollover.specs.Survivors.{AreSurvivors, AreUnheld}
+use Rattle.tp_rollover.specs.Managed.{IsManaged, IsUnsurveyed}
+use Rattle.tp_rollover.specs.Survivors.{AreInHand, AreSurvivors}
 use Rattle.tp_rollover.specs.declared.moved.Moved.{Moved}
 use Rattle.tp_rollover.specs.declared.moved.RollFault.{RollFault}
-use Rattle.tp_rollover.specs.declared.moved.RollFault.TheVariants as faults
 use Rattle.tp_rollover.specs.declared.survivors.Survivor.{Survivor}
-use Rattle.tp_report.specs.Answer.{account_text, answer_text, line}
+use Rattle.tp_report.specs.Answer.{account_text, answer_text, line, rolled_text}
 use Rattle.tp_report.specs.declared.answer.Answer.TheVariants as answer
+use Rattle.tp_script.specs.Fault.{◌<>◌}
 use Rattle.tp_script.specs.Passes.{is_rollover, races}
 use Rattle.tp_script.specs.Script.{HeadView, head_view}
 use Rattle.tp_script.specs.declared.head.AliveLine.{AliveLine}
@@ -33,13 +32,16 @@ use Rattle.tp_script.specs.declared.head.WorkerAct.{WorkerAct}
 use Rattle.tp_script.specs.declared.head.WorkerLine.{WorkerLine}
 use Rattle.tp_script.specs.declared.script.Command.{Command}
 use Rattle.tp_commands.specs.Asked.{FoundLine, TellsCount}
-use Rattle.tp_perform.specs.Restore.{IsUnrestoredFor, Restored}
-use Rattle.tp_perform.specs.Rollover.{OnlyLooked, RollRefused, RollsOn, renamed, roll_refused_text}
-use Rattle.tp_perform.specs.Scenes.{Gathered, Stand, passes_in}
+use Rattle.tp_perform.specs.Restore.{IsUnrestoredIn, Restored}
+use Rattle.tp_perform.specs.Rollover.{IsUnrolled, OnlyLooked, RollRefused, RolledOver, renamed, roll_refused_text}
+use Rattle.tp_perform.specs.Scenes.{Gathered, Scene, Stand, passes_in}
 use Rattle.tp_perform.specs.Told.{AreReady, IsScene, PerformsAll, units_held}
-use Rattle.tp_session.specs.Answers.{restored_text, worker_line}
+use Rattle.tp_session.specs.Answers.{restored_text, units_text, worker_line}
+use Rattle.tp_session.specs.Carried.{lost_works, works_after}
 use Rattle.tp_session.specs.Dump.{dump_lines, dump_text}
-use Rattle.tp_session.specs.Hands.{Hand, WorkerDoes, unit_of}
+use Rattle.tp_session.specs.Hands.{Hand, WorkerDoes, has_unit, unit_of}
+use Rattle.tp_session.specs.declared.hand.Holding.{Holding}
+use Rattle.tp_session.specs.declared.hand.Holding.TheVariants.{Nothing}
 use Rattle.tp_session.specs.declared.hand.WorkerAnswer.{WorkerAnswer}
 use Rattle.tp_session.specs.declared.held.Held.{Held}
 
@@ -47,11 +49,15 @@ use Rattle.tp_session.specs.declared.held.Held.{Held}
 -- then those of races come last, and what each of these has in hand
 pub record Live : Type 0 where
   pub stand : Stand
-  pub works : List (Option Work)
+  pub works : List Holding
+
+-- whether a desk has a unit of work open
+abbrev pub has_desk_open : Live → Bool
+has_desk_open l = list_any (λ p. is_some p.desk.work) l.stand.scene.places
 
 -- whether a unit of work is open: one of a desk or of a worker
 abbrev pub is_open : Live → Bool
-is_open l = list_any is_some l.works || list_any (λ p. is_some p.desk.work) l.stand.scene.places
+is_open l = list_any has_unit l.works || has_desk_open l
 
 -- the client's pass has no unit open, and each worker's has the one that the worker has in hand
 pub record HoldsUnits (l : Live) : Type 0 where
@@ -72,14 +78,38 @@ pub record CommandTold (h : HeadView) (c : Command) (raced : ℕ) (old : Live) (
   pub manager : new.stand.manager ≡ old.stand.manager
   pub works : new.works ≡ old.works
 
--- the line tells what has gone on in a new manager, and the workers have what they had
-pub record RolloverTold (old : Live) (text : List ℕ) (new : Live) : Type 0 where
-  pub holds : HoldsUnits old
-  pub rolls : RollsOn old.stand text new.stand
+-- ---- rollovers
+
+-- the number of the first worker's pass
+abbrev pub first_worker : Stand → ℕ
+first_worker s = 1 + length s.scene.places
+
+-- what the workers have in hand in another manager, where this was carried over and they had that
+abbrev pub works_in : Stand → List Moved → List Holding → List Holding
+works_in new moved works =
+    works_after moved (first_worker new) (map (λ p. p.open_unit) new.scene.racers) works
+
+-- What was alive has gone on in another manager, the workers have in hand what their passes have, and the line
+-- tells what each element and each open unit is called.
+pub record RolledLive (h : HeadView) (old : Live) (text : List ℕ) (new : Live) : Type 0 where
+  pub moved : List Moved
+  pub rolled : RolledOver old.stand moved new.stand
+  pub works : new.works ≡ works_in new.stand moved old.works
+  pub text_is : text ≡ line (rolled_text (map renamed moved) <> units_text h.workers new.works)
+
+-- it was refused, and nothing has changed
+pub record RefusedLive (is_due : Scene → RollFault → Type 0) (old : Live) (text : List ℕ) (new : Live)
+    : Type 0 where
+  pub refused : RollRefused is_due old.stand text new.stand
   pub works : new.works ≡ old.works
 
+-- one or the other
+pub record RolloverTold (h : HeadView) (old : Live) (text : List ℕ) (new : Live) : Type 0 where
+  pub holds : HoldsUnits old
+  pub told : RolledLive h old text new ⊎ RefusedLive (IsUnrolled old.stand.manager.limits) old text new
+
 abbrev pub TellsBy : Bool → HeadView → Command → Live → List ℕ → Live → Type 0
-TellsBy true h c = RolloverTold
+TellsBy true h c = RolloverTold h
 TellsBy false h c = CommandTold h c 0
 
 -- a worker did what it was asked, and all else is as it was
@@ -132,36 +162,43 @@ pub record AccountTold (old : Live) (text : List ℕ) (new : Live) : Type 0 wher
 abbrev pub status_at : ℕ → ℕ → Status
 status_at limit attempts = if attempts == limit then status.Parked attempts else status.Waiting attempts
 
--- what an `alive` line describes, under this limit of attempts
-abbrev pub survivor_of : ℕ → AliveLine → Survivor
-survivor_of limit a = record {
+-- how an element stood, before a unit took it if one holds it, that was tried so often in its round
+abbrev pub status_in : ℕ → Option ℕ → ℕ → Status
+status_in limit None attempts = status_at limit attempts
+status_in limit (Some worker) attempts = status.Waiting (attempts - 1)
+
+-- what an `alive` or a `held` line describes, under this limit of attempts; the first worker's pass has this
+-- number
+abbrev pub survivor_of : ℕ → ℕ → AliveLine → Survivor
+survivor_of limit first a = record {
   id = a.id;
   root = a.root;
   stage = a.draft.stage;
   body = a.draft.body;
-  status = status_at limit a.attempts;
-  holder = None;
+  status = status_in limit a.holder a.attempts;
+  holder = option_map (λ worker. first + worker) a.holder;
   rounds = a.rounds;
   root_stage = a.root_draft.stage;
   root_body = a.root_draft.body;
 }
 
--- what all `alive` lines of a head describe, in their order
+-- what all these lines of a head describe, in their order
 abbrev pub survivors_of : HeadView → List Survivor
-survivors_of h = map (survivor_of h.settings.attempts) h.alive
+survivors_of h = map (survivor_of h.settings.attempts (1 + length h.servers)) h.alive
 
--- This stands again in another manager, and the line tells what each element is called there. Or it was
--- refused, and nothing has changed.
-abbrev pub RestoresOn : List Survivor → Stand → List ℕ → Stand → Type 0
-RestoresOn survivors old text new =
-    ((moved : List Moved) × Restored survivors old moved new × (text ≡ line (restored_text (map renamed moved))))
-    ⊎ RollRefused (IsUnrestoredFor old.manager.limits survivors) old text new
+-- This stands again in another manager, the workers have in hand what their passes have, or have lost what the
+-- head says, and the line tells what each element and each open unit is called.
+pub record RestoredLive (h : HeadView) (old : Live) (text : List ℕ) (new : Live) : Type 0 where
+  pub moved : List Moved
+  pub restored : Restored (survivors_of h) old.stand moved new.stand
+  pub works : new.works ≡ works_in new.stand moved (lost_works h.lost 0 old.works)
+  pub text_is : text ≡ line (restored_text (map renamed moved) <> units_text h.workers new.works)
 
--- the line tells what stands again of what the head says is alive, and the workers have what they had
+-- or it was refused, and nothing has changed
 pub record RestoreTold (h : HeadView) (old : Live) (text : List ℕ) (new : Live) : Type 0 where
   pub holds : HoldsUnits old
-  pub restores : RestoresOn (survivors_of h) old.stand text new.stand
-  pub works : new.works ≡ old.works
+  pub told : RestoredLive h old text new
+      ⊎ RefusedLive (IsUnrestoredIn old.stand.manager.limits (survivors_of h)) old text new
 
 -- ---- dumps
 
@@ -175,13 +212,13 @@ pub record LiveLooks (old new : Live) : Type 0 where
 -- the lines that lead to this state, where this is alive
 abbrev pub lines_of : HeadView → Live → List Survivor → List (List ℕ)
 lines_of h l survivors = let places = l.stand.scene.places in
-    dump_lines h (map (λ p. p.desk.registers) places) (map (λ p. p.is_dropped) places) survivors
+    dump_lines h (map (λ p. p.desk.registers) places) (map (λ p. p.is_dropped) places) l.works survivors
 
--- All that is alive was found, each element once, and no unit holds an element: so it is after all that the
--- passes had done, which all of them have seen.
+-- All that is alive was found, each element once, and a pass that holds one has a unit open: so it is after all
+-- that the passes had done, which all of them have seen.
 pub record FoundAlive (old : Live) (survivors : List Survivor) (new : Live) : Type 0 where
   pub found : AreSurvivors old.stand.manager.limits new.stand.keeper.seen survivors
-  pub unheld : AreUnheld survivors
+  pub in_hand : AreInHand (passes_in old.stand.scene) survivors
   pub history : IsHistoryOf new.stand.keeper (passes_in old.stand.scene) new.stand.keeper.seen
   pub together : AreTogether old.stand.manager.limits new.stand.keeper (passes_in new.stand.scene)
       new.stand.keeper.seen
@@ -191,29 +228,22 @@ abbrev pub Surveyed : HeadView → Live → List ℕ → Live → Type 0
 Surveyed h old text new = (survivors : List Survivor) × FoundAlive old survivors new
     × (text ≡ dump_text (lines_of h old survivors))
 
--- why it isn't found, by these passes: Busy where one has a unit open, and else one of these
-abbrev pub IsUnsurveyedFor : List PassShown → RollFault → Type 0
-IsUnsurveyedFor passes faults.Busy = ¬ AreFree passes
-IsUnsurveyedFor passes faults.NoMemory = AreFree passes
-IsUnsurveyedFor passes faults.Unequal = AreFree passes
-IsUnsurveyedFor passes other = ⊥
-
 -- it wasn't found, and the line tells why
-pub record Unsurveyed (old : Live) (text : List ℕ) : Type 0 where
+pub record Unsurveyed (text : List ℕ) : Type 0 where
   pub why : RollFault
-  pub due : IsUnsurveyedFor (passes_in old.stand.scene) why
+  pub due : IsUnsurveyed why
   pub text_is : text ≡ line (roll_refused_text why)
 
--- With a unit of work open a dump is refused, and nothing is done; else the passes look for what is alive.
+-- With a unit open at a desk a dump is refused, and nothing is done; else the passes look for what is alive.
 abbrev pub TellsDump : HeadView → Bool → Live → List ℕ → Live → Type 0
 TellsDump h true old text new = (text ≡ line (answer_text answer.Busy)) × (new ≡ old)
-TellsDump h false old text new = LiveLooks old new × (Surveyed h old text new ⊎ Unsurveyed old text)
+TellsDump h false old text new = LiveLooks old new × (Surveyed h old text new ⊎ Unsurveyed text)
 
 -- so it was, and then all gather
 pub record DumpTold (h : HeadView) (old : Live) (text : List ℕ) (new : Live) : Type 0 where
   pub holds : HoldsUnits old
   pub done : Live
-  pub tells : TellsDump h (is_open old) old text done
+  pub tells : TellsDump h (has_desk_open old) old text done
   pub gathers : LiveGathers done new
 
 -- ---- all acts
@@ -252,7 +282,7 @@ module _ {X : Type 0} {F : X → Type 0} (behaviour : DynBox X Global F → Beha
         h.places.items
     pub each_server : length h.servers.items ≡ length head.servers.items
     pub each_worker : length head.workers.items ≤ length h.works.items
-    pub racers : All (λ work. work ≡ None) (drop (length head.workers.items) h.works.items)
+    pub racers : All (λ work. work ≡ Nothing) (drop (length head.workers.items) h.works.items)
     pub parts : length h.managed.passes.items ≡ 1 + length h.servers.items + length h.works.items
     pub in_hand : units_held (length h.servers.items) h.managed.passes.items ≡ map unit_of h.works.items
 

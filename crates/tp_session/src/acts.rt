@@ -8,21 +8,22 @@ ghost use Rattle.tp_script.specs.Ranges.{IsInRange};
 ghost use Rattle.tp_script.specs.Script.{head_view};
 ghost use Rattle.tp_script.specs.Ranges.{IsActInRange};
 ghost use Rattle.tp_workers.specs.Free.{IsFreePass};
+ghost use Rattle.tp_session.specs.Hands.{has_unit};
 ghost use Rattle.tp_session.specs.Left.{Acted, OrSame, Reaches, began_in};
 ghost use Rattle.tp_session.specs.Live.{AccountTold, ClientCounts, CommandTold, IsHeld, Leads, LiveGathers};
-ghost use Rattle.tp_session.specs.Live.{RolloverTold, TellsAccount, TellsAct, TellsBy, WorkerDid, WorkerTold};
+ghost use Rattle.tp_session.specs.Live.{TellsAccount, TellsAct, TellsBy, WorkerDid, WorkerTold};
 
 use crate::answers::worker_line;
 use crate::dump::dump_told;
-use crate::hand::{WorkerAnswer, worker_act};
+use crate::hand::{Holding, WorkerAnswer, worker_act};
 use crate::held::Held;
 use crate::restoring::restore_told;
+use crate::rolling::rollover_told;
 use std::alloc::{AllocError, Global};
 use std::string::String;
 use tp_commands::{Place, count};
 use tp_manager::{Manager, Pass};
-use tp_model::types::Work;
-use tp_perform::{perform_next, roll_over_line};
+use tp_perform::perform_next;
 use tp_report::{Answer, line};
 use tp_script::{Act, Command, Head, WorkerAct};
 use tp_server::Server;
@@ -52,23 +53,6 @@ fn command_told(
         held.servers.as_mut_slice(),
         held.places.as_mut_slice(),
         command,
-    )
-}
-
-/// What is alive goes on in a new manager.
-fn rollover_told(alloc: Global, head: &Head, held: &mut Held) -> Result<String, AllocError>
-    requires held { IsHeld behaviour registers pending head.now held.old }
-    ensures held { IsHeld behaviour registers pending head.now held.new }
-    ensures went { Reaches behaviour registers pending (λ old new. (text : List ℕ) × RolloverTold old text new)
-        held.old held.new }
-    ensures tells { IfOk result (λ text. Leads behaviour registers pending (λ old new.
-        RolloverTold old (string_bytes text) new) held.old held.new) }
-{
-    roll_over_line(
-        alloc,
-        &mut held.managed,
-        held.servers.as_slice(),
-        held.places.as_mut_slice(),
     )
 }
 
@@ -155,11 +139,11 @@ fn worker_told(
     worker_line(alloc, head.workers[worker].name.as_str(), answer)
 }
 
-/// Whether a worker has something in hand.
-fn has_work(works: &[Option<Work>]) -> bool
-    ensures { result ≡ list_any is_some works.now }
+/// Whether a worker has a unit of work in hand.
+fn has_work(works: &[Holding]) -> bool
+    ensures { result ≡ list_any has_unit works.now }
 {
-    works.iter().any(|work| work.is_some())
+    works.iter().any(|work| work.has_unit())
 }
 
 /// Whether the desk at a place has something in hand.
@@ -173,7 +157,7 @@ fn has_open(place: &Place) -> bool
 }
 
 /// Whether a server's desk has something in hand.
-fn has_place(places: &[Place]) -> bool
+pub(crate) fn has_place(places: &[Place]) -> bool
     ensures { result ≡ list_any (λ p. is_some (work_in p.aside)) places.now }
 {
     for i in 0..places.len() {
@@ -185,8 +169,8 @@ fn has_place(places: &[Place]) -> bool
 }
 
 /// Whether a unit of work is open.
-pub(crate) fn is_open(places: &[Place], works: &[Option<Work>]) -> bool
-    ensures { result ≡ (list_any is_some works.now || list_any (λ p. is_some (work_in p.aside)) places.now) }
+pub(crate) fn is_open(places: &[Place], works: &[Holding]) -> bool
+    ensures { result ≡ (list_any has_unit works.now || list_any (λ p. is_some (work_in p.aside)) places.now) }
 {
     if has_work(works) {
         return true;

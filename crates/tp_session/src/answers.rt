@@ -1,11 +1,14 @@
 //! The lines of a session that scripts don't have.
-ghost use Rattle.std.specs.Prelude.{◌≡◌, IfOk, map, string_bytes};
+ghost use Rattle.std.specs.Prelude.{◌≡◌, ◌≤◌, IfOk, Some, length, map, string_bytes};
 ghost use Rattle.std.specs.Fmt.{WritesOnOk};
-ghost use Rattle.tp_report.specs.Answer.{line};
+ghost use Rattle.tp_report.specs.Answer.{line, rolled_text};
+ghost use Rattle.tp_script.specs.Fault.{◌<>◌};
+ghost use Rattle.tp_script.specs.Script.{worker_view};
 ghost use Rattle.tp_perform.specs.Rollover.{renamed};
-ghost use Rattle.tp_session.specs.Answers.{body_text, refused_line, restored_text, took_line, worker_line};
+ghost use Rattle.tp_session.specs.Answers.{body_text, refused_line, restored_text, took_line, unit_text};
+ghost use Rattle.tp_session.specs.Answers.{unit_texts, units_text, worker_line};
 
-use crate::hand::WorkerAnswer;
+use crate::hand::{Holding, WorkerAnswer};
 use std::alloc::{AllocError, Global};
 use std::fmt;
 use std::string::String;
@@ -13,7 +16,7 @@ use tp_model::types::{Body, Work};
 use tp_perform::rollover::all_renamed;
 use tp_report::{Answer, Renamed, line};
 use tp_rollover::Moved;
-use tp_script::LineFault;
+use tp_script::{LineFault, WorkerLine};
 
 /// The line of a faulty line.
 pub fn refused_line(alloc: Global, number: u64, fault: LineFault) -> Result<String, AllocError>
@@ -82,13 +85,100 @@ fn restored<W: fmt::Write>(f: &mut fmt::Formatter<W>, elements: &[Renamed]) -> f
     Ok(())
 }
 
-/// The line of a restore after which these are alive again.
-pub(crate) fn restored_line(alloc: Global, moved: &[Moved]) -> Result<String, AllocError>
-    ensures { IfOk result (λ s. string_bytes s ≡ line (restored_text (map renamed moved.now))) }
+/// ` NAME:UNIT` of a worker that has a unit open, behind this text.
+fn with_unit(
+    alloc: Global,
+    text: &str,
+    worker: &WorkerLine,
+    work: Holding,
+) -> Result<String, AllocError>
+    ensures { IfOk result (λ s. string_bytes s ≡ text.now <> unit_text (Some (worker_view worker.now)) (Some work)) }
+{
+    let name = worker.name.as_str();
+    match work {
+        Holding::Open { unit, element: _ } => format!(in alloc; "{text} {name}:{unit}"),
+        Holding::Nothing => format!(in alloc; "{text}"),
+        Holding::Lost { element: _ } => format!(in alloc; "{text}"),
+    }
+}
+
+/// Those of all workers that have one.
+fn unit_texts(
+    alloc: Global,
+    workers: &[WorkerLine],
+    works: &[Holding],
+) -> Result<String, AllocError>
+    requires each { length workers.now ≤ length works.now }
+    ensures { IfOk result (λ s. string_bytes s
+        ≡ unit_texts (map worker_view workers.now) works.now (length workers.now)) }
+{
+    let mut text = String::new(alloc);
+    for at in 0..workers.len() {
+        text = with_unit(alloc, text.as_str(), &workers[at], works[at])?;
+    }
+    Ok(text)
+}
+
+/// ` units NAME:UNIT ..`, where there is one.
+fn units_text(
+    alloc: Global,
+    workers: &[WorkerLine],
+    works: &[Holding],
+) -> Result<String, AllocError>
+    requires each { length workers.now ≤ length works.now }
+    ensures { IfOk result (λ s. string_bytes s ≡ units_text (map worker_view workers.now) works.now) }
+{
+    let texts = unit_texts(alloc, workers, works)?;
+    if texts.is_empty() {
+        return Ok(texts);
+    }
+    let units = texts.as_str();
+    format!(in alloc; " units{units}")
+}
+
+/// A line of this text.
+fn as_line(alloc: Global, text: &str) -> Result<String, AllocError>
+    ensures { IfOk result (λ s. string_bytes s ≡ line text.now) }
+{
+    format!(in alloc; "{text}\n")
+}
+
+/// The line of a rollover that carried these over, and after which the workers have that in hand.
+pub(crate) fn rolled_line(
+    alloc: Global,
+    moved: &[Moved],
+    workers: &[WorkerLine],
+    works: &[Holding],
+) -> Result<String, AllocError>
+    requires each { length workers.now ≤ length works.now }
+    ensures { IfOk result (λ s. string_bytes s ≡ line (rolled_text (map renamed moved.now)
+        <> units_text (map worker_view workers.now) works.now)) }
 {
     let elements = all_renamed(alloc, moved)?;
+    let texts = units_text(alloc, workers, works)?;
+    let units = texts.as_str();
+    let answer = Answer::RolledOver(&elements);
+    let text = format!(in alloc; "{answer}{units}")?;
+    as_line(alloc, text.as_str())
+}
+
+/// The line of a restore after which these are alive again, and the workers have that in hand.
+pub(crate) fn restored_line(
+    alloc: Global,
+    moved: &[Moved],
+    workers: &[WorkerLine],
+    works: &[Holding],
+) -> Result<String, AllocError>
+    requires each { length workers.now ≤ length works.now }
+    ensures { IfOk result (λ s. string_bytes s ≡ line (restored_text (map renamed moved.now)
+        <> units_text (map worker_view workers.now) works.now)) }
+{
+    let elements = all_renamed(alloc, moved)?;
+    let texts = units_text(alloc, workers, works)?;
+    let units = texts.as_str();
     let all = AllRestored {
         elements: elements.as_slice(),
     };
-    format!(in alloc; "{all}\n")
+    let text = format!(in alloc; "{all}{units}")?;
+    as_line(alloc, text.as_str())
 }

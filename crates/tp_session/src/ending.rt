@@ -15,21 +15,20 @@ ghost use Rattle.tp_session.specs.Left.{began_at, began_in};
 ghost use Rattle.tp_session.specs.Live.{IsHeld, IsLive, Live};
 ghost use Rattle.tp_session.specs.Hands.{AllHold, GivesUp, hands, unit_of};
 
-use crate::hand::give_up;
+use crate::hand::{Holding, give_up};
 use crate::held::Held;
 use crate::reading::Lines;
 use crate::wire::Wire;
 use std::alloc::Global;
 use tp_commands::{Place, end_all};
 use tp_manager::{Manager, Pass};
-use tp_model::types::Work;
 use tp_perform::finals::line_of;
 use tp_report::Fault;
 use tp_script::Head;
 use tp_server::Server;
 
 /// Has each worker give up what it has in hand.
-fn give_up_all(manager: &Manager, passes: &mut [Pass], works: &mut [Option<Work>])
+fn give_up_all(manager: &Manager, passes: &mut [Pass], works: &mut [Holding])
     requires holds { AllHold manager.now passes.old works.old }
     ensures holds { AllHold manager.now passes.new works.new }
     ensures given_up { AllZip GivesUp (hands passes.old works.old) (hands passes.new works.new) }
@@ -50,7 +49,7 @@ pub(crate) fn end_passes(
     passes: &mut [Pass],
     servers: &mut [Box<dyn Server + Send>],
     places: &mut [Place],
-    works: &mut [Option<Work>],
+    works: &mut [Holding],
 )
     requires ready { AreReady behaviour registers pending manager.now passes.old servers.old places.old }
     requires parts { length passes.old ≡ 1 + length servers.old + length works.old }

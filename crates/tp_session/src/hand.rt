@@ -10,6 +10,56 @@ use tp_model::types::{Claimed, Draft, Ended, Refusal, Work};
 use tp_report::ServerAnswer;
 use tp_script::WorkerAct;
 
+/// What a worker has in hand.
+#[derive(Clone, Copy, Debug, PartialEq, Eq)]
+pub enum Holding {
+    /// Nothing.
+    Nothing,
+    /// The unit of work that its pass has open, and the element that it took.
+    Open { unit: u16, element: u32 },
+    /// It had a unit of work that was lost before a rollover, and hasn't heard of it. The element that it took
+    /// is called as the worker knew it.
+    Lost { element: u32 },
+}
+
+impl Holding {
+    ghost use Rattle.std.specs.Prelude.{is_some};
+    ghost use Rattle.tp_session.specs.Hands.{has_unit, is_busy};
+    ghost use Rattle.tp_session.specs.declared.hand.Holding.TheVariants.{Open};
+
+    /// What was taken.
+    pub(crate) fn of(work: &Work) -> Holding
+        ensures { result ≡ Open work.now.unit work.now.element.id }
+    {
+        Holding::Open {
+            unit: work.unit,
+            element: work.element.id,
+        }
+    }
+
+    /// Whether it is something.
+    pub(crate) fn is_busy(&self) -> bool
+        ensures { result ≡ is_busy self.now }
+    {
+        match self {
+            Holding::Nothing => false,
+            Holding::Open { .. } => true,
+            Holding::Lost { .. } => true,
+        }
+    }
+
+    /// Whether its pass has a unit of work open.
+    pub(crate) fn has_unit(&self) -> bool
+        ensures { result ≡ has_unit self.now }
+    {
+        match self {
+            Holding::Nothing => false,
+            Holding::Open { .. } => true,
+            Holding::Lost { .. } => false,
+        }
+    }
+}
+
 /// What a worker is answered.
 #[derive(Clone, Copy, Debug, PartialEq, Eq)]
 pub enum WorkerAnswer {
@@ -25,7 +75,7 @@ pub fn worker_act(
     manager: &Manager,
     stage: u8,
     pass: &mut Pass,
-    work: &mut Option<Work>,
+    work: &mut Holding,
     act: &WorkerAct,
 ) -> WorkerAnswer
     requires holds { IsHand manager.now (hand pass.old work.old) }
@@ -44,7 +94,7 @@ pub fn worker_act(
 }
 
 /// `claim NAME`
-fn claim(manager: &Manager, stage: u8, pass: &mut Pass, work: &mut Option<Work>) -> WorkerAnswer
+fn claim(manager: &Manager, stage: u8, pass: &mut Pass, work: &mut Holding) -> WorkerAnswer
     requires holds { IsHand manager.now (hand pass.old work.old) }
     requires stage { IsServerStage stage }
     ensures holds { IsHand manager.now (hand pass.new work.new) }
@@ -52,12 +102,12 @@ fn claim(manager: &Manager, stage: u8, pass: &mut Pass, work: &mut Option<Work>)
     ensures tells { TellsClaim manager.now.limits stage
         (hand pass.old work.old) result (hand pass.new work.new) }
 {
-    if work.is_some() {
+    if work.is_busy() {
         return WorkerAnswer::Told(ServerAnswer::Busy);
     }
     match manager.claim(pass, stage) {
         Claimed::Work(taken) => {
-            *work = Some(taken);
+            *work = Holding::of(&taken);
             WorkerAnswer::Took(taken)
         }
         Claimed::Idle => WorkerAnswer::Told(ServerAnswer::Turned(Turned::Idle)),
@@ -66,18 +116,18 @@ fn claim(manager: &Manager, stage: u8, pass: &mut Pass, work: &mut Option<Work>)
 }
 
 /// `take NAME ID`
-fn take(manager: &Manager, pass: &mut Pass, work: &mut Option<Work>, id: u32) -> WorkerAnswer
+fn take(manager: &Manager, pass: &mut Pass, work: &mut Holding, id: u32) -> WorkerAnswer
     requires holds { IsHand manager.now (hand pass.old work.old) }
     ensures holds { IsHand manager.now (hand pass.new work.new) }
     ensures number { pass.new.number ≡ pass.old.number }
     ensures tells { TellsTake manager.now.limits id (hand pass.old work.old) result (hand pass.new work.new) }
 {
-    if work.is_some() {
+    if work.is_busy() {
         return WorkerAnswer::Told(ServerAnswer::Busy);
     }
     match manager.claim_id(pass, id) {
         Ok(taken) => {
-            *work = Some(taken);
+            *work = Holding::of(&taken);
             WorkerAnswer::Took(taken)
         }
         Err(Refusal::NoUnit) => WorkerAnswer::Told(ServerAnswer::Turned(Turned::NoUnit)),
@@ -89,7 +139,7 @@ fn take(manager: &Manager, pass: &mut Pass, work: &mut Option<Work>, id: u32) ->
 fn commit(
     manager: &Manager,
     pass: &mut Pass,
-    work: &mut Option<Work>,
+    work: &mut Holding,
     drafts: &[Draft],
 ) -> WorkerAnswer
     requires holds { IsHand manager.now (hand pass.old work.old) }
@@ -99,35 +149,50 @@ fn commit(
     ensures tells { TellsCommit manager.now.limits drafts.now
         (hand pass.old work.old) result (hand pass.new work.new) }
 {
-    let Some(taken) = *work else {
-        return WorkerAnswer::Told(ServerAnswer::NoneOpen);
-    };
-    let outcome = manager.commit(pass, drafts);
-    *work = None;
-    WorkerAnswer::Told(ServerAnswer::Turned(Turned::settled(&taken, outcome)))
+    match *work {
+        Holding::Nothing => WorkerAnswer::Told(ServerAnswer::NoneOpen),
+        Holding::Lost { element } => {
+            *work = Holding::Nothing;
+            WorkerAnswer::Told(ServerAnswer::Turned(Turned::Lost { element }))
+        }
+        Holding::Open { unit, element } => {
+            let outcome = manager.commit(pass, drafts);
+            *work = Holding::Nothing;
+            WorkerAnswer::Told(ServerAnswer::Turned(Turned::settled_as(
+                unit, element, outcome,
+            )))
+        }
+    }
 }
 
 /// `abort NAME`
-fn abort(manager: &Manager, pass: &mut Pass, work: &mut Option<Work>) -> WorkerAnswer
+fn abort(manager: &Manager, pass: &mut Pass, work: &mut Holding) -> WorkerAnswer
     requires holds { IsHand manager.now (hand pass.old work.old) }
     ensures holds { IsHand manager.now (hand pass.new work.new) }
     ensures number { pass.new.number ≡ pass.old.number }
     ensures tells { TellsAbort manager.now.limits (hand pass.old work.old) result (hand pass.new work.new) }
 {
-    let Some(taken) = *work else {
-        return WorkerAnswer::Told(ServerAnswer::NoneOpen);
-    };
-    let element = taken.element.id;
-    let ended = manager.abort(pass);
-    *work = None;
-    match ended {
-        Ended::Aborted => WorkerAnswer::Told(ServerAnswer::Aborted { element }),
-        Ended::AlreadyAborted => WorkerAnswer::Told(ServerAnswer::AlreadyAborted { element }),
+    match *work {
+        Holding::Nothing => WorkerAnswer::Told(ServerAnswer::NoneOpen),
+        Holding::Lost { element } => {
+            *work = Holding::Nothing;
+            WorkerAnswer::Told(ServerAnswer::AlreadyAborted { element })
+        }
+        Holding::Open { unit: _, element } => {
+            let ended = manager.abort(pass);
+            *work = Holding::Nothing;
+            match ended {
+                Ended::Aborted => WorkerAnswer::Told(ServerAnswer::Aborted { element }),
+                Ended::AlreadyAborted => {
+                    WorkerAnswer::Told(ServerAnswer::AlreadyAborted { element })
+                }
+            }
+        }
     }
 }
 
 /// Gives up what a worker has in hand, if there is something.
-pub fn give_up(manager: &Manager, pass: &mut Pass, work: &mut Option<Work>)
+pub fn give_up(manager: &Manager, pass: &mut Pass, work: &mut Holding)
     requires holds { IsHand manager.now (hand pass.old work.old) }
     ensures holds { IsHand manager.now (hand pass.new work.new) }
     ensures gives_up { GivesUp (hand pass.old work.old) (hand pass.new work.new) }

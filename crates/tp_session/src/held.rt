@@ -1,8 +1,8 @@
 //! What a session holds between two lines.
 
+use crate::hand::Holding;
 use arrayvec::ArrayVec;
 use tp_commands::Place;
-use tp_model::types::Work;
 use tp_rollover::Managed;
 use tp_script::MAX_SERVERS;
 use tp_server::Server;
@@ -17,5 +17,5 @@ pub struct Held {
     /// Where the desk of each server is.
     pub places: ArrayVec<Place, MAX_SERVERS>,
     /// What each worker has in hand, in the order of their lines.
-    pub works: Vec<Option<Work>>,
+    pub works: Vec<Holding>,
 }

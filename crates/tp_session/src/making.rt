@@ -3,12 +3,13 @@ ghost use Rattle.std.specs.Prelude.{◌≡◌, ◌+◌, ◌≤◌, None, All, If
 ghost use Rattle.tp_commands.specs.Acting.{new_places, places_shown};
 ghost use Rattle.tp_commands.specs.Places.{AllLie, workers};
 ghost use Rattle.tp_script.specs.declared.script.TheConstants.{MAX_SERVERS};
+ghost use Rattle.tp_session.specs.declared.hand.Holding.TheVariants.{Nothing};
 
+use crate::hand::Holding;
 use arrayvec::ArrayVec;
 use std::alloc::{AllocError, Global};
 use tp_commands::{Place, places_for};
 use tp_manager::Pass;
-use tp_model::types::Work;
 use tp_script::MAX_SERVERS;
 use tp_server::Server;
 
@@ -31,13 +32,13 @@ pub(crate) fn first_places(
 }
 
 /// What so many workers have in hand at the beginning.
-pub(crate) fn no_works(alloc: Global, many: usize) -> Result<Vec<Option<Work>>, AllocError>
+pub(crate) fn no_works(alloc: Global, many: usize) -> Result<Vec<Holding>, AllocError>
     ensures many { IfOk result (λ works. length works.items ≡ many) }
-    ensures idle { IfOk result (λ works. All (λ work. work ≡ None) works.items) }
+    ensures idle { IfOk result (λ works. All (λ work. work ≡ Nothing) works.items) }
 {
     let mut works = Vec::new(alloc);
     for _worker in 0..many {
-        works.push(None)?;
+        works.push(Holding::Nothing)?;
     }
     Ok(works)
 }

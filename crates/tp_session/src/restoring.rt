@@ -1,14 +1,20 @@
 //! The act `restore`: what the head says is alive stands again in a new manager.
-ghost use Rattle.std.specs.Prelude.{◌≡◌, List, ℕ, IfErr, IfOk, map, string_bytes};
+ghost use Rattle.std.specs.Prelude.{◌≡◌, ◌+◌, ◌<◌, ◌≤◌, All, List, ℕ, IfErr, IfOk, map, string_bytes};
+ghost use Rattle.std.specs.Option.{ForSome, option_map};
 ghost use Rattle.tp_report.specs.Answer.{line};
-ghost use Rattle.tp_perform.specs.Restore.{IsUnrestoredFor, Restored};
+ghost use Rattle.tp_perform.specs.Restore.{IsUnrestoredIn, Restored};
 ghost use Rattle.tp_perform.specs.Rollover.{RollRefused, roll_refused_text};
+ghost use Rattle.tp_script.specs.Holders.{IsHeldBy};
 ghost use Rattle.tp_script.specs.Script.{head_view};
+ghost use Rattle.tp_script.specs.declared.head.TheConstants.{MAX_WORKERS};
+ghost use Rattle.tp_script.specs.declared.script.TheConstants.{MAX_SERVERS};
+ghost use Rattle.tp_session.specs.Carried.{lost_works};
 ghost use Rattle.tp_session.specs.Left.{OrSame, Reaches};
-ghost use Rattle.tp_session.specs.Live.{HoldsUnits, IsHeld, Leads, RestoreTold, status_at, survivor_of};
-ghost use Rattle.tp_session.specs.Live.{survivors_of};
+ghost use Rattle.tp_session.specs.Live.{HoldsUnits, IsHeld, Leads, RestoreTold, status_at, status_in, survivor_of};
+ghost use Rattle.tp_session.specs.Live.{survivors_of, works_in};
 
 use crate::answers::restored_line;
+use crate::carried::{go_on_all, lose_all};
 use crate::held::Held;
 use std::alloc::{AllocError, Global};
 use std::string::String;
@@ -30,17 +36,42 @@ fn status_at(limit: u8, attempts: u8) -> Status
     }
 }
 
-/// What an `alive` line describes, under this limit of attempts.
-fn survivor_of(limit: u8, line: &AliveLine) -> Survivor
-    ensures { result ≡ survivor_of limit line.now }
+/// The same, before a unit took it, if one holds it.
+fn status_in(limit: u8, holder: Option<usize>, attempts: u8) -> Status
+    ensures { result ≡ status_in limit holder attempts }
+{
+    match holder {
+        Some(_worker) => Status::Waiting {
+            attempts: attempts.saturating_sub(1),
+        },
+        None => status_at(limit, attempts),
+    }
+}
+
+/// The pass of the worker that holds it, if one does. The first worker's has this number.
+fn holder_of(first: usize, holder: Option<usize>) -> Option<u16>
+    requires few { first ≤ 1 + MAX_SERVERS }
+    requires worker { ForSome holder (λ worker. worker < MAX_WORKERS) }
+    ensures { result ≡ option_map (λ worker. first + worker) holder }
+{
+    let worker = holder?;
+    Some((first + worker) as u16)
+}
+
+/// What an `alive` or a `held` line describes, under this limit of attempts. The first worker's pass has this
+/// number.
+fn survivor_of(limit: u8, first: usize, line: &AliveLine) -> Survivor
+    requires few { first ≤ 1 + MAX_SERVERS }
+    requires worker { IsHeldBy MAX_WORKERS line.now }
+    ensures { result ≡ survivor_of limit first line.now }
 {
     Survivor {
         id: line.id,
         root: line.root,
         stage: line.draft.stage(),
         body: line.draft.body(),
-        status: status_at(limit, line.attempts),
-        holder: None,
+        status: status_in(limit, line.holder, line.attempts),
+        holder: holder_of(first, line.holder),
         rounds: line.rounds,
         root_stage: line.root_draft.stage(),
         root_body: line.root_draft.body(),
@@ -48,17 +79,25 @@ fn survivor_of(limit: u8, line: &AliveLine) -> Survivor
 }
 
 /// What these lines describe.
-fn survivors_of(alloc: Global, limit: u8, lines: &[AliveLine]) -> Result<Vec<Survivor>, AllocError>
-    ensures { IfOk result (λ survivors. survivors.items ≡ map (survivor_of limit) lines.now) }
+fn survivors_of(
+    alloc: Global,
+    limit: u8,
+    first: usize,
+    lines: &[AliveLine],
+) -> Result<Vec<Survivor>, AllocError>
+    requires few { first ≤ 1 + MAX_SERVERS }
+    requires workers { All (IsHeldBy MAX_WORKERS) lines.now }
+    ensures { IfOk result (λ survivors. survivors.items ≡ map (survivor_of limit first) lines.now) }
 {
     let mut survivors = Vec::new(alloc);
     for line in lines {
-        survivors.push(survivor_of(limit, line))?;
+        survivors.push(survivor_of(limit, first, line))?;
     }
     Ok(survivors)
 }
 
-/// This stands again in a new manager, in which the desks begin anew. Answers what each element is there.
+/// This stands again in a new manager, in which the desks begin anew and workers have in hand what it says.
+/// Answers what each element is there.
 fn restore_held(
     alloc: Global,
     head: &Head,
@@ -66,21 +105,28 @@ fn restore_held(
     survivors: &[Survivor],
 ) -> Result<Vec<Moved>, RollFault>
     requires held { IsHeld behaviour registers pending head.now held.old }
+    requires described { survivors.now ≡ survivors_of (head_view head.now) }
     ensures held { IsHeld behaviour registers pending head.now held.new }
     ensures restored { IfOk result (λ moved. Leads behaviour registers pending (λ old new.
-        HoldsUnits old × Restored survivors.now old.stand moved.items new.stand × (new.works ≡ old.works))
+        HoldsUnits old × Restored survivors.now old.stand moved.items new.stand
+        × (new.works ≡ works_in new.stand moved.items (lost_works head.now.lost.items 0 old.works)))
         held.old held.new) }
     ensures refused { IfErr result (λ why. Leads behaviour registers pending (λ old new.
-        HoldsUnits old × RollRefused (IsUnrestoredFor old.stand.manager.limits survivors.now)
+        HoldsUnits old × RollRefused (IsUnrestoredIn old.stand.manager.limits survivors.now)
         old.stand (line (roll_refused_text why)) new.stand × (new.works ≡ old.works)) held.old held.new) }
 {
-    restore(
+    let moved = restore(
         alloc,
         &mut held.managed,
         held.servers.as_slice(),
         held.places.as_mut_slice(),
         survivors,
-    )
+    )?;
+    let first = 1 + held.servers.len();
+    let passes = held.managed.passes.as_slice();
+    lose_all(head.lost.as_slice(), 0, held.works.as_mut_slice());
+    go_on_all(&passes[first..], first, &moved, held.works.as_mut_slice());
+    Ok(moved)
 }
 
 /// The same. Answers the line.
@@ -99,13 +145,19 @@ fn stand_again(
         RestoreTold (head_view head.now) old (string_bytes text) new) held.old held.new) }
 {
     match restore_held(alloc, head, held, survivors) {
-        Ok(moved) => restored_line(alloc, moved.as_slice()),
+        Ok(moved) => restored_line(
+            alloc,
+            moved.as_slice(),
+            head.workers.as_slice(),
+            held.works.as_slice(),
+        ),
         Err(why) => refused_line(alloc, why),
     }
 }
 
 /// What the head says is alive stands again in a new manager of the same limits, each element once, and the
-/// desks begin anew there. Answers `restored N OLD:NEW ..`, or why it was refused: then nothing has changed.
+/// desks begin anew there. Workers have in hand what the head says. Answers `restored N OLD:NEW ..`, and where
+/// workers have units open ` units NAME:UNIT ..` behind it; or why it was refused: then nothing has changed.
 pub(crate) fn restore_told(
     alloc: Global,
     head: &Head,
@@ -119,6 +171,7 @@ pub(crate) fn restore_told(
         RestoreTold (head_view head.now) old (string_bytes text) new) held.old held.new) }
 {
     let limit = head.settings.attempts;
-    let survivors = survivors_of(alloc, limit, head.alive.as_slice())?;
+    let first = 1 + head.servers.len();
+    let survivors = survivors_of(alloc, limit, first, head.alive.as_slice())?;
     stand_again(alloc, head, held, survivors.as_slice())
 }
