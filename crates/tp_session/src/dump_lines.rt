@@ -5,8 +5,8 @@ ghost use Rattle.std.specs.Fmt.{WritesOnOk};
 ghost use Rattle.tp_script.specs.Script.{head_view, settings_view};
 ghost use Rattle.tp_script.specs.Script.{worker_view};
 ghost use Rattle.tp_session.specs.Dump.{alive_text, all_starts, attempts_of, draft_text, drop_lines, drop_of};
-ghost use Rattle.tp_session.specs.Dump.{dump_by, dump_text, root_text, server_starts, settings_lines, start_lines};
-ghost use Rattle.tp_session.specs.Dump.{starts_of, worker_text};
+ghost use Rattle.tp_session.specs.Dump.{dump_by, dump_text, element_text, held_text, life_text, root_text};
+ghost use Rattle.tp_session.specs.Dump.{server_starts, settings_lines, start_lines, starts_of, worker_text};
 
 use crate::answers::body_text;
 use std::alloc::{AllocError, Global};
@@ -184,31 +184,69 @@ fn root_text(alloc: Global, survivor: &Survivor) -> Result<String, AllocError>
     format!(in alloc; " {root} {draft}")
 }
 
-/// The line of an element that is alive.
-fn alive_text(alloc: Global, survivor: &Survivor) -> Result<String, AllocError>
-    ensures { IfOk result (λ s. string_bytes s ≡ alive_text survivor.now) }
+/// What stands behind the first word, or the first two, of the line of an element that was tried so often.
+fn element_text(alloc: Global, survivor: &Survivor, attempts: u16) -> Result<String, AllocError>
+    ensures { IfOk result (λ s. string_bytes s ≡ element_text survivor.now attempts) }
 {
     let id = survivor.id;
-    let attempts = attempts_of(survivor.status);
     let rounds = survivor.rounds;
     let own = draft_text(alloc, survivor.stage, &survivor.body)?;
     let draft = own.as_str();
     let behind = root_text(alloc, survivor)?;
     let root = behind.as_str();
-    format!(in alloc; "alive {id} {attempts} {rounds} {draft}{root}")
+    format!(in alloc; "{id} {attempts} {rounds} {draft}{root}")
 }
 
-/// Adds the lines of what is alive.
+/// The line of an element that no worker has in hand.
+fn alive_text(alloc: Global, survivor: &Survivor) -> Result<String, AllocError>
+    ensures { IfOk result (λ s. string_bytes s ≡ alive_text survivor.now) }
+{
+    let text = element_text(alloc, survivor, u16::from(attempts_of(survivor.status)))?;
+    let element = text.as_str();
+    format!(in alloc; "alive {element}")
+}
+
+/// The line of one that the worker of this name has in hand: that attempt counts.
+fn held_text(alloc: Global, name: &str, survivor: &Survivor) -> Result<String, AllocError>
+    ensures { IfOk result (λ s. string_bytes s ≡ held_text name.now survivor.now) }
+{
+    let text = element_text(alloc, survivor, u16::from(attempts_of(survivor.status)) + 1)?;
+    let element = text.as_str();
+    format!(in alloc; "held {name} {element}")
+}
+
+/// The line of an element that is alive. The first worker's pass has this number.
+fn life_text(
+    alloc: Global,
+    workers: &[WorkerLine],
+    first: usize,
+    survivor: &Survivor,
+) -> Result<String, AllocError>
+    ensures { IfOk result (λ s. string_bytes s ≡ life_text (map worker_view workers.now) first survivor.now) }
+{
+    let Some(pass) = survivor.holder else {
+        return alive_text(alloc, survivor);
+    };
+    let at = usize::from(pass).saturating_sub(first);
+    if at >= workers.len() {
+        return alive_text(alloc, survivor);
+    }
+    held_text(alloc, workers[at].name.as_str(), survivor)
+}
+
+/// Adds the lines of what is alive. The first worker's pass has this number.
 pub(crate) fn add_alive(
     alloc: Global,
+    workers: &[WorkerLine],
+    first: usize,
     survivors: &[Survivor],
     lines: &mut Vec<String>,
 ) -> Result<(), AllocError>
-    ensures { OnOk result (map string_bytes lines.new.items
-        ≡ map string_bytes lines.old.items ++ map alive_text survivors.now) }
+    ensures { OnOk result (map string_bytes lines.new.items ≡ map string_bytes lines.old.items
+        ++ map (life_text (map worker_view workers.now) first) survivors.now) }
 {
     for survivor in survivors {
-        lines.push(alive_text(alloc, survivor)?)?;
+        lines.push(life_text(alloc, workers, first, survivor)?)?;
     }
     Ok(())
 }

@@ -9,6 +9,7 @@ mod carried;
 mod closing;
 mod dump;
 mod dump_lines;
+mod dump_lost;
 mod dump_servers;
 mod ending;
 mod first;

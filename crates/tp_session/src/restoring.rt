@@ -1,28 +1,36 @@
 //! The act `restore`: what the head says is alive stands again in a new manager.
-ghost use Rattle.std.specs.Prelude.{◌≡◌, ◌+◌, ◌<◌, ◌≤◌, All, List, ℕ, IfErr, IfOk, map, string_bytes};
+ghost use Rattle.std.specs.Prelude.{◌≡◌, ◌+◌, ◌<◌, ◌≤◌, All, List, ℕ, IfErr, IfOk, IfSome, OnOk, drop, length, map};
+ghost use Rattle.std.specs.Prelude.{string_bytes};
 ghost use Rattle.std.specs.Option.{ForSome, option_map};
 ghost use Rattle.tp_report.specs.Answer.{line};
 ghost use Rattle.tp_perform.specs.Restore.{IsUnrestoredIn, Restored};
-ghost use Rattle.tp_perform.specs.Rollover.{RollRefused, roll_refused_text};
-ghost use Rattle.tp_script.specs.Holders.{IsHeldBy};
+ghost use Rattle.tp_rollover.specs.Managed.{IsManaged};
+ghost use Rattle.tp_perform.specs.Rollover.{RollRefused, roll_refused_text, stand};
+ghost use Rattle.tp_perform.specs.Scenes.{Scene};
+ghost use Rattle.tp_perform.specs.Told.{AreReady, IsScene, units_held};
+ghost use Rattle.tp_script.specs.Holders.{IsHeldBy, IsLostBy};
 ghost use Rattle.tp_script.specs.Script.{head_view};
 ghost use Rattle.tp_script.specs.declared.head.TheConstants.{MAX_WORKERS};
 ghost use Rattle.tp_script.specs.declared.script.TheConstants.{MAX_SERVERS};
 ghost use Rattle.tp_session.specs.Carried.{lost_works};
+ghost use Rattle.tp_session.specs.Hands.{unit_of};
+ghost use Rattle.tp_session.specs.declared.hand.Holding.TheVariants.{Nothing};
 ghost use Rattle.tp_session.specs.Left.{OrSame, Reaches};
 ghost use Rattle.tp_session.specs.Live.{HoldsUnits, IsHeld, Leads, RestoreTold, status_at, status_in, survivor_of};
 ghost use Rattle.tp_session.specs.Live.{survivors_of, works_in};
 
 use crate::answers::restored_line;
 use crate::carried::{go_on_all, lose_all};
+use crate::hand::Holding;
 use crate::held::Held;
 use std::alloc::{AllocError, Global};
 use std::string::String;
+use tp_commands::Place;
 use tp_model::types::Status;
 use tp_perform::restore;
 use tp_perform::rollover::refused_line;
-use tp_rollover::{Moved, RollFault, Survivor};
-use tp_script::{AliveLine, Head};
+use tp_rollover::{Managed, Moved, RollFault, Survivor};
+use tp_script::{AliveLine, Head, LostLine};
 use tp_server::Server;
 
 /// How an element stands that was tried so often in its round.
@@ -96,8 +104,57 @@ fn survivors_of(
     Ok(survivors)
 }
 
-/// This stands again in a new manager, in which the desks begin anew and workers have in hand what it says.
-/// Answers what each element is there.
+/// This stands again in a new manager, in which the desks begin anew, and workers have in hand what it says, or
+/// have lost what these lines say. Answers what each element is there. The passes are the client's, one for each
+/// server, and one for each of these works.
+fn restore_works(
+    alloc: Global,
+    managed: &mut Managed,
+    servers: &[Box<dyn Server + Send>],
+    places: &mut [Place],
+    works: &mut [Holding],
+    survivors: &[Survivor],
+    lost: &[LostLine],
+) -> Result<Vec<Moved>, RollFault>
+    requires managed { IsManaged managed.old }
+    requires ready { AreReady behaviour registers pending managed.old.manager managed.old.passes.items
+        servers.now places.old }
+    requires parts { length managed.old.passes.items ≡ 1 + length servers.now + length works.old }
+    requires in_hand { units_held (length servers.now) managed.old.passes.items ≡ map unit_of works.old }
+    ensures managed { IsManaged managed.new }
+    ensures limits { managed.new.manager.limits ≡ managed.old.manager.limits }
+    ensures ready { AreReady behaviour registers pending managed.new.manager managed.new.passes.items
+        servers.now places.new }
+    ensures as_many { length places.new ≡ length places.old }
+    ensures many { length works.new ≡ length works.old }
+    ensures in_hand { units_held (length servers.now) managed.new.passes.items ≡ map unit_of works.new }
+    ensures idle { OnOk result ((k : ℕ) → All (IsLostBy k) lost.now
+        → All (λ one. IfSome one.holder (λ pass. pass < 1 + length servers.now + k)) survivors.now
+        → All (λ work. work ≡ Nothing) (drop k works.new)) }
+    ensures restored { IfOk result (λ moved. (old : Scene) × (new : Scene)
+        × IsScene behaviour registers pending managed.old.passes.items servers.now places.old old
+        × (Restored survivors.now (stand managed.old old) moved.items (stand managed.new new)
+        × (works.new ≡ works_in (stand managed.new new) moved.items (lost_works lost.now 0 works.old)))
+        × IsScene behaviour registers pending managed.new.passes.items servers.now places.new new) }
+    ensures refused { IfErr result (λ why. (old : Scene) × (new : Scene)
+        × IsScene behaviour registers pending managed.old.passes.items servers.now places.old old
+        × (RollRefused (IsUnrestoredIn managed.old.manager.limits survivors.now) (stand managed.old old)
+        (line (roll_refused_text why)) (stand managed.new new) × (works.new ≡ works.old))
+        × IsScene behaviour registers pending managed.new.passes.items servers.now places.new new) }
+{
+    match restore(alloc, managed, servers, places, survivors) {
+        Ok(moved) => {
+            let first = 1 + servers.len();
+            let passes = managed.passes.as_slice();
+            lose_all(lost, 0, works);
+            go_on_all(&passes[first..], first, &moved, works);
+            Ok(moved)
+        }
+        Err(why) => Err(why),
+    }
+}
+
+/// The same, of what is held.
 fn restore_held(
     alloc: Global,
     head: &Head,
@@ -115,18 +172,15 @@ fn restore_held(
         HoldsUnits old × RollRefused (IsUnrestoredIn old.stand.manager.limits survivors.now)
         old.stand (line (roll_refused_text why)) new.stand × (new.works ≡ old.works)) held.old held.new) }
 {
-    let moved = restore(
+    restore_works(
         alloc,
         &mut held.managed,
         held.servers.as_slice(),
         held.places.as_mut_slice(),
+        held.works.as_mut_slice(),
         survivors,
-    )?;
-    let first = 1 + held.servers.len();
-    let passes = held.managed.passes.as_slice();
-    lose_all(head.lost.as_slice(), 0, held.works.as_mut_slice());
-    go_on_all(&passes[first..], first, &moved, held.works.as_mut_slice());
-    Ok(moved)
+        head.lost.as_slice(),
+    )
 }
 
 /// The same. Answers the line.

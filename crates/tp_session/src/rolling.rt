@@ -1,24 +1,76 @@
 //! The command `rollover`: what is alive goes on in a new manager, and what workers have in hand in their hands.
-ghost use Rattle.std.specs.Prelude.{◌≡◌, List, ℕ, IfErr, IfOk, string_bytes};
+ghost use Rattle.std.specs.Prelude.{◌≡◌, ◌+◌, List, ℕ, All, IfErr, IfOk, drop, length, map, string_bytes};
 ghost use Rattle.tp_report.specs.Answer.{line};
-ghost use Rattle.tp_perform.specs.Rollover.{IsUnrolled, RollRefused, RolledOver, roll_refused_text};
+ghost use Rattle.tp_rollover.specs.Managed.{IsManaged};
+ghost use Rattle.tp_perform.specs.Rollover.{IsUnrolled, RollRefused, RolledOver, roll_refused_text, stand};
+ghost use Rattle.tp_perform.specs.Scenes.{Scene};
+ghost use Rattle.tp_perform.specs.Told.{AreReady, IsScene, units_held};
 ghost use Rattle.tp_script.specs.Script.{head_view};
+ghost use Rattle.tp_session.specs.Hands.{unit_of};
 ghost use Rattle.tp_session.specs.Left.{Reaches};
 ghost use Rattle.tp_session.specs.Live.{HoldsUnits, IsHeld, Leads, RolloverTold, works_in};
+ghost use Rattle.tp_session.specs.declared.hand.Holding.TheVariants.{Nothing};
 
 use crate::answers::rolled_line;
 use crate::carried::go_on_all;
+use crate::hand::Holding;
 use crate::held::Held;
 use std::alloc::{AllocError, Global};
 use std::string::String;
+use tp_commands::Place;
 use tp_perform::roll_over;
 use tp_perform::rollover::refused_line;
-use tp_rollover::{Moved, RollFault};
+use tp_rollover::{Managed, Moved, RollFault};
 use tp_script::Head;
 use tp_server::Server;
 
 /// What is alive goes on in a new manager, in which the desks begin anew and workers have in hand what they had.
-/// Answers what was carried over.
+/// Answers what was carried over. The passes are the client's, one for each server, and one for each of these
+/// works.
+fn roll_over_works(
+    alloc: Global,
+    managed: &mut Managed,
+    servers: &[Box<dyn Server + Send>],
+    places: &mut [Place],
+    works: &mut [Holding],
+) -> Result<Vec<Moved>, RollFault>
+    requires managed { IsManaged managed.old }
+    requires ready { AreReady behaviour registers pending managed.old.manager managed.old.passes.items
+        servers.now places.old }
+    requires parts { length managed.old.passes.items ≡ 1 + length servers.now + length works.old }
+    requires in_hand { units_held (length servers.now) managed.old.passes.items ≡ map unit_of works.old }
+    ensures managed { IsManaged managed.new }
+    ensures limits { managed.new.manager.limits ≡ managed.old.manager.limits }
+    ensures ready { AreReady behaviour registers pending managed.new.manager managed.new.passes.items
+        servers.now places.new }
+    ensures as_many { length places.new ≡ length places.old }
+    ensures many { length works.new ≡ length works.old }
+    ensures in_hand { units_held (length servers.now) managed.new.passes.items ≡ map unit_of works.new }
+    ensures idle { (k : ℕ) → All (λ work. work ≡ Nothing) (drop k works.old)
+        → All (λ work. work ≡ Nothing) (drop k works.new) }
+    ensures rolled { IfOk result (λ moved. (old : Scene) × (new : Scene)
+        × IsScene behaviour registers pending managed.old.passes.items servers.now places.old old
+        × (RolledOver (stand managed.old old) moved.items (stand managed.new new)
+        × (works.new ≡ works_in (stand managed.new new) moved.items works.old))
+        × IsScene behaviour registers pending managed.new.passes.items servers.now places.new new) }
+    ensures refused { IfErr result (λ why. (old : Scene) × (new : Scene)
+        × IsScene behaviour registers pending managed.old.passes.items servers.now places.old old
+        × (RollRefused (IsUnrolled managed.old.manager.limits) (stand managed.old old)
+        (line (roll_refused_text why)) (stand managed.new new) × (works.new ≡ works.old))
+        × IsScene behaviour registers pending managed.new.passes.items servers.now places.new new) }
+{
+    match roll_over(alloc, managed, servers, places) {
+        Ok(moved) => {
+            let first = 1 + servers.len();
+            let passes = managed.passes.as_slice();
+            go_on_all(&passes[first..], first, &moved, works);
+            Ok(moved)
+        }
+        Err(why) => Err(why),
+    }
+}
+
+/// The same, of what is held.
 fn roll_over_held(alloc: Global, head: &Head, held: &mut Held) -> Result<Vec<Moved>, RollFault>
     requires held { IsHeld behaviour registers pending head.now held.old }
     ensures held { IsHeld behaviour registers pending head.now held.new }
@@ -29,16 +81,13 @@ fn roll_over_held(alloc: Global, head: &Head, held: &mut Held) -> Result<Vec<Mov
         HoldsUnits old × RollRefused (IsUnrolled old.stand.manager.limits) old.stand
         (line (roll_refused_text why)) new.stand × (new.works ≡ old.works)) held.old held.new) }
 {
-    let moved = roll_over(
+    roll_over_works(
         alloc,
         &mut held.managed,
         held.servers.as_slice(),
         held.places.as_mut_slice(),
-    )?;
-    let first = 1 + held.servers.len();
-    let passes = held.managed.passes.as_slice();
-    go_on_all(&passes[first..], first, &moved, held.works.as_mut_slice());
-    Ok(moved)
+        held.works.as_mut_slice(),
+    )
 }
 
 /// Has what is alive, each element once, go on in a new manager. Answers `rolled over N OLD:NEW ..`, and where
