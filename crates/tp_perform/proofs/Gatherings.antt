@@ -1,5 +1,5 @@
 -- A gathering of all passes between two commands.
-use Rattle.std.proofs.Common.{◌≡◌, ℕ, zero, suc, List, [], ◌∷◌, ◌++◌, All, Option, Some, None, refl, sym, ◌∙◌, ap, subst, length, map, drop, take}
+use Rattle.std.proofs.Common.{◌≡◌, ℕ, zero, suc, List, [], ◌∷◌, ◌++◌, All, Option, Some, None, refl, sym, ◌∙◌, ap, subst, length, map, drop, take, ◌+◌, arith}
 use Rattle.std.specs.List.{AllZip}
 use Rattle.std.specs.declared.alloc.Global.{Global}
 use Rattle.std.specs.declared.dyn_box.DynBox.{DynBox}
@@ -172,7 +172,8 @@ module _ {X : Type 0} {F : X → Type 0} (behaviour : DynBox X Global F → Beha
   own_in m [] ss os a ready is = let e : [] ≡ a.client ∷ (workers (length ss) [] ++ a.racers) = is.0 in absurd cc
   own_in m (p ∷ ps) ss os a ready is =
       let first : a.client ≡ p = (let e : p ∷ ps ≡ a.client ∷ (workers (length ss) (p ∷ ps) ++ a.racers) = is.0 in cc) in
-      ap (λ zs. a.client ∷ zs) (ap (map (λ p. p.desk.pass)) is.1 ∙ shown_passes (workers (length ss) (p ∷ ps)) ss os ready.lie) ∙ ap (λ z. z ∷ workers (length ss) (p ∷ ps)) first
+      ap (λ zs. a.client ∷ zs) (ap (map (λ p. p.desk.pass)) is.1 ∙ shown_passes (workers (length ss) (p ∷ ps)) ss os ready.lie) ∙ (ap (λ z. z ∷ workers (length ss) (p ∷ ps)) first
+      ∙ ap (λ k. take k (p ∷ ps)) (let e : suc (length ss) ≡ 1 + length ss = omega arith in e))
 
   -- nothing else is shown
   pub only_passes : (ps qs : List PassShown) (ss : List Box) (os : List (Place X F)) → AllZip Looks ps qs → AllZip OnlyPass (places_shown behaviour registers pending ps ss os) (places_shown behaviour registers pending qs ss os)

@@ -49,16 +49,19 @@ use Rattle.tp_perform.proofs.Slices.{scene_there}
 abbrev Free : PassShown → Type 0
 Free p = p.open_unit ≡ None
 
+one_more : (n : ℕ) (ps : List PassShown) → AreFree (take (1 + n) ps) → AreFree (take (suc n) ps)
+one_more n ps = subst (λ k. AreFree (take k ps)) (let e : 1 + n ≡ suc n = omega arith in e)
+
 -- the client's is free
-pub first_free : (m : ManagerShown) (n : ℕ) (ps : List PassShown) → All (IsOf m) ps → AreFree (take (suc n) ps) → All (IsFreePass m) (take 1 ps)
+pub first_free : (m : ManagerShown) (n : ℕ) (ps : List PassShown) → All (IsOf m) ps → AreFree (take (1 + n) ps) → All (IsFreePass m) (take 1 ps)
 first_free m n [] own free = All-nil (IsFreePass m)
 first_free m n (p ∷ ps) own free =
-    All-cons (IsFreePass m) p [] (record { own = All-head (IsOf m) p ps own; free = All-head Free p (take n ps) free }) (All-nil (IsFreePass m))
+    All-cons (IsFreePass m) p [] (record { own = All-head (IsOf m) p ps own; free = All-head Free p (take n ps) (one_more n (p ∷ ps) free) }) (All-nil (IsFreePass m))
 
 -- and so are those of the servers
-pub desks_free : (n : ℕ) (ps : List PassShown) → AreFree (take (suc n) ps) → AreFree (workers n ps)
+pub desks_free : (n : ℕ) (ps : List PassShown) → AreFree (take (1 + n) ps) → AreFree (workers n ps)
 desks_free n [] free = All-take Free n [] (All-nil Free)
-desks_free n (p ∷ ps) free = All-tail Free p (take n ps) free
+desks_free n (p ∷ ps) free = All-tail Free p (take n ps) (one_more n (p ∷ ps) free)
 
 -- ---- the first so many passes, by their numbers
 
@@ -77,7 +80,7 @@ low_front a (suc n) (x ∷ ps) q all (there p) less = there (low_front (a + 1) n
 pub front_free : (n : ℕ) (ps : List PassShown) → AreNumberedFrom 0 ps → ((q : PassShown) → In q ps → q.number < n → q.open_unit ≡ None) → AreFree (take n ps)
 front_free n ps from each = λ k d less.
     let t = front_low 0 n ps (get_or (take n ps) k d) from (in_at (take n ps) k d less) in
-    each (get_or (take n ps) k d) t.0 t.1
+    each (get_or (take n ps) k d) t.0 (let low = t.1 in omega (arith, low))
 
 -- who is named as a holder had a unit open
 held_of : (l : Limits) (st : Status) (c : ℕ) → IsHeldBy l st (Some c) → (u : ℕ) × (n : ℕ) × (st ≡ Held u n) × (holder_of l u ≡ c)
@@ -98,7 +101,7 @@ idle_on l k old' new' olds olds' news moved r q p none = r.holders.free q p (λ 
 pub gone_free : (own : ℕ) (old new : Managed) (moved : List Moved) → IsManaged old → IsManaged new → GoesOn old new moved → AreFree (take own old.passes.items) → AreFree (take own new.passes.items)
 gone_free own old new moved was is on free = front_free own new.passes.items is.all.1 (λ q p less.
     idle_on old.manager.limits new.manager.limits on.keeper new.keeper old.passes.items on.passes new.passes.items moved on.rolls q p (λ has.
-    let none = each_of Free (take own old.passes.items) has.0 free (low_front 0 own old.passes.items has.0 was.all.1 has.1 (subst (λ c. c < own) (sym has.2) less)) in
+    let none = each_of Free (take own old.passes.items) has.0 free (low_front 0 own old.passes.items has.0 was.all.1 has.1 (let same = has.2 in omega (arith, same, less))) in
     let e : None ≡ Some has.3 = sym none ∙ has.4 in
     absurd cc))
 

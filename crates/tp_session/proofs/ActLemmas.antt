@@ -6,7 +6,6 @@ use Rattle.std.specs.declared.dyn_box.DynBox.{DynBox}
 use Rattle.std.proofs.lemmas.List.{append-nil, drop-set-lt, drop_all, length-set, take_all}
 use Rattle.std.proofs.lemmas.Option.{slice_get-get_or}
 use Rattle.tp_model.specs.Steps.{AreLimits}
-use Rattle.tp_model.specs.declared.types.Work.{Work}
 use Rattle.tp_server.specs.Behaviour.{Behaviour}
 use Rattle.tp_server.specs.Pending.{Pending}
 use Rattle.tp_manager.specs.Accounts.{AreAll, Gathers}
@@ -24,7 +23,9 @@ use Rattle.tp_perform.specs.Rollover.{RollsOn, stand}
 use Rattle.tp_perform.specs.Scenes.{Scene}
 use Rattle.tp_perform.specs.Told.{AreReady, IsScene, PerformsAll, units_held}
 use Rattle.tp_perform.proofs.Gatherings.{gathered, held_gathered, ready_gathered}
-use Rattle.tp_session.specs.Hands.{IsHand, WorkerDoes, hand, unit_of}
+use Rattle.tp_session.specs.declared.hand.Holding.{Holding}
+use Rattle.tp_session.specs.declared.hand.Holding.TheVariants.{Nothing}
+use Rattle.tp_session.specs.Hands.{IsHand, WorkerDoes, hand, unit_of, has_unit}
 use Rattle.tp_session.specs.Live.{ClientCounts, CommandTold, IsHeld, Leads, LiveGathers, RolloverTold, TellsAccount, WorkerDid, is_open}
 use Rattle.tp_session.specs.declared.hand.WorkerAnswer.{WorkerAnswer}
 use Rattle.tp_session.specs.declared.held.Held.{Held}
@@ -47,7 +48,7 @@ module _ {X : Type 0} {F : X → Type 0} (behaviour : DynBox X Global F → Beha
   -- what holds goes on holding, with the same manager
   pub held_on : (head : Head) (old new : Held X F) → IsHeld behaviour registers pending head old → new.managed.manager ≡ old.managed.manager
       → IsKeptBy new.managed.manager new.managed.keeper → AreAll new.managed.keeper new.managed.passes.items → Ready new
-      → length new.managed.passes.items ≡ length old.managed.passes.items → length new.servers.items ≡ length old.servers.items → length new.works.items ≡ length old.works.items → All (λ (w : Option Work). w ≡ None) (drop (length head.workers.items) new.works.items)
+      → length new.managed.passes.items ≡ length old.managed.passes.items → length new.servers.items ≡ length old.servers.items → length new.works.items ≡ length old.works.items → All (λ (w : Holding). w ≡ Nothing) (drop (length head.workers.items) new.works.items)
       → units_held (length new.servers.items) new.managed.passes.items ≡ map unit_of new.works.items → IsHeld behaviour registers pending head new
   held_on head old new held same kept all ready passes servers works racers in_hand = record {
     managed = record {
@@ -75,7 +76,7 @@ module _ {X : Type 0} {F : X → Type 0} (behaviour : DynBox X Global F → Beha
       (subst (λ ps. AreReady behaviour registers pending old.managed.manager ps new.servers.items new.places.items) (sym passes)
       (subst (λ x. AreReady behaviour registers pending old.managed.manager qs x new.places.items) (sym servers)
       (subst (λ x. AreReady behaviour registers pending old.managed.manager qs ss x) (sym places) ready))))
-      (ap length passes ∙ long) (ap length servers ∙ many) (ap length works) (subst (λ (zs : List (Option Work)). All (λ w. w ≡ None) (drop (length head.workers.items) zs)) (sym works) held.racers)
+      (ap length passes ∙ long) (ap length servers ∙ many) (ap length works) (subst (λ (zs : List Holding). All (λ w. w ≡ Nothing) (drop (length head.workers.items) zs)) (sym works) held.racers)
       (ap (λ x. units_held (length x) new.managed.passes.items) servers ∙ (ap (units_held (length ss)) passes ∙ in_hand))
 
   pub at_of : (new : Held X F) (qs : List PassShown) (ss : List (DynBox X Global F)) (os : List (Place X F)) (s : Scene) → new.managed.passes.items ≡ qs → new.servers.items ≡ ss → new.places.items ≡ os → IsScene behaviour registers pending qs ss os s → IsAt new s
@@ -93,19 +94,6 @@ module _ {X : Type 0} {F : X → Type 0} (behaviour : DynBox X Global F → Beha
     after = live_of behaviour registers pending new t.1;
     was = is_live behaviour registers pending old t.0 t.2;
     leads = record { performs = t.3; manager = same; works = works };
-    is = is_live behaviour registers pending new t.1 t.4;
-  }
-
-  -- ---- a rollover
-
-  pub rollover_leads : (head : Head) (old new : Held X F) (text : List ℕ) → IsHeld behaviour registers pending head old → new.works.items ≡ old.works.items
-      → (a : Scene) × (b : Scene) × IsAt old a × RollsOn (stand old.managed a) text (stand new.managed b) × IsAt new b
-      → Leads behaviour registers pending (λ x y. RolloverTold x text y) old new
-  rollover_leads head old new text held works t = record {
-    before = live_of behaviour registers pending old t.0;
-    after = live_of behaviour registers pending new t.1;
-    was = is_live behaviour registers pending old t.0 t.2;
-    leads = record { holds = live_units behaviour registers pending head old (live_of behaviour registers pending old t.0) held (is_live behaviour registers pending old t.0 t.2); rolls = t.3; works = works };
     is = is_live behaviour registers pending new t.1 t.4;
   }
 
@@ -141,7 +129,7 @@ module _ {X : Type 0} {F : X → Type 0} (behaviour : DynBox X Global F → Beha
 
   -- ---- a worker
 
-  module _ (head : Head) (w at : ℕ) (p : PassShown) (work : Option Work) (old new : Held X F) (held : IsHeld behaviour registers pending head old) (within : w < length head.workers.items) (at_is : at ≡ 1 + length old.servers.items + w)
+  module _ (head : Head) (w at : ℕ) (p : PassShown) (work : Holding) (old new : Held X F) (held : IsHeld behaviour registers pending head old) (within : w < length head.workers.items) (at_is : at ≡ 1 + length old.servers.items + w)
       (manager : new.managed.manager ≡ old.managed.manager) (keeper : new.managed.keeper ≡ old.managed.keeper) (passes : new.managed.passes.items ≡ slice_set old.managed.passes.items at p)
       (servers : new.servers.items ≡ old.servers.items) (places : new.places.items ≡ old.places.items) (works : new.works.items ≡ slice_set old.works.items w work) where
     pub here : w < length old.works.items
@@ -166,11 +154,11 @@ module _ {X : Type 0} {F : X → Type 0} (behaviour : DynBox X Global F → Beha
         (subst (λ os. AreReady behaviour registers pending old.managed.manager (slice_set old.managed.passes.items at p) old.servers.items os) (sym places)
         (ready_set behaviour registers pending old.managed.manager w p old.servers.items old.places.items at old.managed.passes.items at_is some is.own held.ready)))))
         numbered (ap length servers) (ap length works ∙ length-set old.works.items w work)
-        (subst (λ (zs : List (Option Work)). All (λ x. x ≡ None) (drop (length head.workers.items) zs)) (sym works) (subst (All (λ (x : Option Work). x ≡ None)) (sym (drop-set-lt (length head.workers.items) old.works.items w work within)) held.racers))
+        (subst (λ (zs : List Holding). All (λ x. x ≡ Nothing) (drop (length head.workers.items) zs)) (sym works) (subst (All (λ (x : Holding). x ≡ Nothing)) (sym (drop-set-lt (length head.workers.items) old.works.items w work within)) held.racers))
         (ap (λ ss. units_held (length ss) new.managed.passes.items) servers ∙ (ap (units_held (length old.servers.items)) passes
         ∙ (held_set behaviour registers pending (length old.servers.items) w at p work old.managed.passes.items old.works.items at_is some is.held held.in_hand ∙ ap (map unit_of) (sym works))))
 
-    pub worker_leads : (it : WorkerLine) (act : WorkerAct) (answer : WorkerAnswer) (d : PassShown) (e : Option Work) → d ≡ get_or old.managed.passes.items at d → e ≡ get_or old.works.items w e
+    pub worker_leads : (it : WorkerLine) (act : WorkerAct) (answer : WorkerAnswer) (d : PassShown) (e : Holding) → d ≡ get_or old.managed.passes.items at d → e ≡ get_or old.works.items w e
         → WorkerDoes old.managed.manager.limits it.stage act (hand d e) answer (hand p work)
         → Leads behaviour registers pending (λ a b. WorkerDid it act w a answer b) old new
     worker_leads it act answer d e d_is e_is does =
@@ -217,11 +205,11 @@ module _ {X : Type 0} {F : X → Type 0} (behaviour : DynBox X Global F → Beha
         (subst (λ ss. AreReady behaviour registers pending old.managed.manager (slice_set old.managed.passes.items 0 p) ss new.places.items) (sym servers)
         (subst (λ os. AreReady behaviour registers pending old.managed.manager (slice_set old.managed.passes.items 0 p) old.servers.items os) (sym places)
         (ready_first behaviour registers pending old.managed.manager p old.servers.items old.places.items old.managed.passes.items some_client free held.ready)))))
-        (ap length passes ∙ length-set old.managed.passes.items 0 p) (ap length servers) (ap length works) (subst (λ (zs : List (Option Work)). All (λ x. x ≡ None) (drop (length head.workers.items) zs)) (sym works) held.racers)
+        (ap length passes ∙ length-set old.managed.passes.items 0 p) (ap length servers) (ap length works) (subst (λ (zs : List Holding). All (λ x. x ≡ Nothing) (drop (length head.workers.items) zs)) (sym works) held.racers)
         (ap (λ ss. units_held (length ss) new.managed.passes.items) servers ∙ (ap (units_held (length old.servers.items)) passes
         ∙ (held_first behaviour registers pending (length old.servers.items) p old.managed.passes.items ∙ (held.in_hand ∙ ap (map unit_of) (sym works)))))
 
-    pub client_leads : (text : List ℕ) (b : Bool) (d : PassShown) → b ≡ (list_any is_some old.works.items || list_any (λ o. is_some (work_in o.aside)) old.places.items) → d ≡ get_or old.managed.passes.items 0 d → TellsAccount old.managed.manager b d text p
+    pub client_leads : (text : List ℕ) (b : Bool) (d : PassShown) → b ≡ (list_any has_unit old.works.items || list_any (λ o. is_some (work_in o.aside)) old.places.items) → d ≡ get_or old.managed.passes.items 0 d → TellsAccount old.managed.manager b d text p
         → Leads behaviour registers pending (λ a b. ClientCounts a text b) old new
     client_leads text b d b_is d_is tells =
         let l = live_there behaviour registers pending head old held in

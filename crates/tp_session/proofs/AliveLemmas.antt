@@ -9,7 +9,7 @@ use Rattle.tp_manager.specs.Shown.{IsOf, ManagerShown, PassShown}
 use Rattle.tp_alone.specs.Thread.{AreTogether, Stays}
 use Rattle.tp_rollover.specs.Answers.{IsHistoryOf}
 use Rattle.tp_rollover.specs.Managed.{IsManaged, StaysManaged}
-use Rattle.tp_rollover.specs.Survivors.{AreSurvivors, AreUnheld}
+use Rattle.tp_rollover.specs.Survivors.{AreInHand, AreSurvivors}
 use Rattle.tp_rollover.specs.declared.managed.Managed.{Managed}
 use Rattle.tp_rollover.specs.declared.moved.RollFault.{RollFault}
 use Rattle.tp_rollover.specs.declared.survivors.Survivor.{Survivor}
@@ -25,10 +25,11 @@ use Rattle.tp_perform.proofs.Gatherings.{Looks, all_in, only_passes, ready_on, s
 use Rattle.tp_perform.proofs.Rollovers.{own_of, stayed}
 use Rattle.tp_perform.proofs.Slices.{scene_there}
 use Rattle.tp_session.specs.Dump.{dump_lines, dump_text}
-use Rattle.tp_session.specs.Live.{FoundAlive, HoldsUnits, IsHeld, IsLive, IsUnsurveyedFor, Leads, Live, LiveLooks, Surveyed, TellsDump, Unsurveyed, is_open, lines_of}
+use Rattle.tp_session.specs.Live.{FoundAlive, HoldsUnits, IsHeld, IsLive, Leads, Live, LiveLooks, Surveyed, TellsDump, Unsurveyed, has_desk_open, lines_of}
 use Rattle.tp_session.specs.declared.held.Held.{Held}
 use Rattle.tp_session.proofs.LiveLemmas.{is_live, live_of}
-use Rattle.tp_session.proofs.OpenLemmas.{live_open, live_units}
+use Rattle.tp_session.specs.declared.hand.Holding.{Holding}
+use Rattle.tp_session.proofs.OpenLemmas.{desk_open, live_units}
 
 pub both_ok : {T E : Type 0} (r : Result T E) (P Q : T → Type 0) → IfOk r P → IfOk r Q → IfOk r (λ x. P x × Q x)
 both_ok (Ok x) P Q p q = (p, q)
@@ -42,15 +43,15 @@ all_ok (Err e) P Q S p q s = tt
 module _ {X : Type 0} {F : X → Type 0} (behaviour : DynBox X Global F → Behaviour) (registers : DynBox X Global F → List ℕ) (pending : DynBox X Global F → Option Pending) where
   -- ---- what was done to what stands
 
-  -- the workers have what they had
-  pub stand_leads : (head : Head) (R : Stand → Stand → Type 0) (old new : Held X F) → IsHeld behaviour registers pending head old → new.works.items ≡ old.works.items
-      → (a : Scene) × (b : Scene) × IsScene behaviour registers pending old.managed.passes.items old.servers.items old.places.items a × R (stand old.managed a) (stand new.managed b) × IsScene behaviour registers pending new.managed.passes.items new.servers.items new.places.items b
-      → Leads behaviour registers pending (λ x y. HoldsUnits x × R x.stand y.stand × (y.works ≡ x.works)) old new
-  stand_leads head R old new held works t = record {
+  pub works_leads : (head : Head) (R : Stand → Stand → List Holding → List Holding → Type 0) (old new : Held X F) → IsHeld behaviour registers pending head old
+      → (a : Scene) × (b : Scene) × IsScene behaviour registers pending old.managed.passes.items old.servers.items old.places.items a × R (stand old.managed a) (stand new.managed b) old.works.items new.works.items
+      × IsScene behaviour registers pending new.managed.passes.items new.servers.items new.places.items b
+      → Leads behaviour registers pending (λ x y. HoldsUnits x × R x.stand y.stand x.works y.works) old new
+  works_leads head R old new held t = record {
     before = live_of behaviour registers pending old t.0;
     after = live_of behaviour registers pending new t.1;
     was = is_live behaviour registers pending old t.0 t.2;
-    leads = (live_units behaviour registers pending head old (live_of behaviour registers pending old t.0) held (is_live behaviour registers pending old t.0 t.2), t.3, works);
+    leads = (live_units behaviour registers pending head old (live_of behaviour registers pending old t.0) held (is_live behaviour registers pending old t.0 t.2), t.3);
     is = is_live behaviour registers pending new t.1 t.4;
   }
 
@@ -109,17 +110,18 @@ module _ {X : Type 0} {F : X → Type 0} (behaviour : DynBox X Global F → Beha
           is = is_live behaviour registers pending (with_managed old m) b.0 b.1;
         }
 
-    pub found_leads : (survivors : List Survivor) → AreSurvivors old.managed.manager.limits m.keeper.seen survivors → AreUnheld survivors → IsHistoryOf m.keeper old.managed.passes.items m.keeper.seen → AreTogether old.managed.manager.limits m.keeper m.passes.items m.keeper.seen
+    pub found_leads : (survivors : List Survivor) → AreSurvivors old.managed.manager.limits m.keeper.seen survivors → AreInHand old.managed.passes.items survivors → IsHistoryOf m.keeper old.managed.passes.items m.keeper.seen → AreTogether old.managed.manager.limits m.keeper m.passes.items m.keeper.seen
         → Leads behaviour registers pending (λ x y. LiveLooks x y × FoundAlive x survivors y) old (with_managed old m)
-    found_leads survivors found unheld history together = looked_leads (λ x y. FoundAlive x survivors y) (λ a b olds news. record {
+    found_leads survivors found in_hand history together = looked_leads (λ x y. FoundAlive x survivors y) (λ a b olds news. record {
       found = found;
-      unheld = unheld;
+      in_hand = subst (λ zs. AreInHand zs survivors) (sym olds) in_hand;
       history = subst (λ zs. IsHistoryOf m.keeper zs m.keeper.seen) (sym olds) history;
       together = subst (λ zs. AreTogether old.managed.manager.limits m.keeper zs m.keeper.seen) (sym news) together;
     })
 
-    pub missed_leads : (why : RollFault) → IsUnsurveyedFor old.managed.passes.items why → Leads behaviour registers pending (λ x y. LiveLooks x y × IsUnsurveyedFor (passes_in x.stand.scene) why) old (with_managed old m)
-    missed_leads why due = looked_leads (λ x y. IsUnsurveyedFor (passes_in x.stand.scene) why) (λ a b olds news. subst (λ zs. IsUnsurveyedFor zs why) (sym olds) due)
+    pub missed_leads : Leads behaviour registers pending LiveLooks old (with_managed old m)
+    missed_leads = let p = looked_leads (λ x y. Unit {0}) (λ a b olds news. tt) in
+        record { before = p.before; after = p.after; was = p.was; leads = p.leads.0; is = p.is }
 
   -- ---- what a dump tells
 
@@ -142,15 +144,17 @@ module _ {X : Type 0} {F : X → Type 0} (behaviour : DynBox X Global F → Beha
   shown_dropped (p ∷ ps) (s ∷ ss) (o ∷ os) all = ap (λ ds. o.is_dropped ∷ ds) (shown_dropped ps ss os all.1)
 
   lines_told : (head : Head) (h : HeadView) (old : Held X F) (l : Live) (survivors : List Survivor) → IsHeld behaviour registers pending head old → IsLive behaviour registers pending old l
-      → dump_lines h (map registers old.servers.items) (map (λ (o : Place X F). o.is_dropped) old.places.items) survivors ≡ lines_of h l survivors
+      → dump_lines h (map registers old.servers.items) (map (λ (o : Place X F). o.is_dropped) old.places.items) old.works.items survivors ≡ lines_of h l survivors
   lines_told head h old l survivors held is =
       let rs : map (λ p. p.desk.registers) l.stand.scene.places ≡ map registers old.servers.items = ap (map (λ p. p.desk.registers)) is.scene.1 ∙ shown_registers _ old.servers.items old.places.items held.ready.lie in
       let ds : map (λ p. p.is_dropped) l.stand.scene.places ≡ map (λ (o : Place X F). o.is_dropped) old.places.items = ap (map (λ p. p.is_dropped)) is.scene.1 ∙ shown_dropped _ old.servers.items old.places.items held.ready.lie in
-      ap (λ zs. dump_lines h zs (map (λ (o : Place X F). o.is_dropped) old.places.items) survivors) (sym rs) ∙ ap (λ zs. dump_lines h (map (λ p. p.desk.registers) l.stand.scene.places) zs survivors) (sym ds)
+      ap (λ zs. dump_lines h zs (map (λ (o : Place X F). o.is_dropped) old.places.items) old.works.items survivors) (sym rs)
+      ∙ (ap (λ zs. dump_lines h (map (λ p. p.desk.registers) l.stand.scene.places) zs old.works.items survivors) (sym ds)
+      ∙ ap (λ ws. dump_lines h (map (λ p. p.desk.registers) l.stand.scene.places) (map (λ p. p.is_dropped) l.stand.scene.places) ws survivors) (sym is.works))
 
   module _ (head : Head) (h : HeadView) (old new : Held X F) (held : IsHeld behaviour registers pending head old) (text : List ℕ) where
-    pub surveyed_leads : (survivors : List Survivor) → text ≡ dump_text (dump_lines h (map registers old.servers.items) (map (λ (o : Place X F). o.is_dropped) old.places.items) survivors)
-        → Leads behaviour registers pending (λ x y. LiveLooks x y × FoundAlive x survivors y) old new → Leads behaviour registers pending (λ x y. LiveLooks x y × (Surveyed h x text y ⊎ Unsurveyed x text)) old new
+    pub surveyed_leads : (survivors : List Survivor) → text ≡ dump_text (dump_lines h (map registers old.servers.items) (map (λ (o : Place X F). o.is_dropped) old.places.items) old.works.items survivors)
+        → Leads behaviour registers pending (λ x y. LiveLooks x y × FoundAlive x survivors y) old new → Leads behaviour registers pending (λ x y. LiveLooks x y × (Surveyed h x text y ⊎ Unsurveyed text)) old new
     surveyed_leads survivors is p = record {
       before = p.before;
       after = p.after;
@@ -159,13 +163,13 @@ module _ {X : Type 0} {F : X → Type 0} (behaviour : DynBox X Global F → Beha
       is = p.is;
     }
 
-    -- by whether a unit is open
-    pub open_leads : (b : Bool) → b ≡ (list_any is_some old.works.items || list_any (λ o. is_some (work_in o.aside)) old.places.items) → Leads behaviour registers pending (λ x y. TellsDump h b x text y) old new
-        → Leads behaviour registers pending (λ x y. TellsDump h (is_open x) x text y) old new
+    -- by whether a desk has a unit open
+    pub open_leads : (b : Bool) → b ≡ list_any (λ o. is_some (work_in o.aside)) old.places.items → Leads behaviour registers pending (λ x y. TellsDump h b x text y) old new
+        → Leads behaviour registers pending (λ x y. TellsDump h (has_desk_open x) x text y) old new
     open_leads b b_is p = record {
       before = p.before;
       after = p.after;
       was = p.was;
-      leads = subst (λ z. TellsDump h z p.before text p.after) (b_is ∙ live_open behaviour registers pending head old p.before held p.was) p.leads;
+      leads = subst (λ z. TellsDump h z p.before text p.after) (b_is ∙ desk_open behaviour registers pending head old p.before held p.was) p.leads;
       is = p.is;
     }

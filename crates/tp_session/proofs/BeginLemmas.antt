@@ -4,7 +4,6 @@ use Rattle.std.specs.declared.alloc.Global.{Global}
 use Rattle.std.specs.declared.dyn_box.DynBox.{DynBox}
 use Rattle.std.proofs.lemmas.List.{length-drop, length-map, length-take-le}
 use Rattle.std.proofs.lemmas.List.Elements.{All-drop, All-take}
-use Rattle.tp_model.specs.declared.types.Work.{Work}
 use Rattle.tp_server.specs.Behaviour.{Behaviour, behaviour_of}
 use Rattle.tp_server.specs.Pending.{Pending}
 use Rattle.tp_manager.specs.Accounts.{AreAll}
@@ -23,6 +22,8 @@ use Rattle.tp_perform.specs.Scenes.{passes_in}
 use Rattle.tp_perform.specs.Told.{AreReady, after_servers}
 use Rattle.tp_perform.proofs.Beginnings.{all_new, new_behaviours, new_registers, recipes_shown, registers_shown}
 use Rattle.tp_perform.proofs.Gatherings.{all_in}
+use Rattle.tp_session.specs.declared.hand.Holding.{Holding}
+use Rattle.tp_session.specs.declared.hand.Holding.TheVariants.{Nothing}
 use Rattle.tp_session.specs.Conversed.{IsNewManaged, LiveBegins, limits_of}
 use Rattle.tp_session.specs.Live.{IsHeld, IsLive, Live}
 use Rattle.tp_session.specs.declared.held.Held.{Held}
@@ -44,7 +45,7 @@ module _ {X : Type 0} {F : X → Type 0} (behaviour : DynBox X Global F → Beha
     (recipes : map behaviour h.servers.items ≡ map (λ (x : ScriptServer). behaviour_of x.recipe) head.servers.items) (begun : map registers h.servers.items ≡ map (λ (x : ScriptServer). x.registers) head.servers.items)
     (lie : AllLie behaviour registers pending (workers (length h.servers.items) h.managed.passes.items) h.servers.items h.places.items)
     (shown : places_shown behaviour registers pending (workers (length h.servers.items) h.managed.passes.items) h.servers.items h.places.items ≡ new_places behaviour registers pending (workers (length h.servers.items) h.managed.passes.items) h.servers.items)
-    (many : length h.works.items ≡ length head.workers.items + racers) (idle : All (λ (w : Option Work). w ≡ None) h.works.items) where
+    (many : length h.works.items ≡ length head.workers.items + racers) (idle : All (λ (w : Holding). w ≡ Nothing) h.works.items) where
   abbrev ps : List PassShown
   ps = h.managed.passes.items
 
@@ -80,7 +81,7 @@ module _ {X : Type 0} {F : X → Type 0} (behaviour : DynBox X Global F → Beha
         ready = ready;
         each_server = count;
         each_worker = omega (arith, many);
-        racers = All-drop (λ (w : Option Work). w ≡ None) (length head.workers.items) h.works.items idle;
+        racers = All-drop (λ (w : Holding). w ≡ Nothing) (length head.workers.items) h.works.items idle;
         parts = parts;
         in_hand = none_in_hand (after_servers n ps) h.works.items rest (All-drop (λ (p : PassShown). p.open_unit ≡ None) n (drop 1 ps) (All-drop (λ (p : PassShown). p.open_unit ≡ None) 1 ps new.free)) idle;
       }
@@ -103,5 +104,5 @@ module _ {X : Type 0} {F : X → Type 0} (behaviour : DynBox X Global F → Beha
         recipes = ap (map (λ p. p.desk.behaviour)) places ∙ (new_behaviours behaviour registers pending (workers n ps) h.servers.items long ∙ (recipes ∙ recipes_shown head.servers.items));
         registers = ap (map (λ p. p.desk.registers)) places ∙ (new_registers behaviour registers pending (workers n ps) h.servers.items long ∙ (begun ∙ registers_shown head.servers.items));
         each_worker = ap length is.works ∙ (many ∙ ap (λ k. k + racers) (sym (length-map head.workers.items worker_view)));
-        idle = subst (All (λ (w : Option Work). w ≡ None)) (sym is.works) idle;
+        idle = subst (All (λ (w : Holding). w ≡ Nothing)) (sym is.works) idle;
       }

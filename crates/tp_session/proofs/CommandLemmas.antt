@@ -1,7 +1,7 @@
 -- The first command of a session leaves its head as it is, and says the same behind it.
 use Rattle.std.proofs.Common.{◌≡◌, ℕ, Bool, true, false, List, [], ◌∷◌, Option, Some, None, Result, Ok, Err, ◌∙◌, sym, ap}
 use Rattle.std.proofs.lemmas.Option.{none-some}
-use Rattle.tp_script.specs.Grammar.{account_at, act_at, alive_line, body_at, body_keyword, body_words, dump_at, ends_head, head_at, head_keyword, head_words, in_head, limit_line, line_words, restore_at, rows_line, spare_line, units_line, unless_alive, worker_line}
+use Rattle.tp_script.specs.Grammar.{account_at, act_at, alive_line, body_at, body_keyword, body_words, dump_at, ends_head, head_at, head_keyword, head_words, held_line, in_head, limit_line, line_words, lost_line, restore_at, rows_line, spare_line, units_line, unless_alive, worker_line}
 use Rattle.tp_script.specs.Keyword.{keyword}
 use Rattle.tp_script.specs.LineWords.{◌>>=◌, known, one, three, two}
 use Rattle.tp_script.specs.Script.{HeadView}
@@ -12,6 +12,7 @@ use Rattle.tp_script.specs.declared.fault.LineFault.TheVariants as faults
 use Rattle.tp_script.specs.declared.head.Act.{Act}
 use Rattle.tp_script.specs.declared.head.Act.TheVariants as act
 use Rattle.tp_script.specs.declared.head.AliveLine.{AliveLine}
+use Rattle.tp_script.specs.declared.head.LostLine.{LostLine}
 use Rattle.tp_script.specs.declared.head.Driver.TheVariants as drivers
 use Rattle.tp_script.specs.declared.keyword.Keyword.{Keyword}
 use Rattle.tp_script.specs.declared.keyword.Keyword.TheVariants as first
@@ -62,9 +63,11 @@ keywords h first.Server ws = in_it h (server_line ws h)
 keywords h first.Start ws = in_it h (three ws >>= λ w. start_line w h)
 keywords h first.Worker ws = in_it h (two ws >>= λ w. worker_line w h)
 keywords h first.Alive ws = in_it h (alive_line ws h)
-keywords h (first.Do v) ws = ended h (unless_alive h.alive (act_at drivers.Session v ws h))
-keywords h first.Dump ws = ended h (unless_alive h.alive (dump_at ws))
-keywords h first.Account ws = ended h (unless_alive h.alive (account_at ws))
+keywords h first.Held ws = in_it h (held_line ws h)
+keywords h first.Lost ws = in_it h (two ws >>= λ w. lost_line w h)
+keywords h (first.Do v) ws = ended h (unless_alive h.alive h.lost (act_at drivers.Session v ws h))
+keywords h first.Dump ws = ended h (unless_alive h.alive h.lost (dump_at ws))
+keywords h first.Account ws = ended h (unless_alive h.alive h.lost (account_at ws))
 keywords h first.Restore ws = ended h (restore_at ws)
 
 of_words : (h : HeadView) (ws : List (List ℕ)) → Commands h (head_words drivers.Session ws h)
@@ -109,16 +112,24 @@ never (Ok x) k behind so = so x
 never (Err f) k behind so = no_answer f behind
 
 -- where something is alive only `restore` is a command
-first_meets : (h : HeadView) (alive : List AliveLine) (said : Result Act LineFault) → Meets (unless_alive alive said >>= λ a. Ok (h, Some a)) (said >>= λ a. Ok (Some a))
-first_meets h [] said = both said (λ a. Ok (h, Some a)) (λ a. Ok (Some a)) (λ a. alike h a)
-first_meets h (line ∷ others) (Ok a) = no_answer faults.Order (Ok (Some a))
-first_meets h (line ∷ others) (Err faults.Syntax) = no_answer faults.Syntax (Err faults.Syntax)
-first_meets h (line ∷ others) (Err faults.TooLong) = no_answer faults.Order (Err faults.TooLong)
-first_meets h (line ∷ others) (Err faults.BadNumber) = no_answer faults.Order (Err faults.BadNumber)
-first_meets h (line ∷ others) (Err faults.BadRecipe) = no_answer faults.Order (Err faults.BadRecipe)
-first_meets h (line ∷ others) (Err faults.BadName) = no_answer faults.Order (Err faults.BadName)
-first_meets h (line ∷ others) (Err faults.BadLimits) = no_answer faults.Order (Err faults.BadLimits)
-first_meets h (line ∷ others) (Err faults.Order) = no_answer faults.Order (Err faults.Order)
+first_meets : (h : HeadView) (alive : List AliveLine) (lost : List LostLine) (said : Result Act LineFault) → Meets (unless_alive alive lost said >>= λ a. Ok (h, Some a)) (said >>= λ a. Ok (Some a))
+first_meets h [] [] said = both said (λ a. Ok (h, Some a)) (λ a. Ok (Some a)) (λ a. alike h a)
+first_meets h (line ∷ others) lost (Ok a) = no_answer faults.Order (Ok (Some a))
+first_meets h (line ∷ others) lost (Err faults.Syntax) = no_answer faults.Syntax (Err faults.Syntax)
+first_meets h (line ∷ others) lost (Err faults.TooLong) = no_answer faults.Order (Err faults.TooLong)
+first_meets h (line ∷ others) lost (Err faults.BadNumber) = no_answer faults.Order (Err faults.BadNumber)
+first_meets h (line ∷ others) lost (Err faults.BadRecipe) = no_answer faults.Order (Err faults.BadRecipe)
+first_meets h (line ∷ others) lost (Err faults.BadName) = no_answer faults.Order (Err faults.BadName)
+first_meets h (line ∷ others) lost (Err faults.BadLimits) = no_answer faults.Order (Err faults.BadLimits)
+first_meets h (line ∷ others) lost (Err faults.Order) = no_answer faults.Order (Err faults.Order)
+first_meets h [] (line ∷ others) (Ok a) = no_answer faults.Order (Ok (Some a))
+first_meets h [] (line ∷ others) (Err faults.Syntax) = no_answer faults.Syntax (Err faults.Syntax)
+first_meets h [] (line ∷ others) (Err faults.TooLong) = no_answer faults.Order (Err faults.TooLong)
+first_meets h [] (line ∷ others) (Err faults.BadNumber) = no_answer faults.Order (Err faults.BadNumber)
+first_meets h [] (line ∷ others) (Err faults.BadRecipe) = no_answer faults.Order (Err faults.BadRecipe)
+first_meets h [] (line ∷ others) (Err faults.BadName) = no_answer faults.Order (Err faults.BadName)
+first_meets h [] (line ∷ others) (Err faults.BadLimits) = no_answer faults.Order (Err faults.BadLimits)
+first_meets h [] (line ∷ others) (Err faults.Order) = no_answer faults.Order (Err faults.Order)
 
 -- a line of the head is none
 in_meets : (h : HeadView) (r : Result HeadView LineFault) (behind : Result (Option Act) LineFault) → Meets (in_head r) behind
@@ -147,9 +158,11 @@ keyword_meets h first.Server ws = in_meets h (server_line ws h) (said_behind h f
 keyword_meets h first.Start ws = in_meets h (three ws >>= λ w. start_line w h) (said_behind h first.Start ws)
 keyword_meets h first.Worker ws = in_meets h (two ws >>= λ w. worker_line w h) (said_behind h first.Worker ws)
 keyword_meets h first.Alive ws = in_meets h (alive_line ws h) (said_behind h first.Alive ws)
-keyword_meets h (first.Do v) ws = first_meets h h.alive (act_at drivers.Session v ws h)
-keyword_meets h first.Dump ws = first_meets h h.alive (dump_at ws)
-keyword_meets h first.Account ws = first_meets h h.alive (account_at ws)
+keyword_meets h first.Held ws = in_meets h (held_line ws h) (said_behind h first.Held ws)
+keyword_meets h first.Lost ws = in_meets h (two ws >>= λ w. lost_line w h) (said_behind h first.Lost ws)
+keyword_meets h (first.Do v) ws = first_meets h h.alive h.lost (act_at drivers.Session v ws h)
+keyword_meets h first.Dump ws = first_meets h h.alive h.lost (dump_at ws)
+keyword_meets h first.Account ws = first_meets h h.alive h.lost (account_at ws)
 keyword_meets h first.Restore ws = restore_meets h ws (said_behind h first.Restore ws)
 
 words_meet : (h : HeadView) (ws : List (List ℕ)) → Meets (head_words drivers.Session ws h) (body_words drivers.Session ws h)

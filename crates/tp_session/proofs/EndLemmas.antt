@@ -5,7 +5,6 @@ use Rattle.std.specs.declared.alloc.Global.{Global}
 use Rattle.std.specs.declared.dyn_box.DynBox.{DynBox}
 use Rattle.std.proofs.Math.Seq.{drop-append_seam}
 use Rattle.std.proofs.lemmas.List.Elements.{All-append, All-cons, All-drop, All-head}
-use Rattle.tp_model.specs.declared.types.Work.{Work}
 use Rattle.tp_server.specs.Behaviour.{Behaviour}
 use Rattle.tp_server.specs.Pending.{Pending}
 use Rattle.tp_manager.specs.Shown.{IsOf, ManagerShown, PassShown}
@@ -15,11 +14,12 @@ use Rattle.tp_commands.specs.Acting.{AllEnded, places_shown}
 use Rattle.tp_commands.specs.Places.{AllLeft, AllLie, firsts, workers}
 use Rattle.tp_commands.proofs.Lefts.{workers_are}
 use Rattle.tp_perform.specs.Told.{AreReady, after_servers, units_held}
+use Rattle.tp_session.specs.declared.hand.Holding.{Holding}
 use Rattle.tp_session.specs.Hands.{AllHold, GivesUp, hands, unit_of}
 use Rattle.tp_session.proofs.HandLemmas.{free_hands, hands_hold}
 
 module _ {X : Type 0} {F : X → Type 0} (behaviour : DynBox X Global F → Behaviour) (registers : DynBox X Global F → List ℕ) (pending : DynBox X Global F → Option Pending)
-    (m : ManagerShown) (ps : List PassShown) (client : PassShown) (others ws rest : List PassShown) (ss : List (DynBox X Global F)) (os : List (Place X F)) (works : List (Option Work))
+    (m : ManagerShown) (ps : List PassShown) (client : PassShown) (others ws rest : List PassShown) (ss : List (DynBox X Global F)) (os : List (Place X F)) (works : List Holding)
     (all : ps ≡ client ∷ others) (parts : others ≡ ws ++ rest) (many : length ws ≡ length ss) (ready : AreReady behaviour registers pending m ps ss os) (in_hand : units_held (length ss) ps ≡ map unit_of works) where
   apart : ps ≡ client ∷ (ws ++ rest)
   apart = all ∙ ap (λ zs. client ∷ zs) parts
@@ -38,7 +38,7 @@ module _ {X : Type 0} {F : X → Type 0} (behaviour : DynBox X Global F → Beha
       hands_hold m rest works (subst (All (IsOf m)) behind (All-drop (IsOf m) (length ss) (drop 1 ps) (All-drop (IsOf m) 1 ps ready.own)))
       (ap (map (λ (p : PassShown). p.open_unit)) (sym behind) ∙ in_hand)
 
-  module _ (qs rs : List PassShown) (works' : List (Option Work)) (long : length qs ≡ length ws) where
+  module _ (qs rs : List PassShown) (works' : List Holding) (long : length qs ≡ length ws) where
     pub free_ended : All (IsFreePass m) qs → AllHold m rs works' → AllZip GivesUp (hands rest works) (hands rs works') → All (IsFreePass m) (client ∷ (qs ++ rs))
     free_ended free hold given =
         All-cons (IsFreePass m) client (qs ++ rs) (All-head (IsFreePass m) client [] (subst (λ zs. All (IsFreePass m) (take 1 zs)) all ready.client))

@@ -53,18 +53,6 @@ module _ {X : Type 0} {F : X → Type 0} (behaviour : DynBox X Global F → Beha
     began = q.began;
   }
 
-  -- a rollover, whatever became of its line
-  pub rollover_reaches : (head : Head) (old new : Held X F) → IsHeld behaviour registers pending head old → AreReady behaviour registers pending new.managed.manager new.managed.passes.items new.servers.items new.places.items → new.works.items ≡ old.works.items
-      → (a : Scene) × (b : Scene) × (text : List ℕ) × IsScene behaviour registers pending old.managed.passes.items old.servers.items old.places.items a × RollsOn (stand old.managed a) text (stand new.managed b) × IsScene behaviour registers pending new.managed.passes.items new.servers.items new.places.items b
-      → Reaches behaviour registers pending (λ x y. (text : List ℕ) × RolloverTold x text y) old new
-  rollover_reaches head old new held ready works t = record {
-    before = live_of behaviour registers pending old t.0;
-    after = live_of behaviour registers pending new t.1;
-    was = is_live behaviour registers pending old t.0 t.3;
-    done = (t.2, record { holds = live_units behaviour registers pending head old (live_of behaviour registers pending old t.0) held (is_live behaviour registers pending old t.0 t.3); rolls = t.4; works = works });
-    began = scene_began behaviour registers pending new.managed.manager new.managed.passes.items new.servers.items new.places.items t.1 ready t.5;
-  }
-
   pub began_refilled : (os ns ms : List (Place X F)) → ms ≡ ns → firsts ns ≡ firsts os → map (began_of registers) ms ≡ map (began_of registers) os
   began_refilled os ns ms is same = ap (map (began_of registers)) is ∙ began_same behaviour registers pending os ns same
 

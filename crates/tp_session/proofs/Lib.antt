@@ -1,5 +1,6 @@
 pub mod ActLemmas
 pub mod AliveLemmas
+pub mod CarriedLemmas
 pub mod AttendLemmas
 pub mod BeginLemmas
 pub mod CloseLemmas

@@ -9,11 +9,11 @@ use Rattle.tp_server.specs.Pending.{Pending}
 use Rattle.tp_manager.specs.Shown.{ManagerShown, PassShown}
 use Rattle.tp_workers.specs.Free.{IsFreePass}
 use Rattle.tp_commands.specs.declared.place.Place.{Place}
-use Rattle.tp_commands.specs.Acting.{places_shown, work_in}
+use Rattle.tp_commands.specs.Acting.{PlaceShown, places_shown, work_in}
 use Rattle.tp_commands.specs.Places.{AllLie, workers}
 use Rattle.tp_script.specs.declared.head.Head.{Head}
-use Rattle.tp_session.specs.Hands.{unit_of}
-use Rattle.tp_session.specs.Live.{HoldsUnits, IsHeld, IsLive, Leads, Live, is_open}
+use Rattle.tp_session.specs.Hands.{has_unit, unit_of}
+use Rattle.tp_session.specs.Live.{HoldsUnits, IsHeld, IsLive, Leads, Live, has_desk_open, is_open}
 use Rattle.tp_session.specs.declared.held.Held.{Held}
 use Rattle.tp_session.proofs.PassLemmas.{racers_are}
 
@@ -30,13 +30,17 @@ module _ {X : Type 0} {F : X → Type 0} (behaviour : DynBox X Global F → Beha
   shown_open (x ∷ ps) (y ∷ ss) [] all = absurd all
   shown_open (x ∷ ps) (y ∷ ss) (z ∷ os) all = ap (λ b. is_some (work_in z.aside) || b) (shown_open ps ss os all.1)
 
+  -- whether a desk has a unit open, of what is held
+  pub desk_open : (head : Head) (h : Held X F) (l : Live) → IsHeld behaviour registers pending head h → IsLive behaviour registers pending h l → list_any (λ o. is_some (work_in o.aside)) h.places.items ≡ has_desk_open l
+  desk_open head h l held is =
+      shown_open _ h.servers.items h.places.items held.ready.lie ∙ ap (list_any (λ (q : PlaceShown). is_some q.desk.work)) (sym is.scene.1)
+
   -- whether a unit of work is open, of what is held
   pub live_open : (head : Head) (h : Held X F) (l : Live) → IsHeld behaviour registers pending head h → IsLive behaviour registers pending h l
-      → (list_any is_some h.works.items || list_any (λ o. is_some (work_in o.aside)) h.places.items) ≡ is_open l
+      → (list_any has_unit h.works.items || list_any (λ o. is_some (work_in o.aside)) h.places.items) ≡ is_open l
   live_open head h l held is =
-      ap (λ b. list_any is_some h.works.items || b) (shown_open _ h.servers.items h.places.items held.ready.lie)
-      ∙ (ap (λ ps. list_any is_some h.works.items || list_any (λ q. is_some q.desk.work) ps) (sym is.scene.1)
-      ∙ ap (λ ws. list_any is_some ws || list_any (λ q. is_some q.desk.work) l.stand.scene.places) (sym is.works))
+      ap (λ b. list_any has_unit h.works.items || b) (desk_open head h l held is)
+      ∙ ap (λ ws. list_any has_unit ws || has_desk_open l) (sym is.works)
 
   -- the units that are open, of the client and of the workers
   pub live_units : (head : Head) (h : Held X F) (l : Live) → IsHeld behaviour registers pending head h → IsLive behaviour registers pending h l → HoldsUnits l

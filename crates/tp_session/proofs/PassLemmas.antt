@@ -8,7 +8,6 @@ use Rattle.std.proofs.lemmas.Option.{same_Some, slice_get-get_or, slice_get-map}
 use Rattle.std.proofs.lemmas.List.Elements.{All-cons, All-head, All-nil, All-tail}
 use Rattle.tp_server.specs.Behaviour.{Behaviour}
 use Rattle.tp_server.specs.Pending.{Pending}
-use Rattle.tp_model.specs.declared.types.Work.{Work}
 use Rattle.tp_manager.specs.Accounts.{AreNumberedFrom}
 use Rattle.tp_manager.specs.Shown.{IsOf, ManagerShown, PassShown}
 use Rattle.tp_workers.specs.Free.{IsFreePass}
@@ -17,6 +16,7 @@ use Rattle.tp_commands.specs.Acting.{places_shown}
 use Rattle.tp_commands.specs.Places.{AllLie, workers}
 use Rattle.tp_perform.specs.Scenes.{Scene}
 use Rattle.tp_perform.specs.Told.{AreReady, IsScene, after_servers, units_held}
+use Rattle.tp_session.specs.declared.hand.Holding.{Holding}
 use Rattle.tp_session.specs.Hands.{unit_of}
 
 first_same : {A : Type 0} (x y : A) (xs ys : List A) → x ∷ xs ≡ y ∷ ys → (x ≡ y) × (xs ≡ ys)
@@ -109,7 +109,7 @@ module _ {X : Type 0} {F : X → Type 0} (behaviour : DynBox X Global F → Beha
       lie = subst (λ zs. AllLie behaviour registers pending zs ss os) (sym (set_front (length ss) w k qs p (omega (arith, at)))) ready.lie;
     }
 
-  pub held_set : (n w k : ℕ) (p : PassShown) (work : Option Work) (ps : List PassShown) (ws : List (Option Work)) → k ≡ 1 + n + w → 1 ≤ length ps → p.open_unit ≡ unit_of work → units_held n ps ≡ map unit_of ws
+  pub held_set : (n w k : ℕ) (p : PassShown) (work : Holding) (ps : List PassShown) (ws : List Holding) → k ≡ 1 + n + w → 1 ≤ length ps → p.open_unit ≡ unit_of work → units_held n ps ≡ map unit_of ws
       → units_held n (slice_set ps k p) ≡ map unit_of (slice_set ws w work)
   held_set n w k p work [] ws at some one same = absurd (omega (arith, some))
   held_set n w zero p work (q ∷ qs) ws at some one same = absurd (omega (arith, at))
@@ -119,7 +119,7 @@ module _ {X : Type 0} {F : X → Type 0} (behaviour : DynBox X Global F → Beha
       ∙ (ap (λ us. slice_set us w p.open_unit) same ∙ (ap (λ u. slice_set (map unit_of ws) w u) one ∙ sym (map_set unit_of ws w work))))
 
   -- a worker's pass has the unit open that is in the worker's hand
-  pub worker_holds : (n w k : ℕ) (ps : List PassShown) (ws : List (Option Work)) (d : PassShown) (e : Option Work) → k ≡ 1 + n + w → k < length ps → w < length ws → units_held n ps ≡ map unit_of ws
+  pub worker_holds : (n w k : ℕ) (ps : List PassShown) (ws : List Holding) (d : PassShown) (e : Holding) → k ≡ 1 + n + w → k < length ps → w < length ws → units_held n ps ≡ map unit_of ws
       → (get_or ps k d).open_unit ≡ unit_of (get_or ws w e)
   worker_holds n w k ps ws d e at within here same =
       let left : slice_get (units_held n ps) w ≡ Some (get_or ps k d).open_unit = slice_get-map (λ (x : PassShown). x.open_unit) (drop n (drop 1 ps)) w ∙ ap (option_map (λ (x : PassShown). x.open_unit)) (worker_there n w k ps d at within) in

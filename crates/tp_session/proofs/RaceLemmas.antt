@@ -2,7 +2,6 @@
 use Rattle.std.proofs.Common.{◌≡◌, ℕ, zero, suc, ◌+◌, false, List, [], ◌∷◌, All, Option, None, ◌∙◌, ap, arith, map, drop}
 use Rattle.std.specs.Option.{option_map}
 use Rattle.std.proofs.lemmas.List.Elements.{All-cons, All-drop, All-head, All-nil, All-tail, All-take}
-use Rattle.tp_model.specs.declared.types.Work.{Work}
 use Rattle.tp_manager.specs.Shown.{IsOf, ManagerShown, PassShown}
 use Rattle.tp_script.specs.Passes.{races}
 use Rattle.tp_script.specs.Ranges.{IsActInRange, IsScriptAct}
@@ -10,6 +9,8 @@ use Rattle.tp_script.specs.declared.head.Act.{Act}
 use Rattle.tp_script.specs.declared.head.Act.TheVariants as act
 use Rattle.tp_perform.specs.Told.{RaceFree, after_servers, units_held}
 use Rattle.tp_workers.specs.Free.{IsFreePass}
+use Rattle.tp_session.specs.declared.hand.Holding.{Holding}
+use Rattle.tp_session.specs.declared.hand.Holding.TheVariants.{Nothing}
 use Rattle.tp_session.specs.Hands.{unit_of}
 
 -- what is no race may be asked for in a session too
@@ -24,16 +25,16 @@ heads_tails : (a b : Option ℕ) (xs ys : List (Option ℕ)) → a ∷ xs ≡ b 
 heads_tails a b xs ys e = (cc, cc)
 
 -- passes whose workers have nothing in hand are free
-all_idle : (m : ManagerShown) (ps : List PassShown) (ws : List (Option Work)) → All (IsOf m) ps → map (λ (p : PassShown). p.open_unit) ps ≡ map unit_of ws → All (λ (w : Option Work). w ≡ None) ws → All (IsFreePass m) ps
+all_idle : (m : ManagerShown) (ps : List PassShown) (ws : List Holding) → All (IsOf m) ps → map (λ (p : PassShown). p.open_unit) ps ≡ map unit_of ws → All (λ (w : Holding). w ≡ Nothing) ws → All (IsFreePass m) ps
 all_idle m [] ws own same idle = All-nil (IsFreePass m)
 all_idle m (p ∷ ps) [] own same idle = absurd cc
 all_idle m (p ∷ ps) (w ∷ ws) own same idle =
     let parts = heads_tails p.open_unit (unit_of w) (map (λ (q : PassShown). q.open_unit) ps) (map unit_of ws) same in
-    All-cons (IsFreePass m) p ps (record { own = All-head (IsOf m) p ps own; free = parts.0 ∙ ap (option_map (λ (work : Work). work.unit)) (All-head (λ (x : Option Work). x ≡ None) w ws idle) })
-    (all_idle m ps ws (All-tail (IsOf m) p ps own) parts.1 (All-tail (λ (x : Option Work). x ≡ None) w ws idle))
+    All-cons (IsFreePass m) p ps (record { own = All-head (IsOf m) p ps own; free = parts.0 ∙ ap unit_of (All-head (λ (x : Holding). x ≡ Nothing) w ws idle) })
+    (all_idle m ps ws (All-tail (IsOf m) p ps own) parts.1 (All-tail (λ (x : Holding). x ≡ Nothing) w ws idle))
 
 -- so are those behind the first k
-idle_behind : (m : ManagerShown) (k : ℕ) (ps : List PassShown) (ws : List (Option Work)) → All (IsOf m) ps → map (λ (p : PassShown). p.open_unit) ps ≡ map unit_of ws → All (λ (w : Option Work). w ≡ None) (drop k ws) → All (IsFreePass m) (drop k ps)
+idle_behind : (m : ManagerShown) (k : ℕ) (ps : List PassShown) (ws : List Holding) → All (IsOf m) ps → map (λ (p : PassShown). p.open_unit) ps ≡ map unit_of ws → All (λ (w : Holding). w ≡ Nothing) (drop k ws) → All (IsFreePass m) (drop k ps)
 idle_behind m zero ps ws own same idle = all_idle m ps ws own same idle
 idle_behind m (suc k) [] ws own same idle = All-nil (IsFreePass m)
 idle_behind m (suc k) (p ∷ ps) [] own same idle = absurd cc
@@ -48,7 +49,7 @@ still_behind P (suc w) r zero xs is all = absurd (omega (arith, is))
 still_behind P (suc w) r (suc k) [] is all = All-nil P
 still_behind P (suc w) r (suc k) (x ∷ xs) is all = still_behind P w r k xs (omega (arith, is)) all
 
-pub race_free : (m : ManagerShown) (n w r k many : ℕ) (ps : List PassShown) (ws : List (Option Work)) → k ≡ w + r → All (IsOf m) ps → units_held n ps ≡ map unit_of ws → All (λ (x : Option Work). x ≡ None) (drop w ws) → RaceFree m n k many ps
+pub race_free : (m : ManagerShown) (n w r k many : ℕ) (ps : List PassShown) (ws : List Holding) → k ≡ w + r → All (IsOf m) ps → units_held n ps ≡ map unit_of ws → All (λ (x : Holding). x ≡ Nothing) (drop w ws) → RaceFree m n k many ps
 race_free m n w r k many ps ws is own same idle =
     let rest : All (IsOf m) (after_servers n ps) = All-drop (IsOf m) n (drop 1 ps) (All-drop (IsOf m) 1 ps own) in
-    All-take (IsFreePass m) many (drop k (after_servers n ps)) (idle_behind m k (after_servers n ps) ws rest same (still_behind (λ (x : Option Work). x ≡ None) w r k ws is idle))
+    All-take (IsFreePass m) many (drop k (after_servers n ps)) (idle_behind m k (after_servers n ps) ws rest same (still_behind (λ (x : Holding). x ≡ Nothing) w r k ws is idle))
