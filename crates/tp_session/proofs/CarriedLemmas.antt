@@ -1,8 +1,9 @@
 -- What workers have in hand once another manager has taken the place of theirs.
-use Rattle.std.proofs.Common.{◌≡◌, ◌∙◌, ℕ, zero, suc, ◌+◌, ◌≤◌, ◌<◌, ◌==◌, Bool, true, false, List, [], ◌∷◌, All, Option, Some, None, refl, sym, ap, subst, arith, length, map, drop, get_or}
+use Rattle.std.proofs.Common.{◌≡◌, ◌∙◌, ℕ, zero, suc, ◌+◌, ◌≤◌, ◌<◌, ◌==◌, Bool, true, false, List, [], ◌∷◌, All, Option, Some, None, refl, sym, ap, subst, arith, length, map, drop, get_or, ⊎_elim}
 use Rattle.std.specs.List.{cond, find}
 use Rattle.std.specs.Option.{option_map}
 use Rattle.std.proofs.lemmas.Bool.{eq-eqb}
+use Rattle.std.proofs.lemmas.Bool.Decides.{eqb_tells}
 use Rattle.std.proofs.lemmas.List.Elements.{All-cons, All-head, All-nil, All-tail}
 use Rattle.tp_model.specs.History.{In, here, there}
 use Rattle.tp_manager.specs.Accounts.{AreNumberedFrom}
@@ -26,10 +27,13 @@ open p = p.open_unit
 -- ---- lists
 
 -- those behind the client's and the servers'
+behind_one : {A : Type 0} (n : ℕ) (xs : List A) → drop (suc n) xs ≡ drop n (drop 1 xs)
+behind_one zero [] = refl
+behind_one (suc n) [] = refl
+behind_one n (x ∷ xs) = refl
+
 pub behind_is : {A : Type 0} (n : ℕ) (xs : List A) → drop (1 + n) xs ≡ drop n (drop 1 xs)
-behind_is zero [] = refl
-behind_is (suc n) [] = refl
-behind_is n (x ∷ xs) = refl
+behind_is n xs = ap (λ k. drop k xs) (let e : 1 + n ≡ suc n = omega arith in e) ∙ behind_one n xs
 
 numbered_behind : (a n : ℕ) (ps : List PassShown) → AreNumberedFrom a ps → AreNumberedFrom (a + n) (drop n ps)
 numbered_behind a zero ps all = subst (λ z. AreNumberedFrom z ps) (let e : a ≡ a + 0 = omega arith in e) all
@@ -56,11 +60,14 @@ high_behind a (suc n) (x ∷ ps) q all (there p) low = high_behind (a + 1) n ps 
 low_behind : (a n : ℕ) (ps : List PassShown) (q : PassShown) → AreNumberedFrom a ps → In q (drop n ps) → a + n ≤ q.number
 low_behind a n ps q all p = let t = (number_in (a + n) (drop n ps) q (numbered_behind a n ps all) p).0 in omega (arith, t)
 
+drop_none : {A : Type 0} (n : ℕ) → drop n ([] : List A) ≡ []
+drop_none zero = refl
+drop_none (suc n) = refl
+
 drop_drop : {A : Type 0} (n k : ℕ) (xs : List A) → drop k (drop n xs) ≡ drop (n + k) xs
-drop_drop zero k xs = refl
-drop_drop (suc n) zero [] = refl
-drop_drop (suc n) (suc k) [] = refl
-drop_drop (suc n) k (x ∷ xs) = drop_drop n k xs
+drop_drop zero k xs = ap (λ m. drop m xs) (let e : k ≡ 0 + k = omega arith in e)
+drop_drop (suc n) k [] = drop_none k ∙ sym (drop_none (suc n + k))
+drop_drop (suc n) k (x ∷ xs) = drop_drop n k xs ∙ ap (λ m. drop m (x ∷ xs)) (let e : suc (n + k) ≡ suc n + k = omega arith in e)
 
 map_behind : {A B : Type 0} (f : A → B) (n : ℕ) (xs : List A) → map f (drop n xs) ≡ drop n (map f xs)
 map_behind f zero xs = refl
@@ -199,7 +206,7 @@ none_lost_at k worker (line ∷ lines) all low =
     ∙ none_lost_at k worker lines (All-tail (λ (line : LostLine). line.worker < k) line lines all) low
   where
     other : (a b : ℕ) → a < b → (a == b) ≡ false
-    other a b less = by (a == b) refl (let e : a ≡ b = omega arith in absurd (omega (arith, e, less)))
+    other a b less = ⊎_elim (λ t. absurd (let e = t.1 in omega (arith, e, less))) (λ t. t.0) (eqb_tells a b)
 
 idle_lost : (k worker : ℕ) (lines : List LostLine) (ws : List Holding) → All (λ (line : LostLine). line.worker < k) lines → k ≤ worker → All (λ w. w ≡ Nothing) (lost_works lines worker ws)
 idle_lost k worker lines [] all low = All-nil (λ (w : Holding). w ≡ Nothing)
