@@ -1,7 +1,8 @@
 -- An `alive` line of a dump, read again, says what was told.
-use Rattle.std.proofs.Common.{◌≡◌, ◌≢◌, ℕ, suc, ◌+◌, ◌-◌, ◌^◌, ◌<◌, ◌≤◌, ◌==◌, ◌&&◌, true, if◌then◌else◌, None, Result, Ok, List, [], ◌∷◌, ◌++◌, length, nat_le, nat_lt, refl, sym, ◌∙◌, ap, inl, inr, arith}
+use Rattle.std.proofs.Common.{◌≡◌, ◌≢◌, ℕ, suc, ◌+◌, ◌-◌, ◌^◌, ◌<◌, ◌≤◌, ◌==◌, ◌&&◌, true, if◌then◌else◌, None, Result, Ok, List, [], ◌∷◌, ◌++◌, length, nat_le, nat_lt, refl, sym, ◌∙◌, ap, subst, inl, inr, arith}
 use Rattle.std.specs.Prelude.{codes, count_by, decimal}
 use Rattle.std.specs.List.{list_all, slice_split}
+use Rattle.std.specs.Option.{option_map}
 use Rattle.std.proofs.lemmas.Bool.Decides.{eqb_tells}
 use Rattle.std.proofs.lemmas.Fmt.{decimal_nonempty, length-decimal-le}
 use Rattle.std.proofs.lemmas.List.{length-append}
@@ -13,16 +14,16 @@ use Rattle.tp_script.specs.Commands.{SubmitWords, submit_words}
 use Rattle.tp_script.specs.Drafts.{draft_at, draft_of, is_draft, output_stage}
 use Rattle.tp_script.specs.LineWords.{◌>>=◌, known, number_at, require}
 use Rattle.tp_script.specs.Grammar.{alive_line, head_at, head_keyword, head_words, line_words}
-use Rattle.tp_script.specs.Script.{HeadView}
+use Rattle.tp_script.specs.Script.{HeadView, WorkerView}
 use Rattle.tp_script.specs.declared.head.Driver.TheVariants as drivers
 use Rattle.tp_script.specs.Text.{words}
 use Rattle.tp_script.specs.declared.fault.LineFault.{LineFault}
 use Rattle.tp_script.specs.declared.fault.LineFault.TheVariants.{BadNumber, BadLimits, Syntax, TooLong}
 use Rattle.tp_script.specs.declared.head.AliveLine.{AliveLine}
 use Rattle.tp_script.specs.declared.head.TheConstants.{MAX_ALIVE}
-use Rattle.tp_session.specs.Dump.{alive_text, attempts_of, draft_text}
+use Rattle.tp_session.specs.Dump.{alive_text, attempts_of, draft_text, holder_in, text_by}
 use Rattle.tp_exact.specs.AliveReads.{AliveLineReads, IsBody64, IsFit}
-use Rattle.tp_exact.specs.Dumps.{line_of}
+use Rattle.tp_exact.specs.Dumps.{line_of, tries_of}
 use Rattle.tp_exact.proofs.Cuts.{Bytes, Free, allowed, and_true, counted, cut, digits, free_of, le_true, number_is, uncounted, uncut, wider, with_more, words_last, words_more}
 
 -- what is read first, and then the rest
@@ -171,7 +172,7 @@ text_free text all = free_of 32 48 58 text (λ c low high e. omega (arith, low, 
 module _ (id attempts rounds root : ℕ) (own : List ℕ) (stage : ℕ) (body : List ℕ) (first : Draft own stage body) (other : List ℕ) (root_stage : ℕ) (root_body : List ℕ) (second : Draft other root_stage root_body)
     (fi : id < 100000) (ft : attempts ≤ MAX_ATTEMPTS) (fu : rounds ≤ MAX_ROUNDS) (fr : root < 100000) where
   abbrev made : AliveLine
-  made = record { id = id; attempts = attempts; rounds = rounds; draft = record { stage = stage; body = body }; root = root; root_draft = record { stage = root_stage; body = root_body } }
+  made = record { id = id; attempts = attempts; rounds = rounds; draft = record { stage = stage; body = body }; root = root; root_draft = record { stage = root_stage; body = root_body }; holder = None }
 
   abbrev said : AliveWords
   said = record { id = decimal id; attempts = decimal attempts; rounds = decimal rounds; draft = own; root = decimal root; root_draft = other }
@@ -219,7 +220,7 @@ digits_allowed n h = wider 48 57 32 126 (decimal n) (omega arith) (omega arith) 
 text_allowed : (text : List ℕ) → Bytes 48 58 text → Bytes 32 126 text
 text_allowed text all = wider 48 58 32 126 text (omega arith) (omega arith) all
 
-module _ (s : Survivor) (h : HeadView) (fit : IsFit s) (room : length h.alive < MAX_ALIVE) where
+module _ (s : Survivor) (h : HeadView) (first : ℕ) (fit : IsFit s) (none : s.holder ≡ None) (room : length h.alive < MAX_ALIVE) where
   own : Draft (draft_text s.stage s.body) s.stage s.body
   own = draft s.stage s.body fit.stage.0 fit.stage.1 fit.body
 
@@ -229,6 +230,9 @@ module _ (s : Survivor) (h : HeadView) (fit : IsFit s) (room : length h.alive < 
   abbrev tries : ℕ
   tries = attempts_of s.status
 
+  few : tries ≤ MAX_ATTEMPTS
+  few = subst (λ o. tries_of s.status o ≤ MAX_ATTEMPTS) none fit.attempts
+
   f_id : s.id < 2 ^ 64
   f_id = let f = fit.id in omega (arith, f)
 
@@ -236,10 +240,17 @@ module _ (s : Survivor) (h : HeadView) (fit : IsFit s) (room : length h.alive < 
   f_root = let f = fit.root in omega (arith, f)
 
   f_tries : tries < 2 ^ 64
-  f_tries = let f = fit.attempts in omega (arith, f)
+  f_tries = let f = few in omega (arith, f)
 
   f_rounds : s.rounds < 2 ^ 64
   f_rounds = let f = fit.rounds_are in omega (arith, f)
+
+  -- what the line says
+  abbrev told : AliveLine
+  told = record { id = s.id; attempts = tries; rounds = s.rounds; draft = record { stage = s.stage; body = s.body }; root = s.root; root_draft = record { stage = s.root_stage; body = s.root_body }; holder = None }
+
+  pub is_line : told ≡ line_of first s
+  is_line = ap (λ o. record { id = s.id; attempts = tries_of s.status o; rounds = s.rounds; draft = record { stage = s.stage; body = s.body }; root = s.root; root_draft = record { stage = s.root_stage; body = s.root_body }; holder = option_map (λ pass. pass - first) o }) (sym none)
 
   -- the line up to its last words
   abbrev after_tries : List ℕ → List ℕ
@@ -264,7 +275,7 @@ module _ (s : Survivor) (h : HeadView) (fit : IsFit s) (room : length h.alive < 
   line_long : (behind : List ℕ) → length (line_with behind) ≤ 16 + length behind
   line_long behind =
       let i = length-decimal-le 5 s.id (omega arith) fit.id f_id in
-      let t = length-decimal-le 1 tries (omega arith) (let f = fit.attempts in omega (arith, f)) f_tries in
+      let t = length-decimal-le 1 tries (omega arith) (let f = few in omega (arith, f)) f_tries in
       let r = length-decimal-le 1 s.rounds (omega arith) (let f = fit.rounds_are in omega (arith, f)) f_rounds in
       let l1 = length-append (decimal s.id) (32 ∷ after_id behind) in
       let l2 = length-append (decimal tries) (32 ∷ after_tries behind) in
@@ -288,25 +299,25 @@ module _ (s : Survivor) (h : HeadView) (fit : IsFit s) (room : length h.alive < 
       ∙ ap Ok (words_with behind ∙ ap (λ z. codes "alive" ∷ decimal s.id ∷ decimal tries ∷ decimal s.rounds ∷ z) are)
 
   -- its own root
-  itself : s.root ≡ s.id → head_at (line_with (draft_text s.stage s.body)) h ≡ Ok (record h { alive = h.alive ++ line_of s ∷ [] }, None)
+  itself : s.root ≡ s.id → head_at (line_with (draft_text s.stage s.body)) h ≡ Ok (record h { alive = h.alive ++ told ∷ [] }, None)
   unfolding head_at
   itself e =
       let like = fit.itself e in
       let text = draft_text s.stage s.body in
       let words_are : words text ≡ text ∷ [] = words_last text own.some (text_free text own.bytes) in
       let read = read_with text (text ∷ []) (let l = own.long in omega (arith, l)) (text_allowed text own.bytes) words_are in
-      let line = in_head s.id tries s.rounds s.id text s.stage s.body own text s.stage s.body own fit.id fit.attempts fit.rounds_are fit.id (decimal s.id ∷ decimal tries ∷ decimal s.rounds ∷ text ∷ []) h refl room in
-      let same : made s.id tries s.rounds s.id text s.stage s.body own text s.stage s.body own fit.id fit.attempts fit.rounds_are fit.id ≡ line_of s =
-      ap (λ r. record { id = s.id; attempts = tries; rounds = s.rounds; draft = record { stage = s.stage; body = s.body }; root = r; root_draft = record { stage = s.stage; body = s.body } }) (sym e)
-      ∙ (ap (λ x. record { id = s.id; attempts = tries; rounds = s.rounds; draft = record { stage = s.stage; body = s.body }; root = s.root; root_draft = record { stage = x; body = s.body } }) (sym like.0)
-      ∙ ap (λ x. record { id = s.id; attempts = tries; rounds = s.rounds; draft = record { stage = s.stage; body = s.body }; root = s.root; root_draft = record { stage = s.root_stage; body = x } }) (sym like.1)) in
+      let line = in_head s.id tries s.rounds s.id text s.stage s.body own text s.stage s.body own fit.id few fit.rounds_are fit.id (decimal s.id ∷ decimal tries ∷ decimal s.rounds ∷ text ∷ []) h refl room in
+      let same : made s.id tries s.rounds s.id text s.stage s.body own text s.stage s.body own fit.id few fit.rounds_are fit.id ≡ told =
+      ap (λ r. record { id = s.id; attempts = tries; rounds = s.rounds; draft = record { stage = s.stage; body = s.body }; root = r; root_draft = record { stage = s.stage; body = s.body }; holder = None }) (sym e)
+      ∙ (ap (λ x. record { id = s.id; attempts = tries; rounds = s.rounds; draft = record { stage = s.stage; body = s.body }; root = s.root; root_draft = record { stage = x; body = s.body }; holder = None }) (sym like.0)
+      ∙ ap (λ x. record { id = s.id; attempts = tries; rounds = s.rounds; draft = record { stage = s.stage; body = s.body }; root = s.root; root_draft = record { stage = s.root_stage; body = x }; holder = None }) (sym like.1)) in
       bind_ok (line_words (line_with text)) _ (λ ws. head_words drivers.Session ws h) read ∙ (line ∙ ap (λ (a : AliveLine). Ok (record h { alive = h.alive ++ a ∷ [] }, None)) same)
 
   -- or another's
   abbrev behind_other : List ℕ
   behind_other = draft_text s.stage s.body ++ (32 ∷ (decimal s.root ++ (32 ∷ draft_text s.root_stage s.root_body)))
 
-  of_another : head_at (line_with behind_other) h ≡ Ok (record h { alive = h.alive ++ line_of s ∷ [] }, None)
+  of_another : head_at (line_with behind_other) h ≡ Ok (record h { alive = h.alive ++ told ∷ [] }, None)
   unfolding head_at
   of_another =
       let text = draft_text s.stage s.body in
@@ -320,18 +331,24 @@ module _ (s : Survivor) (h : HeadView) (fit : IsFit s) (room : length h.alive < 
       (let r = length-decimal-le 5 s.root (omega arith) fit.root f_root in let l = own.long in let m = of_root.long in
       let l1 = length-append text (32 ∷ (decimal s.root ++ (32 ∷ last))) in let l2 = length-append (decimal s.root) (32 ∷ last) in omega (arith, r, l, m, l1, l2)) in
       let read = read_with behind_other (text ∷ decimal s.root ∷ last ∷ []) short all words_are in
-      let line = in_head s.id tries s.rounds s.root text s.stage s.body own last s.root_stage s.root_body of_root fit.id fit.attempts fit.rounds_are fit.root (decimal s.id ∷ decimal tries ∷ decimal s.rounds ∷ text ∷ decimal s.root ∷ last ∷ []) h refl room in
+      let line = in_head s.id tries s.rounds s.root text s.stage s.body own last s.root_stage s.root_body of_root fit.id few fit.rounds_are fit.root (decimal s.id ∷ decimal tries ∷ decimal s.rounds ∷ text ∷ decimal s.root ∷ last ∷ []) h refl room in
       bind_ok (line_words (line_with behind_other)) _ (λ ws. head_words drivers.Session ws h) read ∙ line
 
-pub alive_line_reads : AliveLineReads
-alive_line_reads s h fit room =
+alive_text_reads : (s : Survivor) (h : HeadView) (first : ℕ) (fit : IsFit s) (none : s.holder ≡ None) (room : length h.alive < MAX_ALIVE) → head_at (alive_text s) h ≡ Ok (record h { alive = h.alive ++ told s h first fit none room ∷ [] }, None)
+alive_text_reads s h first fit none room =
     elim (eqb_tells s.root s.id) [
       | inl p ↦
-          let text : alive_text s ≡ line_with s h fit room (draft_text s.stage s.body) =
-          ap (λ t. line_with s h fit room (draft_text s.stage s.body ++ (if t then [] else 32 ∷ (decimal s.root ++ (32 ∷ draft_text s.root_stage s.root_body))))) p.0 ∙ ap (line_with s h fit room) (append_nil (draft_text s.stage s.body)) in
-          ap (λ t. head_at t h) text ∙ itself s h fit room p.1
+          let text : alive_text s ≡ line_with s h first fit none room (draft_text s.stage s.body) =
+          ap (λ t. line_with s h first fit none room (draft_text s.stage s.body ++ (if t then [] else 32 ∷ (decimal s.root ++ (32 ∷ draft_text s.root_stage s.root_body))))) p.0 ∙ ap (line_with s h first fit none room) (append_nil (draft_text s.stage s.body)) in
+          ap (λ t. head_at t h) text ∙ itself s h first fit none room p.1
       | inr p ↦
-          let text : alive_text s ≡ line_with s h fit room (behind_other s h fit room) =
-          ap (λ t. line_with s h fit room (draft_text s.stage s.body ++ (if t then [] else 32 ∷ (decimal s.root ++ (32 ∷ draft_text s.root_stage s.root_body))))) p.0 in
-          ap (λ t. head_at t h) text ∙ of_another s h fit room
+          let text : alive_text s ≡ line_with s h first fit none room (behind_other s h first fit none room) =
+          ap (λ t. line_with s h first fit none room (draft_text s.stage s.body ++ (if t then [] else 32 ∷ (decimal s.root ++ (32 ∷ draft_text s.root_stage s.root_body))))) p.0 in
+          ap (λ t. head_at t h) text ∙ of_another s h first fit none room
     ]
+
+pub alive_line_reads : AliveLineReads
+alive_line_reads workers first s h fit none room =
+    ap (λ o. head_at (text_by (holder_in workers first o) s) h) none
+    ∙ (alive_text_reads s h first fit none room
+    ∙ ap (λ (a : AliveLine). Ok (record h { alive = h.alive ++ a ∷ [] }, None)) (is_line s h first fit none room))

@@ -63,10 +63,6 @@ module _ (l : Limits) where
   standing_lives is x None a = subst IsLiving (sym a.0) (killable_lives x a.1)
   standing_lives is x (Some c) (u, n, held, waits, by) = subst IsLiving (sym held) tt
 
--- what no pass holds is described as it stands
-pub stands_so : (l : Limits) (h : List Event) (s : Survivor) → IsSurvivor l h s → s.holder ≡ None → (status_of l.attempts h s.id ≡ s.status) × IsKillable s.status
-stands_so l h s is none = subst (λ o. IsStanding l (status_of l.attempts h s.id) s.status o) none is.stands
-
 pub each_so : (l : Limits) (h : List Event) (survivors : List Survivor) → AreSurvivors l h survivors → AreUnheld survivors → (s : Survivor) → In s survivors → IsSurvivor l h s × (s.holder ≡ None)
 each_so l h survivors are unheld s at = (are.described s at, each_of (λ (s : Survivor). s.holder ≡ None) survivors s unheld at)
 
