@@ -14,7 +14,7 @@ use Rattle.tp_script.specs.Commands.{SubmitWords, submit_words}
 use Rattle.tp_script.specs.Drafts.{draft_at, draft_of, is_draft, output_stage}
 use Rattle.tp_script.specs.LineWords.{◌>>=◌, known, number_at, require}
 use Rattle.tp_script.specs.Grammar.{alive_line, head_at, head_keyword, head_words, line_words}
-use Rattle.tp_script.specs.Script.{HeadView, WorkerView}
+use Rattle.tp_script.specs.Script.{HeadView}
 use Rattle.tp_script.specs.declared.head.Driver.TheVariants as drivers
 use Rattle.tp_script.specs.Text.{words}
 use Rattle.tp_script.specs.declared.fault.LineFault.{LineFault}

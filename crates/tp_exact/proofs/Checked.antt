@@ -10,7 +10,6 @@ use Rattle.tp_script.specs.declared.fault.LineFault.TheVariants as fault
 use Rattle.tp_script.specs.declared.head.Act.{Act}
 use Rattle.tp_script.specs.declared.head.AliveLine.{AliveLine}
 use Rattle.tp_script.specs.declared.head.Driver.{Driver}
-use Rattle.tp_script.specs.declared.head.LostLine.{LostLine}
 use Rattle.tp_script.specs.declared.head.TheConstants.{MAX_ALIVE, MAX_WORKERS}
 use Rattle.tp_script.specs.declared.keyword.Keyword.{Keyword}
 use Rattle.tp_script.specs.declared.keyword.Keyword.TheVariants as first

@@ -1,5 +1,5 @@
 -- What a dump tells, restored, is what a rollover carries over.
-use Rattle.std.proofs.Common.{◌≡◌, ℕ, ◌+◌, ◌-◌, ◌≤◌, ◌||◌, IfSome, Bool, false, List, [], ◌∷◌, ◌++◌, Option, None, Some, length, map, refl, sym, ◌∙◌, ap, subst, arith}
+use Rattle.std.proofs.Common.{◌≡◌, ℕ, ◌+◌, ◌-◌, ◌≤◌, IfSome, false, List, [], ◌∷◌, ◌++◌, Option, None, Some, length, map, refl, sym, ◌∙◌, ap, subst, arith}
 use Rattle.std.specs.Prelude.{is_some}
 use Rattle.std.specs.List.{AllZip, list_any}
 use Rattle.std.specs.Option.{option_map}
@@ -18,13 +18,12 @@ use Rattle.tp_rollover.specs.Survivors.{IsStanding, IsSurvivor, StandAgain}
 use Rattle.tp_rollover.specs.declared.survivors.Survivor.{Survivor}
 use Rattle.tp_rollover.proofs.Carrying.{each_of}
 use Rattle.tp_rollover.proofs.Restored.{restored_rolls}
-use Rattle.tp_script.specs.Script.{ServerView}
 use Rattle.tp_commands.specs.Acting.{PlaceShown}
 use Rattle.tp_perform.specs.Scenes.{Scene, passes_in}
 use Rattle.tp_reference.specs.declared.plain_desk.PlainDesk.{PlainDesk}
 use Rattle.tp_session.specs.Dump.{attempts_of}
 use Rattle.tp_session.specs.Live.{status_at, status_in, survivor_of}
-use Rattle.tp_exact.specs.Dumps.{AreHeldFrom, HeldByWorkers, RestoredDump, line_of, tries_of}
+use Rattle.tp_exact.specs.Dumps.{HeldByWorkers, RestoredDump, line_of, tries_of}
 use Rattle.tp_exact.specs.Stands.{IsFor, IsServedBy}
 use Rattle.tp_exact.proofs.Drains.{beside_long}
 use Rattle.tp_exact.proofs.Places.{passes}

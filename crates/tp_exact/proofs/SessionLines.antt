@@ -1,5 +1,5 @@
 -- A line of a session that can't be refused for want of memory, between two gatherings.
-use Rattle.std.proofs.Common.{◌≡◌, ℕ, zero, ◌+◌, suc, ◌||◌, Bool, true, false, List, [], ◌∷◌, ◌++◌, length, map, Option, None, Some, refl, sym, ◌∙◌, ap, subst, arith}
+use Rattle.std.proofs.Common.{◌≡◌, ℕ, zero, ◌+◌, suc, ◌||◌, Bool, true, false, List, [], ◌∷◌, ◌++◌, length, map, None, Some, refl, sym, ◌∙◌, ap, subst, arith}
 use Rattle.std.specs.Prelude.{if◌then◌else◌, is_some, slice_get, slice_index_or, slice_set, string_bytes, take, drop}
 use Rattle.std.specs.List.{AllZip, list_any}
 use Rattle.tp_model.specs.Steps.{rows_of}
