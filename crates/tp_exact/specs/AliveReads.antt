@@ -1,12 +1,16 @@
--- What is read of the `alive` lines that a dump tells. Of its `held` and `lost` lines there is no such law.
-use Rattle.std.specs.Prelude.{◌≡◌, ◌<◌, ◌≤◌, ◌+◌, ◌^◌, ℕ, List, [], ◌∷◌, ◌++◌, None, Ok, length, map}
+-- What is read of the `alive` and `held` lines that a dump tells.
+use Rattle.std.specs.Prelude.{◌≡◌, ◌<◌, ◌≤◌, ◌+◌, ◌^◌, ℕ, true, false, List, [], ◌∷◌, ◌++◌, None, Some, Ok, length, map}
+use Rattle.std.specs.Prelude.{slice_get}
 use Rattle.tp_model.specs.History.{In}
 use Rattle.tp_model.specs.Steps.{AreLimits}
 use Rattle.tp_model.specs.declared.types.TheConstants.{MAX_ATTEMPTS, MAX_ROUNDS, REPLY_STAGE}
 use Rattle.tp_rollover.specs.Survivors.{AreUnheld}
 use Rattle.tp_rollover.specs.declared.survivors.Survivor.{Survivor}
 use Rattle.tp_script.specs.Grammar.{head_at}
+use Rattle.tp_script.specs.Hands.{has_in_hand}
+use Rattle.tp_script.specs.LineWords.{is_name}
 use Rattle.tp_script.specs.Script.{HeadView, WorkerView}
+use Rattle.tp_script.specs.ServerLines.{worker_at}
 use Rattle.tp_script.specs.declared.head.TheConstants.{MAX_ALIVE}
 use Rattle.tp_session.specs.Dump.{life_text}
 use Rattle.tp_session.specs.Live.{FoundAlive, Live}
@@ -35,6 +39,20 @@ abbrev pub AliveLineReads : Type 0
 AliveLineReads =
     (workers : List WorkerView) (first : ℕ) (s : Survivor) (h : HeadView)
     → IsFit s → s.holder ≡ None → length h.alive < MAX_ALIVE
+    → head_at (life_text workers first s) h ≡ Ok (record h { alive = h.alive ++ line_of first s ∷ [] }, None)
+
+-- the name is that of this worker of a head, and no line of the head says that it has or had something in hand
+pub record IsFreeWorker (name : List ℕ) (worker : ℕ) (h : HeadView) : Type 0 where
+  pub named : is_name name ≡ true
+  pub at : worker_at name h ≡ Some worker
+  pub idle : has_in_hand worker h ≡ false
+
+-- and so does the line of one that a worker has in hand, where the line isn't too long
+abbrev pub HeldLineReads : Type 0
+HeldLineReads =
+    (workers : List WorkerView) (first worker : ℕ) (w : WorkerView) (s : Survivor) (h : HeadView)
+    → IsFit s → s.holder ≡ Some (first + worker) → slice_get workers worker ≡ Some w
+    → IsFreeWorker w.name worker h → length (life_text workers first s) ≤ 200 → length h.alive < MAX_ALIVE
     → head_at (life_text workers first s) h ≡ Ok (record h { alive = h.alive ++ line_of first s ∷ [] }, None)
 
 -- What was found for a dump is so, where the words of the bodies are 64-bit numbers. So where no pass holds any

@@ -3,7 +3,7 @@
 ghost use Rattle.tp_exact.specs.Client.{ExactClient};
 ghost use Rattle.tp_exact.specs.Commands.{ExactCommand};
 ghost use Rattle.tp_exact.specs.Desks.{ExactDesk};
-ghost use Rattle.tp_exact.specs.AliveReads.{AliveLineReads, FoundLinesRead};
+ghost use Rattle.tp_exact.specs.AliveReads.{AliveLineReads, FoundLinesRead, HeldLineReads};
 ghost use Rattle.tp_exact.specs.Dumps.{ExactDump, HeldByWorkers, RestoredDump};
 ghost use Rattle.tp_exact.specs.Finals.{ExactAccount, ExactFinals};
 ghost use Rattle.tp_exact.specs.Programs.{ComputedOfScript, ExactProgram, SamePlain};
@@ -58,9 +58,11 @@ pub fn restored_dump()
     ensures held { HeldByWorkers }
 {}
 
-/// The `alive` line that a dump tells of an element, read as a line of a head, says just that.
+/// The line that a dump tells of an element, read as a line of a head, says just that: an `alive` line, or a
+/// `held` one where a worker has it in hand.
 pub fn alive_line_reads()
-    ensures { AliveLineReads }
+    ensures alive { AliveLineReads }
+    ensures held { HeldLineReads }
 {}
 
 /// All `alive` lines of a dump, read one after another, add to a head just what the dump has found alive.
