@@ -33,6 +33,7 @@ pub mod Described
 pub mod DumpActs
 pub mod Tries
 pub mod RestoredDumps
+pub mod RestoredHands
 pub mod Cuts
 pub mod AliveReads
 pub mod FoundLines
