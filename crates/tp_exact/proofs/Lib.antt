@@ -37,5 +37,6 @@ pub mod RestoredHands
 pub mod Cuts
 pub mod AliveReads
 pub mod FoundLines
+pub mod LostReads
 pub mod Scripts
 pub mod Plains

@@ -64,12 +64,12 @@ any_some {A} f (x ∷ xs) is = go (any_some f xs) (f x) refl is
     go rest true one some = (x, here, one)
     go rest false one some = let r = rest some in (r.0, there r.1, r.2)
 
-got_in : {A : Type 0} (xs : List A) (i : ℕ) (x : A) → slice_get xs i ≡ Some x → i < length xs
+pub got_in : {A : Type 0} (xs : List A) (i : ℕ) (x : A) → slice_get xs i ≡ Some x → i < length xs
 got_in [] i x is = absurd cc
 got_in (y ∷ xs) zero x is = omega arith
 got_in (y ∷ xs) (suc i) x is = let e = got_in xs i x is in omega (arith, e)
 
-some_same : {A : Type 0} (x y : A) → Some x ≡ Some y → x ≡ y
+pub some_same : {A : Type 0} (x y : A) → Some x ≡ Some y → x ≡ y
 some_same x y e = cc
 
 -- ---- what a head says was lost
@@ -87,7 +87,7 @@ same_is i = elim (eqb_tells i i) [
   | inr p ↦ absurd (p.1 refl)
 ]
 
-other_is : (a b : ℕ) → a ≢ b → (a == b) ≡ false
+pub other_is : (a b : ℕ) → a ≢ b → (a == b) ≡ false
 other_is a b other = elim (eqb_tells a b) [
   | inl p ↦ absurd (other p.1)
   | inr p ↦ p.0
