@@ -85,13 +85,13 @@ fn restored<W: fmt::Write>(f: &mut fmt::Formatter<W>, elements: &[Renamed]) -> f
     Ok(())
 }
 
-/// ` NAME:UNIT` of a worker that has a unit open.
+/// ` NAME:ID` of a worker that has a unit open, which has this element.
 fn unit_text(alloc: Global, worker: &WorkerLine, work: Holding) -> Result<String, AllocError>
     ensures { IfOk result (λ s. string_bytes s ≡ unit_text (Some (worker_view worker.now)) (Some work)) }
 {
     let name = worker.name.as_str();
     match work {
-        Holding::Open { unit, element: _ } => format!(in alloc; " {name}:{unit}"),
+        Holding::Open { unit: _, element } => format!(in alloc; " {name}:{element}"),
         Holding::Nothing => Ok(String::new(alloc)),
         Holding::Lost { element: _ } => Ok(String::new(alloc)),
     }
@@ -117,7 +117,7 @@ fn unit_texts(
     Ok(text)
 }
 
-/// ` units NAME:UNIT ..`, where there is one.
+/// ` units NAME:ID ..`, where there is one.
 fn units_text(
     alloc: Global,
     workers: &[WorkerLine],

@@ -211,7 +211,7 @@ fn stand_again(
 
 /// What the head says is alive stands again in a new manager of the same limits, each element once, and the
 /// desks begin anew there. Workers have in hand what the head says. Answers `restored N OLD:NEW ..`, and where
-/// workers have units open ` units NAME:UNIT ..` behind it; or why it was refused: then nothing has changed.
+/// workers have units open ` units NAME:ID ..` behind it; or why it was refused: then nothing has changed.
 pub(crate) fn restore_told(
     alloc: Global,
     head: &Head,

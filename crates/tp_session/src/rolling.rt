@@ -91,7 +91,7 @@ fn roll_over_held(alloc: Global, head: &Head, held: &mut Held) -> Result<Vec<Mov
 }
 
 /// Has what is alive, each element once, go on in a new manager. Answers `rolled over N OLD:NEW ..`, and where
-/// workers have units open ` units NAME:UNIT ..` behind it; or why it was refused: then nothing has changed.
+/// workers have units open ` units NAME:ID ..` behind it; or why it was refused: then nothing has changed.
 pub(crate) fn rollover_told(
     alloc: Global,
     head: &Head,
