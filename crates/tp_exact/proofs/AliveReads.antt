@@ -1,7 +1,9 @@
 -- An `alive` line of a dump, read again, says what was told.
-use Rattle.std.proofs.Common.{◌≡◌, ◌≢◌, ℕ, suc, ◌+◌, ◌-◌, ◌^◌, ◌<◌, ◌≤◌, ◌==◌, ◌&&◌, true, if◌then◌else◌, None, Result, Ok, List, [], ◌∷◌, ◌++◌, length, nat_le, nat_lt, refl, sym, ◌∙◌, ap, inl, inr, arith}
-use Rattle.std.specs.Prelude.{codes, count_by, decimal}
+use Rattle.std.proofs.Common.{◌≡◌, ◌≢◌, ℕ, suc, ◌+◌, ◌-◌, ◌^◌, ◌<◌, ◌≤◌, ◌==◌, ◌&&◌, Bool, true, false, not, if◌then◌else◌, Option, None, Some, Result, Ok, List, [], ◌∷◌, ◌++◌, length, nat_le, nat_lt, refl, sym, ◌∙◌, ap, subst, append_assoc, inl, inr, arith}
+use Rattle.std.specs.Prelude.{codes, count_by, decimal, slice_get}
 use Rattle.std.specs.List.{list_all, slice_split}
+use Rattle.std.specs.Option.{option_map}
+use Rattle.std.proofs.lemmas.Bool.{and_parts, leb-true}
 use Rattle.std.proofs.lemmas.Bool.Decides.{eqb_tells}
 use Rattle.std.proofs.lemmas.Fmt.{decimal_nonempty, length-decimal-le}
 use Rattle.std.proofs.lemmas.List.{length-append}
@@ -12,17 +14,19 @@ use Rattle.tp_script.specs.Alive.{AliveWords, alive_at, alive_of, alive_places, 
 use Rattle.tp_script.specs.Commands.{SubmitWords, submit_words}
 use Rattle.tp_script.specs.Drafts.{draft_at, draft_of, is_draft, output_stage}
 use Rattle.tp_script.specs.LineWords.{◌>>=◌, known, number_at, require}
-use Rattle.tp_script.specs.Grammar.{alive_line, head_at, head_keyword, head_words, line_words}
+use Rattle.tp_script.specs.Grammar.{alive_line, head_at, head_keyword, head_words, held_line, line_words, with_alive}
+use Rattle.tp_script.specs.Hands.{free_worker, has_in_hand, held_of, held_words}
 use Rattle.tp_script.specs.Script.{HeadView}
+use Rattle.tp_script.specs.ServerLines.{worker_at}
 use Rattle.tp_script.specs.declared.head.Driver.TheVariants as drivers
 use Rattle.tp_script.specs.Text.{words}
 use Rattle.tp_script.specs.declared.fault.LineFault.{LineFault}
-use Rattle.tp_script.specs.declared.fault.LineFault.TheVariants.{BadNumber, BadLimits, Syntax, TooLong}
+use Rattle.tp_script.specs.declared.fault.LineFault.TheVariants.{BadName, BadNumber, BadLimits, Syntax, TooLong}
 use Rattle.tp_script.specs.declared.head.AliveLine.{AliveLine}
 use Rattle.tp_script.specs.declared.head.TheConstants.{MAX_ALIVE}
-use Rattle.tp_session.specs.Dump.{alive_text, attempts_of, draft_text}
-use Rattle.tp_exact.specs.AliveReads.{AliveLineReads, IsBody64, IsFit}
-use Rattle.tp_exact.specs.Dumps.{line_of}
+use Rattle.tp_session.specs.Dump.{attempts_of, draft_text, element_text, held_text, holder_in, text_by}
+use Rattle.tp_exact.specs.AliveReads.{AliveLineReads, HeldLineReads, IsBody64, IsFit, IsFreeWorker}
+use Rattle.tp_exact.specs.Dumps.{tries_of}
 use Rattle.tp_exact.proofs.Cuts.{Bytes, Free, allowed, and_true, counted, cut, digits, free_of, le_true, number_is, uncounted, uncut, wider, with_more, words_last, words_more}
 
 -- what is read first, and then the rest
@@ -171,7 +175,7 @@ text_free text all = free_of 32 48 58 text (λ c low high e. omega (arith, low, 
 module _ (id attempts rounds root : ℕ) (own : List ℕ) (stage : ℕ) (body : List ℕ) (first : Draft own stage body) (other : List ℕ) (root_stage : ℕ) (root_body : List ℕ) (second : Draft other root_stage root_body)
     (fi : id < 100000) (ft : attempts ≤ MAX_ATTEMPTS) (fu : rounds ≤ MAX_ROUNDS) (fr : root < 100000) where
   abbrev made : AliveLine
-  made = record { id = id; attempts = attempts; rounds = rounds; draft = record { stage = stage; body = body }; root = root; root_draft = record { stage = root_stage; body = root_body } }
+  made = record { id = id; attempts = attempts; rounds = rounds; draft = record { stage = stage; body = body }; root = root; root_draft = record { stage = root_stage; body = root_body }; holder = None }
 
   abbrev said : AliveWords
   said = record { id = decimal id; attempts = decimal attempts; rounds = decimal rounds; draft = own; root = decimal root; root_draft = other }
@@ -186,28 +190,59 @@ module _ (id attempts rounds root : ℕ) (own : List ℕ) (stage : ℕ) (body : 
       ∙ (bind_ok (number_at (2 ^ 32 - 1) (decimal root)) root _ (number_ok (2 ^ 32 - 1) root (omega (arith, fr)) (omega (arith, fr)))
       ∙ bind_ok (draft_at other) (record { stage = root_stage; body = root_body }) _ second.reads))))
 
+  words_ok : (ws : List (List ℕ)) → alive_places ws ≡ Ok said → alive_words ws ≡ Ok said
+  unfolding alive_words
+  words_ok ws places =
+      bind_ok (alive_places ws) said _ places
+      ∙ bind_ok (require (is_draft own && is_draft other) Syntax) tt _ (ap (λ t. require t Syntax) (and_true (is_draft own) (is_draft other) first.is_one second.is_one))
+
   at_words : (ws : List (List ℕ)) → alive_places ws ≡ Ok said → alive_at ws ≡ Ok made
-  unfolding alive_at alive_words
-  at_words ws places =
-      bind_ok (alive_words ws) said _
-      (bind_ok (alive_places ws) said _ places
-      ∙ bind_ok (require (is_draft own && is_draft other) Syntax) tt _ (ap (λ t. require t Syntax) (and_true (is_draft own) (is_draft other) first.is_one second.is_one)))
-      ∙ of_words
+  unfolding alive_at
+  at_words ws places = bind_ok (alive_words ws) said _ (words_ok ws places) ∙ of_words
+
+  -- the head with one more
+  one_more : (line : AliveLine) (h : HeadView) → length h.alive < MAX_ALIVE → with_alive line h ≡ Ok (record h { alive = h.alive ++ line ∷ [] })
+  one_more line h room =
+      bind_ok (require (nat_lt (length h.alive) MAX_ALIVE) BadLimits) tt (λ _. Ok (record h { alive = h.alive ++ line ∷ [] })) (ap (λ t. require t BadLimits) (le_true (suc (length h.alive)) MAX_ALIVE (omega (arith, room))))
 
   in_head : (ws : List (List ℕ)) (h : HeadView) → alive_places ws ≡ Ok said → length h.alive < MAX_ALIVE → head_words drivers.Session (codes "alive" ∷ ws) h ≡ Ok (record h { alive = h.alive ++ made ∷ [] }, None)
   unfolding head_words head_keyword alive_line
   in_head ws h places room =
       bind_ok (alive_line ws h) (record h { alive = h.alive ++ made ∷ [] }) (λ t. Ok (t, None))
-      (bind_ok (alive_at ws) made _ (at_words ws places)
-      ∙ bind_ok (require (nat_lt (length h.alive) MAX_ALIVE) BadLimits) tt _ (ap (λ t. require t BadLimits) (le_true (suc (length h.alive)) MAX_ALIVE (omega (arith, room)))))
+      (bind_ok (alive_at ws) made _ (at_words ws places) ∙ one_more made h room)
 
--- a line of allowed bytes that isn't too long is its words
-line_ok : (rest : List ℕ) → length (97 ∷ rest) ≤ 200 → Bytes 32 126 (97 ∷ rest) → line_words (97 ∷ rest) ≡ Ok (words (97 ∷ rest))
+  -- and in the hand of a worker
+  abbrev in_hand : ℕ → AliveLine
+  in_hand worker = record made { holder = Some worker }
+
+  held_ok : (worker : ℕ) → 1 ≤ attempts → held_of worker said ≡ Ok (in_hand worker)
+  unfolding held_of
+  held_ok worker some =
+      bind_ok (alive_of said) made _ of_words
+      ∙ bind_ok (require (nat_le 1 attempts) BadNumber) tt _ (ap (λ t. require t BadNumber) (le_true 1 attempts some))
+
+  in_head_held : (name : List ℕ) (worker : ℕ) (ws : List (List ℕ)) (h : HeadView) → alive_places ws ≡ Ok said → 1 ≤ attempts → free_worker name h ≡ Ok worker → length h.alive < MAX_ALIVE
+      → head_words drivers.Session (codes "held" ∷ name ∷ ws) h ≡ Ok (record h { alive = h.alive ++ in_hand worker ∷ [] }, None)
+  unfolding head_words head_keyword held_line
+  in_head_held name worker ws h places some free room =
+      bind_ok (held_line (name ∷ ws) h) (record h { alive = h.alive ++ in_hand worker ∷ [] }) (λ t. Ok (t, None))
+      (bind_ok (held_words (name ∷ ws)) (name, said) _ (bind_ok (alive_words ws) said (λ w. Ok (name, w)) (words_ok ws places))
+      ∙ (bind_ok (free_worker name h) worker _ free
+      ∙ (bind_ok (held_of worker said) (in_hand worker) _ (held_ok worker some) ∙ one_more (in_hand worker) h room)))
+
+-- a line of allowed bytes that isn't too long, and no comment, is its words
+line_ok : (c : ℕ) (rest : List ℕ) → (c == 35) ≡ false → length (c ∷ rest) ≤ 200 → Bytes 32 126 (c ∷ rest) → line_words (c ∷ rest) ≡ Ok (words (c ∷ rest))
 unfolding line_words
-line_ok rest short all =
-    let line = 97 ∷ rest in
-    bind_ok (require (nat_le (length line) 200) TooLong) tt (λ _. require (list_all (λ b. nat_le 32 b && nat_le b 126) line) Syntax >>= λ _. Ok (words line)) (ap (λ t. require t TooLong) (le_true (length line) 200 short))
-    ∙ bind_ok (require (list_all (λ b. nat_le 32 b && nat_le b 126) line) Syntax) tt (λ _. Ok (words line)) (ap (λ t. require t Syntax) (allowed line all))
+line_ok c rest no_comment short all =
+    let line = c ∷ rest in
+    bind_ok (require (nat_le (length line) 200) TooLong) tt (λ _. require (list_all (λ b. nat_le 32 b && nat_le b 126) line) Syntax >>= λ _. said (c == 35)) (ap (λ t. require t TooLong) (le_true (length line) 200 short))
+    ∙ (bind_ok (require (list_all (λ b. nat_le 32 b && nat_le b 126) line) Syntax) tt (λ _. said (c == 35)) (ap (λ t. require t Syntax) (allowed line all)) ∙ ap said no_comment)
+  where
+    said : Bool → Result (List (List ℕ)) LineFault
+    said comment = if comment then Ok [] else Ok (words (c ∷ rest))
+
+held_word : Free 32 (codes "held")
+held_word = (λ e. omega (arith, e), (λ e. omega (arith, e), (λ e. omega (arith, e), (λ e. omega (arith, e), tt))))
 
 alive_word : Free 32 (codes "alive")
 alive_word = (λ e. omega (arith, e), (λ e. omega (arith, e), (λ e. omega (arith, e), (λ e. omega (arith, e), (λ e. omega (arith, e), tt)))))
@@ -219,15 +254,43 @@ digits_allowed n h = wider 48 57 32 126 (decimal n) (omega arith) (omega arith) 
 text_allowed : (text : List ℕ) → Bytes 48 58 text → Bytes 32 126 text
 text_allowed text all = wider 48 58 32 126 text (omega arith) (omega arith) all
 
-module _ (s : Survivor) (h : HeadView) (fit : IsFit s) (room : length h.alive < MAX_ALIVE) where
+-- what a line is that has these words in front, and what its words are
+record Front (front : List ℕ) (before : List (List ℕ)) : Type 0 where
+  words_are : (rest : List ℕ) → words (front ++ rest) ≡ before ++ words rest
+  bytes : Bytes 32 126 front
+  first : ℕ
+  others : List ℕ
+  whole : front ≡ first ∷ others
+  no_comment : (first == 35) ≡ false
+
+alive_front : Front (codes "alive ") (codes "alive" ∷ [])
+alive_front = record {
+  words_are = λ rest. words_more (codes "alive") rest (omega arith) alive_word;
+  bytes = ((omega arith, omega arith), ((omega arith, omega arith), ((omega arith, omega arith), ((omega arith, omega arith), ((omega arith, omega arith), ((omega arith, omega arith), tt))))));
+  first = 97;
+  others = 108 ∷ 105 ∷ 118 ∷ 101 ∷ 32 ∷ [];
+  whole = refl;
+  no_comment = refl;
+}
+
+held_front : (name : List ℕ) → Bytes 97 122 name → 0 < length name → Front (codes "held " ++ (name ++ 32 ∷ [])) (codes "held" ∷ name ∷ [])
+held_front name small some = record {
+  words_are = λ rest.
+      words_more (codes "held") ((name ++ 32 ∷ []) ++ rest) (omega arith) held_word
+      ∙ ap (λ z. codes "held" ∷ z) (ap words (append_assoc name (32 ∷ []) rest) ∙ words_more name rest some (free_of 32 97 122 name (λ c low high e. omega (arith, low, e)) small));
+  bytes = ((omega arith, omega arith), ((omega arith, omega arith), ((omega arith, omega arith), ((omega arith, omega arith), ((omega arith, omega arith), with_more 32 126 name (32 ∷ []) (wider 97 122 32 126 name (omega arith) (omega arith) small) ((omega arith, omega arith), tt))))));
+  first = 104;
+  others = 101 ∷ 108 ∷ 100 ∷ 32 ∷ (name ++ 32 ∷ []);
+  whole = refl;
+  no_comment = refl;
+}
+
+module _ (s : Survivor) (tries : ℕ) (fit : IsFit s) (few : tries ≤ MAX_ATTEMPTS) where
   own : Draft (draft_text s.stage s.body) s.stage s.body
   own = draft s.stage s.body fit.stage.0 fit.stage.1 fit.body
 
   of_root : Draft (draft_text s.root_stage s.root_body) s.root_stage s.root_body
   of_root = draft s.root_stage s.root_body fit.root_stage.0 fit.root_stage.1 fit.root_body
-
-  abbrev tries : ℕ
-  tries = attempts_of s.status
 
   f_id : s.id < 2 ^ 64
   f_id = let f = fit.id in omega (arith, f)
@@ -236,102 +299,222 @@ module _ (s : Survivor) (h : HeadView) (fit : IsFit s) (room : length h.alive < 
   f_root = let f = fit.root in omega (arith, f)
 
   f_tries : tries < 2 ^ 64
-  f_tries = let f = fit.attempts in omega (arith, f)
+  f_tries = let f = few in omega (arith, f)
 
   f_rounds : s.rounds < 2 ^ 64
   f_rounds = let f = fit.rounds_are in omega (arith, f)
 
-  -- the line up to its last words
+  -- what the line says
+  abbrev told : Option ℕ → AliveLine
+  told holder = record { id = s.id; attempts = tries; rounds = s.rounds; draft = record { stage = s.stage; body = s.body }; root = s.root; root_draft = record { stage = s.root_stage; body = s.root_body }; holder = holder }
+
+  -- the element's words up to its last ones
   abbrev after_tries : List ℕ → List ℕ
   after_tries behind = decimal s.rounds ++ (32 ∷ behind)
 
   abbrev after_id : List ℕ → List ℕ
   after_id behind = decimal tries ++ (32 ∷ after_tries behind)
 
-  abbrev after_alive : List ℕ → List ℕ
-  after_alive behind = decimal s.id ++ (32 ∷ after_id behind)
+  abbrev element_with : List ℕ → List ℕ
+  element_with behind = decimal s.id ++ (32 ∷ after_id behind)
 
-  abbrev line_with : List ℕ → List ℕ
-  line_with behind = codes "alive" ++ (32 ∷ after_alive behind)
+  abbrev numbers_with : List (List ℕ) → List (List ℕ)
+  numbers_with last = decimal s.id ∷ decimal tries ∷ decimal s.rounds ∷ last
 
-  words_with : (behind : List ℕ) → words (line_with behind) ≡ codes "alive" ∷ decimal s.id ∷ decimal tries ∷ decimal s.rounds ∷ words behind
+  words_with : (behind : List ℕ) → words (element_with behind) ≡ numbers_with (words behind)
   words_with behind =
-      words_more (codes "alive") (after_alive behind) (omega arith) alive_word
-      ∙ ap (λ z. codes "alive" ∷ z) (words_more (decimal s.id) (after_id behind) (decimal_nonempty s.id f_id) (digits_free 32 s.id f_id no_space)
+      words_more (decimal s.id) (after_id behind) (decimal_nonempty s.id f_id) (digits_free 32 s.id f_id no_space)
       ∙ ap (λ z. decimal s.id ∷ z) (words_more (decimal tries) (after_tries behind) (decimal_nonempty tries f_tries) (digits_free 32 tries f_tries no_space)
-      ∙ ap (λ z. decimal tries ∷ z) (words_more (decimal s.rounds) behind (decimal_nonempty s.rounds f_rounds) (digits_free 32 s.rounds f_rounds no_space))))
+      ∙ ap (λ z. decimal tries ∷ z) (words_more (decimal s.rounds) behind (decimal_nonempty s.rounds f_rounds) (digits_free 32 s.rounds f_rounds no_space)))
 
-  line_long : (behind : List ℕ) → length (line_with behind) ≤ 16 + length behind
-  line_long behind =
+  element_long : (behind : List ℕ) → length (element_with behind) ≤ 10 + length behind
+  element_long behind =
       let i = length-decimal-le 5 s.id (omega arith) fit.id f_id in
-      let t = length-decimal-le 1 tries (omega arith) (let f = fit.attempts in omega (arith, f)) f_tries in
+      let t = length-decimal-le 1 tries (omega arith) (let f = few in omega (arith, f)) f_tries in
       let r = length-decimal-le 1 s.rounds (omega arith) (let f = fit.rounds_are in omega (arith, f)) f_rounds in
       let l1 = length-append (decimal s.id) (32 ∷ after_id behind) in
       let l2 = length-append (decimal tries) (32 ∷ after_tries behind) in
       let l3 = length-append (decimal s.rounds) (32 ∷ behind) in
-      let m0 : length (line_with behind) ≡ 6 + length (after_alive behind) = omega arith in
       let m1 : length (32 ∷ after_id behind) ≡ 1 + length (after_id behind) = omega arith in
       let m2 : length (32 ∷ after_tries behind) ≡ 1 + length (after_tries behind) = omega arith in
       let m3 : length (32 ∷ behind) ≡ 1 + length behind = omega arith in
-      omega (arith, i, t, r, l1, l2, l3, m0, m1, m2, m3)
+      omega (arith, i, t, r, l1, l2, l3, m1, m2, m3)
 
-  line_bytes : (behind : List ℕ) → Bytes 32 126 behind → Bytes 32 126 (line_with behind)
-  line_bytes behind all =
+  element_bytes : (behind : List ℕ) → Bytes 32 126 behind → Bytes 32 126 (element_with behind)
+  element_bytes behind all =
       let b3 = with_more 32 126 (decimal s.rounds) (32 ∷ behind) (digits_allowed s.rounds f_rounds) ((omega arith, omega arith), all) in
       let b2 = with_more 32 126 (decimal tries) (32 ∷ after_tries behind) (digits_allowed tries f_tries) ((omega arith, omega arith), b3) in
-      let b1 = with_more 32 126 (decimal s.id) (32 ∷ after_id behind) (digits_allowed s.id f_id) ((omega arith, omega arith), b2) in
-      with_more 32 126 (codes "alive") (32 ∷ after_alive behind) ((omega arith, omega arith), ((omega arith, omega arith), ((omega arith, omega arith), ((omega arith, omega arith), ((omega arith, omega arith), tt))))) ((omega arith, omega arith), b1)
-
-  read_with : (behind : List ℕ) (last : List (List ℕ)) → length behind ≤ 184 → Bytes 32 126 behind → words behind ≡ last → line_words (line_with behind) ≡ Ok (codes "alive" ∷ decimal s.id ∷ decimal tries ∷ decimal s.rounds ∷ last)
-  read_with behind last short all are =
-      line_ok (108 ∷ 105 ∷ 118 ∷ 101 ∷ 32 ∷ after_alive behind) (let l = line_long behind in omega (arith, l, short)) (line_bytes behind all)
-      ∙ ap Ok (words_with behind ∙ ap (λ z. codes "alive" ∷ decimal s.id ∷ decimal tries ∷ decimal s.rounds ∷ z) are)
+      with_more 32 126 (decimal s.id) (32 ∷ after_id behind) (digits_allowed s.id f_id) ((omega arith, omega arith), b2)
 
   -- its own root
-  itself : s.root ≡ s.id → head_at (line_with (draft_text s.stage s.body)) h ≡ Ok (record h { alive = h.alive ++ line_of s ∷ [] }, None)
-  unfolding head_at
-  itself e =
-      let like = fit.itself e in
-      let text = draft_text s.stage s.body in
-      let words_are : words text ≡ text ∷ [] = words_last text own.some (text_free text own.bytes) in
-      let read = read_with text (text ∷ []) (let l = own.long in omega (arith, l)) (text_allowed text own.bytes) words_are in
-      let line = in_head s.id tries s.rounds s.id text s.stage s.body own text s.stage s.body own fit.id fit.attempts fit.rounds_are fit.id (decimal s.id ∷ decimal tries ∷ decimal s.rounds ∷ text ∷ []) h refl room in
-      let same : made s.id tries s.rounds s.id text s.stage s.body own text s.stage s.body own fit.id fit.attempts fit.rounds_are fit.id ≡ line_of s =
-      ap (λ r. record { id = s.id; attempts = tries; rounds = s.rounds; draft = record { stage = s.stage; body = s.body }; root = r; root_draft = record { stage = s.stage; body = s.body } }) (sym e)
-      ∙ (ap (λ x. record { id = s.id; attempts = tries; rounds = s.rounds; draft = record { stage = s.stage; body = s.body }; root = s.root; root_draft = record { stage = x; body = s.body } }) (sym like.0)
-      ∙ ap (λ x. record { id = s.id; attempts = tries; rounds = s.rounds; draft = record { stage = s.stage; body = s.body }; root = s.root; root_draft = record { stage = s.root_stage; body = x } }) (sym like.1)) in
-      bind_ok (line_words (line_with text)) _ (λ ws. head_words drivers.Session ws h) read ∙ (line ∙ ap (λ (a : AliveLine). Ok (record h { alive = h.alive ++ a ∷ [] }, None)) same)
+  abbrev behind_own : List ℕ
+  behind_own = draft_text s.stage s.body
 
-  -- or another's
   abbrev behind_other : List ℕ
   behind_other = draft_text s.stage s.body ++ (32 ∷ (decimal s.root ++ (32 ∷ draft_text s.root_stage s.root_body)))
 
-  of_another : head_at (line_with behind_other) h ≡ Ok (record h { alive = h.alive ++ line_of s ∷ [] }, None)
-  unfolding head_at
-  of_another =
+  -- the words of what stands behind these numbers, and that it is what may stand there
+  record Last (behind : List ℕ) (last : List (List ℕ)) : Type 0 where
+    words_are : words behind ≡ last
+    bytes : Bytes 32 126 behind
+    long : length behind ≤ 184
+
+  last_own : Last behind_own (behind_own ∷ [])
+  last_own = record { words_are = words_last behind_own own.some (text_free behind_own own.bytes); bytes = text_allowed behind_own own.bytes; long = (let l = own.long in omega (arith, l)) }
+
+  last_other : Last behind_other (draft_text s.stage s.body ∷ decimal s.root ∷ draft_text s.root_stage s.root_body ∷ [])
+  last_other =
       let text = draft_text s.stage s.body in
       let last = draft_text s.root_stage s.root_body in
-      let words_are : words behind_other ≡ text ∷ decimal s.root ∷ last ∷ [] =
-      words_more text (decimal s.root ++ (32 ∷ last)) own.some (text_free text own.bytes)
-      ∙ ap (λ z. text ∷ z) (words_more (decimal s.root) last (decimal_nonempty s.root f_root) (digits_free 32 s.root f_root no_space) ∙ ap (λ z. decimal s.root ∷ z) (words_last last of_root.some (text_free last of_root.bytes))) in
       let end = with_more 32 126 (decimal s.root) (32 ∷ last) (digits_allowed s.root f_root) ((omega arith, omega arith), text_allowed last of_root.bytes) in
-      let all = with_more 32 126 text (32 ∷ (decimal s.root ++ (32 ∷ last))) (text_allowed text own.bytes) ((omega arith, omega arith), end) in
-      let short : length behind_other ≤ 184 =
-      (let r = length-decimal-le 5 s.root (omega arith) fit.root f_root in let l = own.long in let m = of_root.long in
-      let l1 = length-append text (32 ∷ (decimal s.root ++ (32 ∷ last))) in let l2 = length-append (decimal s.root) (32 ∷ last) in omega (arith, r, l, m, l1, l2)) in
-      let read = read_with behind_other (text ∷ decimal s.root ∷ last ∷ []) short all words_are in
-      let line = in_head s.id tries s.rounds s.root text s.stage s.body own last s.root_stage s.root_body of_root fit.id fit.attempts fit.rounds_are fit.root (decimal s.id ∷ decimal tries ∷ decimal s.rounds ∷ text ∷ decimal s.root ∷ last ∷ []) h refl room in
-      bind_ok (line_words (line_with behind_other)) _ (λ ws. head_words drivers.Session ws h) read ∙ line
+      record {
+        words_are =
+            words_more text (decimal s.root ++ (32 ∷ last)) own.some (text_free text own.bytes)
+            ∙ ap (λ z. text ∷ z) (words_more (decimal s.root) last (decimal_nonempty s.root f_root) (digits_free 32 s.root f_root no_space) ∙ ap (λ z. decimal s.root ∷ z) (words_last last of_root.some (text_free last of_root.bytes)));
+        bytes = with_more 32 126 text (32 ∷ (decimal s.root ++ (32 ∷ last))) (text_allowed text own.bytes) ((omega arith, omega arith), end);
+        long = (let r = length-decimal-le 5 s.root (omega arith) fit.root f_root in let l = own.long in let m = of_root.long in
+            let l1 = length-append text (32 ∷ (decimal s.root ++ (32 ∷ last))) in let l2 = length-append (decimal s.root) (32 ∷ last) in omega (arith, r, l, m, l1, l2));
+      }
+
+  module _ (front : List ℕ) (before : List (List ℕ)) (f : Front front before) where
+    -- the line's words
+    read_with : (behind : List ℕ) (last : List (List ℕ)) → Last behind last → length (front ++ element_with behind) ≤ 200 → line_words (front ++ element_with behind) ≡ Ok (before ++ numbers_with last)
+    read_with behind last is short =
+        let rest : List ℕ = f.others ++ element_with behind in
+        let same : front ++ element_with behind ≡ f.first ∷ rest = ap (λ z. z ++ element_with behind) f.whole in
+        let all = with_more 32 126 front (element_with behind) f.bytes (element_bytes behind is.bytes) in
+        ap line_words same
+        ∙ (line_ok f.first rest f.no_comment (subst (λ z. length z ≤ 200) same short) (subst (Bytes 32 126) same all)
+        ∙ (ap (λ z. Ok (words z)) (sym same) ∙ ap Ok (f.words_are (element_with behind) ∙ ap (λ z. before ++ z) (words_with behind ∙ ap numbers_with is.words_are))))
+
+  abbrev added : HeadView → Option ℕ → HeadView
+  added h holder = record h { alive = h.alive ++ told holder ∷ [] }
+
+  -- its own root: what stands there is what it is
+  own_told : (holder : Option ℕ) → s.root ≡ s.id → record { id = s.id; attempts = tries; rounds = s.rounds; draft = record { stage = s.stage; body = s.body }; root = s.id; root_draft = record { stage = s.stage; body = s.body }; holder = holder } ≡ told holder
+  own_told holder e =
+      let like = fit.itself e in
+      ap (λ r. record { id = s.id; attempts = tries; rounds = s.rounds; draft = record { stage = s.stage; body = s.body }; root = r; root_draft = record { stage = s.stage; body = s.body }; holder = holder }) (sym e)
+      ∙ (ap (λ x. record { id = s.id; attempts = tries; rounds = s.rounds; draft = record { stage = s.stage; body = s.body }; root = s.root; root_draft = record { stage = x; body = s.body }; holder = holder }) (sym like.0)
+      ∙ ap (λ x. record { id = s.id; attempts = tries; rounds = s.rounds; draft = record { stage = s.stage; body = s.body }; root = s.root; root_draft = record { stage = s.root_stage; body = x }; holder = holder }) (sym like.1))
+
+  -- an `alive` line
+  abbrev alive_with : List ℕ → List ℕ
+  alive_with behind = codes "alive " ++ element_with behind
+
+  alive_long : (behind : List ℕ) (last : List (List ℕ)) → Last behind last → length (alive_with behind) ≤ 200
+  alive_long behind last is =
+      let l = element_long behind in
+      let m = is.long in
+      let n : length (alive_with behind) ≡ 6 + length (element_with behind) = omega arith in
+      omega (arith, l, m, n)
+
+  alive_own : (h : HeadView) → length h.alive < MAX_ALIVE → s.root ≡ s.id → head_at (alive_with behind_own) h ≡ Ok (added h None, None)
+  unfolding head_at
+  alive_own h room e =
+      let read = read_with (codes "alive ") (codes "alive" ∷ []) alive_front behind_own (behind_own ∷ []) last_own (alive_long behind_own (behind_own ∷ []) last_own) in
+      let line = in_head s.id tries s.rounds s.id behind_own s.stage s.body own behind_own s.stage s.body own fit.id few fit.rounds_are fit.id (numbers_with (behind_own ∷ [])) h refl room in
+      bind_ok (line_words (alive_with behind_own)) _ (λ ws. head_words drivers.Session ws h) read ∙ (line ∙ ap (λ (a : AliveLine). Ok (record h { alive = h.alive ++ a ∷ [] }, None)) (own_told None e))
+
+  abbrev last_words : List (List ℕ)
+  last_words = draft_text s.stage s.body ∷ decimal s.root ∷ draft_text s.root_stage s.root_body ∷ []
+
+  alive_other : (h : HeadView) → length h.alive < MAX_ALIVE → head_at (alive_with behind_other) h ≡ Ok (added h None, None)
+  unfolding head_at
+  alive_other h room =
+      let read = read_with (codes "alive ") (codes "alive" ∷ []) alive_front behind_other last_words last_other (alive_long behind_other last_words last_other) in
+      let line = in_head s.id tries s.rounds s.root (draft_text s.stage s.body) s.stage s.body own (draft_text s.root_stage s.root_body) s.root_stage s.root_body of_root fit.id few fit.rounds_are fit.root (numbers_with last_words) h refl room in
+      bind_ok (line_words (alive_with behind_other)) _ (λ ws. head_words drivers.Session ws h) read ∙ line
+
+  abbrev root_with : Bool → List ℕ
+  root_with own = if own then [] else 32 ∷ (decimal s.root ++ (32 ∷ draft_text s.root_stage s.root_body))
+
+  pub alive_reads : (h : HeadView) → length h.alive < MAX_ALIVE → head_at (codes "alive " ++ element_text s tries) h ≡ Ok (added h None, None)
+  alive_reads h room =
+      elim (eqb_tells s.root s.id) [
+        | inl p ↦ ap (λ t. head_at (alive_with (draft_text s.stage s.body ++ root_with t)) h) p.0 ∙ (ap (λ z. head_at (alive_with z) h) (append_nil behind_own) ∙ alive_own h room p.1)
+        | inr p ↦ ap (λ t. head_at (alive_with (draft_text s.stage s.body ++ root_with t)) h) p.0 ∙ alive_other h room
+      ]
+
+  -- a `held` line
+  module _ (name : List ℕ) (small : Bytes 97 122 name) (letters : 0 < length name) (worker : ℕ) (some : 1 ≤ tries) where
+    abbrev name_front : List ℕ
+    name_front = codes "held " ++ (name ++ 32 ∷ [])
+
+    abbrev held_with : List ℕ → List ℕ
+    held_with behind = name_front ++ element_with behind
+
+    held_own : (h : HeadView) → free_worker name h ≡ Ok worker → length h.alive < MAX_ALIVE → s.root ≡ s.id → length (held_with behind_own) ≤ 200 → head_at (held_with behind_own) h ≡ Ok (added h (Some worker), None)
+    unfolding head_at
+    held_own h free room e short =
+        let read = read_with name_front (codes "held" ∷ name ∷ []) (held_front name small letters) behind_own (behind_own ∷ []) last_own short in
+        let line = in_head_held s.id tries s.rounds s.id behind_own s.stage s.body own behind_own s.stage s.body own fit.id few fit.rounds_are fit.id name worker (numbers_with (behind_own ∷ [])) h refl some free room in
+        bind_ok (line_words (held_with behind_own)) _ (λ ws. head_words drivers.Session ws h) read ∙ (line ∙ ap (λ (a : AliveLine). Ok (record h { alive = h.alive ++ a ∷ [] }, None)) (own_told (Some worker) e))
+
+    held_other : (h : HeadView) → free_worker name h ≡ Ok worker → length h.alive < MAX_ALIVE → length (held_with behind_other) ≤ 200 → head_at (held_with behind_other) h ≡ Ok (added h (Some worker), None)
+    unfolding head_at
+    held_other h free room short =
+        let read = read_with name_front (codes "held" ∷ name ∷ []) (held_front name small letters) behind_other last_words last_other short in
+        let line = in_head_held s.id tries s.rounds s.root (draft_text s.stage s.body) s.stage s.body own (draft_text s.root_stage s.root_body) s.root_stage s.root_body of_root fit.id few fit.rounds_are fit.root name worker (numbers_with last_words) h refl some free room in
+        bind_ok (line_words (held_with behind_other)) _ (λ ws. head_words drivers.Session ws h) read ∙ line
+
+    held_same : codes "held " ++ (name ++ (32 ∷ element_text s tries)) ≡ name_front ++ element_text s tries
+    held_same = ap (λ z. codes "held " ++ z) (sym (append_assoc name (32 ∷ []) (element_text s tries)))
+
+    held_reads_so : (h : HeadView) → free_worker name h ≡ Ok worker → length h.alive < MAX_ALIVE → length (name_front ++ element_text s tries) ≤ 200 → head_at (name_front ++ element_text s tries) h ≡ Ok (added h (Some worker), None)
+    held_reads_so h free room short =
+        elim (eqb_tells s.root s.id) [
+          | inl p ↦
+              let same : element_text s tries ≡ element_with behind_own = ap (λ t. element_with (draft_text s.stage s.body ++ root_with t)) p.0 ∙ ap element_with (append_nil behind_own) in
+              ap (λ z. head_at (name_front ++ z) h) same ∙ held_own h free room p.1 (subst (λ z. length (name_front ++ z) ≤ 200) same short)
+          | inr p ↦
+              let same : element_text s tries ≡ element_with behind_other = ap (λ t. element_with (draft_text s.stage s.body ++ root_with t)) p.0 in
+              ap (λ z. head_at (name_front ++ z) h) same ∙ held_other h free room (subst (λ z. length (name_front ++ z) ≤ 200) same short)
+        ]
+
+    pub held_reads : (h : HeadView) → free_worker name h ≡ Ok worker → length h.alive < MAX_ALIVE → length (codes "held " ++ (name ++ (32 ∷ element_text s tries))) ≤ 200
+        → head_at (codes "held " ++ (name ++ (32 ∷ element_text s tries))) h ≡ Ok (added h (Some worker), None)
+    held_reads h free room short = ap (λ z. head_at z h) held_same ∙ held_reads_so h free room (subst (λ z. length z ≤ 200) held_same short)
+
+-- ---- the lines of survivors
+
+abbrev line_by : ℕ → Survivor → Option ℕ → AliveLine
+line_by first s o = record { id = s.id; attempts = tries_of s.status o; rounds = s.rounds; draft = record { stage = s.stage; body = s.body }; root = s.root; root_draft = record { stage = s.root_stage; body = s.root_body }; holder = option_map (λ pass. pass - first) o }
 
 pub alive_line_reads : AliveLineReads
-alive_line_reads s h fit room =
-    elim (eqb_tells s.root s.id) [
-      | inl p ↦
-          let text : alive_text s ≡ line_with s h fit room (draft_text s.stage s.body) =
-          ap (λ t. line_with s h fit room (draft_text s.stage s.body ++ (if t then [] else 32 ∷ (decimal s.root ++ (32 ∷ draft_text s.root_stage s.root_body))))) p.0 ∙ ap (line_with s h fit room) (append_nil (draft_text s.stage s.body)) in
-          ap (λ t. head_at t h) text ∙ itself s h fit room p.1
-      | inr p ↦
-          let text : alive_text s ≡ line_with s h fit room (behind_other s h fit room) =
-          ap (λ t. line_with s h fit room (draft_text s.stage s.body ++ (if t then [] else 32 ∷ (decimal s.root ++ (32 ∷ draft_text s.root_stage s.root_body))))) p.0 in
-          ap (λ t. head_at t h) text ∙ of_another s h fit room
-    ]
+alive_line_reads workers first s h fit none room =
+    let few : attempts_of s.status ≤ MAX_ATTEMPTS = subst (λ o. tries_of s.status o ≤ MAX_ATTEMPTS) none fit.attempts in
+    ap (λ o. head_at (text_by (holder_in workers first o) s) h) none
+    ∙ (alive_reads s (attempts_of s.status) fit few h room
+    ∙ ap (λ o. Ok (record h { alive = h.alive ++ line_by first s o ∷ [] }, None)) (sym none))
+
+-- a name is of small letters
+letters_of : (xs : List ℕ) → list_all (λ b. nat_le 97 b && nat_le b 122) xs ≡ true → Bytes 97 122 xs
+letters_of [] all = tt
+letters_of (x ∷ xs) all =
+    let parts = and_parts (nat_le 97 x && nat_le x 122) (list_all (λ b. nat_le 97 b && nat_le b 122) xs) all in
+    let one = and_parts (nat_le 97 x) (nat_le x 122) parts.0 in
+    ((leb-true 97 x one.0, leb-true x 122 one.1), letters_of xs parts.1)
+
+some_letters : (xs : List ℕ) → not (length xs == 0) ≡ true → 0 < length xs
+some_letters [] is = absurd cc
+some_letters (x ∷ xs) is = omega arith
+
+free_ok : (name : List ℕ) (worker : ℕ) (h : HeadView) → IsFreeWorker name worker h → free_worker name h ≡ Ok worker
+unfolding free_worker
+free_ok name worker h free =
+    bind_ok (known (worker_at name h) BadName) worker _ (ap (λ o. known o BadName) free.at)
+    ∙ bind_ok (require (not (has_in_hand worker h)) BadName) tt _ (ap (λ b. require (not b) BadName) free.idle)
+
+pub held_line_reads : HeldLineReads
+held_line_reads workers first worker w s h fit holds there free short room =
+    let few : attempts_of s.status + 1 ≤ MAX_ATTEMPTS = subst (λ o. tries_of s.status o ≤ MAX_ATTEMPTS) holds fit.attempts in
+    let back : (first + worker) - first ≡ worker = omega arith in
+    let parts = and_parts (not (length w.name == 0) && nat_le (length w.name) 8) (list_all (λ b. nat_le 97 b && nat_le b 122) w.name) free.named in
+    let some = and_parts (not (length w.name == 0)) (nat_le (length w.name) 8) parts.0 in
+    let text : text_by (holder_in workers first s.holder) s ≡ held_text w.name s =
+    ap (λ o. text_by (holder_in workers first o) s) holds ∙ (ap (λ n. text_by (slice_get workers n) s) back ∙ ap (λ o. text_by o s) there) in
+    ap (λ t. head_at t h) text
+    ∙ (held_reads s (attempts_of s.status + 1) fit few w.name (letters_of w.name parts.1) (some_letters w.name some.0) worker (omega arith) h (free_ok w.name worker h free) room (subst (λ t. length t ≤ 200) text short)
+    ∙ (ap (λ n. Ok (record h { alive = h.alive ++ record (line_by first s (Some (first + worker))) { holder = Some n } ∷ [] }, None)) (sym back)
+    ∙ ap (λ o. Ok (record h { alive = h.alive ++ line_by first s o ∷ [] }, None)) (sym holds)))

@@ -1,44 +1,51 @@
 -- What is made anew in another manager, and what is refused, between two gatherings.
-use Rattle.std.proofs.Common.{◌≡◌, ◌∙◌, ℕ, ◌||◌, Bool, true, false, List, [], ◌∷◌, ◌++◌, map, Option, None, Some, IsSome, inl, inr, refl, sym, ap, subst}
-use Rattle.std.specs.Prelude.{if◌then◌else◌, is_some}
+use Rattle.std.proofs.Common.{◌≡◌, ◌∙◌, ℕ, ◌+◌, suc, ◌||◌, Bool, true, false, List, [], ◌∷◌, ◌++◌, length, map, Option, None, Some, IsSome, inl, inr, refl, sym, ap, subst, arith}
+use Rattle.std.specs.Prelude.{drop, if◌then◌else◌, is_some}
 use Rattle.std.specs.List.{AllZip, list_any}
-use Rattle.std.proofs.lemmas.List.Elements.{All-cons, All-head, All-nil, All-tail}
+use Rattle.std.proofs.lemmas.List.{length-map}
+use Rattle.std.proofs.lemmas.List.Elements.{All-append, All-cons, All-head, All-nil, All-tail}
 use Rattle.tp_model.specs.declared.types.Limits.{Limits}
 use Rattle.tp_model.specs.declared.types.Work.{Work}
 use Rattle.tp_plain.specs.OneThread.{State, start}
+use Rattle.tp_plain.specs.declared.pass_state.PassState.{PassState}
 use Rattle.tp_manager.specs.Shown.{PassShown}
 use Rattle.tp_rollover.specs.Anew.{made_anew}
 use Rattle.tp_rollover.specs.Carries.{WouldNotFit}
 use Rattle.tp_rollover.specs.Faults.{AreFree}
+use Rattle.tp_rollover.specs.Managed.{IsUnsurveyed}
 use Rattle.tp_rollover.specs.declared.moved.Moved.{Moved}
 use Rattle.tp_rollover.specs.declared.moved.RollFault.{RollFault}
 use Rattle.tp_rollover.specs.declared.moved.RollFault.TheVariants as faults
 use Rattle.tp_rollover.specs.declared.survivors.Survivor.{Survivor}
-use Rattle.tp_rollover.proofs.Freed.{free_unheld}
 use Rattle.tp_report.specs.Answer.{line, rolled_text}
 use Rattle.tp_report.specs.declared.answer.Renamed.{Renamed}
-use Rattle.tp_script.specs.Script.{ServerView}
-use Rattle.tp_script.specs.Script.{HeadView, head_view}
+use Rattle.tp_script.specs.Fault.{◌<>◌}
+use Rattle.tp_script.specs.Script.{HeadView, ServerView, head_view}
 use Rattle.tp_script.specs.declared.head.Head.{Head}
+use Rattle.tp_script.specs.declared.head.LostLine.{LostLine}
 use Rattle.tp_commands.specs.Acting.{DeskShown, PlaceShown}
-use Rattle.tp_perform.specs.Restore.{IsUnrestoredFor, Restored}
-use Rattle.tp_perform.specs.Rollover.{BeginsAgain, IsUnrolledFor, RollRefused, RolledOver, renamed, roll_refused_text}
-use Rattle.tp_perform.specs.Scenes.{Scene, passes_in}
+use Rattle.tp_perform.specs.Restore.{IsUnrestoredFor, IsUnrestoredIn}
+use Rattle.tp_perform.specs.Rollover.{BeginsAgain, IsUnrolled, IsUnrolledFor, RollRefused, renamed, roll_refused_text}
+use Rattle.tp_perform.specs.Scenes.{Scene, own_passes, passes_in}
 use Rattle.tp_reference.specs.declared.plain_desk.PlainDesk.{PlainDesk}
-use Rattle.tp_alone.specs.Thread.{AreTogether, thread_of}
+use Rattle.tp_alone.specs.Thread.{AreTogether, not_given, state_of, thread_of}
 use Rattle.tp_alone.proofs.Idle.{alone_idle}
-use Rattle.tp_session.specs.Answers.{restored_text}
+use Rattle.tp_session.specs.Answers.{restored_text, units_text}
+use Rattle.tp_session.specs.Carried.{hand_after, held_in, lost_works, works_after}
 use Rattle.tp_session.specs.Dump.{dump_text}
-use Rattle.tp_session.specs.Hands.{unit_of}
-use Rattle.tp_session.specs.Live.{DumpTold, HoldsUnits, IsUnsurveyedFor, Live, LiveGathers, RestoreTold, RolloverTold, survivors_of}
+use Rattle.tp_session.specs.Hands.{has_unit, unit_of}
+use Rattle.tp_session.specs.Live as lives
+use Rattle.tp_session.specs.Live.{DumpTold, HoldsUnits, Live, LiveGathers, RestoreTold, RestoredLive, RolledLive, RolloverTold, survivors_of}
+use Rattle.tp_session.specs.declared.hand.Holding.{Holding}
 use Rattle.tp_exact.specs.Alive.{alive_of}
 use Rattle.tp_exact.specs.Dumps.{DumpComputed}
-use Rattle.tp_exact.specs.PlainSession.{SessionState, anew, anew_as, dump_of, is_open, unless_refused}
+use Rattle.tp_exact.specs.PlainSession.{SessionState, anew, anew_as, dump_of, has_desk_open, is_open, restored, rolled_over, unless_refused, works_in}
 use Rattle.tp_exact.specs.Sessions.{IsStep, IsUnforeseen, StandsLive}
 use Rattle.tp_exact.specs.Stands.{IsFor, IsServedBy}
 use Rattle.tp_exact.proofs.Described.{described_so}
 use Rattle.tp_exact.proofs.DumpActs.{exact_dump, leaves}
-use Rattle.tp_exact.proofs.SessionLines.{either_false, open_is}
+use Rattle.tp_exact.proofs.Places.{passes}
+use Rattle.tp_exact.proofs.SessionLines.{desk_open_is, either_false, open_is, zip_long}
 
 -- ---- desks that begin again
 
@@ -65,14 +72,14 @@ again_for p q d again free is = record {
 abbrev Free : PassShown → Type 0
 Free p = p.open_unit ≡ None
 
-again_all : (ps qs : List PlaceShown) (ds : List PlainDesk) (rest : List PassShown) → AllZip BeginsAgain ps qs → AreFree (map (λ p. p.desk.pass) qs ++ rest) → AllZip IsFor ps ds → AllZip IsFor qs ds
-again_all [] [] ds rest again free is = is
-again_all [] (q ∷ qs) ds rest again free is = absurd again
-again_all (p ∷ ps) [] ds rest again free is = absurd again
-again_all (p ∷ ps) (q ∷ qs) [] rest again free is = absurd is
-again_all (p ∷ ps) (q ∷ qs) (d ∷ ds) rest again free is = (
-  again_for p q d again.0 (All-head Free q.desk.pass (map (λ p. p.desk.pass) qs ++ rest) free) is.0,
-  again_all ps qs ds rest again.1 (All-tail Free q.desk.pass (map (λ p. p.desk.pass) qs ++ rest) free) is.1,
+again_all : (ps qs : List PlaceShown) (ds : List PlainDesk) → AllZip BeginsAgain ps qs → AreFree (passes qs) → AllZip IsFor ps ds → AllZip IsFor qs ds
+again_all [] [] ds again free is = is
+again_all [] (q ∷ qs) ds again free is = absurd again
+again_all (p ∷ ps) [] ds again free is = absurd again
+again_all (p ∷ ps) (q ∷ qs) [] again free is = absurd is
+again_all (p ∷ ps) (q ∷ qs) (d ∷ ds) again free is = (
+  again_for p q d again.0 (All-head Free q.desk.pass (passes qs) free) is.0,
+  again_all ps qs ds again.1 (All-tail Free q.desk.pass (passes qs) free) is.1,
 )
 
 again_served : (ps qs : List PlaceShown) (servers : List ServerView) → AllZip BeginsAgain ps qs → AllZip IsServedBy ps servers → AllZip IsServedBy qs servers
@@ -90,54 +97,79 @@ again_served (p ∷ ps) (q ∷ qs) (s ∷ servers) again is = (
 first_units : {A : Type 0} (x y : A) (xs ys : List A) → x ∷ xs ≡ y ∷ ys → (x ≡ y) × (xs ≡ ys)
 first_units x y xs ys e = (cc, cc)
 
-no_unit : (w : Option Work) → unit_of w ≡ None → is_some w ≡ false
-no_unit None is = refl
-no_unit (Some w) is = absurd cc
-
-no_work_unit : (w : Option Work) → is_some w ≡ false → unit_of w ≡ None
-no_work_unit None is = refl
-no_work_unit (Some w) is = absurd cc
-
 no_open : (u : Option ℕ) → is_some u ≡ false → u ≡ None
 no_open None is = refl
 no_open (Some u) is = absurd cc
 
--- none of the workers has anything in hand
-none_in_hand : (ps : List PassShown) (ws : List (Option Work)) → map (λ p. p.open_unit) ps ≡ map unit_of ws → AreFree ps → list_any is_some ws ≡ false
+-- none of the workers has a unit open
+none_in_hand : (ps : List PassShown) (ws : List Holding) → map (λ p. p.open_unit) ps ≡ map unit_of ws → AreFree ps → list_any has_unit ws ≡ false
 none_in_hand [] [] same free = refl
 none_in_hand [] (w ∷ ws) same free = absurd cc
 none_in_hand (p ∷ ps) [] same free = absurd cc
 none_in_hand (p ∷ ps) (w ∷ ws) same free =
     let both = first_units p.open_unit (unit_of w) (map (λ p. p.open_unit) ps) (map unit_of ws) same in
-    let one : is_some w ≡ false = no_unit w (sym both.0 ∙ All-head Free p ps free) in
-    ap (λ b. b || list_any is_some ws) one ∙ none_in_hand ps ws both.1 (All-tail Free p ps free)
+    let one : has_unit w ≡ false = ap (λ (o : Option ℕ). is_some o) (sym both.0 ∙ All-head Free p ps free) in
+    ap (λ b. b || list_any has_unit ws) one ∙ none_in_hand ps ws both.1 (All-tail Free p ps free)
 
-all_free : (ps : List PassShown) (ws : List (Option Work)) → map (λ p. p.open_unit) ps ≡ map unit_of ws → list_any is_some ws ≡ false → AreFree ps
+all_free : (ps : List PassShown) (ws : List Holding) → map (λ p. p.open_unit) ps ≡ map unit_of ws → list_any has_unit ws ≡ false → AreFree ps
 all_free [] ws same none = All-nil Free
 all_free (p ∷ ps) [] same none = absurd cc
 all_free (p ∷ ps) (w ∷ ws) same none =
     let both = first_units p.open_unit (unit_of w) (map (λ p. p.open_unit) ps) (map unit_of ws) same in
-    let parts = either_false (is_some w) (list_any is_some ws) none in
-    All-cons Free p ps (both.0 ∙ no_work_unit w parts.0) (all_free ps ws both.1 parts.1)
+    let parts = either_false (has_unit w) (list_any has_unit ws) none in
+    All-cons Free p ps (both.0 ∙ no_open (unit_of w) parts.0) (all_free ps ws both.1 parts.1)
 
 -- and none of the desks
-none_at_desks : (ps : List PlaceShown) (ds : List PlainDesk) (rest : List PassShown) → AllZip IsFor ps ds → AreFree (map (λ p. p.desk.pass) ps ++ rest) → list_any (λ p. is_some p.desk.work) ps ≡ false
-none_at_desks [] ds rest is free = refl
-none_at_desks (p ∷ ps) [] rest is free = absurd is
-none_at_desks (p ∷ ps) (d ∷ ds) rest is free =
-    let one : is_some p.desk.work ≡ false = sym is.0.desk.open_is ∙ ap (λ (u : Option ℕ). is_some u) (All-head Free p.desk.pass (map (λ p. p.desk.pass) ps ++ rest) free) in
-    ap (λ b. b || list_any (λ p. is_some p.desk.work) ps) one ∙ none_at_desks ps ds rest is.1 (All-tail Free p.desk.pass (map (λ p. p.desk.pass) ps ++ rest) free)
+none_at_desks : (ps : List PlaceShown) (ds : List PlainDesk) → AllZip IsFor ps ds → AreFree (passes ps) → list_any (λ (p : PlaceShown). is_some p.desk.work) ps ≡ false
+none_at_desks [] ds is free = refl
+none_at_desks (p ∷ ps) [] is free = absurd is
+none_at_desks (p ∷ ps) (d ∷ ds) is free =
+    let one : is_some p.desk.work ≡ false = sym is.0.desk.open_is ∙ ap (λ (u : Option ℕ). is_some u) (All-head Free p.desk.pass (passes ps) free) in
+    ap (λ b. b || list_any (λ (p : PlaceShown). is_some p.desk.work) ps) one ∙ none_at_desks ps ds is.1 (All-tail Free p.desk.pass (passes ps) free)
 
-desks_free : (ps : List PlaceShown) (ds : List PlainDesk) (rest : List PassShown) → AllZip IsFor ps ds → list_any (λ p. is_some p.desk.work) ps ≡ false → AreFree rest → AreFree (map (λ p. p.desk.pass) ps ++ rest)
-desks_free [] ds rest is none free = free
-desks_free (p ∷ ps) [] rest is none free = absurd is
-desks_free (p ∷ ps) (d ∷ ds) rest is none free =
-    let parts = either_false (is_some p.desk.work) (list_any (λ p. is_some p.desk.work) ps) none in
-    All-cons Free p.desk.pass (map (λ p. p.desk.pass) ps ++ rest) (no_open p.desk.pass.open_unit (is.0.desk.open_is ∙ parts.0)) (desks_free ps ds rest is.1 parts.1 free)
+desks_free : (ps : List PlaceShown) (ds : List PlainDesk) → AllZip IsFor ps ds → list_any (λ (p : PlaceShown). is_some p.desk.work) ps ≡ false → AreFree (passes ps)
+desks_free [] ds is none = All-nil Free
+desks_free (p ∷ ps) [] is none = absurd is
+desks_free (p ∷ ps) (d ∷ ds) is none =
+    let parts = either_false (is_some p.desk.work) (list_any (λ (p : PlaceShown). is_some p.desk.work) ps) none in
+    All-cons Free p.desk.pass (passes ps) (no_open p.desk.pass.open_unit (is.0.desk.open_is ∙ parts.0)) (desks_free ps ds is.1 parts.1)
 
-rest_free : (ps : List PlaceShown) (rest : List PassShown) → AreFree (map (λ p. p.desk.pass) ps ++ rest) → AreFree rest
-rest_free [] rest free = free
-rest_free (p ∷ ps) rest free = rest_free ps rest (All-tail Free p.desk.pass (map (λ p. p.desk.pass) ps ++ rest) free)
+free_parts : (ps rest : List PassShown) → AreFree (ps ++ rest) → AreFree ps × AreFree rest
+free_parts [] rest free = (All-nil Free, free)
+free_parts (p ∷ ps) rest free =
+    let others = free_parts ps rest (All-tail Free p (ps ++ rest) free) in
+    (All-cons Free p ps (All-head Free p (ps ++ rest) free) others.0, others.1)
+
+-- ---- what the workers have in hand in another manager
+
+-- the passes behind those of the client and the desks
+passes_behind : (ps : List PlaceShown) (rs : List PassShown) (zs : List PassState) → drop (length ps) (map state_of (passes ps ++ rs) ++ zs) ≡ map state_of rs ++ zs
+passes_behind [] rs zs = refl
+passes_behind (p ∷ ps) rs zs = passes_behind ps rs zs
+
+abbrev units_of : List PassShown → List (Option ℕ)
+units_of ps = map (λ p. p.open_unit) ps
+
+abbrev held_units : List PassState → List (Option ℕ)
+held_units ps = map (λ p. p.holding) ps
+
+units_behind : (rs : List PassShown) (zs : List PassState) → held_units (map state_of rs ++ zs) ≡ units_of rs ++ held_units zs
+units_behind [] zs = refl
+units_behind (r ∷ rs) zs = ap (λ us. r.open_unit ∷ us) (units_behind rs zs)
+
+-- further passes don't matter
+works_alone : (moved : List Moved) (c : ℕ) (us more : List (Option ℕ)) (ws : List Holding) → length us ≡ length ws → works_after moved c (us ++ more) ws ≡ works_after moved c us ws
+works_alone moved c [] [] [] same = refl
+works_alone moved c [] (u ∷ more) [] same = refl
+works_alone moved c [] more (w ∷ ws) same = absurd (omega (arith, same))
+works_alone moved c (u ∷ us) more [] same = absurd (omega (arith, same))
+works_alone moved c (u ∷ us) more (w ∷ ws) same =
+    let rest : length us ≡ length ws = omega (arith, same) in
+    ap (λ vs. hand_after u (held_in c moved) w ∷ vs) (works_alone moved (c + 1) us more ws rest)
+
+lost_long : (lines : List LostLine) (n : ℕ) (ws : List Holding) → length (lost_works lines n ws) ≡ length ws
+lost_long lines n [] = refl
+lost_long lines n (w ∷ ws) = ap suc (lost_long lines (n + 1) ws)
 
 module _ (head : Head) (old new : Live) (text : List ℕ) (s : SessionState) (is : StandsLive (head_view head) old s) (holds : HoldsUnits old) where
   abbrev h : HeadView
@@ -146,86 +178,97 @@ module _ (head : Head) (old new : Live) (text : List ℕ) (s : SessionState) (is
   abbrev scene : Scene
   scene = old.stand.scene
 
+  abbrev next : Scene
+  next = new.stand.scene
+
   abbrev l : Limits
   l = old.stand.manager.limits
 
   abbrev k : Limits
   k = s.report.manager.limits
 
+  -- the program's own passes are free just where no desk has a unit open
+  none_at_own : AreFree (own_passes scene) → has_desk_open s ≡ false
+  none_at_own free = sym (desk_open_is head old new text s is) ∙ none_at_desks scene.places s.report.desks is.stands.desks (All-tail Free scene.client (passes scene.places) free)
+
+  own_none : has_desk_open s ≡ false → AreFree (own_passes scene)
+  own_none none = All-cons Free scene.client (passes scene.places) holds.client (desks_free scene.places s.report.desks is.stands.desks (desk_open_is head old new text s is ∙ none))
+
+  -- and all passes just where no unit is open
   none_open : AreFree (passes_in scene) → is_open s ≡ false
   none_open free =
-      let others = All-tail Free scene.client (map (λ p. p.desk.pass) scene.places ++ scene.racers) free in
-      let hands = none_in_hand scene.racers old.works holds.workers (rest_free scene.places scene.racers others) in
-      let desks = none_at_desks scene.places s.report.desks scene.racers is.stands.desks others in
+      let others = free_parts (passes scene.places) scene.racers (All-tail Free scene.client (passes scene.places ++ scene.racers) free) in
+      let hands = none_in_hand scene.racers old.works holds.workers others.1 in
+      let desks = none_at_desks scene.places s.report.desks is.stands.desks others.0 in
       sym (open_is head old new text s is) ∙ (ap (λ b. b || list_any (λ (p : PlaceShown). is_some p.desk.work) scene.places) hands ∙ desks)
 
   open_none : is_open s ≡ false → AreFree (passes_in scene)
   open_none none =
-      let parts = either_false (list_any is_some old.works) (list_any (λ (p : PlaceShown). is_some p.desk.work) scene.places) (open_is head old new text s is ∙ none) in
-      All-cons Free scene.client (map (λ p. p.desk.pass) scene.places ++ scene.racers) holds.client
-      (desks_free scene.places s.report.desks scene.racers is.stands.desks parts.1 (all_free scene.racers old.works holds.workers parts.0))
+      let parts = either_false (list_any has_unit old.works) (list_any (λ (p : PlaceShown). is_some p.desk.work) scene.places) (open_is head old new text s is ∙ none) in
+      All-cons Free scene.client (passes scene.places ++ scene.racers) holds.client
+      (All-append Free (passes scene.places) scene.racers (desks_free scene.places s.report.desks is.stands.desks parts.1) (all_free scene.racers old.works holds.workers parts.0))
 
   -- ---- answers
 
-  -- what is so where this was done, unless it was refused
-  abbrev Answered : List ℕ × SessionState → Type 0
-  Answered done = (why : Option RollFault) × IsUnforeseen why × IsStep h new text (unless_refused (is_open s) why s done)
+  -- what is so where this was done, unless such a unit is open or it was refused
+  abbrev Answered : Bool → List ℕ × SessionState → Type 0
+  Answered b done = (why : Option RollFault) × IsUnforeseen why × IsStep h new text (unless_refused b why s done)
 
-  with_open : (b : Bool) (why : Option RollFault) (done : List ℕ × SessionState) → is_open s ≡ b → IsStep h new text (unless_refused b why s done) → IsStep h new text (unless_refused (is_open s) why s done)
-  with_open b why done same step = subst (λ x. IsStep h new text (unless_refused x why s done)) (sym same) step
+  with_open : (b c : Bool) (why : Option RollFault) (done : List ℕ × SessionState) → b ≡ c → IsStep h new text (unless_refused c why s done) → IsStep h new text (unless_refused b why s done)
+  with_open b c why done same step = subst (λ x. IsStep h new text (unless_refused x why s done)) (sym same) step
 
-  answered : (done : List ℕ × SessionState) → AreFree (passes_in scene) → IsStep h new text done → Answered done
-  answered done free step = (None, tt, with_open false None done (none_open free) step)
+  answered : (b : Bool) (done : List ℕ × SessionState) → b ≡ false → IsStep h new text done → Answered b done
+  answered b done none step = (None, tt, with_open b false None done none step)
 
   -- a unit is open
-  busy : (done : List ℕ × SessionState) (b : Bool) → is_open s ≡ b → ¬ AreFree (passes_in scene) → text ≡ line (roll_refused_text faults.Busy) → StandsLive h new s → Answered done
-  busy done true same due text_is stands = (None, tt, with_open true None done same (text_is, stands))
-  busy done false same due text_is stands = absurd (due (open_none same))
+  busy : (b c : Bool) (ps : List PassShown) (done : List ℕ × SessionState) → b ≡ c → ¬ AreFree ps → (b ≡ false → AreFree ps) → text ≡ line (roll_refused_text faults.Busy) → StandsLive h new s → Answered b done
+  busy b true ps done same due free text_is stands = (None, tt, with_open b true None done same (text_is, stands))
+  busy b false ps done same due free text_is stands = absurd (due (free same))
 
-  failed : (done : List ℕ × SessionState) (why : RollFault) → IsUnforeseen (Some why) → AreFree (passes_in scene) → text ≡ line (roll_refused_text why) → StandsLive h new s → Answered done
-  failed done why unforeseen free text_is stands = (Some why, unforeseen, with_open false (Some why) done (none_open free) (text_is, stands))
+  failed : (b : Bool) (done : List ℕ × SessionState) (why : RollFault) → IsUnforeseen (Some why) → b ≡ false → text ≡ line (roll_refused_text why) → StandsLive h new s → Answered b done
+  failed b done why unforeseen none text_is stands = (Some why, unforeseen, with_open b false (Some why) done none (text_is, stands))
 
   limits_are : k ≡ l
   limits_are = ap (λ (m : State). m.limits) is.stands.manager
 
   -- these find no room in another manager, and so it is computed
-  no_room : (told : List Renamed → List ℕ) (survivors : List Survivor) → made_anew l l.parts survivors (start l) ≡ None → AreFree (passes_in scene) → text ≡ line (roll_refused_text faults.Full) → StandsLive h new s
-      → Answered (anew told survivors s)
-  no_room told survivors none free text_is stands =
-      answered (anew told survivors s) free
-      (subst (λ o. IsStep h new text (anew_as told s o)) (sym (ap (λ (z : Limits). made_anew z z.parts survivors (start z)) limits_are ∙ none)) (text_is, stands))
+  no_room : (b : Bool) (told : List Renamed → List ℕ) (survivors : List Survivor) (before : List Holding) → made_anew l l.parts survivors (start l) ≡ None → b ≡ false → text ≡ line (roll_refused_text faults.Full) → StandsLive h new s
+      → Answered b (anew told h survivors before s)
+  no_room b told survivors before full none text_is stands =
+      answered b (anew told h survivors before s) none
+      (subst (λ o. IsStep h new text (anew_as told h before s o)) (sym (ap (λ (z : Limits). made_anew z z.parts survivors (start z)) limits_are ∙ full)) (text_is, stands))
 
-  unfit : AreFree (passes_in scene) → WouldNotFit l (passes_in scene) l.parts (start l) → made_anew l l.parts (alive_of s.report.manager) (start l) ≡ None
-  unfit free w =
+  unfit : WouldNotFit l (passes_in scene) l.parts (start l) → made_anew l l.parts (alive_of s.report.manager) (start l) ≡ None
+  unfit w =
       let same : thread_of l w.looked w.keeper.seen ≡ s.report.manager = (alone_idle l old.stand.keeper w.keeper (passes_in scene) w.looked old.stand.keeper.seen w.keeper.seen is.stands.together w.stay w.together).1 ∙ sym is.stands.manager in
-      let alive : w.survivors ≡ alive_of s.report.manager = described_so l w.keeper.seen w.survivors w.together.legal w.found (free_unheld (passes_in scene) w.survivors free w.in_hand) ∙ ap alive_of same in
+      let alive : w.survivors ≡ alive_of s.report.manager = described_so l w.keeper.seen w.survivors w.together.legal w.found ∙ ap alive_of same in
       subst (λ ss. made_anew l l.parts ss (start l) ≡ None) alive w.full
 
-  unrolled_for : (why : RollFault) → IsUnrolledFor l (passes_in scene) why → text ≡ line (roll_refused_text why) → StandsLive h new s → Answered (anew rolled_text (alive_of s.report.manager) s)
-  unrolled_for faults.NoMemory due text_is stands = failed (anew rolled_text (alive_of s.report.manager) s) faults.NoMemory tt due text_is stands
+  unrolled_for : (why : RollFault) → IsUnrolledFor l (own_passes scene) (passes_in scene) why → text ≡ line (roll_refused_text why) → StandsLive h new s → Answered (has_desk_open s) (rolled_over h s)
+  unrolled_for faults.NoMemory due text_is stands = failed (has_desk_open s) (rolled_over h s) faults.NoMemory tt (none_at_own due) text_is stands
   unrolled_for faults.BadLimits due text_is stands = absurd due
   unrolled_for faults.NoPass due text_is stands = absurd due
-  unrolled_for faults.Busy due text_is stands = busy (anew rolled_text (alive_of s.report.manager) s) (is_open s) refl due text_is stands
-  unrolled_for faults.Full due text_is stands = no_room rolled_text (alive_of s.report.manager) (unfit due.0 due.1) due.0 text_is stands
-  unrolled_for faults.Unequal due text_is stands = failed (anew rolled_text (alive_of s.report.manager) s) faults.Unequal tt due text_is stands
+  unrolled_for faults.Busy due text_is stands = busy (has_desk_open s) (has_desk_open s) (own_passes scene) (rolled_over h s) refl due own_none text_is stands
+  unrolled_for faults.Full due text_is stands = no_room (has_desk_open s) rolled_text (alive_of s.report.manager) s.works (unfit due.1) (none_at_own due.0) text_is stands
+  unrolled_for faults.Unequal due text_is stands = failed (has_desk_open s) (rolled_over h s) faults.Unequal tt (none_at_own due) text_is stands
 
-  unrestored_for : (survivors : List Survivor) (why : RollFault) → IsUnrestoredFor l survivors (passes_in scene) why → text ≡ line (roll_refused_text why) → StandsLive h new s → Answered (anew restored_text survivors s)
-  unrestored_for survivors faults.NoMemory due text_is stands = failed (anew restored_text survivors s) faults.NoMemory tt due text_is stands
-  unrestored_for survivors faults.BadLimits due text_is stands = absurd due
-  unrestored_for survivors faults.NoPass due text_is stands = absurd due
-  unrestored_for survivors faults.Busy due text_is stands = busy (anew restored_text survivors s) (is_open s) refl due text_is stands
-  unrestored_for survivors faults.Full due text_is stands = no_room restored_text survivors due.1 due.0 text_is stands
-  unrestored_for survivors faults.Unequal due text_is stands = failed (anew restored_text survivors s) faults.Unequal tt due text_is stands
+  unrestored_for : (why : RollFault) → IsUnrestoredFor l (survivors_of h) (passes_in scene) why → text ≡ line (roll_refused_text why) → StandsLive h new s → Answered (is_open s) (restored h s)
+  unrestored_for faults.NoMemory due text_is stands = failed (is_open s) (restored h s) faults.NoMemory tt (none_open due) text_is stands
+  unrestored_for faults.BadLimits due text_is stands = absurd due
+  unrestored_for faults.NoPass due text_is stands = absurd due
+  unrestored_for faults.Busy due text_is stands = busy (is_open s) (is_open s) (passes_in scene) (restored h s) refl due open_none text_is stands
+  unrestored_for faults.Full due text_is stands = no_room (is_open s) restored_text (survivors_of h) (lost_works h.lost 0 s.works) due.1 (none_open due.0) text_is stands
+  unrestored_for faults.Unequal due text_is stands = failed (is_open s) (restored h s) faults.Unequal tt (none_open due) text_is stands
 
-  unsurveyed_for : (done : List ℕ × SessionState) (why : RollFault) → IsUnsurveyedFor (passes_in scene) why → text ≡ line (roll_refused_text why) → StandsLive h new s → Answered done
-  unsurveyed_for done faults.NoMemory due text_is stands = failed done faults.NoMemory tt due text_is stands
-  unsurveyed_for done faults.BadLimits due text_is stands = absurd due
-  unsurveyed_for done faults.NoPass due text_is stands = absurd due
-  unsurveyed_for done faults.Busy due text_is stands = busy done (is_open s) refl due text_is stands
-  unsurveyed_for done faults.Full due text_is stands = absurd due
-  unsurveyed_for done faults.Unequal due text_is stands = failed done faults.Unequal tt due text_is stands
+  unsurveyed_for : (b : Bool) (done : List ℕ × SessionState) (why : RollFault) → IsUnsurveyed why → b ≡ false → text ≡ line (roll_refused_text why) → StandsLive h new s → Answered b done
+  unsurveyed_for b done faults.NoMemory due none text_is stands = failed b done faults.NoMemory tt none text_is stands
+  unsurveyed_for b done faults.BadLimits due none text_is stands = absurd due
+  unsurveyed_for b done faults.NoPass due none text_is stands = absurd due
+  unsurveyed_for b done faults.Busy due none text_is stands = absurd due
+  unsurveyed_for b done faults.Full due none text_is stands = absurd due
+  unsurveyed_for b done faults.Unequal due none text_is stands = failed b done faults.Unequal tt none text_is stands
 
-  stands_on : (is_due : List PassShown → RollFault → Type 0) → new.works ≡ old.works → RollRefused is_due old.stand text new.stand → StandsLive h new s
+  stands_on : (is_due : Scene → RollFault → Type 0) → new.works ≡ old.works → RollRefused is_due old.stand text new.stand → StandsLive h new s
   stands_on is_due works r =
       let between : Live = record { stand = record { manager = old.stand.manager; keeper = r.keeper; scene = r.between }; works = old.works } in
       let gathers : LiveGathers between new = record { manager = r.manager; gathered = r.gathered; works = works } in
@@ -233,65 +276,102 @@ module _ (head : Head) (old new : Live) (text : List ℕ) (s : SessionState) (is
 
   -- ---- what is made anew
 
-  abbrev with_manager : State → SessionState
-  with_manager m = record s { report = record s.report { manager = m } }
+  abbrev with_manager : State → List Holding → SessionState
+  with_manager m works = record { report = record s.report { manager = m }; works = works }
 
-  stands_anew : (m : State) → m ≡ thread_of new.stand.manager.limits (passes_in new.stand.scene) new.stand.keeper.seen → AreTogether new.stand.manager.limits new.stand.keeper (passes_in new.stand.scene) new.stand.keeper.seen
-      → AreFree (passes_in new.stand.scene) → AllZip BeginsAgain scene.places new.stand.scene.places → new.works ≡ old.works → StandsLive h new (with_manager m)
-  stands_anew m same together free again works = record {
+  abbrev m_new : State
+  m_new = thread_of new.stand.manager.limits (passes_in next) new.stand.keeper.seen
+
+  stands_anew : (m : State) → m ≡ m_new → AreTogether new.stand.manager.limits new.stand.keeper (passes_in next) new.stand.keeper.seen
+      → AreFree (own_passes next) → AllZip BeginsAgain scene.places next.places → StandsLive h new (with_manager m new.works)
+  stands_anew m same together free again = record {
     stands = record {
       together = together;
       manager = same;
-      desks = again_all scene.places new.stand.scene.places s.report.desks new.stand.scene.racers again (All-tail Free new.stand.scene.client (map (λ p. p.desk.pass) new.stand.scene.places ++ new.stand.scene.racers) free) is.stands.desks;
-      served = again_served scene.places new.stand.scene.places h.servers again is.stands.served;
+      desks = again_all scene.places next.places s.report.desks again (All-tail Free next.client (passes next.places) free) is.stands.desks;
+      served = again_served scene.places next.places h.servers again is.stands.served;
     };
-    works = is.works ∙ sym works;
+    works = refl;
   }
 
-  made_so : (told : List Renamed → List ℕ) (survivors : List Survivor) (moved : List Moved) (m : State) → made_anew l l.parts survivors (start l) ≡ Some (moved, m) → text ≡ line (told (map renamed moved)) → StandsLive h new (with_manager m)
-      → IsStep h new text (anew told survivors s)
-  made_so told survivors moved m made text_is stands =
-      subst (λ o. IsStep h new text (anew_as told s o)) (sym (ap (λ (z : Limits). made_anew z z.parts survivors (start z)) limits_are ∙ made)) (text_is, stands)
+  -- what the workers have in hand is computed
+  works_so : (m : State) (moved : List Moved) (before : List Holding) → m ≡ m_new → AllZip BeginsAgain scene.places next.places → length next.racers ≡ length before → new.works ≡ lives.works_in new.stand moved before
+      → works_in s moved m before ≡ new.works
+  works_so m moved before same again long works =
+      let n : ℕ = length next.places in
+      let zs : List PassState = not_given new.stand.manager.limits (length (passes_in next)) in
+      let desks : length s.report.desks ≡ n = sym (zip_long IsFor scene.places s.report.desks is.stands.desks) ∙ zip_long BeginsAgain scene.places next.places again in
+      let first : 1 + n ≡ suc n = omega arith in
+      let behind : drop (1 + n) m_new.passes ≡ map state_of next.racers ++ zs = ap (λ i. drop i m_new.passes) first ∙ passes_behind next.places next.racers zs in
+      let all : length (units_of next.racers) ≡ length before = length-map next.racers (λ (p : PassShown). p.open_unit) ∙ long in
+      ap (λ i. works_after moved (1 + i) (held_units (drop (1 + i) m.passes)) before) desks
+      ∙ (ap (λ (x : State). works_after moved (1 + n) (held_units (drop (1 + n) x.passes)) before) same
+      ∙ (ap (λ ps. works_after moved (1 + n) (held_units ps) before) behind
+      ∙ (ap (λ us. works_after moved (1 + n) us before) (units_behind next.racers zs)
+      ∙ (works_alone moved (1 + n) (units_of next.racers) (held_units zs) before all ∙ sym works))))
 
-  rolled : new.works ≡ old.works → RolledOver old.stand text new.stand → Answered (anew rolled_text (alive_of s.report.manager) s)
-  rolled works r =
+  -- as many as there are passes of them
+  works_long : length old.works ≡ length scene.racers
+  works_long =
+      sym (length-map old.works unit_of)
+      ∙ (ap (λ (us : List (Option ℕ)). length us) (sym holds.workers) ∙ length-map scene.racers (λ (p : PassShown). p.open_unit))
+
+  abbrev done_with : (List Renamed → List ℕ) → List Moved → State → List Holding → List ℕ × SessionState
+  done_with told moved m works = (line (told (map renamed moved) <> units_text h.workers works), with_manager m works)
+
+  made_so : (told : List Renamed → List ℕ) (survivors : List Survivor) (before : List Holding) (moved : List Moved) (m : State) → made_anew l l.parts survivors (start l) ≡ Some (moved, m) → works_in s moved m before ≡ new.works
+      → text ≡ line (told (map renamed moved) <> units_text h.workers new.works) → StandsLive h new (with_manager m new.works) → IsStep h new text (anew told h survivors before s)
+  made_so told survivors before moved m made works text_is stands =
+      subst (λ o. IsStep h new text (anew_as told h before s o)) (sym (ap (λ (z : Limits). made_anew z z.parts survivors (start z)) limits_are ∙ made))
+      (subst (λ ws. IsStep h new text (done_with told moved m ws)) (sym works) (text_is, stands))
+
+  rolled : RolledLive h old text new → Answered (has_desk_open s) (rolled_over h s)
+  rolled t =
+      let r = t.rolled in
       let c = r.carries in
       let same : thread_of l c.looked c.keeper.seen ≡ s.report.manager = (alone_idle l old.stand.keeper c.keeper (passes_in scene) c.looked old.stand.keeper.seen c.keeper.seen is.stands.together c.stay c.together).1 ∙ sym is.stands.manager in
-      let alive : c.survivors ≡ alive_of s.report.manager = described_so l c.keeper.seen c.survivors c.together.legal c.found (free_unheld (passes_in scene) c.survivors r.idle c.in_hand) ∙ ap alive_of same in
-      let m : State = thread_of l (passes_in new.stand.scene) new.stand.keeper.seen in
-      let stands = stands_anew m (ap (λ (z : Limits). thread_of z (passes_in new.stand.scene) new.stand.keeper.seen) (sym r.limits)) r.rolls.new_together r.free r.places works in
-      answered (anew rolled_text (alive_of s.report.manager) s) r.idle (subst (λ ss. IsStep h new text (anew rolled_text ss s)) alive (made_so rolled_text c.survivors r.moved m c.made r.text_is stands))
+      let alive : c.survivors ≡ alive_of s.report.manager = described_so l c.keeper.seen c.survivors c.together.legal c.found ∙ ap alive_of same in
+      let m : State = thread_of l (passes_in next) new.stand.keeper.seen in
+      let m_is : m ≡ m_new = ap (λ (z : Limits). thread_of z (passes_in next) new.stand.keeper.seen) (sym r.limits) in
+      let stands = stands_anew m m_is r.rolls.new_together r.free r.places in
+      let long : length next.racers ≡ length s.works = r.racers ∙ (sym works_long ∙ ap (λ (ws : List Holding). length ws) (sym is.works)) in
+      let works = works_so m t.moved s.works m_is r.places long (t.works ∙ ap (lives.works_in new.stand t.moved) (sym is.works)) in
+      answered (has_desk_open s) (rolled_over h s) (none_at_own r.idle)
+      (subst (λ ss. IsStep h new text (anew rolled_text h ss s.works s)) alive (made_so rolled_text c.survivors s.works t.moved m c.made works t.text_is stands))
 
-  pub by_rollover : RolloverTold old text new → Answered (anew rolled_text (alive_of s.report.manager) s)
-  by_rollover t = elim t.rolls [
-    | inl r ↦ rolled t.works r
-    | inr r ↦ unrolled_for r.why r.due r.text_is (stands_on (IsUnrolledFor l) t.works r)
+  pub by_rollover : RolloverTold h old text new → Answered (has_desk_open s) (rolled_over h s)
+  by_rollover t = elim t.told [
+    | inl r ↦ rolled r
+    | inr r ↦ unrolled_for r.refused.why r.refused.due r.refused.text_is (stands_on (IsUnrolled l) r.works r.refused)
   ]
 
-  restored : (moved : List Moved) → new.works ≡ old.works → Restored (survivors_of h) old.stand moved new.stand → text ≡ line (restored_text (map renamed moved)) → Answered (anew restored_text (survivors_of h) s)
-  restored moved works r text_is =
-      let m : State = thread_of new.stand.manager.limits (passes_in new.stand.scene) new.stand.keeper.seen in
-      let made = subst (λ (z : Limits). made_anew z z.parts (survivors_of h) (start z) ≡ Some (moved, m)) r.limits r.anew in
-      answered (anew restored_text (survivors_of h) s) r.idle
-      (made_so restored_text (survivors_of h) moved m made text_is (stands_anew m refl r.restores.together r.free r.places works))
+  again : RestoredLive h old text new → Answered (is_open s) (restored h s)
+  again t =
+      let r = t.restored in
+      let made = subst (λ (z : Limits). made_anew z z.parts (survivors_of h) (start z) ≡ Some (t.moved, m_new)) r.limits r.anew in
+      let before : List Holding = lost_works h.lost 0 s.works in
+      let long : length next.racers ≡ length before = r.racers ∙ (sym works_long ∙ (ap (λ (ws : List Holding). length ws) (sym is.works) ∙ sym (lost_long h.lost 0 s.works))) in
+      let works = works_so m_new t.moved before refl r.places long (t.works ∙ ap (λ ws. lives.works_in new.stand t.moved (lost_works h.lost 0 ws)) (sym is.works)) in
+      answered (is_open s) (restored h s) (none_open r.idle)
+      (made_so restored_text (survivors_of h) before t.moved m_new made works t.text_is (stands_anew m_new refl r.restores.together r.free r.places))
 
-  pub by_restore : RestoreTold h old text new → Answered (anew restored_text (survivors_of h) s)
-  by_restore t = elim t.restores [
-    | inl r ↦ restored r.0 t.works r.1 r.2
-    | inr r ↦ unrestored_for (survivors_of h) r.why r.due r.text_is (stands_on (IsUnrestoredFor l (survivors_of h)) t.works r)
+  pub by_restore : RestoreTold h old text new → Answered (is_open s) (restored h s)
+  by_restore t = elim t.told [
+    | inl r ↦ again r
+    | inr r ↦ unrestored_for r.refused.why r.refused.due r.refused.text_is (stands_on (IsUnrestoredIn l (survivors_of h)) r.works r.refused)
   ]
 
   -- ---- a dump
 
-  abbrev Told : Type 0
-  Told = Answered (dump_text (dump_of h s), s)
+  abbrev lines_told : List ℕ × SessionState
+  lines_told = (dump_text (dump_of h s), s)
 
-  dumped : (b : Bool) → is_open s ≡ b → DumpComputed b h s old text → StandsLive h new s → Told
-  dumped true same told stands = (None, tt, with_open true None (dump_text (dump_of h s), s) same (told, stands))
+  dumped : (b : Bool) → has_desk_open s ≡ b → DumpComputed b h s text → StandsLive h new s → Answered (has_desk_open s) lines_told
+  dumped true same told stands = (None, tt, with_open (has_desk_open s) true None lines_told same (told, stands))
   dumped false same told stands = elim told [
-    | inl lines ↦ answered (dump_text (dump_of h s), s) (open_none same) (lines, stands)
-    | inr why ↦ unsurveyed_for (dump_text (dump_of h s), s) why.why why.due why.text_is stands
+    | inl lines ↦ answered (has_desk_open s) lines_told same (lines, stands)
+    | inr why ↦ unsurveyed_for (has_desk_open s) lines_told why.why why.due same why.text_is stands
   ]
 
-  pub by_dump : DumpTold h old text new → Told
-  by_dump t = let d = exact_dump head old new text s is t in dumped (is_open s) refl d.0 d.1
+  pub by_dump : DumpTold h old text new → Answered (has_desk_open s) lines_told
+  by_dump t = let d = exact_dump head old new text s is t in dumped (has_desk_open s) refl d.0 d.1

@@ -15,9 +15,10 @@ use Rattle.tp_script.specs.declared.keyword.Keyword.{Keyword}
 use Rattle.tp_script.specs.declared.keyword.Keyword.TheVariants as first
 use Rattle.tp_script.specs.declared.script.TheConstants.{MAX_SERVERS}
 use Rattle.tp_model.specs.declared.types.TheConstants.{MAX_ATTEMPTS, MAX_BLOCKS, MAX_PART_ROWS, MAX_UNITS}
-use Rattle.tp_script.specs.Alive.{alive_at}
+use Rattle.tp_script.specs.Alive.{AliveWords, alive_at}
 use Rattle.tp_script.specs.Commands.{stage_at}
-use Rattle.tp_script.specs.Grammar.{account_at, act_at, alive_line, dump_at, ends_head, head_keyword, head_words, in_head, limit_line, restore_at, rows_line, setting_at, spare_line, units_line, unless_alive, worker_line}
+use Rattle.tp_script.specs.Grammar.{account_at, act_at, alive_line, dump_at, ends_head, head_keyword, head_words, held_line, in_head, limit_line, lost_line, restore_at, rows_line, setting_at, spare_line, units_line, unless_alive, with_alive, with_lost, worker_line}
+use Rattle.tp_script.specs.Hands.{free_worker, held_of, held_words}
 use Rattle.tp_script.specs.Keyword.{keyword}
 use Rattle.tp_script.specs.LineWords.{◌>>=◌, is_name, known, number_at, one, require, three, two}
 use Rattle.tp_script.specs.Script.{HeadView, ServerView}
@@ -174,15 +175,41 @@ module _ (name stage : List ℕ) (h : HeadView) where
       let room = went (require (nat_lt (length h.workers) MAX_WORKERS) fault.BadLimits) (λ u. Ok (with_worker fresh.0 place.0)) t place.2 in
       subst Good (went_to (with_worker fresh.0 place.0) t room.2) good
 
+with_alive_good : (line : AliveLine) (h t : HeadView) → with_alive line h ≡ Ok t → Good h → Good t
+with_alive_good line h t is good =
+    let room = went (require (nat_lt (length h.alive) MAX_ALIVE) fault.BadLimits) (λ u. Ok with_line) t is in
+    subst Good (went_to with_line t room.2) good
+  where
+    with_line : HeadView
+    with_line = record h { alive = h.alive ++ line ∷ [] }
+
 alive_good : (ws : List (List ℕ)) (h t : HeadView) → alive_line ws h ≡ Ok t → Good h → Good t
 unfolding alive_line
-alive_good ws h t is good =
-    let line = went (alive_at ws) (λ line. require (nat_lt (length h.alive) MAX_ALIVE) fault.BadLimits >>= λ u. Ok (with_line line)) t is in
-    let room = went (require (nat_lt (length h.alive) MAX_ALIVE) fault.BadLimits) (λ u. Ok (with_line line.0)) t line.2 in
-    subst Good (went_to (with_line line.0) t room.2) good
+alive_good ws h t is good = let line = went (alive_at ws) (λ line. with_alive line h) t is in with_alive_good line.0 h t line.2 good
+
+held_good : (ws : List (List ℕ)) (h t : HeadView) → held_line ws h ≡ Ok t → Good h → Good t
+unfolding held_line
+held_good ws h t is good =
+    let w = went (held_words ws) of_words t is in
+    let worker = went (free_worker w.0.0 h) (of_worker w.0) t w.2 in
+    let line = went (held_of worker.0 w.0.1) (λ line. with_alive line h) t worker.2 in
+    with_alive_good line.0 h t line.2 good
   where
-    with_line : AliveLine → HeadView
-    with_line line = record h { alive = h.alive ++ line ∷ [] }
+    of_worker : List ℕ × AliveWords → ℕ → Result HeadView LineFault
+    of_worker w worker = held_of worker w.1 >>= λ line. with_alive line h
+
+    of_words : List ℕ × AliveWords → Result HeadView LineFault
+    of_words w = free_worker w.0 h >>= λ worker. of_worker w worker
+
+lost_good : (name id : List ℕ) (h t : HeadView) → lost_line (name, id) h ≡ Ok t → Good h → Good t
+unfolding lost_line
+lost_good name id h t is good =
+    let worker = went (free_worker name h) of_worker t is in
+    let element = went (number_at (2 ^ 32 - 1) id) (λ element. Ok (with_lost (record { worker = worker.0; element = element }) h)) t worker.2 in
+    subst Good (went_to (with_lost (record { worker = worker.0; element = element.0 }) h) t element.2) good
+  where
+    of_worker : ℕ → Result HeadView LineFault
+    of_worker worker = number_at (2 ^ 32 - 1) id >>= λ element. Ok (with_lost (record { worker = worker; element = element }) h)
 
 -- ---- a line of the head
 
@@ -209,9 +236,11 @@ keyword_good driver first.Server ws h t is good = in_good (server_line ws h) h t
 keyword_good driver first.Start ws h t is good = in_good (three ws >>= λ w. start_line w h) h t is (λ s so. let a = went (three ws) (λ w. start_line w h) s so in start_good a.0.0 a.0.1 a.0.2 h s a.2 good)
 keyword_good driver first.Worker ws h t is good = in_good (two ws >>= λ w. worker_line w h) h t is (λ s so. let a = went (two ws) (λ w. worker_line w h) s so in worker_good a.0.0 a.0.1 h s a.2 good)
 keyword_good driver first.Alive ws h t is good = in_good (alive_line ws h) h t is (λ s so. alive_good ws h s so good)
-keyword_good driver (first.Do v) ws h t is good = ends_good (unless_alive h.alive (act_at driver v ws h)) h t is good
-keyword_good driver first.Dump ws h t is good = ends_good (unless_alive h.alive (dump_at ws)) h t is good
-keyword_good driver first.Account ws h t is good = ends_good (unless_alive h.alive (account_at ws)) h t is good
+keyword_good driver first.Held ws h t is good = in_good (held_line ws h) h t is (λ s so. held_good ws h s so good)
+keyword_good driver first.Lost ws h t is good = in_good (two ws >>= λ w. lost_line w h) h t is (λ s so. let a = went (two ws) (λ w. lost_line w h) s so in lost_good a.0.0 a.0.1 h s a.2 good)
+keyword_good driver (first.Do v) ws h t is good = ends_good (unless_alive h.alive h.lost (act_at driver v ws h)) h t is good
+keyword_good driver first.Dump ws h t is good = ends_good (unless_alive h.alive h.lost (dump_at ws)) h t is good
+keyword_good driver first.Account ws h t is good = ends_good (unless_alive h.alive h.lost (account_at ws)) h t is good
 keyword_good driver first.Restore ws h t is good = ends_good (restore_at ws) h t is good
 
 pub words_good : (driver : Driver) (ws : List (List ℕ)) (h : HeadView) (t : HeadView × Option Act) → head_words driver ws h ≡ Ok t → Good h → Good t.0

@@ -1,5 +1,5 @@
 -- What is alive is described in one way alone.
-use Rattle.std.proofs.Common.{◌≡◌, ◌∙◌, ◌<◌, ◌≤◌, ◌⊎◌, ℕ, zero, suc, ◌+◌, Bool, true, false, List, [], ◌∷◌, ◌++◌, map, Option, None, Some, inl, inr, refl, sym, ap, subst, arith}
+use Rattle.std.proofs.Common.{◌≡◌, ◌∙◌, ◌<◌, ◌≤◌, ◌⊎◌, ℕ, zero, suc, ◌+◌, ◌-◌, Bool, true, false, List, [], ◌∷◌, ◌++◌, map, Option, None, Some, inl, inr, refl, sym, ap, subst, arith}
 use Rattle.std.specs.Prelude.{if◌then◌else◌}
 use Rattle.std.specs.List.{flat_map, range_with_len}
 use Rattle.tp_model.specs.History.{In, IsBorn, element_of, here, rounds, status_of, there}
@@ -14,14 +14,22 @@ use Rattle.tp_model.proofs.Later.{births_inside}
 use Rattle.tp_rollover.specs.Survivors.{AreSurvivors, AreUnheld, Ascending, IsLiving, IsStanding, IsSurvivor}
 use Rattle.tp_rollover.specs.declared.survivors.Survivor.{Survivor}
 use Rattle.tp_rollover.proofs.Carrying.{each_of}
-use Rattle.tp_exact.specs.Alive.{if_alive, is_alive, with_root}
+use Rattle.tp_rollover.specs.Hands.{holder_of}
+use Rattle.tp_exact.specs.Alive.{if_alive, is_alive, standing, with_root}
 
-alive_is : (x : Status) → IsKillable x → is_alive x ≡ true
-alive_is (status.Waiting n) killable = refl
-alive_is (status.Parked n) killable = refl
-alive_is (status.Held u n) killable = absurd killable
-alive_is (status.Consumed u) killable = absurd killable
-alive_is status.Killed killable = absurd killable
+alive_is : (x : Status) → IsLiving x → is_alive x ≡ true
+alive_is (status.Waiting n) living = refl
+alive_is (status.Parked n) living = refl
+alive_is (status.Held u n) living = refl
+alive_is (status.Consumed u) living = absurd living
+alive_is status.Killed living = absurd living
+
+living_is : (x : Status) → is_alive x ≡ true → IsLiving x
+living_is (status.Waiting n) is = tt
+living_is (status.Parked n) is = tt
+living_is (status.Held u n) is = tt
+living_is (status.Consumed u) is = absurd cc
+living_is status.Killed is = absurd cc
 
 killable_lives : (x : Status) → IsKillable x → IsLiving x
 killable_lives (status.Waiting n) killable = tt
@@ -30,16 +38,30 @@ killable_lives (status.Held u n) killable = absurd killable
 killable_lives (status.Consumed u) killable = absurd killable
 killable_lives status.Killed killable = absurd killable
 
-killable_is : (x : Status) → is_alive x ≡ true → IsKillable x
-killable_is (status.Waiting n) is = tt
-killable_is (status.Parked n) is = tt
-killable_is (status.Held u n) is = absurd cc
-killable_is (status.Consumed u) is = absurd cc
-killable_is status.Killed is = absurd cc
+-- ---- how it is described, computed
 
--- what no pass holds is described as it stands
-pub stands_so : (l : Limits) (h : List Event) (s : Survivor) → IsSurvivor l h s → s.holder ≡ None → (status_of l.attempts h s.id ≡ s.status) × IsKillable s.status
-stands_so l h s is none = subst (λ o. IsStanding l (status_of l.attempts h s.id) s.status o) none is.stands
+module _ (l : Limits) where
+  unheld_so : (x : Status) → IsKillable x → standing l x ≡ (x, None)
+  unheld_so (status.Waiting n) killable = refl
+  unheld_so (status.Parked n) killable = refl
+  unheld_so (status.Held u n) killable = absurd killable
+  unheld_so (status.Consumed u) killable = absurd killable
+  unheld_so status.Killed killable = absurd killable
+
+  abbrev both : Status → Option ℕ → Status × Option ℕ
+  both x holder = (x, holder)
+
+  standing_so : (is x : Status) (holder : Option ℕ) → IsStanding l is x holder → standing l is ≡ (x, holder)
+  standing_so is x None a = ap (standing l) a.0 ∙ unheld_so x a.1
+  standing_so is x (Some c) (u, n, held, waits, by) =
+      let back : (n + 1) - 1 ≡ n = omega arith in
+      ap (standing l) held
+      ∙ (ap (λ m. both (status.Waiting m) (Some (holder_of l u))) back
+      ∙ (ap (λ z. both z (Some (holder_of l u))) (sym waits) ∙ ap (λ d. both x (Some d)) (sym by)))
+
+  standing_lives : (is x : Status) (holder : Option ℕ) → IsStanding l is x holder → IsLiving is
+  standing_lives is x None a = subst IsLiving (sym a.0) (killable_lives x a.1)
+  standing_lives is x (Some c) (u, n, held, waits, by) = subst IsLiving (sym held) tt
 
 pub each_so : (l : Limits) (h : List Event) (survivors : List Survivor) → AreSurvivors l h survivors → AreUnheld survivors → (s : Survivor) → In s survivors → IsSurvivor l h s × (s.holder ≡ None)
 each_so l h survivors are unheld s at = (are.described s at, each_of (λ (s : Survivor). s.holder ≡ None) survivors s unheld at)
@@ -62,28 +84,27 @@ module _ (l : Limits) (h : List Event) where
   limit = l.attempts
 
   abbrev at : ℕ → List Survivor
-  at id = if_alive limit h id (element_of h id)
+  at id = if_alive l h id (element_of h id)
 
   -- one that was described is that
-  is_at : (s : Survivor) → IsSurvivor l h s × (s.holder ≡ None) → at s.id ≡ s ∷ []
-  is_at s (is, none) =
-      let stands = stands_so l h s is none in
-      let alive : is_alive (status_of limit h s.id) ≡ true = alive_is (status_of limit h s.id) (subst IsKillable (sym stands.0) stands.1) in
-      ap (if_alive limit h s.id) is.born
-      ∙ (ap (λ b. if b then with_root limit h s.id is.item (element_of h is.item.root) else []) alive
-      ∙ (ap (with_root limit h s.id is.item) (ap (element_of h) is.root ∙ is.began)
-      ∙ (ap (λ r. made s.id r is.item.stage is.item.body (status_of limit h s.id) None (rounds h s.id) is.request.stage is.request.body) is.root
-      ∙ (ap (λ r. made s.id s.root r is.item.body (status_of limit h s.id) None (rounds h s.id) is.request.stage is.request.body) is.stage
-      ∙ (ap (λ r. made s.id s.root s.stage r (status_of limit h s.id) None (rounds h s.id) is.request.stage is.request.body) is.body
-      ∙ (ap (λ r. made s.id s.root s.stage s.body r None (rounds h s.id) is.request.stage is.request.body) stands.0
-      ∙ (ap (λ r. made s.id s.root s.stage s.body s.status r (rounds h s.id) is.request.stage is.request.body) (sym none)
+  is_at : (s : Survivor) → IsSurvivor l h s → at s.id ≡ s ∷ []
+  is_at s is =
+      let now : Status = status_of limit h s.id in
+      let alive : is_alive now ≡ true = alive_is now (standing_lives l now s.status s.holder is.stands) in
+      ap (if_alive l h s.id) is.born
+      ∙ (ap (λ b. if b then with_root (standing l now) h s.id is.item (element_of h is.item.root) else []) alive
+      ∙ (ap (λ z. with_root z h s.id is.item (element_of h is.item.root)) (standing_so l now s.status s.holder is.stands)
+      ∙ (ap (with_root (s.status, s.holder) h s.id is.item) (ap (element_of h) is.root ∙ is.began)
+      ∙ (ap (λ r. made s.id r is.item.stage is.item.body s.status s.holder (rounds h s.id) is.request.stage is.request.body) is.root
+      ∙ (ap (λ r. made s.id s.root r is.item.body s.status s.holder (rounds h s.id) is.request.stage is.request.body) is.stage
+      ∙ (ap (λ r. made s.id s.root s.stage r s.status s.holder (rounds h s.id) is.request.stage is.request.body) is.body
       ∙ (ap (λ r. made s.id s.root s.stage s.body s.status s.holder r is.request.stage is.request.body) is.rounds_are
       ∙ (ap (λ r. made s.id s.root s.stage s.body s.status s.holder s.rounds r is.request.body) is.root_stage
-      ∙ ap (λ r. made s.id s.root s.stage s.body s.status s.holder s.rounds s.root_stage r) is.root_body)))))))))
+      ∙ ap (λ r. made s.id s.root s.stage s.body s.status s.holder s.rounds s.root_stage r) is.root_body))))))))
 
   -- an id at which nothing is alive has no description
   abbrev Alive : ℕ → Type 0
-  Alive id = (x : Element) × IsBorn h x × IsKillable (status_of limit h x.id) × (x.id ≡ id)
+  Alive id = (x : Element) × IsBorn h x × IsLiving (status_of limit h x.id) × (x.id ≡ id)
 
   none_or : (id : ℕ) → (at id ≡ []) ⊎ Alive id
   none_or id = by_item (element_of h id) refl
@@ -91,18 +112,18 @@ module _ (l : Limits) (h : List Event) where
       by_status : (x : Element) → element_of h id ≡ Some x → (b : Bool) → is_alive (status_of limit h id) ≡ b → (at id ≡ []) ⊎ Alive id
       by_status x found true alive =
           let same : x.id ≡ id = element_of-id h id x found in
-          inr (x, is_born h id x found, subst (λ i. IsKillable (status_of limit h i)) (sym same) (killable_is (status_of limit h id) alive), same)
-      by_status x found false alive = inl (ap (if_alive limit h id) found ∙ ap (λ b. if b then with_root limit h id x (element_of h x.root) else []) alive)
+          inr (x, is_born h id x found, subst (λ i. IsLiving (status_of limit h i)) (sym same) (living_is (status_of limit h id) alive), same)
+      by_status x found false alive = inl (ap (if_alive l h id) found ∙ ap (λ b. if b then with_root (standing l (status_of limit h id)) h id x (element_of h x.root) else []) alive)
 
       by_item : (o : Option Element) → element_of h id ≡ o → (at id ≡ []) ⊎ Alive id
-      by_item None found = inl (ap (if_alive limit h id) found)
+      by_item None found = inl (ap (if_alive l h id) found)
       by_item (Some x) found = by_status x found (is_alive (status_of limit h id)) refl
 
   abbrev Each : List Survivor → Type 0
-  Each xs = (s : Survivor) → In s xs → IsSurvivor l h s × (s.holder ≡ None)
+  Each xs = (s : Survivor) → In s xs → IsSurvivor l h s
 
   abbrev AreAll : ℕ → List Survivor → Type 0
-  AreAll low xs = (x : Element) → IsBorn h x → IsKillable (status_of limit h x.id) → low ≤ x.id → (s : Survivor) × In s xs × (s.id ≡ x.id)
+  AreAll low xs = (x : Element) → IsBorn h x → IsLiving (status_of limit h x.id) → low ≤ x.id → (s : Survivor) × In s xs × (s.id ≡ x.id)
 
   -- where there is none with the least id, all have greater ones
   past_least : (low : ℕ) (xs : List Survivor) → at low ≡ [] → Ascending low (map (λ (x : Survivor). x.id) xs) → Each xs → Ascending (low + 1) (map (λ (x : Survivor). x.id) xs)
@@ -126,7 +147,7 @@ module _ (l : Limits) (h : List Event) where
       let least = first_least y ys s up.1 q in
       let low_least = up.0 in
       let first : y.id ≡ low = omega (arith, least, low_least, same, is) in
-      let rest = next ys (subst (λ i. Ascending (i + 1) (map (λ (x : Survivor). x.id) ys)) first up.1) (λ t r. each t (there r)) (λ z born killable more. behind first z (all z born killable (omega (arith, more))) more) (λ t r. let b = below t (there r) in omega (arith, b)) in
+      let rest = next ys (subst (λ i. Ascending (i + 1) (map (λ (x : Survivor). x.id) ys)) first up.1) (λ t r. each t (there r)) (λ z born living more. behind first z (all z born living (omega (arith, more))) more) (λ t r. let b = below t (there r) in omega (arith, b)) in
       ap (λ zs. y ∷ zs) rest ∙ ap (λ zs. zs ++ flat_map at (range_with_len (low + 1) n)) (sym (ap at (sym first) ∙ is_at y (each y here)))
     where
       behind : y.id ≡ low → (z : Element) → (t : Survivor) × In t (y ∷ ys) × (t.id ≡ z.id) → low + 1 ≤ z.id → (t : Survivor) × In t ys × (t.id ≡ z.id)
@@ -139,7 +160,7 @@ module _ (l : Limits) (h : List Event) where
   by_ids (suc n) low xs up each all below = elim (none_or low) [
     | inl none ↦
         by_ids n (low + 1) xs (past_least low xs none up each) each
-        (λ x born killable more. all x born killable (omega (arith, more)))
+        (λ x born living more. all x born living (omega (arith, more)))
         (λ s q. let b = below s q in omega (arith, b))
         ∙ ap (λ ys. ys ++ flat_map at (range_with_len (low + 1) n)) (sym none)
     | inr alive ↦
@@ -147,9 +168,9 @@ module _ (l : Limits) (h : List Event) where
         by_first n low alive.0 found.0 xs alive.3 found.1 found.2 (by_ids n (low + 1)) up each all below
   ]
 
-pub described_so : (l : Limits) (h : List Event) (survivors : List Survivor) → IsLegal l h → AreSurvivors l h survivors → AreUnheld survivors → survivors ≡ flat_map (λ id. if_alive l.attempts h id (element_of h id)) (range_with_len 0 (rows_of l))
-described_so l h survivors legal a unheld =
-    by_ids l h (rows_of l) 0 survivors a.once (each_so l h survivors a unheld) (λ x born killable more. a.each x born (killable_lives (status_of l.attempts h x.id) killable)) below
+pub described_so : (l : Limits) (h : List Event) (survivors : List Survivor) → IsLegal l h → AreSurvivors l h survivors → survivors ≡ flat_map (λ id. if_alive l h id (element_of h id)) (range_with_len 0 (rows_of l))
+described_so l h survivors legal a =
+    by_ids l h (rows_of l) 0 survivors a.once a.described (λ x born living more. a.each x born living) below
   where
     below : (s : Survivor) → In s survivors → s.id < 0 + rows_of l
     below s q =

@@ -13,16 +13,17 @@ use Rattle.tp_reference.specs.declared.plain_desk.PlainDesk.{PlainDesk}
 use Rattle.tp_alone.specs.Thread.{AreTogether, Stays, thread_of}
 use Rattle.tp_alone.proofs.Idle.{alone_idle}
 use Rattle.tp_session.specs.Dump.{dump_lines, dump_text}
+use Rattle.tp_session.specs.declared.hand.Holding.{Holding}
 use Rattle.tp_session.specs.Live.{FoundAlive, Live, LiveGathers, LiveLooks, TellsDump, lines_of}
 use Rattle.tp_exact.specs.Alive.{alive_of}
 use Rattle.tp_exact.specs.Dumps.{DumpComputed, ExactDump}
-use Rattle.tp_exact.specs.PlainSession.{SessionState, dump_of, is_open}
+use Rattle.tp_exact.specs.PlainSession.{SessionState, dump_of, has_desk_open}
 use Rattle.tp_exact.specs.Sessions.{StandsLive}
 use Rattle.tp_exact.specs.Stands.{IsFor, Stands}
 use Rattle.tp_exact.proofs.Commands.{served_all, still_all}
 use Rattle.tp_exact.proofs.Described.{described_so}
 use Rattle.tp_exact.proofs.Scenes.{each_stays, looks_apart, together}
-use Rattle.tp_exact.proofs.SessionLines.{open_is}
+use Rattle.tp_exact.proofs.SessionLines.{desk_open_is}
 
 zip_trans : {A : Type 0} (R : A → A → Type 0) → ((x y z : A) → R x y → R y z → R x z) → (xs ys zs : List A) → AllZip R xs ys → AllZip R ys zs → AllZip R xs zs
 zip_trans R trans [] [] zs a b = b
@@ -75,14 +76,21 @@ module _ (head : Head) (old : Live) (s : SessionState) (is : StandsLive (head_vi
   -- all that is alive is computed
   alive_so : (done : Live) (survivors : List Survivor) → LiveLooks old done → FoundAlive old survivors done → survivors ≡ alive_of s.report.manager
   alive_so done survivors looks found =
-      described_so l done.stand.keeper.seen survivors found.together.legal found.found found.unheld
+      described_so l done.stand.keeper.seen survivors found.together.legal found.found
       ∙ ap alive_of (same done looks.manager found.together looks.looked.passes)
+
+  abbrev registers_now : List (List ℕ)
+  registers_now = map (λ d. d.registers) s.report.desks
+
+  abbrev dropped_now : List Bool
+  dropped_now = map (λ d. d.is_dropped) s.report.desks
 
   lines_so : (survivors : List Survivor) → survivors ≡ alive_of s.report.manager → lines_of h old survivors ≡ dump_of h s
   lines_so survivors alive =
-      ap (λ rs. dump_lines h rs (map (λ p. p.is_dropped) old.stand.scene.places) survivors) (registers_are old.stand.scene.places s.report.desks is.stands.desks)
-      ∙ (ap (λ ds. dump_lines h (map (λ d. d.registers) s.report.desks) ds survivors) (dropped_are old.stand.scene.places s.report.desks is.stands.desks)
-      ∙ ap (dump_lines h (map (λ d. d.registers) s.report.desks) (map (λ d. d.is_dropped) s.report.desks)) alive)
+      ap (λ rs. dump_lines h rs (map (λ p. p.is_dropped) old.stand.scene.places) old.works survivors) (registers_are old.stand.scene.places s.report.desks is.stands.desks)
+      ∙ (ap (λ ds. dump_lines h registers_now ds old.works survivors) (dropped_are old.stand.scene.places s.report.desks is.stands.desks)
+      ∙ (ap (λ (ws : List Holding). dump_lines h registers_now dropped_now ws survivors) (sym is.works)
+      ∙ ap (dump_lines h registers_now dropped_now s.works) alive))
 
   module _ (new : Live) (text : List ℕ) (done : Live) (gathers : LiveGathers done new) where
     -- the passes have looked, and then all have gathered
@@ -93,7 +101,7 @@ module _ (head : Head) (old : Live) (s : SessionState) (is : StandsLive (head_vi
         let stays = zip_trans Stays stays_trans (passes_in old.stand.scene) (passes_in done.stand.scene) (passes_in new.stand.scene) stay (each_stays done.stand.manager done.stand.keeper new.stand.keeper done.stand.scene new.stand.scene g) in
         still new (gathers.manager ∙ manager) after stays (zip_trans OnlyPass only_trans old.stand.scene.places done.stand.scene.places new.stand.scene.places places g.places) (gathers.works ∙ works)
 
-    tells_so : (b : Bool) → TellsDump h b old text done → DumpComputed b h s old text × StandsLive h new s
+    tells_so : (b : Bool) → TellsDump h b old text done → DumpComputed b h s text × StandsLive h new s
     tells_so true t = (t.0, subst (λ (d : Live). LiveGathers d new → StandsLive h new s) (sym t.1) (λ g. at_once g) gathers)
       where
         at_once : LiveGathers old new → StandsLive h new s
@@ -110,4 +118,4 @@ module _ (head : Head) (old : Live) (s : SessionState) (is : StandsLive (head_vi
 
 pub exact_dump : ExactDump
 exact_dump head old new text s is t =
-    tells_so head old s is new text t.done t.gathers (is_open s) (subst (λ b. TellsDump (head_view head) b old text t.done) (open_is head old new text s is) t.tells)
+    tells_so head old s is new text t.done t.gathers (has_desk_open s) (subst (λ b. TellsDump (head_view head) b old text t.done) (desk_open_is head old new text s is) t.tells)

@@ -16,6 +16,7 @@ use Rattle.tp_script.specs.declared.keyword.Verb.{Verb}
 use Rattle.tp_script.specs.declared.script.Command.{Command}
 use Rattle.tp_script.specs.declared.source.TheConstants.{MAX_SCRIPT_BYTES}
 use Rattle.tp_script.specs.Alive.{alive_words}
+use Rattle.tp_script.specs.Hands.{held_words}
 use Rattle.tp_script.specs.Commands.{command_at}
 use Rattle.tp_script.specs.Grammar.{act_at, act_by, body_at, body_keyword, body_words, given_by, head_at, head_words, line_words, out_of_order, worker_act, worker_of}
 use Rattle.tp_script.specs.Keyword.{keyword}
@@ -171,6 +172,8 @@ keyword_raceless first.Server ws h c is = absurd (never_in_order (shape_at ws) (
 keyword_raceless first.Start ws h c is = absurd (never_in_order (three ws) (acts.Command c) is)
 keyword_raceless first.Worker ws h c is = absurd (never_in_order (two ws) (acts.Command c) is)
 keyword_raceless first.Alive ws h c is = absurd (never_in_order (alive_words ws) (acts.Command c) is)
+keyword_raceless first.Held ws h c is = absurd (never_in_order (held_words ws) (acts.Command c) is)
+keyword_raceless first.Lost ws h c is = absurd (never_in_order (two ws) (acts.Command c) is)
 keyword_raceless first.Restore ws h c is = absurd (never_in_order (none ws) (acts.Command c) is)
 keyword_raceless (first.Do v) ws h c is = act_raceless v ws h c is
 keyword_raceless first.Account ws h c is =

@@ -1,11 +1,10 @@
 -- A line of a session that can't be refused for want of memory, between two gatherings.
-use Rattle.std.proofs.Common.{◌≡◌, ℕ, zero, ◌+◌, suc, ◌||◌, Bool, true, false, List, [], ◌∷◌, ◌++◌, length, map, Option, None, Some, refl, sym, ◌∙◌, ap, subst, arith}
+use Rattle.std.proofs.Common.{◌≡◌, ℕ, zero, ◌+◌, suc, ◌||◌, Bool, true, false, List, [], ◌∷◌, ◌++◌, length, map, None, Some, refl, sym, ◌∙◌, ap, subst, arith}
 use Rattle.std.specs.Prelude.{if◌then◌else◌, is_some, slice_get, slice_index_or, slice_set, string_bytes, take, drop}
 use Rattle.std.specs.List.{AllZip, list_any}
 use Rattle.tp_model.specs.Steps.{rows_of}
 use Rattle.tp_model.specs.declared.types.Counts.{Counts}
 use Rattle.tp_model.specs.declared.types.Limits.{Limits}
-use Rattle.tp_model.specs.declared.types.Work.{Work}
 use Rattle.tp_plain.specs.OneThread.{State}
 use Rattle.tp_plain.specs.declared.pass_state.PassState.{PassState}
 use Rattle.tp_manager.specs.Shown.{KeeperShown, ManagerShown, PassShown}
@@ -25,10 +24,12 @@ use Rattle.tp_reference.specs.PlainReport.{command_step}
 use Rattle.tp_alone.specs.Thread.{AreTogether, Stays, not_given, state_of, thread_of}
 use Rattle.tp_session.specs.Answers.{worker_line}
 use Rattle.tp_session.specs.Live as lives
-use Rattle.tp_session.specs.Hands.{Hand}
+use Rattle.tp_session.specs.Hands.{Hand, has_unit}
 use Rattle.tp_session.specs.Live.{AccountTold, CommandTold, Live, TellsAccount, WorkerTold}
+use Rattle.tp_session.specs.declared.hand.Holding.{Holding}
+use Rattle.tp_session.specs.declared.hand.Holding.TheVariants.{Nothing}
 use Rattle.tp_exact.specs.Acts.{Acts}
-use Rattle.tp_exact.specs.PlainSession.{SessionState, account_line, act_step, command_by, is_open, worker_step}
+use Rattle.tp_exact.specs.PlainSession.{SessionState, account_line, act_step, command_by, has_desk_open, is_open, worker_step}
 use Rattle.tp_exact.specs.PlainWorkers.{WorkerAnswered, worker_does}
 use Rattle.tp_exact.specs.Sessions.{IsStep, StandsLive}
 use Rattle.tp_exact.specs.Stands.{IsFor, IsServedBy, OnlyLooks, Stands}
@@ -54,7 +55,7 @@ got_or [] i x d is = absurd cc
 got_or (y ∷ xs) zero x d is = cc
 got_or (y ∷ xs) (suc i) x d is = got_or xs i x d is
 
-zip_long : {A B : Type 0} (R : A → B → Type 0) (xs : List A) (ys : List B) → AllZip R xs ys → length xs ≡ length ys
+pub zip_long : {A B : Type 0} (R : A → B → Type 0) (xs : List A) (ys : List B) → AllZip R xs ys → length xs ≡ length ys
 zip_long R [] [] a = refl
 zip_long R [] (y ∷ ys) a = absurd a
 zip_long R (x ∷ xs) [] a = absurd a
@@ -184,11 +185,11 @@ module _ (head : Head) (old new : Live) (text : List ℕ) (s : SessionState) (is
       after = now_together middle new.stand.keeper new.stand.scene refl gathered;
     }
 
-    hand_is : slice_index_or s.works at None ≡ before.work
-    hand_is = got_or s.works at before.work None (ap (λ ws. slice_get ws at) is.works ∙ t.did.work)
+    hand_is : slice_index_or s.works at Nothing ≡ before.work
+    hand_is = got_or s.works at before.work Nothing (ap (λ ws. slice_get ws at) is.works ∙ t.did.work)
 
     abbrev done : WorkerAnswered
-    done = worker_does act t.it.stage c s.report.manager (slice_index_or s.works at None)
+    done = worker_does act t.it.stage c s.report.manager (slice_index_or s.works at Nothing)
 
     abbrev So : WorkerAnswered → Type 0
     So d = (t.answer ≡ d.answer) × (thread_of l (passes_in new.stand.scene) new.stand.keeper.seen ≡ d.manager) × (after.work ≡ d.work)
@@ -213,11 +214,15 @@ module _ (head : Head) (old new : Live) (text : List ℕ) (s : SessionState) (is
 
   -- ---- the account
 
+  pub desk_open_is : lives.has_desk_open old ≡ has_desk_open s
+  desk_open_is =
+      desks_open scene.places s.report.desks scene.racers (not_given l (length (passes_in scene))) is.stands.desks
+      ∙ ap (λ (m : State). list_any (λ q. is_some q.holding) (take (length s.report.desks) (drop 1 m.passes))) (sym is.stands.manager)
+
   pub open_is : lives.is_open old ≡ is_open s
   open_is =
-      ap (λ (ws : List (Option Work)). list_any is_some ws || list_any (λ (p : PlaceShown). is_some p.desk.work) scene.places) (sym is.works)
-      ∙ (ap (λ b. list_any is_some s.works || b) (desks_open scene.places s.report.desks scene.racers (not_given l (length (passes_in scene))) is.stands.desks)
-      ∙ ap (λ (m : State). list_any is_some s.works || list_any (λ q. is_some q.holding) (take (length s.report.desks) (drop 1 m.passes))) (sym is.stands.manager))
+      ap (λ (ws : List Holding). list_any has_unit ws || list_any (λ (p : PlaceShown). is_some p.desk.work) scene.places) (sym is.works)
+      ∙ ap (λ b. list_any has_unit s.works || b) desk_open_is
 
   module _ (t : AccountTold old text new) where
     abbrev counted : Scene

@@ -5,7 +5,6 @@ use Rattle.std.proofs.lemmas.List.Elements.{All-cons, All-head, All-nil, All-tai
 use Rattle.tp_model.specs.History.{In, here, there}
 use Rattle.tp_model.specs.Passes.{IsPassView}
 use Rattle.tp_model.specs.declared.types.Limits.{Limits}
-use Rattle.tp_model.specs.declared.types.Work.{Work}
 use Rattle.tp_model.proofs.Bridges.{in_left, in_none}
 use Rattle.tp_model.proofs.Histories.{legal_empty}
 use Rattle.tp_plain.specs.OneThread.{start}
@@ -30,6 +29,8 @@ use Rattle.tp_report.specs.Written.{AppendsFront}
 use Rattle.tp_session.specs.Conversed.{CommandLines, IsCommand, LiveBegins, LiveEnds, Session, SessionPart, finals_of, limits_of}
 use Rattle.tp_session.specs.Heard.{HearsFront, heard}
 use Rattle.tp_session.specs.Live.{Live}
+use Rattle.tp_session.specs.declared.hand.Holding.{Holding}
+use Rattle.tp_session.specs.declared.hand.Holding.TheVariants.{Nothing}
 use Rattle.tp_session.specs.Told.{BodyLines, HeadLines, HeadTold, LinesFrom}
 use Rattle.tp_exact.specs.PlainSession.{HeadRead, Refusals, SessionState, act_step, begin, command_by, first_refusal, line_step, lines_from, lines_step, other_refusals, read_head, session_by, session_of}
 use Rattle.tp_exact.specs.Programs.{IsChecked}
@@ -94,13 +95,13 @@ none_drawn (p ∷ ps) new = (new p here).drawn
 no_block : (p : PassShown) (b : ℕ) → IsNewPass p → ¬ In b p.blocks
 no_block p b new at = in_none (subst (In b) new.blocks at)
 
-no_works : (ws : List (Option Work)) {A : Type 0} (xs : List A) → length ws ≡ length xs → All (λ work. work ≡ None) ws → map (λ _. None) xs ≡ ws
+no_works : (ws : List Holding) {A : Type 0} (xs : List A) → length ws ≡ length xs → All (λ work. work ≡ Nothing) ws → map (λ _. Nothing) xs ≡ ws
 no_works [] [] same idle = refl
 no_works [] (x ∷ xs) same idle = absurd (omega (arith, same))
 no_works (w ∷ ws) [] same idle = absurd (omega (arith, same))
 no_works (w ∷ ws) (x ∷ xs) same idle =
     let rest : length ws ≡ length xs = omega (arith, same) in
-    ap (λ v. v ∷ map (λ _. None) xs) (sym (All-head (λ work. work ≡ None) w ws idle)) ∙ ap (λ vs. w ∷ vs) (no_works ws xs rest (All-tail (λ work. work ≡ None) w ws idle))
+    ap (λ v. v ∷ map (λ _. Nothing) xs) (sym (All-head (λ work. work ≡ Nothing) w ws idle)) ∙ ap (λ vs. w ∷ vs) (no_works ws xs rest (All-tail (λ work. work ≡ Nothing) w ws idle))
 
 module _ (head : Head) (racers : ℕ) (none : racers ≡ 0) (first : Live) (begins : LiveBegins (head_view head) racers first) (checked : All IsChecked (head_view head).servers) where
   abbrev h : HeadView

@@ -1,5 +1,5 @@
 -- What a worker is asked, where nobody else acts.
-use Rattle.std.proofs.Common.{◌≡◌, ℕ, List, length, Option, None, Some, IsSome, Result, Ok, Err, refl, sym, ◌∙◌, ap, subst}
+use Rattle.std.proofs.Common.{◌≡◌, ℕ, true, List, length, inl, inr, Result, Ok, Err, refl, sym, ◌∙◌, ap, subst}
 use Rattle.tp_model.specs.Drafts.{DraftView}
 use Rattle.tp_model.specs.declared.types.Claimed.{Claimed}
 use Rattle.tp_model.specs.declared.types.Claimed.TheVariants as claimeds
@@ -26,11 +26,13 @@ use Rattle.tp_alone.proofs.Claims.{alone_claim}
 use Rattle.tp_alone.proofs.Commits.{alone_commit}
 use Rattle.tp_alone.proofs.Given.{alone_claim_id}
 use Rattle.tp_commands.specs.Asked.{Called}
-use Rattle.tp_session.specs.Hands.{AbortsHand, Hand, TellsAbort, TellsClaim, TellsCommit, TellsTake}
+use Rattle.tp_session.specs.Hands.{AbortsHand, Hand, HearsLost, TellsAbort, TellsClaim, TellsCommit, TellsTake, is_busy}
+use Rattle.tp_session.specs.declared.hand.Holding.{Holding}
+use Rattle.tp_session.specs.declared.hand.Holding.TheVariants.{Nothing, Open, Lost}
 use Rattle.tp_session.specs.declared.hand.WorkerAnswer.{WorkerAnswer}
 use Rattle.tp_session.specs.declared.hand.WorkerAnswer.TheVariants.{Took, Told}
 use Rattle.tp_exact.specs.Acts.{Acts}
-use Rattle.tp_exact.specs.PlainWorkers.{WorkerAnswered, aborted_as, claimed_as, committed_as, does_busy, does_idle, taken_as, told_as, worker_does}
+use Rattle.tp_exact.specs.PlainWorkers.{WorkerAnswered, aborted_as, claimed_as, committed_as, does_busy, does_idle, does_lost, taken_as, told_as, worker_does}
 use Rattle.tp_exact.specs.Sessions.{ExactWorker}
 use Rattle.tp_exact.proofs.Parts.{idle, whole}
 
@@ -45,21 +47,30 @@ module _ (l : Limits) (stage : ℕ) (keeper keeper' : KeeperShown) (olds news : 
   So answer done = (answer ≡ done.answer) × (is ≡ done.manager) × (new.work ≡ done.work)
 
   -- what is computed goes by what was in hand
-  with_hand : (act : WorkerAct) (o : Option Work) (answer : WorkerAnswer) → old.work ≡ o → So answer (worker_does act stage c was o) → So answer (worker_does act stage c was old.work)
+  with_hand : (act : WorkerAct) (o : Holding) (answer : WorkerAnswer) → old.work ≡ o → So answer (worker_does act stage c was o) → So answer (worker_does act stage c was old.work)
   with_hand act o answer at so = subst (λ p. So answer (worker_does act stage c was p)) (sym at) so
 
   -- nothing was done
   still : new ≡ old → is ≡ was
   still same = idle l keeper keeper' olds news h h' c old.pass new.pass a (ap (λ (z : Hand). z.pass) same)
 
-  none_open : (act : WorkerAct) → does_idle act stage c was ≡ told_as told.NoneOpen was None → old.work ≡ None → new ≡ old → So (Told told.NoneOpen) (worker_does act stage c was old.work)
+  none_open : (act : WorkerAct) → does_idle act stage c was ≡ told_as told.NoneOpen was Nothing → old.work ≡ Nothing → new ≡ old → So (Told told.NoneOpen) (worker_does act stage c was old.work)
   none_open act computed none same =
-      with_hand act None (Told told.NoneOpen) none (subst (λ d. So (Told told.NoneOpen) d) (sym computed) (refl, still same, ap (λ (z : Hand). z.work) same ∙ none))
+      with_hand act Nothing (Told told.NoneOpen) none (subst (λ d. So (Told told.NoneOpen) d) (sym computed) (refl, still same, ap (λ (z : Hand). z.work) same ∙ none))
 
-  busy : (act : WorkerAct) → ((w : Work) → does_busy act w c was ≡ told_as told.Busy was (Some w)) → (o : Option Work) → old.work ≡ o → IsSome o → new ≡ old → So (Told told.Busy) (worker_does act stage c was old.work)
-  busy act computed None at some same = absurd cc
-  busy act computed (Some w) at some same =
-      with_hand act (Some w) (Told told.Busy) at (subst (λ d. So (Told told.Busy) d) (sym (computed w)) (refl, still same, ap (λ (z : Hand). z.work) same ∙ at))
+  busy : (act : WorkerAct) → ((unit element : ℕ) → does_busy act unit element c was ≡ told_as told.Busy was (Open unit element)) → ((element : ℕ) → does_lost act element was ≡ told_as told.Busy was (Lost element))
+      → (o : Holding) → old.work ≡ o → is_busy o ≡ true → new ≡ old → So (Told told.Busy) (worker_does act stage c was old.work)
+  busy act computed lost Nothing at some same = absurd cc
+  busy act computed lost (Open unit element) at some same =
+      with_hand act (Open unit element) (Told told.Busy) at (subst (λ d. So (Told told.Busy) d) (sym (computed unit element)) (refl, still same, ap (λ (z : Hand). z.work) same ∙ at))
+  busy act computed lost (Lost element) at some same =
+      with_hand act (Lost element) (Told told.Busy) at (subst (λ d. So (Told told.Busy) d) (sym (lost element)) (refl, still same, ap (λ (z : Hand). z.work) same ∙ at))
+
+  -- a unit was lost before, and the worker hears of it
+  hears : (act : WorkerAct) (element : ℕ) (answer : WorkerAnswer) → HearsLost element old new → does_lost act element was ≡ record { answer = answer; manager = was; work = Nothing } → So answer (worker_does act stage c was old.work)
+  hears act element answer f computed =
+      with_hand act (Lost element) answer f.lost
+      (subst (λ d. So answer d) (sym computed) (refl, idle l keeper keeper' olds news h h' c old.pass new.pass a f.same, f.none_left))
 
   -- ---- a claim
 
@@ -68,12 +79,12 @@ module _ (l : Limits) (stage : ℕ) (keeper keeper' : KeeperShown) (olds news : 
       alone_claim stage l keeper keeper' olds news h h' (claim_steps l) c old.pass new.pass claimed (whole l keeper keeper' olds news h h' c (claim_steps l) old.pass new.pass a f) f.turn says
 
   pub claims : (answer : WorkerAnswer) → TellsClaim l stage old answer new → So answer (worker_does acts.Claim stage c was old.work)
-  claims (Took work) f = with_hand acts.Claim None (Took work) f.idle (subst (λ r. So (Took work) (claimed_as r)) (claim_law (claimeds.Work work) f.called f.answer) (refl, refl, f.held))
+  claims (Took work) f = with_hand acts.Claim Nothing (Took work) f.idle (subst (λ r. So (Took work) (claimed_as r)) (claim_law (claimeds.Work work) f.called f.answer) (refl, refl, f.held))
   claims (Told (told.Turned turneds.Idle)) f =
-      with_hand acts.Claim None (Told (told.Turned turneds.Idle)) f.idle (subst (λ r. So (Told (told.Turned turneds.Idle)) (claimed_as r)) (claim_law claimeds.Idle f.called f.answer) (refl, refl, f.held))
+      with_hand acts.Claim Nothing (Told (told.Turned turneds.Idle)) f.idle (subst (λ r. So (Told (told.Turned turneds.Idle)) (claimed_as r)) (claim_law claimeds.Idle f.called f.answer) (refl, refl, f.held))
   claims (Told (told.Turned turneds.NoUnit)) f =
-      with_hand acts.Claim None (Told (told.Turned turneds.NoUnit)) f.idle (subst (λ r. So (Told (told.Turned turneds.NoUnit)) (claimed_as r)) (claim_law claimeds.NoUnit f.called f.answer) (refl, refl, f.held))
-  claims (Told told.Busy) f = busy acts.Claim (λ w. refl) old.work refl f.0 f.1
+      with_hand acts.Claim Nothing (Told (told.Turned turneds.NoUnit)) f.idle (subst (λ r. So (Told (told.Turned turneds.NoUnit)) (claimed_as r)) (claim_law claimeds.NoUnit f.called f.answer) (refl, refl, f.held))
+  claims (Told told.Busy) f = busy acts.Claim (λ u e. refl) (λ e. refl) old.work refl f.0 f.1
   claims (Told other) f = absurd f
 
   -- ---- a claim of a given element
@@ -98,7 +109,7 @@ module _ (l : Limits) (stage : ℕ) (keeper keeper' : KeeperShown) (olds news : 
     fails refusals.NotHeld f = subst (λ r. So (Told (told.NotTaken id refusals.NotHeld)) (taken_as id r)) (take_law (Err refusals.NotHeld) f.1.called f.1.answer) (refl, refl, f.1.held)
     fails refusals.NotWaiting f = subst (λ r. So (Told (told.NotTaken id refusals.NotWaiting)) (taken_as id r)) (take_law (Err refusals.NotWaiting) f.1.called f.1.answer) (refl, refl, f.1.held)
 
-    idle_before : (why : Refusal) → TellsTake l id old (Told (told.NotTaken id why)) new → old.work ≡ None
+    idle_before : (why : Refusal) → TellsTake l id old (Told (told.NotTaken id why)) new → old.work ≡ Nothing
     idle_before refusals.NoUnit f = absurd f
     idle_before refusals.NoMemory f = f.1.idle
     idle_before refusals.BadLimits f = f.1.idle
@@ -127,39 +138,43 @@ module _ (l : Limits) (stage : ℕ) (keeper keeper' : KeeperShown) (olds news : 
     same_id element refusals.NotWaiting f = f.0
 
     pub takes : (answer : WorkerAnswer) → TellsTake l id old answer new → So answer (worker_does (acts.Take id) stage c was old.work)
-    takes (Took work) f = with_hand (acts.Take id) None (Took work) f.idle (subst (λ r. So (Took work) (taken_as id r)) (take_law (Ok work) f.called f.answer) (refl, refl, f.held))
+    takes (Took work) f = with_hand (acts.Take id) Nothing (Took work) f.idle (subst (λ r. So (Took work) (taken_as id r)) (take_law (Ok work) f.called f.answer) (refl, refl, f.held))
     takes (Told (told.Turned turneds.NoUnit)) f =
-        with_hand (acts.Take id) None (Told (told.Turned turneds.NoUnit)) f.idle (subst (λ r. So (Told (told.Turned turneds.NoUnit)) (taken_as id r)) (take_law (Err refusals.NoUnit) f.called f.answer) (refl, refl, f.held))
+        with_hand (acts.Take id) Nothing (Told (told.Turned turneds.NoUnit)) f.idle (subst (λ r. So (Told (told.Turned turneds.NoUnit)) (taken_as id r)) (take_law (Err refusals.NoUnit) f.called f.answer) (refl, refl, f.held))
     takes (Told (told.NotTaken element why)) f =
         let same = same_id element why f in
         let g : TellsTake l id old (Told (told.NotTaken id why)) new = subst (λ i. TellsTake l id old (Told (told.NotTaken i why)) new) same f in
-        subst (λ i. So (Told (told.NotTaken i why)) (worker_does (acts.Take id) stage c was old.work)) (sym same) (with_hand (acts.Take id) None (Told (told.NotTaken id why)) (idle_before why g) (fails why g))
-    takes (Told told.Busy) f = busy (acts.Take id) (λ w. refl) old.work refl f.0 f.1
+        subst (λ i. So (Told (told.NotTaken i why)) (worker_does (acts.Take id) stage c was old.work)) (sym same) (with_hand (acts.Take id) Nothing (Told (told.NotTaken id why)) (idle_before why g) (fails why g))
+    takes (Told told.Busy) f = busy (acts.Take id) (λ u e. refl) (λ e. refl) old.work refl f.0 f.1
     takes (Told other) f = absurd f
 
   -- ---- a commit
 
   pub commits : (drafts : List DraftView) (answer : WorkerAnswer) → TellsCommit l drafts old answer new → So answer (worker_does (acts.Commit (record { items = drafts })) stage c was old.work)
-  commits drafts (Told (told.Turned turned)) (work, outcome, done, is_so) =
+  commits drafts (Told (told.Turned turned)) (inl (unit, element, outcome, done, is_so)) =
       let law : (outcome, is) ≡ commit_of was c drafts =
       alone_commit drafts l keeper keeper' olds news h h' (commit_steps l (length drafts)) c old.pass new.pass outcome (whole l keeper keeper' olds news h h' c (commit_steps l (length drafts)) old.pass new.pass a done.called) done.called.turn done.answer in
-      with_hand (acts.Commit (record { items = drafts })) (Some work) (Told (told.Turned turned)) done.held
-      (subst (λ r. So (Told (told.Turned turned)) (committed_as work r)) law (ap (λ t. Told (told.Turned t)) is_so, refl, done.none_left))
+      with_hand (acts.Commit (record { items = drafts })) (Open unit element) (Told (told.Turned turned)) done.held
+      (subst (λ r. So (Told (told.Turned turned)) (committed_as unit element r)) law (ap (λ t. Told (told.Turned t)) is_so, refl, done.none_left))
+  commits drafts (Told (told.Turned turned)) (inr (element, f, is_so)) =
+      hears (acts.Commit (record { items = drafts })) element (Told (told.Turned turned)) f
+      (ap (λ t. told_as (told.Turned t) was Nothing) (sym is_so))
   commits drafts (Told told.NoneOpen) f = none_open (acts.Commit (record { items = drafts })) refl f.0 f.1
   commits drafts (Told other) f = absurd f
   commits drafts (Took work) f = absurd f
 
   -- ---- an abort
 
-  given_up : (ended : Ended) (element : ℕ) (answer : WorkerAnswer) (f : AbortsHand l ended element old new) → So answer (aborted_as f.work (ended, is)) → So answer (worker_does acts.Abort stage c was old.work)
+  given_up : (ended : Ended) (element : ℕ) (answer : WorkerAnswer) (f : AbortsHand l ended element old new) → So answer (aborted_as element (ended, is)) → So answer (worker_does acts.Abort stage c was old.work)
   given_up ended element answer f so =
       let law : (ended, is) ≡ abort_of was c =
       alone_abort l keeper keeper' olds news h h' abort_steps c old.pass new.pass ended (whole l keeper keeper' olds news h h' c abort_steps old.pass new.pass a f.called) f.called.turn f.answer in
-      with_hand acts.Abort (Some f.work) answer f.held (subst (λ r. So answer (aborted_as f.work r)) law so)
+      with_hand acts.Abort (Open f.unit element) answer f.held (subst (λ r. So answer (aborted_as element r)) law so)
 
   pub aborts : (answer : WorkerAnswer) → TellsAbort l old answer new → So answer (worker_does acts.Abort stage c was old.work)
-  aborts (Told (told.Aborted element)) f = given_up endeds.Aborted element (Told (told.Aborted element)) f (ap (λ n. Told (told.Aborted n)) f.element_is, refl, f.none_left)
-  aborts (Told (told.AlreadyAborted element)) f = given_up endeds.AlreadyAborted element (Told (told.AlreadyAborted element)) f (ap (λ n. Told (told.AlreadyAborted n)) f.element_is, refl, f.none_left)
+  aborts (Told (told.Aborted element)) f = given_up endeds.Aborted element (Told (told.Aborted element)) f (refl, refl, f.none_left)
+  aborts (Told (told.AlreadyAborted element)) (inl f) = given_up endeds.AlreadyAborted element (Told (told.AlreadyAborted element)) f (refl, refl, f.none_left)
+  aborts (Told (told.AlreadyAborted element)) (inr f) = hears acts.Abort element (Told (told.AlreadyAborted element)) f refl
   aborts (Told told.NoneOpen) f = none_open acts.Abort refl f.0 f.1
   aborts (Told other) f = absurd f
   aborts (Took work) f = absurd f

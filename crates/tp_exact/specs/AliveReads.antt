@@ -1,16 +1,21 @@
--- What is read of the `alive` lines that a dump tells.
-use Rattle.std.specs.Prelude.{◌≡◌, ◌<◌, ◌≤◌, ◌+◌, ◌^◌, ℕ, List, [], ◌∷◌, ◌++◌, None, Ok, length, map}
+-- What is read of the `alive` and `held` lines that a dump tells.
+use Rattle.std.specs.Prelude.{◌≡◌, ◌<◌, ◌≤◌, ◌+◌, ◌^◌, ℕ, true, false, List, [], ◌∷◌, ◌++◌, None, Some, Ok, length, map}
+use Rattle.std.specs.Prelude.{slice_get}
 use Rattle.tp_model.specs.History.{In}
 use Rattle.tp_model.specs.Steps.{AreLimits}
 use Rattle.tp_model.specs.declared.types.TheConstants.{MAX_ATTEMPTS, MAX_ROUNDS, REPLY_STAGE}
+use Rattle.tp_rollover.specs.Survivors.{AreUnheld}
 use Rattle.tp_rollover.specs.declared.survivors.Survivor.{Survivor}
 use Rattle.tp_script.specs.Grammar.{head_at}
-use Rattle.tp_script.specs.Script.{HeadView}
+use Rattle.tp_script.specs.Hands.{has_in_hand}
+use Rattle.tp_script.specs.LineWords.{is_name}
+use Rattle.tp_script.specs.Script.{HeadView, WorkerView}
+use Rattle.tp_script.specs.ServerLines.{worker_at}
 use Rattle.tp_script.specs.declared.head.TheConstants.{MAX_ALIVE}
-use Rattle.tp_session.specs.Dump.{alive_text, attempts_of}
+use Rattle.tp_session.specs.Dump.{life_text}
 use Rattle.tp_session.specs.Live.{FoundAlive, Live}
 use Rattle.tp_session.specs.Told.{HeadLines}
-use Rattle.tp_exact.specs.Dumps.{line_of}
+use Rattle.tp_exact.specs.Dumps.{line_of, tries_of}
 
 -- a body of four 64-bit numbers
 abbrev pub IsBody64 : List ℕ → Type 0
@@ -21,7 +26,7 @@ IsBody64 other = ⊥
 pub record IsFit (s : Survivor) : Type 0 where
   pub id : s.id < 100000
   pub root : s.root < 100000
-  pub attempts : attempts_of s.status ≤ MAX_ATTEMPTS
+  pub attempts : tries_of s.status s.holder ≤ MAX_ATTEMPTS
   pub rounds_are : s.rounds ≤ MAX_ROUNDS
   pub stage : (1 ≤ s.stage) × (s.stage ≤ REPLY_STAGE)
   pub root_stage : (1 ≤ s.root_stage) × (s.root_stage ≤ REPLY_STAGE)
@@ -29,18 +34,35 @@ pub record IsFit (s : Survivor) : Type 0 where
   pub root_body : IsBody64 s.root_body
   pub itself : s.root ≡ s.id → (s.root_stage ≡ s.stage) × (s.root_body ≡ s.body)
 
--- such a line, where a head isn't full of them, says just what was told
+-- the line of such an element that no pass holds, where a head isn't full of them, says just what was told
 abbrev pub AliveLineReads : Type 0
 AliveLineReads =
-    (s : Survivor) (h : HeadView) → IsFit s → length h.alive < MAX_ALIVE
-    → head_at (alive_text s) h ≡ Ok (record h { alive = h.alive ++ line_of s ∷ [] }, None)
+    (workers : List WorkerView) (first : ℕ) (s : Survivor) (h : HeadView)
+    → IsFit s → s.holder ≡ None → length h.alive < MAX_ALIVE
+    → head_at (life_text workers first s) h ≡ Ok (record h { alive = h.alive ++ line_of first s ∷ [] }, None)
 
--- What was found for a dump is so, where the words of the bodies are 64-bit numbers. So its `alive` lines, read
--- one after another, add to a head just what they tell, and none is refused.
+-- the name is that of this worker of a head, and no line of the head says that it has or had something in hand
+pub record IsFreeWorker (name : List ℕ) (worker : ℕ) (h : HeadView) : Type 0 where
+  pub named : is_name name ≡ true
+  pub at : worker_at name h ≡ Some worker
+  pub idle : has_in_hand worker h ≡ false
+
+-- and so does the line of one that a worker has in hand, where the line isn't too long
+abbrev pub HeldLineReads : Type 0
+HeldLineReads =
+    (workers : List WorkerView) (first worker : ℕ) (w : WorkerView) (s : Survivor) (h : HeadView)
+    → IsFit s → s.holder ≡ Some (first + worker) → slice_get workers worker ≡ Some w
+    → IsFreeWorker w.name worker h → length (life_text workers first s) ≤ 200 → length h.alive < MAX_ALIVE
+    → head_at (life_text workers first s) h ≡ Ok (record h { alive = h.alive ++ line_of first s ∷ [] }, None)
+
+-- What was found for a dump is so, where the words of the bodies are 64-bit numbers. So where no pass holds any
+-- of it, its lines, read one after another, add to a head just what they tell, and none is refused.
 abbrev pub FoundLinesRead : Type 0
 FoundLinesRead =
-    (old done : Live) (survivors : List Survivor) (h : HeadView) (past : ℕ)
-    → AreLimits old.stand.manager.limits → FoundAlive old survivors done
+    (old done : Live) (survivors : List Survivor) (workers : List WorkerView) (first : ℕ) (h : HeadView)
+    (past : ℕ)
+    → AreLimits old.stand.manager.limits → FoundAlive old survivors done → AreUnheld survivors
     → ((s : Survivor) → In s survivors → IsBody64 s.body × IsBody64 s.root_body)
     → length h.alive + length survivors ≤ MAX_ALIVE
-    → HeadLines past (map alive_text survivors) h [] (record h { alive = h.alive ++ map line_of survivors })
+    → HeadLines past (map (life_text workers first) survivors) h []
+    (record h { alive = h.alive ++ map (line_of first) survivors })

@@ -1,7 +1,11 @@
 -- What a dump of a live session tells where nobody else acts: the computed lines. And what a restore of these
 -- lines is.
-use Rattle.std.specs.Prelude.{◌≡◌, ◌⊎◌, ◌++◌, ℕ, Bool, true, false, List, map}
+use Rattle.std.specs.Prelude.{◌≡◌, ◌≤◌, ◌⊎◌, ◌+◌, ◌-◌, ◌++◌, IfSome, ℕ, Bool, true, false, Option, None, Some}
+use Rattle.std.specs.Prelude.{List, length, map}
+use Rattle.std.specs.Option.{option_map}
+use Rattle.tp_model.specs.History.{In}
 use Rattle.tp_model.specs.Steps.{AreLimits}
+use Rattle.tp_model.specs.declared.types.Status.{Status}
 use Rattle.tp_rollover.specs.Rolls.{RollsOver, kills}
 use Rattle.tp_rollover.specs.declared.moved.Moved.{Moved}
 use Rattle.tp_rollover.specs.declared.survivors.Survivor.{Survivor}
@@ -13,43 +17,63 @@ use Rattle.tp_script.specs.declared.head.Head.{Head}
 use Rattle.tp_perform.specs.Restore.{Restored}
 use Rattle.tp_perform.specs.Scenes.{Stand}
 use Rattle.tp_session.specs.Dump.{attempts_of, dump_text}
-use Rattle.tp_session.specs.Live.{DumpTold, FoundAlive, Live, Unsurveyed, survivors_of}
-use Rattle.tp_exact.specs.PlainSession.{SessionState, dump_of, is_open}
+use Rattle.tp_session.specs.Live as lives
+use Rattle.tp_session.specs.Live.{DumpTold, FoundAlive, HoldsUnits, Live, Unsurveyed, survivors_of}
+use Rattle.tp_exact.specs.PlainSession.{SessionState, dump_of, has_desk_open}
 use Rattle.tp_exact.specs.Sessions.{StandsLive}
 
--- With a unit of work open the answer is that it is. Else it is the computed lines, unless what is alive
--- wasn't found, as for want of memory.
-abbrev pub DumpComputed : Bool → HeadView → SessionState → Live → List ℕ → Type 0
-DumpComputed true h s old text = text ≡ line (answer_text answer.Busy)
-DumpComputed false h s old text = (text ≡ dump_text (dump_of h s)) ⊎ Unsurveyed old text
+-- With a unit of work open at a desk the answer is that it is. Else it is the computed lines, unless what is
+-- alive wasn't found, as for want of memory.
+abbrev pub DumpComputed : Bool → HeadView → SessionState → List ℕ → Type 0
+DumpComputed true h s text = text ≡ line (answer_text answer.Busy)
+DumpComputed false h s text = (text ≡ dump_text (dump_of h s)) ⊎ Unsurveyed text
 
 -- so it is from what stands for a computed state, and what is there then stands for the same one
 abbrev pub ExactDump : Type 0
 ExactDump =
     (head : Head) (old new : Live) (text : List ℕ) (s : SessionState)
     → StandsLive (head_view head) old s → DumpTold (head_view head) old text new
-    → DumpComputed (is_open s) (head_view head) s old text × StandsLive (head_view head) new s
+    → DumpComputed (has_desk_open s) (head_view head) s text × StandsLive (head_view head) new s
 
 -- ---- and what is made of these lines
 
--- what the line says that a dump tells of this element
-abbrev pub line_of : Survivor → AliveLine
-line_of s = record {
+-- how often the line says that an element was tried in its round: where it is in hand, that attempt counts
+abbrev pub tries_of : Status → Option ℕ → ℕ
+tries_of status None = attempts_of status
+tries_of status (Some pass) = attempts_of status + 1
+
+-- what the line says that a dump tells of this element; the first worker's pass has this number
+abbrev pub line_of : ℕ → Survivor → AliveLine
+line_of first s = record {
   id = s.id;
-  attempts = attempts_of s.status;
+  attempts = tries_of s.status s.holder;
   rounds = s.rounds;
   draft = record { stage = s.stage; body = s.body };
   root = s.root;
   root_draft = record { stage = s.root_stage; body = s.root_body };
+  holder = option_map (λ pass. pass - first) s.holder;
 }
 
--- What is alive in a session was found for a dump, and a head says just that, under the same limit of
--- attempts. Then it describes what was found; and where it is restored, that is a rollover of the session that
--- was dumped.
+-- where passes hold these, they have this number or a later one
+abbrev pub AreHeldFrom : ℕ → List Survivor → Type 0
+AreHeldFrom first survivors = (s : Survivor) → In s survivors → IfSome s.holder (λ pass. first ≤ pass)
+
+-- So it is of what was found for a dump, where no desk had a unit open: workers alone hold something.
+abbrev pub HeldByWorkers : Type 0
+HeldByWorkers =
+    (h : HeadView) (old done : Live) (survivors : List Survivor) (s : SessionState)
+    → StandsLive h old s → HoldsUnits old → lives.has_desk_open old ≡ false → FoundAlive old survivors done
+    → AreHeldFrom (1 + length h.servers) survivors
+
+-- What is alive in a session was found for a dump, where workers alone hold something, and a head with as many
+-- servers says just that, under the same limit of attempts. Then it describes what was found; and where it is
+-- restored, that is a rollover of the session that was dumped.
 abbrev pub RestoredDump : Type 0
 RestoredDump =
     (old done : Live) (survivors : List Survivor) (head : HeadView) (first new : Stand) (moved : List Moved)
-    → AreLimits old.stand.manager.limits → FoundAlive old survivors done → head.alive ≡ map line_of survivors
+    → AreLimits old.stand.manager.limits → FoundAlive old survivors done
+    → AreHeldFrom (1 + length head.servers) survivors
+    → head.alive ≡ map (line_of (1 + length head.servers)) survivors
     → head.settings.attempts ≡ old.stand.manager.limits.attempts
     → new.manager.limits.attempts ≡ old.stand.manager.limits.attempts
     → Restored (survivors_of head) first moved new

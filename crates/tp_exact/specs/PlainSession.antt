@@ -3,7 +3,6 @@ use Rattle.std.specs.Prelude.{ℕ, ◌+◌, Bool, true, false, ◌||◌, if◌th
 use Rattle.std.specs.Prelude.{Option, Some, None, Result, Ok, Err, drop, length, map, take}
 use Rattle.std.specs.Prelude.{slice_get, slice_set, slice_index_or}
 use Rattle.std.specs.List.{list_any}
-use Rattle.tp_model.specs.declared.types.Work.{Work}
 use Rattle.tp_plain.specs.OneThread.{State, start}
 use Rattle.tp_rollover.specs.Anew.{made_anew}
 use Rattle.tp_rollover.specs.declared.moved.Moved.{Moved}
@@ -13,6 +12,7 @@ use Rattle.tp_rollover.specs.declared.survivors.Survivor.{Survivor}
 use Rattle.tp_report.specs.Answer.{account_text, answer_text, line, rolled_text}
 use Rattle.tp_report.specs.declared.answer.Answer.TheVariants as answer
 use Rattle.tp_report.specs.declared.answer.Renamed.{Renamed}
+use Rattle.tp_script.specs.Fault.{◌<>◌}
 use Rattle.tp_script.specs.Passes.{is_rollover}
 use Rattle.tp_script.specs.Grammar.{body_at, head_at}
 use Rattle.tp_script.specs.Script.{HeadView, WorkerView, no_head}
@@ -24,18 +24,22 @@ use Rattle.tp_script.specs.declared.script.Command.{Command}
 use Rattle.tp_perform.specs.Rollover.{renamed, roll_refused_text}
 use Rattle.tp_reference.specs.PlainClient.{counts_of}
 use Rattle.tp_reference.specs.PlainReport.{ReportState, command_step, finals_below, new_desk}
-use Rattle.tp_session.specs.Answers.{refused_line, restored_text, worker_line}
+use Rattle.tp_session.specs.Answers.{refused_line, restored_text, units_text, worker_line}
+use Rattle.tp_session.specs.Carried.{lost_works, works_after}
 use Rattle.tp_session.specs.Conversed.{limits_of}
 use Rattle.tp_session.specs.Dump.{dump_lines, dump_text}
+use Rattle.tp_session.specs.Hands.{has_unit}
 use Rattle.tp_session.specs.Heard.{heard}
 use Rattle.tp_session.specs.Live.{survivors_of}
+use Rattle.tp_session.specs.declared.hand.Holding.{Holding}
+use Rattle.tp_session.specs.declared.hand.Holding.TheVariants.{Nothing}
 use Rattle.tp_exact.specs.Alive.{alive_of}
 use Rattle.tp_exact.specs.PlainWorkers.{worker_does}
 
 -- the manager and the desks, as in a script's run, and what each worker has in hand
 pub record SessionState : Type 0 where
   pub report : ReportState
-  pub works : List (Option Work)
+  pub works : List Holding
 
 -- ---- workers and accounts
 
@@ -43,7 +47,7 @@ pub record SessionState : Type 0 where
 abbrev pub worker_step : Option WorkerView → WorkerAct → ℕ → ℕ → SessionState → List ℕ × SessionState
 worker_step None act at c s = ([], s)
 worker_step (Some it) act at c s =
-    let done = worker_does act it.stage c s.report.manager (slice_index_or s.works at None) in (
+    let done = worker_does act it.stage c s.report.manager (slice_index_or s.works at Nothing) in (
       worker_line it.name done.answer,
       record {
         report = record s.report { manager = done.manager };
@@ -51,10 +55,14 @@ worker_step (Some it) act at c s =
       },
     )
 
+-- whether the pass of a desk has a unit of work open
+abbrev pub has_desk_open : SessionState → Bool
+has_desk_open s =
+    list_any (λ p. is_some p.holding) (take (length s.report.desks) (drop 1 s.report.manager.passes))
+
 -- whether a unit of work is open: one in a worker's hand, or at the pass of a desk
 abbrev pub is_open : SessionState → Bool
-is_open s = list_any is_some s.works
-    || list_any (λ p. is_some p.holding) (take (length s.report.desks) (drop 1 s.report.manager.passes))
+is_open s = list_any has_unit s.works || has_desk_open s
 
 -- `account`
 abbrev pub account_line : SessionState → List ℕ
@@ -77,38 +85,56 @@ abbrev pub other_refusals : Refusals → Refusals
 other_refusals [] = []
 other_refusals (why ∷ others) = others
 
--- With a unit of work open the answer is that it is, and else the refusal, if it was one: nothing has changed
--- then. Else this is done.
+-- With such a unit of work open the answer is that it is, and else the refusal, if it was one: nothing has
+-- changed then. Else this is done.
 abbrev pub unless_refused : Bool → Option RollFault → SessionState → List ℕ × SessionState
     → List ℕ × SessionState
 unless_refused true why s done = (line (answer_text answer.Busy), s)
 unless_refused false (Some why) s done = (line (roll_refused_text why), s)
 unless_refused false None s done = done
 
--- Another manager takes the place of this one, and the line tells what each element is called there. The desks
--- keep their registers; they and the workers have nothing in hand. Where that manager would be full, nothing
--- has changed.
-abbrev pub anew_as : (List Renamed → List ℕ) → SessionState → Option (List Moved × State)
-    → List ℕ × SessionState
-anew_as told s (Some (moved, manager)) =
-    (line (told (map renamed moved)), record s { report = record s.report { manager = manager } })
-anew_as told s None = (line (roll_refused_text faults.Full), s)
+-- What the workers have in hand in this manager, where this was carried over and they had that: each the unit
+-- that its pass has open there.
+abbrev pub works_in : SessionState → List Moved → State → List Holding → List Holding
+works_in s moved manager works = let first = 1 + length s.report.desks in
+    works_after moved first (map (λ p. p.holding) (drop first manager.passes)) works
+
+-- Another manager takes the place of this one, and the line tells what each element is called there and each
+-- unit that a worker has open. The desks keep their registers and have nothing in hand, and the workers had
+-- these works in hand before. Where that manager would be full, nothing has changed.
+abbrev pub anew_as : (List Renamed → List ℕ) → HeadView → List Holding → SessionState
+    → Option (List Moved × State) → List ℕ × SessionState
+anew_as told h before s (Some (moved, manager)) =
+    let works = works_in s moved manager before in (
+      line (told (map renamed moved) <> units_text h.workers works),
+      record { report = record s.report { manager = manager }; works = works },
+    )
+anew_as told h before s None = (line (roll_refused_text faults.Full), s)
 
 -- these elements are made anew in a manager with the same limits
-abbrev pub anew : (List Renamed → List ℕ) → List Survivor → SessionState → List ℕ × SessionState
-anew told survivors s = let l = s.report.manager.limits in
-    anew_as told s (made_anew l l.parts survivors (start l))
+abbrev pub anew : (List Renamed → List ℕ) → HeadView → List Survivor → List Holding → SessionState
+    → List ℕ × SessionState
+anew told h survivors before s = let l = s.report.manager.limits in
+    anew_as told h before s (made_anew l l.parts survivors (start l))
+
+-- a rollover: what the workers have in hand goes on
+abbrev pub rolled_over : HeadView → SessionState → List ℕ × SessionState
+rolled_over h s = anew rolled_text h (alive_of s.report.manager) s.works s
+
+-- a restore of what the head says is alive, is in hand, or was lost
+abbrev pub restored : HeadView → SessionState → List ℕ × SessionState
+restored h s = anew restored_text h (survivors_of h) (lost_works h.lost 0 s.works) s
 
 -- the lines that lead to this state
 abbrev pub dump_of : HeadView → SessionState → List (List ℕ)
 dump_of h s = dump_lines h (map (λ d. d.registers) s.report.desks) (map (λ d. d.is_dropped) s.report.desks)
-    (alive_of s.report.manager)
+    s.works (alive_of s.report.manager)
 
 -- ---- each line
 
 -- a command: a rollover, or one of those that scripts have without one
 abbrev pub command_by : Bool → HeadView → Option RollFault → Command → SessionState → List ℕ × SessionState
-command_by true h why c s = unless_refused (is_open s) why s (anew rolled_text (alive_of s.report.manager) s)
+command_by true h why c s = unless_refused (has_desk_open s) why s (rolled_over h s)
 command_by false h why c s = let step = command_step h.servers c s.report in
     (step.0, record s { report = step.1 })
 
@@ -118,8 +144,8 @@ act_step h why (acts.Command c) s = command_by (is_rollover c) h why c s
 act_step h why (acts.Worker at act) s =
     worker_step (slice_get h.workers at) act at (1 + length h.servers + at) s
 act_step h why acts.Account s = (account_line s, s)
-act_step h why acts.Dump s = unless_refused (is_open s) why s (dump_text (dump_of h s), s)
-act_step h why acts.Restore s = unless_refused (is_open s) why s (anew restored_text (survivors_of h) s)
+act_step h why acts.Dump s = unless_refused (has_desk_open s) why s (dump_text (dump_of h s), s)
+act_step h why acts.Restore s = unless_refused (is_open s) why s (restored h s)
 
 -- a line after the head, which is the n-th of all lines
 abbrev pub line_step : HeadView → ℕ → Option RollFault → Result (Option Act) LineFault → SessionState
@@ -177,7 +203,7 @@ read_head past (line ∷ others) h = read_line past line others h (read_head (pa
 abbrev pub begin : HeadView → SessionState
 begin h = record {
   report = record { manager = start (limits_of h 0); desks = map new_desk h.servers };
-  works = map (λ _. None) h.workers;
+  works = map (λ _. Nothing) h.workers;
 }
 
 -- of what was read of the head: what it was told, the answers to the first command and to the lines after it,

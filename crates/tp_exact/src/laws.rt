@@ -3,8 +3,8 @@
 ghost use Rattle.tp_exact.specs.Client.{ExactClient};
 ghost use Rattle.tp_exact.specs.Commands.{ExactCommand};
 ghost use Rattle.tp_exact.specs.Desks.{ExactDesk};
-ghost use Rattle.tp_exact.specs.AliveReads.{AliveLineReads, FoundLinesRead};
-ghost use Rattle.tp_exact.specs.Dumps.{ExactDump, RestoredDump};
+ghost use Rattle.tp_exact.specs.AliveReads.{AliveLineReads, FoundLinesRead, HeldLineReads};
+ghost use Rattle.tp_exact.specs.Dumps.{ExactDump, HeldByWorkers, RestoredDump};
 ghost use Rattle.tp_exact.specs.Finals.{ExactAccount, ExactFinals};
 ghost use Rattle.tp_exact.specs.Programs.{ComputedOfScript, ExactProgram, SamePlain};
 ghost use Rattle.tp_exact.specs.Sessions.{ComputedOfBytes, ExactLine, ExactSession, ExactSessionFront};
@@ -51,14 +51,18 @@ pub fn exact_dump()
 {}
 
 /// A head that says what a dump has found alive describes just that, and where it is restored the new
-/// session's manager stands as after a rollover of the dumped one.
+/// session's manager stands as after a rollover of the dumped one. What a dump finds in hand workers have in
+/// hand.
 pub fn restored_dump()
-    ensures { RestoredDump }
+    ensures restored { RestoredDump }
+    ensures held { HeldByWorkers }
 {}
 
-/// The `alive` line that a dump tells of an element, read as a line of a head, says just that.
+/// The line that a dump tells of an element, read as a line of a head, says just that: an `alive` line, or a
+/// `held` one where a worker has it in hand.
 pub fn alive_line_reads()
-    ensures { AliveLineReads }
+    ensures alive { AliveLineReads }
+    ensures held { HeldLineReads }
 {}
 
 /// All `alive` lines of a dump, read one after another, add to a head just what the dump has found alive.

@@ -1,5 +1,8 @@
-use Rattle.tp_exact.proofs.RestoredDumps.{restored_dump}
+use Rattle.tp_exact.proofs.RestoredDumps.{held_by_workers, restored_dump}
 use Rattle.tp_exact.proofs.laws.restored_dump.Goals as goal
 
-pub returns : goal.returns
-returns c = restored_dump
+pub returns-clause-restored : goal.returns-clause-restored
+returns-clause-restored c = restored_dump
+
+pub returns-clause-held : goal.returns-clause-held
+returns-clause-held c = held_by_workers
