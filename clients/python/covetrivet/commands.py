@@ -246,8 +246,8 @@ def drain_next() -> Command[None]:
 
 
 def rollover() -> Command[answers.RolledOver]:
-    """What is alive goes on in a new manager of the same limits, and what workers have in hand in their hands.
-    Not for a batch. Busy where a unit of a server's desk is open.
+    """What is alive goes on in a new manager of the same limits, what a worker has in hand in its hand. Not
+    for a batch. Busy where a unit of a server's desk is open.
     """
     form = "rolled over N"
     return Command("rollover", read=lambda it: answers.RolledOver(*answers.carried_of(it.listed(form))))

@@ -59,8 +59,8 @@ class Ids:
         return Ids(self.past + 1, {new: self.told(old) for new, old in olds.items()}, self.lost_in(dumped))
 
     def lost_in(self, dumped: Iterable[str]) -> dict[str, int]:
-        """Returns what these lines of a dump say is lost, by lasting ids. What was lost before a rollover that
-        was earlier has an id of then.
+        """Returns what these lines of a dump say is lost, by lasting ids. What was lost before an earlier
+        rollover has an id of then.
         """
         words = [it.split() for it in dumped]
         return {it[1]: self.lost.get(it[1], self.told(int(it[2]))) for it in words if it[:1] == ["lost"]}

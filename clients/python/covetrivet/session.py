@@ -377,7 +377,9 @@ class Session:
         return command.with_id(now)
 
     def _read(self, command: Command[T], answer: str) -> T:
-        heard = Heard(answer, command.line, self._ids.teller(answer) if self._ids else int)
+        heard = Heard(answer, command.line)
+        if self._ids:
+            heard = Heard(answer, command.line, self._ids.teller(answer))
         heard.refused()
         value = command.read(heard)
         if self._ids and isinstance(value, Dumped):
@@ -400,7 +402,9 @@ class Session:
         return self._rolled_over(answer, dumped)
 
     def _rolled_over(self, answer: str, dumped: Sequence[str]) -> str:
-        """Takes note of a rollover behind this dump. Returns its answer, by the ids that the session tells."""
+        """Takes note of a rollover behind a dump of these lines. Returns its answer, by the ids that the
+        session tells.
+        """
         rolled = commands.rollover().read(Heard(answer, "rollover"))
         self.rollovers += 1
         if self._ids is None:

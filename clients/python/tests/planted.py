@@ -303,7 +303,12 @@ ERRORS = [
         "pass",
         "Members.test_a_rollover_waits_for_nobody",
     ),
-    Error("rollovers.py", "if answer.startswith(", "if answer.endswith(", "Members.test_a_rollover_that_is_refused"),
+    Error(
+        "rollovers.py",
+        "if answer.startswith(",
+        "if answer.endswith(",
+        "Members.test_a_rollover_that_is_refused",
+    ),
     Error("rollovers.py", "at or 1", "at + 1", "Choices.test_a_rollover_is_a_record_of_its_own"),
     Error(
         "member.py",
