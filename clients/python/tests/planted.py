@@ -219,6 +219,12 @@ ERRORS = [
         "if False",
         "ServeOrphans.test_units_of_others_are_left_alone",
     ),
+    Error(
+        "serve.py",
+        "server.adopt(names)",
+        "pass",
+        "ServeOrphans.test_units_that_a_head_says_are_open",
+    ),
     Error("holders.py", "del self.units[name]", "pass", "ServeOrphans.test_units_of_others_are_left_alone"),
     Error("call.py", "or answered < self.asked", "", "ServeCalls.test_a_server_that_is_lost"),
     Error(
