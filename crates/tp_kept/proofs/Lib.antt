@@ -2,4 +2,5 @@ pub mod EventsLemmas
 pub mod KeptLemmas
 pub mod LinesLemmas
 pub mod OwnLemmas
+pub mod ShortLemmas
 pub mod SureLemmas

@@ -7,7 +7,8 @@ use Rattle.std.proofs.lemmas.Fmt.{decimal_digit}
 use Rattle.tp_model.specs.declared.types.Refusal.TheVariants as refusals
 use Rattle.tp_report.specs.Answer.{line, refusal_text}
 use Rattle.tp_script.specs.Fault.{◌<>◌}
-use Rattle.tp_kept.specs.Events.{begins, lacks_memory}
+use Rattle.tp_kept.specs.Events.{lacks_memory}
+use Rattle.tp_kept.specs.Lines.{begins}
 
 abbrev short : List ℕ
 short = line (refusal_text refusals.NoMemory)

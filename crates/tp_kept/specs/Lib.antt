@@ -2,3 +2,4 @@ pub mod Events
 pub mod Kept
 pub mod Lines
 pub mod Ready
+pub mod Short

@@ -2,11 +2,15 @@
 #![tactic(auto)]
 
 mod cause;
+mod counting;
 mod events;
 mod filling;
 mod kept;
 mod lines;
 mod program;
+mod short;
+mod shortening;
+mod stage;
 mod sure;
 mod wire;
 mod writing;
