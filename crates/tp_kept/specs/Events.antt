@@ -8,7 +8,7 @@ use Rattle.std.specs.Option.{option_map}
 use Rattle.tp_journal.specs.Event.{Event}
 use Rattle.tp_model.specs.declared.types.Refusal.TheVariants as refusals
 use Rattle.tp_report.specs.Answer.{line, refusal_text}
-use Rattle.tp_kept.specs.declared.events.TheConstants.{APPENDED, ASKED, BEGUN, HANDED, MUTED, RESUMED, ROLLED, SHORTENED, SHOWN, TAKEN, TRIED}
+use Rattle.tp_kept.specs.declared.events.TheConstants.{APPENDED, ASKED, BEGUN, HANDED, MUTED, NUMBERED, RESUMED, ROLLED, SHORTENED, SHOWN, TAKEN, TRIED}
 use Rattle.tp_kept.specs.Lines.{begins, opens, own_dump}
 use Rattle.tp_kept.specs.Short.{is_dumped, is_rolled, is_short}
 
@@ -30,11 +30,12 @@ begun events = bytes_of BEGUN BEGUN events
 abbrev pub only_begun : List ℕ → List Event
 only_begun lines = (BEGUN, 0, true, lines) ∷ []
 
--- what it has told, also where that was told before, or taken
+-- what it has told, also where that was told before, or taken, or has other numbers
 abbrev pub told : List Event → List ℕ
 told [] = []
 told ((kind, number, ok, bytes) ∷ past) =
-    if (kind == MUTED) || ((kind == SHOWN) || (kind == TAKEN)) then told past ++ bytes else told past
+    if (kind == MUTED) || ((kind == SHOWN) || ((kind == TAKEN) || (kind == NUMBERED))) then told past ++ bytes
+    else told past
 
 -- what was written of it, behind how many lines were recovered
 abbrev pub written : List Event → List ℕ
@@ -71,7 +72,8 @@ lacks_memory (b ∷ bs) = begins (line (refusal_text refusals.NoMemory)) (b ∷ 
 abbrev pub is_sure : List Event → Bool
 is_sure [] = true
 is_sure ((kind, number, ok, bytes) ∷ past) =
-    not (((kind == MUTED) || ((kind == SHOWN) || (kind == TAKEN))) && lacks_memory bytes) && is_sure past
+    not (((kind == MUTED) || ((kind == SHOWN) || ((kind == TAKEN) || (kind == NUMBERED)))) && lacks_memory bytes)
+    && is_sure past
 
 -- ---- what makes a journal short
 

@@ -33,7 +33,7 @@ pub(crate) fn count(bytes: &[u8]) -> u64 {
 }
 
 /// The number at the front of these bytes, and what stands behind it.
-fn number(bytes: &[u8]) -> (u64, &[u8]) {
+pub(crate) fn number(bytes: &[u8]) -> (u64, &[u8]) {
     let mut number: u64 = 0;
     for at in 0..bytes.len() {
         let byte = bytes[at];

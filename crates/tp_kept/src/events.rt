@@ -32,3 +32,6 @@ pub(crate) const SHORTENED: u64 = 9;
 
 /// These lines, and what was ready, may have taken the place of all lines of the journal: the disk has failed.
 pub(crate) const TRIED: u64 = 10;
+
+/// Answers with numbers of lines were told, which the client has by other numbers: those were written.
+pub(crate) const NUMBERED: u64 = 11;

@@ -66,6 +66,8 @@ impl<R: Source + Drop, W: Sink + Drop, D: Device + Drop> Kept<R, W, D> {
             stage: Stage::Lines,
             dump: Vec::new(alloc),
             due: false,
+            more: stands.counted,
+            less: stands.lines,
             recovering: true,
             left: MAX_ASKED,
             asked: 0,
@@ -340,6 +342,7 @@ impl<R: Source + Drop, W: Sink + Drop, D: Device + Drop> Kept<R, W, D> {
         let number = own_number(stage);
         self.log.note(&[HANDED, number, 1], &buffer[..n]);
         forget(&mut self.dump, number);
+        self.less = self.less.saturating_add(number);
         self.stage = stage;
         self.due = false;
         self.at += n;

@@ -37,6 +37,10 @@ pub struct Kept<R: Source + Drop, W: Sink + Drop, D: Device + Drop> {
     pub(crate) dump: Vec<u8>,
     /// A rollover has succeeded behind it.
     pub(crate) due: bool,
+    /// How many lines of the client the lines stand for that the session wasn't given by it.
+    pub(crate) more: u64,
+    /// How many these are.
+    pub(crate) less: u64,
     /// The session has no line yet but those.
     pub(crate) recovering: bool,
     /// How often the reader may still be asked.

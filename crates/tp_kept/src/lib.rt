@@ -7,6 +7,7 @@ mod events;
 mod filling;
 mod kept;
 mod lines;
+mod numbering;
 mod program;
 mod short;
 mod shortening;

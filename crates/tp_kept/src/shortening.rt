@@ -10,8 +10,9 @@ ghost use Rattle.tp_kept.specs.declared.stage.Stage.TheVariants as Stage;
 
 use crate::cause::Cause;
 use crate::counting::count;
-use crate::events::{MUTED, ROLLED, SHORTENED, SHOWN, TAKEN, TRIED};
+use crate::events::{MUTED, NUMBERED, RESUMED, ROLLED, SHORTENED, SHOWN, TAKEN, TRIED};
 use crate::kept::Kept;
+use crate::numbering::{has_number, numbered};
 use crate::short::{is_dumped, is_rolled, short};
 use crate::stage::Stage;
 use crate::writing::write_noted;
@@ -70,6 +71,36 @@ impl<R: Source + Drop, W: Sink + Drop, D: Device + Drop> Kept<R, W, D> {
         }
     }
 
+    /// Writes answers with the numbers that the client's lines have.
+    fn say_numbered(&mut self, answers: &[u8]) -> Result<(), Failed>
+        requires ready { IsReady D.seen D.may_leave self.old }
+        requires fine { self.old.cause ≡ None }
+        requires resumed { self.old.recovering ≡ false }
+        requires sure { lacks_memory answers.now ≡ false }
+        ensures is_ready { IsReady D.seen D.may_leave self.new }
+        ensures told { OnOk result (Appends (contents_of self.old.log.events (W.contents self.old.writer))
+            (contents_of self.new.log.events (W.contents self.new.writer)) answers.now) }
+        ensures front { OnErr result (AppendsFront (contents_of self.old.log.events (W.contents self.old.writer))
+            (contents_of self.new.log.events (W.contents self.new.writer)) answers.now) }
+        ensures rest { rest_of (drop self.new.at self.new.ready.items) self.new.line.items (R.rest self.new.reader)
+            ≡ rest_of (drop self.old.at self.old.ready.items) self.old.line.items (R.rest self.old.reader) }
+        ensures asked { self.new.asked ≡ self.old.asked }
+        ensures cause { OnErr result (is_some self.new.cause ≡ true) }
+    {
+        let Ok(text) = numbered(self.alloc, answers, self.more, self.less) else {
+            self.cause = Some(Cause::NoMemory);
+            return Err(Failed);
+        };
+        self.log.note(&[NUMBERED, 0, 1], answers);
+        match write_noted(&mut self.writer, &mut self.log, RESUMED, &text) {
+            Ok(()) => Ok(()),
+            Err(Failed) => {
+                self.cause = Some(Cause::Write);
+                Err(Failed)
+            }
+        }
+    }
+
     /// Writes answers, unless they were told before.
     pub(crate) fn say(&mut self, answers: &[u8]) -> Result<(), Failed>
         requires ready { IsReady D.seen D.may_leave self.old }
@@ -88,6 +119,9 @@ impl<R: Source + Drop, W: Sink + Drop, D: Device + Drop> Kept<R, W, D> {
         if self.recovering {
             self.log.note(&[MUTED, 0, 1], answers);
             return Ok(());
+        }
+        if self.more != self.less && has_number(answers) {
+            return self.say_numbered(answers);
         }
         match write_noted(&mut self.writer, &mut self.log, SHOWN, answers) {
             Ok(()) => Ok(()),
