@@ -3,6 +3,7 @@ ghost use Rattle.std.specs.Prelude.{◌≡◌, IfOk, string_bytes};
 ghost use Rattle.tp_kept.specs.Short.{stands_text};
 
 use crate::lines::COUNTED;
+use crate::numbering::{behind_number, number};
 use crate::stage::is_own_next;
 use std::alloc::{AllocError, Global};
 use std::string::String;
@@ -19,32 +20,18 @@ pub(crate) struct Stands {
 /// How many lines of a client end in these bytes: no `dump` of the session's own is.
 pub(crate) fn count(bytes: &[u8]) -> u64 {
     let mut lines: u64 = 0;
+    let mut own: u64 = 0;
     let mut begins = true;
     for at in 0..bytes.len() {
         if begins && is_own_next(&bytes[at..]) {
-            lines = lines.saturating_sub(1);
+            own = own.saturating_add(1);
         }
         begins = bytes[at] == b'\n';
         if begins {
             lines = lines.saturating_add(1);
         }
     }
-    lines
-}
-
-/// The number at the front of these bytes, and what stands behind it.
-pub(crate) fn number(bytes: &[u8]) -> (u64, &[u8]) {
-    let mut number: u64 = 0;
-    for at in 0..bytes.len() {
-        let byte = bytes[at];
-        if !byte.is_ascii_digit() {
-            return (number, &bytes[at..]);
-        }
-        number = number
-            .saturating_mul(10)
-            .saturating_add(u64::from(byte - b'0'));
-    }
-    (number, &[])
+    lines.saturating_sub(own)
 }
 
 /// Which of the lines of a journal stand for others: the first line says so.
@@ -56,14 +43,12 @@ pub(crate) fn stands_in(lines: &[u8]) -> Stands {
     let Some(rest) = lines.strip_prefix(COUNTED) else {
         return none;
     };
-    let (many, rest) = number(rest);
-    let Some(rest) = rest.strip_prefix(b" lines for ") else {
+    let Some(behind) = behind_number(rest).strip_prefix(b" lines for ") else {
         return none;
     };
-    let (counted, _) = number(rest);
     Stands {
-        lines: many.saturating_add(1),
-        counted,
+        lines: number(rest).saturating_add(1),
+        counted: number(behind),
     }
 }
 
