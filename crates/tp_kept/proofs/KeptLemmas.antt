@@ -1,9 +1,8 @@
 -- A kept session and its journal.
-use Rattle.std.proofs.Common.{◌≡◌, ◌∙◌, ℕ, zero, suc, ◌<◌, ◌≤◌, ◌+◌, ◌-◌, ◌^◌, All, Bool, true, false, List, [], ◌∷◌, ◌++◌, refl, sym, ap, subst, arith, append-nil, append_assoc, drop, inl, inr, length, length-append, length-drop, min, take, take-append-drop}
+use Rattle.std.proofs.Common.{◌≡◌, ◌∙◌, ℕ, zero, suc, ◌<◌, ◌≤◌, ◌+◌, ◌-◌, ◌^◌, All, Bool, true, false, List, [], ◌∷◌, ◌++◌, refl, sym, ap, subst, arith, append-nil, append_assoc, drop, inl, inr, length, length-append, length-drop, take, take-append-drop}
 use Rattle.std.specs.Prelude.{◌⊎◌, Option, None, Some}
 use Rattle.std.specs.Io.KnownBytes.{Consumes, IsAtEnd}
 use Rattle.std.proofs.lemmas.List.{drop-drop, length-take-le, take_at}
-use Rattle.std.proofs.lemmas.List.Elements.{All-append, All-cons, All-nil}
 use Rattle.tp_journal.specs.Device.{LeavesOnly}
 use Rattle.tp_journal.specs.Journal.{IsOpen, IsSettled}
 use Rattle.tp_journal.specs.Text.{HasTorn, IsAtRest, IsBatch, IsPlain, end_line, first_line, text_of, with_end}

@@ -1,6 +1,6 @@
 -- The numbers of lines in answers.
-use Rattle.std.proofs.Common.{◌≡◌, ◌∙◌, ◌==◌, ℕ, ◌+◌, ◌-◌, ◌*◌, ◌<◌, Bool, true, false, List, [], ◌∷◌, ◌++◌, None, Some, refl, sym, ap, append-nil, append_assoc, drop, take, length}
-use Rattle.std.specs.Prelude.{get_or, if◌then◌else◌, position}
+use Rattle.std.proofs.Common.{◌≡◌, ◌∙◌, ◌==◌, ℕ, ◌+◌, ◌-◌, ◌*◌, ◌<◌, true, false, List, [], ◌∷◌, ◌++◌, None, Some, refl, sym, ap, append-nil, append_assoc, drop, take, length}
+use Rattle.std.specs.Prelude.{get_or, position}
 use Rattle.std.proofs.lemmas.List.{at_drop_more, drop-drop}
 use Rattle.std.proofs.lemmas.List.Elements.{All-head, All-tail}
 use Rattle.tp_session.specs.Heard.{IsInLine}

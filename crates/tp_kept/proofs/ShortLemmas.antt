@@ -1,8 +1,8 @@
 -- The lines of a dump, behind a line that says for how many they stand.
-use Rattle.std.proofs.Common.{◌≡◌, ◌∙◌, ◌==◌, ℕ, zero, suc, ◌+◌, ◌-◌, ◌<◌, ◌≤◌, ◌^◌, Bool, true, false, All, List, [], ◌∷◌, ◌++◌, None, Some, refl, sym, ap, subst, arith, append-nil, append_assoc, drop, take, length}
-use Rattle.std.specs.Prelude.{◌&&◌, codes, decimal, if◌then◌else◌, get_or, position}
+use Rattle.std.proofs.Common.{◌≡◌, ◌∙◌, ◌==◌, ℕ, zero, suc, ◌+◌, ◌-◌, ◌<◌, ◌≤◌, ◌^◌, true, false, All, List, [], ◌∷◌, ◌++◌, None, Some, refl, sym, ap, arith, append_assoc, drop, take, length}
+use Rattle.std.specs.Prelude.{codes, decimal, if◌then◌else◌, get_or, position}
 use Rattle.std.proofs.lemmas.List.{at_drop_more}
-use Rattle.std.proofs.lemmas.List.Elements.{All-append, All-cons, All-head, All-nil, All-tail}
+use Rattle.std.proofs.lemmas.List.Elements.{All-append, All-head, All-tail}
 use Rattle.std.proofs.lemmas.Bool.Decides.{nat_tests}
 use Rattle.tp_session.specs.Heard.{IsInLine}
 use Rattle.tp_session.proofs.HeardLemmas.{EndsAt, ends_at, no_end}

@@ -1,7 +1,6 @@
 -- The numbers of lines in answers, as a client has them.
-use Rattle.std.specs.Prelude.{ℕ, Bool, List, [], ◌∷◌, ◌++◌, ◌+◌, ◌-◌, ◌*◌, ◌^◌, codes, decimal, drop, length, min, if◌then◌else◌}
+use Rattle.std.specs.Prelude.{ℕ, Bool, true, false, List, [], ◌∷◌, ◌++◌, ◌+◌, ◌-◌, ◌*◌, ◌^◌, codes, decimal, drop, length, min, if◌then◌else◌}
 use Rattle.std.specs.Prelude.{◌==◌, ◌&&◌, nat_le}
-use Rattle.tp_script.specs.Fault.{◌<>◌}
 use Rattle.tp_kept.specs.Lines.{opens}
 
 -- no more than fits
@@ -45,3 +44,8 @@ renumbered_from more less line (b ∷ bs) =
 
 abbrev pub renumbered : ℕ → ℕ → List ℕ → List ℕ
 renumbered more less answers = renumbered_from more less [] answers
+
+-- what of answers is written: nothing where they were told before, and else they with a client's numbers
+abbrev pub shown_of : Bool → ℕ → ℕ → List ℕ → List ℕ
+shown_of true more less answers = []
+shown_of false more less answers = if more == less then answers else renumbered more less answers

@@ -11,19 +11,6 @@ use std::string::String;
 /// How an answer begins that has the number of a line.
 const REFUSED: &[u8] = b"refused line ";
 
-/// Whether an answer has the number of a line.
-pub(crate) fn has_number(answers: &[u8]) -> bool {
-    let mut rest = answers;
-    while let Some(place) = line_end(rest) {
-        if rest.starts_with(REFUSED) {
-            return true;
-        }
-        let (_answer, others) = rest.split_at(place);
-        rest = &others[1..];
-    }
-    false
-}
-
 /// Whether a byte is a digit.
 fn is_digit(byte: u8) -> bool
     ensures { result ≡ is_digit byte }
@@ -40,7 +27,9 @@ pub(crate) fn number(bytes: &[u8]) -> u64
         if !is_digit(*byte) {
             return number;
         }
-        number = number.saturating_mul(10).saturating_add(u64::from(*byte - 48));
+        number = number
+            .saturating_mul(10)
+            .saturating_add(u64::from(*byte - 48));
     }
     number
 }

@@ -5,6 +5,7 @@ ghost use Rattle.std.specs.Io.KnownBytes.{Appends};
 ghost use Rattle.tp_report.specs.Written.{AppendsFront};
 ghost use Rattle.tp_kept.specs.Events.{contents_of, lacks_memory, told, written};
 ghost use Rattle.tp_kept.specs.Kept.{rest_of};
+ghost use Rattle.tp_kept.specs.Numbers.{renumbered, shown_of};
 ghost use Rattle.tp_kept.specs.Ready.{IsReady};
 ghost use Rattle.tp_kept.specs.declared.stage.Stage.TheVariants as Stage;
 
@@ -12,7 +13,7 @@ use crate::cause::Cause;
 use crate::counting::count;
 use crate::events::{MUTED, NUMBERED, RESUMED, ROLLED, SHORTENED, SHOWN, TAKEN, TRIED};
 use crate::kept::Kept;
-use crate::numbering::{has_number, numbered};
+use crate::numbering::numbered;
 use crate::short::{is_dumped, is_rolled, short};
 use crate::stage::Stage;
 use crate::writing::write_noted;
@@ -85,6 +86,8 @@ impl<R: Source + Drop, W: Sink + Drop, D: Device + Drop> Kept<R, W, D> {
         ensures rest { rest_of (drop self.new.at self.new.ready.items) self.new.line.items (R.rest self.new.reader)
             ≡ rest_of (drop self.old.at self.old.ready.items) self.old.line.items (R.rest self.old.reader) }
         ensures asked { self.new.asked ≡ self.old.asked }
+        ensures written { OnOk result (written self.new.log.events
+            ≡ written self.old.log.events ++ renumbered self.old.more self.old.less answers.now) }
         ensures cause { OnErr result (is_some self.new.cause ≡ true) }
     {
         let Ok(text) = numbered(self.alloc, answers, self.more, self.less) else {
@@ -114,13 +117,15 @@ impl<R: Source + Drop, W: Sink + Drop, D: Device + Drop> Kept<R, W, D> {
         ensures rest { rest_of (drop self.new.at self.new.ready.items) self.new.line.items (R.rest self.new.reader)
             ≡ rest_of (drop self.old.at self.old.ready.items) self.old.line.items (R.rest self.old.reader) }
         ensures asked { self.new.asked ≡ self.old.asked }
+        ensures written { OnOk result (written self.new.log.events
+            ≡ written self.old.log.events ++ shown_of self.old.recovering self.old.more self.old.less answers.now) }
         ensures cause { OnErr result (is_some self.new.cause ≡ true) }
     {
         if self.recovering {
             self.log.note(&[MUTED, 0, 1], answers);
             return Ok(());
         }
-        if self.more != self.less && has_number(answers) {
+        if self.more != self.less {
             return self.say_numbered(answers);
         }
         match write_noted(&mut self.writer, &mut self.log, SHOWN, answers) {

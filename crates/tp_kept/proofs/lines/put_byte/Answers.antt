@@ -1,4 +1,4 @@
-use Rattle.std.proofs.Common.{◌≡◌, ◌∙◌, ◌==◌, ◌++◌, [], ◌∷◌, false, true, ap, arith, refl, sym}
+use Rattle.std.proofs.Common.{◌∙◌, ◌++◌, ap, arith}
 use Rattle.std.proofs.lemmas.Bool.Decides.{nat_tests}
 use Rattle.tp_kept.specs.Lines.{shut}
 use Rattle.tp_kept.proofs.LinesLemmas.{puts_more, puts_shut}

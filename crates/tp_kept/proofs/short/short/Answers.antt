@@ -1,5 +1,5 @@
 use Rattle.std.proofs.Common.{◌∙◌, ◌++◌, ap, arith}
-use Rattle.tp_kept.specs.Short.{stands_text, unquoted, unquoted_from}
+use Rattle.tp_kept.specs.Short.{unquoted_from}
 use Rattle.tp_kept.proofs.ShortLemmas.{short_is}
 use Rattle.tp_kept.proofs.short.short.Goals as goal
 

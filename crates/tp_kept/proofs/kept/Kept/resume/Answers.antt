@@ -1,6 +1,5 @@
 use Rattle.std.proofs.Common.{◌++◌, ap, drop, refl, true}
-use Rattle.std.specs.Option.{is_some}
-use Rattle.tp_kept.specs.Events.{standing, tried}
+use Rattle.tp_kept.specs.Events.{tried}
 use Rattle.tp_kept.proofs.KeptLemmas.{kept_failed, kept_same}
 use Rattle.tp_kept.proofs.kept.Kept.resume.Goals as goal
 

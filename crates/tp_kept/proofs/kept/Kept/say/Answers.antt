@@ -1,5 +1,5 @@
 use Rattle.std.proofs.Common.{◌≡◌, ◌∙◌, ◌++◌, ap, drop, false, refl, sym, true}
-use Rattle.tp_kept.specs.Events.{lacks_memory, standing, tried}
+use Rattle.tp_kept.specs.Events.{lacks_memory, tried}
 use Rattle.tp_kept.proofs.EventsLemmas.{contents_more, lacks_less}
 use Rattle.tp_kept.proofs.KeptLemmas.{kept_failed, kept_same}
 use Rattle.tp_kept.proofs.kept.Kept.say.Goals as goal

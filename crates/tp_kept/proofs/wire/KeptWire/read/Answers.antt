@@ -1,4 +1,4 @@
-use Rattle.std.proofs.Common.{◌<◌, ap, drop, length, subst, sym}
+use Rattle.std.proofs.Common.{◌<◌, ap, length, subst}
 use Rattle.tp_kept.proofs.KeptLemmas.{given_bytes, given_end}
 use Rattle.tp_kept.proofs.wire.KeptWire.read.Goals as goal
 
