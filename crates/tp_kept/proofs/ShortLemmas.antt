@@ -1,9 +1,11 @@
 -- The lines of a dump, behind a line that says for how many they stand.
 use Rattle.std.proofs.Common.{◌≡◌, ◌∙◌, ◌==◌, ℕ, zero, suc, ◌+◌, ◌-◌, ◌<◌, ◌≤◌, ◌^◌, true, false, All, List, [], ◌∷◌, ◌++◌, None, Some, refl, sym, ap, arith, append_assoc, drop, take, length}
-use Rattle.std.specs.Prelude.{codes, decimal, if◌then◌else◌, get_or, position}
+use Rattle.std.specs.Prelude.{codes, decimal, if◌then◌else◌, get_or, position, flat_map}
 use Rattle.std.proofs.lemmas.List.{at_drop_more}
 use Rattle.std.proofs.lemmas.List.Elements.{All-append, All-head, All-tail}
 use Rattle.std.proofs.lemmas.Bool.Decides.{nat_tests}
+use Rattle.tp_report.specs.Answer.{line}
+use Rattle.tp_session.specs.Dump.{dump_text, quoted}
 use Rattle.tp_session.specs.Heard.{IsInLine}
 use Rattle.tp_session.proofs.HeardLemmas.{EndsAt, ends_at, no_end}
 use Rattle.tp_kept.specs.Lines.{begins}
@@ -61,6 +63,24 @@ stands_in lines counted less short =
     let one = All-append IsIn (codes "# covetrivet: ") (decimal lines) begin (decimal_in lines less) in
     let two = All-append IsIn (codes "# covetrivet: " ++ decimal lines) (codes " lines for ") one middle in
     (front, All-append IsIn ((codes "# covetrivet: " ++ decimal lines) ++ codes " lines for ") (decimal counted) two (decimal_in counted short), sym (append_assoc ((codes "# covetrivet: " ++ decimal lines) ++ codes " lines for ") (decimal counted) (10 ∷ []) ∙ (append_assoc (codes "# covetrivet: " ++ decimal lines) (codes " lines for ") (decimal counted ++ 10 ∷ []) ∙ append_assoc (codes "# covetrivet: ") (decimal lines) (codes " lines for " ++ (decimal counted ++ 10 ∷ [])))))
+
+-- ---- what a dump is told
+
+-- one line
+line_kept : (l rest : List ℕ) → IsInLine l → unquoted_from 0 ((l ++ 10 ∷ []) ++ rest) ≡ (l ++ 10 ∷ []) ++ unquoted_from 2 rest
+line_kept [] rest within = refl
+line_kept (x ∷ xs) rest within = rw (All-head (λ b. (b == 10) ≡ false) x xs within) (ap (λ l. x ∷ l) (line_kept xs rest (All-tail (λ b. (b == 10) ≡ false) x xs within)))
+
+lines_kept : (lines : List (List ℕ)) → All IsInLine lines → unquoted_from 2 (flat_map quoted lines) ≡ flat_map line lines
+lines_kept [] within = refl
+lines_kept (l ∷ ls) within =
+    line_kept l (flat_map quoted ls) (All-head IsInLine l ls within) ∙ ap (λ rest. line l ++ rest) (lines_kept ls (All-tail IsInLine l ls within))
+
+pub unquotes_dumps : (lines : List (List ℕ)) → length lines < 2 ^ 64 → All IsInLine lines → unquoted (dump_text lines) ≡ flat_map line lines
+unquotes_dumps lines few within =
+    let front : List ℕ = codes "dumped " ++ decimal (length lines) in
+    let in_line : All IsIn front = All-append IsIn (codes "dumped ") (decimal (length lines)) (each_in (codes "dumped ") (refl, (refl, (refl, (refl, (refl, (refl, (refl, tt)))))))) (decimal_in (length lines) few) in
+    ap (λ l. unquoted_from 2 (behind_line l)) (append_assoc front (10 ∷ []) (flat_map quoted lines)) ∙ (ap (unquoted_from 2) (behind_in front (flat_map quoted lines) in_line) ∙ lines_kept lines within)
 
 begins_self : (xs : List ℕ) → begins xs xs ≡ true
 begins_self [] = refl

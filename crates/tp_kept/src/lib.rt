@@ -6,6 +6,7 @@ mod counting;
 mod events;
 mod filling;
 mod kept;
+mod laws;
 mod lines;
 mod numbering;
 mod program;
@@ -18,4 +19,5 @@ mod writing;
 
 pub use cause::Cause;
 pub use kept::Kept;
+pub use laws::unquoted_dump;
 pub use program::{keep_session, keep_to_end};
