@@ -11,9 +11,8 @@ use Rattle.tp_model.specs.declared.types.Status.{Status}
 use Rattle.tp_model.specs.declared.types.Status.TheVariants as status
 use Rattle.tp_model.proofs.Bridges.{element_of-id, in_none, is_born}
 use Rattle.tp_model.proofs.Later.{births_inside}
-use Rattle.tp_rollover.specs.Survivors.{AreSurvivors, AreUnheld, Ascending, IsLiving, IsStanding, IsSurvivor}
+use Rattle.tp_rollover.specs.Survivors.{AreSurvivors, Ascending, IsLiving, IsStanding, IsSurvivor}
 use Rattle.tp_rollover.specs.declared.survivors.Survivor.{Survivor}
-use Rattle.tp_rollover.proofs.Carrying.{each_of}
 use Rattle.tp_rollover.specs.Hands.{holder_of}
 use Rattle.tp_exact.specs.Alive.{if_alive, is_alive, standing, with_root}
 
@@ -62,9 +61,6 @@ module _ (l : Limits) where
   standing_lives : (is x : Status) (holder : Option ℕ) → IsStanding l is x holder → IsLiving is
   standing_lives is x None a = subst IsLiving (sym a.0) (killable_lives x a.1)
   standing_lives is x (Some c) (u, n, held, waits, by) = subst IsLiving (sym held) tt
-
-pub each_so : (l : Limits) (h : List Event) (survivors : List Survivor) → AreSurvivors l h survivors → AreUnheld survivors → (s : Survivor) → In s survivors → IsSurvivor l h s × (s.holder ≡ None)
-each_so l h survivors are unheld s at = (are.described s at, each_of (λ (s : Survivor). s.holder ≡ None) survivors s unheld at)
 
 -- such ids are no less
 no_less : (low : ℕ) (xs : List Survivor) (s : Survivor) → Ascending low (map (λ (x : Survivor). x.id) xs) → In s xs → low ≤ s.id

@@ -1,10 +1,9 @@
 -- What is read of the `alive` and `held` lines that a dump tells.
-use Rattle.std.specs.Prelude.{◌≡◌, ◌<◌, ◌≤◌, ◌+◌, ◌^◌, ℕ, true, false, List, [], ◌∷◌, ◌++◌, None, Some, Ok, length, map}
+use Rattle.std.specs.Prelude.{◌≡◌, ◌<◌, ◌≤◌, ◌+◌, ◌-◌, ◌^◌, IfSome, ℕ, true, false, List, [], ◌∷◌, ◌++◌, None, Some, Ok, length, map}
 use Rattle.std.specs.Prelude.{slice_get}
 use Rattle.tp_model.specs.History.{In}
 use Rattle.tp_model.specs.Steps.{AreLimits}
 use Rattle.tp_model.specs.declared.types.TheConstants.{MAX_ATTEMPTS, MAX_ROUNDS, REPLY_STAGE}
-use Rattle.tp_rollover.specs.Survivors.{AreUnheld}
 use Rattle.tp_rollover.specs.declared.survivors.Survivor.{Survivor}
 use Rattle.tp_script.specs.Grammar.{head_at}
 use Rattle.tp_script.specs.Hands.{has_in_hand}
@@ -12,7 +11,7 @@ use Rattle.tp_script.specs.LineWords.{is_name}
 use Rattle.tp_script.specs.Script.{HeadView, WorkerView}
 use Rattle.tp_script.specs.ServerLines.{worker_at}
 use Rattle.tp_script.specs.declared.head.TheConstants.{MAX_ALIVE}
-use Rattle.tp_session.specs.Dump.{life_text}
+use Rattle.tp_session.specs.Dump.{holds_one, life_text}
 use Rattle.tp_session.specs.Live.{FoundAlive, Live}
 use Rattle.tp_session.specs.Told.{HeadLines}
 use Rattle.tp_exact.specs.Dumps.{line_of, tries_of}
@@ -55,14 +54,30 @@ HeldLineReads =
     → IsFreeWorker w.name worker h → length (life_text workers first s) ≤ 200 → length h.alive < MAX_ALIVE
     → head_at (life_text workers first s) h ≡ Ok (record h { alive = h.alive ++ line_of first s ∷ [] }, None)
 
--- What was found for a dump is so, where the words of the bodies are 64-bit numbers. So where no pass holds any
--- of it, its lines, read one after another, add to a head just what they tell, and none is refused.
+-- pass c is that of such a worker, of which the first one's pass has this number
+pub record IsWorkersPass (workers : List WorkerView) (first : ℕ) (h : HeadView) (c : ℕ) : Type 0 where
+  pub low : first ≤ c
+  pub it : WorkerView
+  pub there : slice_get workers (c - first) ≡ Some it
+  pub free : IsFreeWorker it.name (c - first) h
+
+-- no pass holds two of these
+abbrev pub AreOneEach : List Survivor → Type 0
+AreOneEach [] = Unit {0}
+AreOneEach (s ∷ survivors) =
+    IfSome s.holder (λ c. holds_one c survivors ≡ false) × AreOneEach survivors
+
+-- What was found for a dump is so, where the words of the bodies are 64-bit numbers. So its lines, read one
+-- after another, add to a head just what they tell, and none is refused: where any of it is held, that is by
+-- workers of the head, each of which holds one, and the line isn't too long.
 abbrev pub FoundLinesRead : Type 0
 FoundLinesRead =
     (old done : Live) (survivors : List Survivor) (workers : List WorkerView) (first : ℕ) (h : HeadView)
     (past : ℕ)
-    → AreLimits old.stand.manager.limits → FoundAlive old survivors done → AreUnheld survivors
+    → AreLimits old.stand.manager.limits → FoundAlive old survivors done
     → ((s : Survivor) → In s survivors → IsBody64 s.body × IsBody64 s.root_body)
-    → length h.alive + length survivors ≤ MAX_ALIVE
+    → ((s : Survivor) → In s survivors → IfSome s.holder (λ c. IsWorkersPass workers first h c
+    × (length (life_text workers first s) ≤ 200)))
+    → AreOneEach survivors → length h.alive + length survivors ≤ MAX_ALIVE
     → HeadLines past (map (life_text workers first) survivors) h []
     (record h { alive = h.alive ++ map (line_of first) survivors })
