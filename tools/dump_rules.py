@@ -3,7 +3,9 @@ alone.
 
 A dump's lines are read anew here, and never taken from the run that was dumped: so they must say all that a session goes on from.
 """
-from rollover_rules import Alive, Births, Full, described, pairs
+from dataclasses import replace
+
+from rollover_rules import Alive, Births, Full, described, told
 from rules import Run, Server, Worker
 
 SETTINGS = ("rows", "units", "limit", "spare")
@@ -19,26 +21,29 @@ def server_line(it):
     return " ".join(["server", it.name, it.kind, str(it.stage), str(len(it.registers)), act, *(draft(stage, rest) for stage, *rest in it.outputs)])
 
 
-def alive_line(it):
-    words = ["alive", it.number, it.attempts, it.rounds, draft(it.stage, it.body)]
+def alive_line(it, run):
+    words = ["alive"] if it.holder is None else ["held", run.at_pass(it.holder).name]
+    words += [it.number, it.attempts, it.rounds, draft(it.stage, it.body)]
     if it.root != it.number:
         words += [it.root, draft(it.root_stage, it.root_body)]
     return " ".join(map(str, words))
 
 
 def dump_lines(run):
-    """The lines that say all that there is, once no unit is open."""
+    """The lines that say all that there is, once no unit of a desk is open."""
+    lost = [(it.name, run.lost_by(it)) for it in run.workers]
     return [
         *(f"{it} {getattr(run, it)}" for it in SETTINGS), *map(server_line, run.servers),
         *(f"start {it.name} {k} {value}" for it in run.servers for k, value in enumerate(it.registers) if value),
-        *(f"worker {it.name} {it.stage}" for it in run.workers), *map(alive_line, described(run)), "restore",
+        *(f"worker {it.name} {it.stage}" for it in run.workers), *(alive_line(it, run) for it in described(run)),
+        *(f"lost {name} {number}" for name, number in lost if number is not None), "restore",
         *(f"drop {it.name}" for it in run.servers if it.dropped),
     ]
 
 
 def dump(run):
     """What `dump` is answered: several lines."""
-    if run.is_busy():
+    if run.is_desk_busy():
         return ["refused 11 Busy"]
     lines = dump_lines(run)
     return [f"dumped {len(lines)}", *(f"> {it}" for it in lines)]
@@ -61,7 +66,8 @@ def alive_of(words):
 
 
 def head_of(lines):
-    """Reads the lines of a head, of which none is faulty. Returns a run in which nothing has happened, and what is alive."""
+    """Reads the lines of a head, of which none is faulty. Returns a run in which nothing has happened, and what is alive. Who holds what
+    is known by name until all workers are known, and so all passes."""
     settings, servers, workers, alive = {"rows": 64, "units": 256, "limit": 3, "spare": 0}, {}, [], []
     for line in lines:
         first, *words = line.split()
@@ -75,16 +81,22 @@ def head_of(lines):
             workers.append(Worker(words[0], int(words[1])))
         elif first == "alive":
             alive.append(alive_of(words))
+        elif first == "held":
+            alive.append(replace(alive_of(words[1:]), holder=words[0]))
+        elif first == "lost":
+            next(it for it in workers if it.name == words[0]).lost = int(words[1])
         else:
             settings[first] = int(words[0])
     run = Run(**settings, servers=[*servers.values()], workers=workers)
     run.begin()
-    return run, alive
+    by_name = {it.name: by for by, it in enumerate([*run.servers, *run.workers], 1)}
+    return run, [replace(it, holder=by_name.get(it.holder)) for it in alive]
 
 
 def is_wrong(it, run):
     """Whether what a line says of an element can't be, whatever the others say."""
     of_itself = it.root == it.number and (it.stage, it.body) != (it.root_stage, it.root_body)
+    # (nobody takes a reply)
     of_reply = it.stage == REPLIES and (it.root == it.number or it.attempts + it.rounds > 0)
     beyond = max(it.number, it.root) >= len(run.passes) * run.rows + 8 * run.spare
     return of_itself or of_reply or beyond or it.root_stage == REPLIES or it.attempts > run.limit
@@ -100,12 +112,14 @@ def contradict(alive, run):
 
 
 def restore(run, alive):
-    """Returns the line, and the run that goes on: one in which this is alive, or where it is refused an empty one."""
+    """Returns the line, and the run that goes on: one in which this is alive, or where it is refused one in which nothing is."""
+    births = Births(alive, run.afresh())
+    for it in run.workers:
+        it.lost = None
     if contradict(alive, run):
         return "refused 14 Unequal", run
-    births = Births(alive, run.afresh())
     try:
-        return f"restored {pairs(births.all())}", births.new
+        return f"restored {told(births.all(), births.new)}", births.new
     except Full:
         return "refused 7 Full", run
 

@@ -3,6 +3,7 @@ import hashlib
 import re
 
 FIRST = b"# covetrivet journal 1\n"
+COUNTED = re.compile(rb"# covetrivet: (\d+) lines for (\d+)\n")
 END = re.compile(rb"# (\d+) ([0-9a-f]{64})\x17\n")
 
 
@@ -43,6 +44,16 @@ def attested(path):
         return []
     last = text.rfind(b"\x17\n")
     return [] if last < 0 else own_lines(text[: last + 2])
+
+
+def sent_in(path):
+    """For how many lines of its client those at the front of a session's journal stand, and the client's lines behind them. A `dump`
+    before a line that may ask for a rollover is the session's own."""
+    lines = flat(attested(path))
+    count = COUNTED.fullmatch(lines[0]) if lines else None
+    behind = lines[1 + int(count[1]):] if count else lines
+    own = [(it, after[:8]) == (b"dump\n", b"rollover") for it, after in zip(behind, [*behind[1:], b""])]
+    return int(count[2]) if count else 0, [it for it, is_own in zip(behind, own) if not is_own]
 
 
 def sealed(text):

@@ -16,7 +16,8 @@ class Full(Exception):
 
 @dataclass(frozen=True)
 class Alive:
-    """An element that is alive, as an `alive` line describes it. One that is its own root has that twice."""
+    """An element that is alive, as an `alive` or a `held` line describes it. One that is its own root has that twice. Where a pass has it
+    in hand that is the `holder`, and `attempts` counts that one too."""
     number: int
     attempts: int
     rounds: int
@@ -25,12 +26,17 @@ class Alive:
     root: int
     root_stage: int
     root_body: tuple
+    holder: object = None
 
 
 def described(run):
     """What is alive in a run, in the order of the ids."""
-    found = [(i, it, run.elements[it.root]) for i, it in sorted(run.elements.items()) if it.status in ("waiting", "parked")]
-    return [Alive(i, it.attempts, it.rounds, it.stage, tuple(it.body), it.root, root.stage, tuple(root.body)) for i, it, root in found]
+    found = [(i, it, run.elements[it.root]) for i, it in sorted(run.elements.items()) if not it.settled()]
+    # (the units of each pass have numbers of their own)
+    holders = {i: it.unit // run.units for i, it, _ in found if it.status == "held"}
+    return [
+        Alive(i, it.attempts, it.rounds, it.stage, tuple(it.body), it.root, root.stage, tuple(root.body), holders.get(i)) for i, it, root in found
+    ]
 
 
 @dataclass
@@ -46,6 +52,7 @@ class Births:
 
     def __init__(self, alive, new):
         self.alive, self.new = alive, new
+        self.holders = {it.holder for it in alive}
         self.families, self.moved = {}, []
         # what was called in the new manager: by which pass, what, and with which ids and units
         self.calls = []
@@ -56,20 +63,24 @@ class Births:
         """The pass whose part the row is of; one past the last for spare rows."""
         return min(number // self.new.rows, len(self.new.passes))
 
+    def has_units(self, by, units):
+        """Whether a pass may begin so many: one that is to hold an element keeps a unit for that."""
+        return not units or self.new.units - by.begun >= units + (by.number in self.holders)
+
     def maker(self, home, rows, units):
         """The pass that makes the next elements: in a part as long as there is one with room, and else in spare blocks."""
-        passes, most = self.new.passes, self.new.units
+        passes = self.new.passes
         if home < len(passes):
             self.at = max(self.at, home)
         for by in passes[self.at:]:
-            if by.left >= rows and most - by.begun >= units:
+            if by.left >= rows and self.has_units(by, units):
                 self.at = by.number
                 return by
         self.at = len(passes)
-        if self.draws is not None and most - self.draws.begun >= units:
+        if self.draws is not None and self.has_units(self.draws, units):
             return self.draws
         for by in reversed(passes):
-            if by.left < rows and most - by.begun >= units:
+            if by.left < rows and self.has_units(by, units):
                 self.draws = by
                 return by
         raise Full
@@ -92,8 +103,6 @@ class Births:
     def outputs(self, family, home, likes):
         """The carrier is claimed, and these are its outputs."""
         by = self.maker(home, len(likes), 1)
-        if by.begun == self.new.units:
-            raise Full
         unit, carrier = by.begin(self.new.units), self.new.elements[family.carrier]
         first = self.bear(by, [Element(stage, family.root, [*body], unit) for stage, body in likes])
         carrier.status, carrier.unit, carrier.attempts = "consumed", unit, carrier.attempts + 1
@@ -122,7 +131,7 @@ class Births:
     def attempt(self, number, element, times):
         """The element is claimed and given up, by the first pass with a unit left."""
         for _ in range(times):
-            while self.first < len(self.new.passes) and self.new.passes[self.first].begun == self.new.units:
+            while self.first < len(self.new.passes) and not self.has_units(self.new.passes[self.first], 1):
                 self.first += 1
             if self.first == len(self.new.passes):
                 raise Full
@@ -138,7 +147,15 @@ class Births:
             self.attempt(number, element, self.new.limit)
             element.status, element.attempts, element.rounds = "waiting", 0, element.rounds + 1
             self.calls.append((0, "requeue", number, element.rounds))
-        self.attempt(number, element, was.attempts)
+        self.attempt(number, element, was.attempts - (was.holder is not None))
+
+    def hold(self, by, number):
+        """The pass has the new element in hand."""
+        if self.new.passes[by].begun == self.new.units:
+            raise Full
+        self.new.held_by(self.new.at_pass(by), by, number)
+        element = self.new.elements[number]
+        self.calls.append((by, "claim", number, element.unit, element.attempts))
 
     def all(self):
         for it in self.alive:
@@ -148,19 +165,24 @@ class Births:
             done += self.next_of(self.alive[done:])
         for was, (_, new) in zip(self.alive, self.moved):
             self.replay(was, new)
+        for was, (_, new) in zip(self.alive, self.moved):
+            if was.holder is not None:
+                self.hold(was.holder, new)
         return self.moved
 
 
-def pairs(moved):
-    return " ".join([str(len(moved)), *(f"{old}:{new}" for old, new in moved)])
+def told(moved, run):
+    """What is said of a rollover or a restore, behind its first words: what was carried over, and what workers have in hand since."""
+    units = [f"{it.name}:{it.item}" for it in run.workers if it.unit is not None]
+    return " ".join([str(len(moved)), *(f"{old}:{new}" for old, new in moved), *(["units", *units] if units else [])])
 
 
 def roll_over(run):
     """Returns the line, and the run that goes on."""
-    if run.is_busy():
+    if run.is_desk_busy():
         return "refused 11 Busy", run
     births = Births(described(run), run.afresh())
     try:
-        return f"rolled over {pairs(births.all())}", births.new
+        return f"rolled over {told(births.all(), births.new)}", births.new
     except Full:
         return "refused 7 Full", run

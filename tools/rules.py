@@ -90,6 +90,11 @@ class Worker:
     stage: int
     unit: object = None
     item: int = 0
+    # the element, by the id that it had then, that it lost before a rollover and hasn't heard of yet
+    lost: object = None
+
+    def is_free(self):
+        return self.unit is None and self.lost is None
 
 
 @dataclass
@@ -114,14 +119,26 @@ class Run:
         """Whether a unit of work is open, of a desk or of a worker."""
         return any(it.unit is not None for it in [*self.servers, *self.workers])
 
+    def is_desk_busy(self):
+        """Whether a unit of work of a desk is open."""
+        return any(it.unit is not None for it in self.servers)
+
+    def lost_by(self, worker):
+        """The element that a worker has lost, and hasn't heard of yet, by the id that it knows."""
+        return worker.item if worker.unit is not None and not self.holds(worker) else worker.lost
+
     def afresh(self):
-        """A run with the same limits, servers and workers, in which nothing has happened."""
+        """A run with the same limits, servers and workers, in which nothing has happened. What workers have lost they have to hear."""
         new = Run(self.rows, self.units, self.limit, self.spare, [replace(it, unit=None, item=0, pending=None, place=0) for it in self.servers])
         for it in new.servers:
             it.registers = [*it.registers]
-        new.workers = [Worker(it.name, it.stage) for it in self.workers]
+        new.workers = [Worker(it.name, it.stage, lost=self.lost_by(it)) for it in self.workers]
         new.begin()
         return new
+
+    def at_pass(self, by):
+        """The server or worker whose pass has this number."""
+        return [*self.servers, *self.workers][by - 1]
 
     def has_room(self, by, count):
         """Whether there are `count` rows for the pass, if need be in the next spare block."""
@@ -257,9 +274,10 @@ class Run:
         """What a worker's line is answered. The words of a commit are its drafts."""
         worker, by = self.workers[at], 1 + len(self.servers) + at
         if verb == "claim" or verb == "take":
-            if worker.unit is not None:
-                return "busy"
-            return self.taken(worker, by, *words)
+            return self.taken(worker, by, *words) if worker.is_free() else "busy"
+        if worker.lost is not None:
+            lost, worker.lost = worker.lost, None
+            return f"{'lost' if verb == 'commit' else 'already'} {lost}"
         if worker.unit is None:
             return "none"
         if verb == "commit":

@@ -71,8 +71,8 @@ class Story:
     def __init__(self, script, report):
         self.title, self.servers, self.rows, self.elements = "", [], [], {}
         self.open, self.attempts = {}, 3
-        # what a session's head says is alive: its words by its id there
-        self.alive = {}
+        # what a session's head says is alive: its words by its id there, and the worker that has it in hand
+        self.alive, self.holders = {}, {}
         commands = self.read_script(script)
         lines = [it for it in report.splitlines() if not it.startswith("> ")]
         if lines and lines[0].startswith("refused line "):
@@ -101,9 +101,11 @@ class Story:
                 workers.append(Server(words[1], "worker", int(words[2]), "a worker", []))
             elif words[0] == "alive":
                 self.alive[int(words[1])] = words[2:]
+            elif words[0] == "held":
+                self.alive[int(words[2])], self.holders[int(words[2])] = words[3:], words[1]
             elif words[0] == "limit":
                 self.attempts = int(words[1])
-            elif words[0] not in SETTINGS and words[0] not in ("start", "account"):
+            elif words[0] not in SETTINGS and words[0] not in ("start", "lost", "account"):
                 commands.append((" ".join(words), gap))
                 gap = False
         self.title = " ".join(before)
@@ -122,7 +124,8 @@ class Story:
             text = f"submitted to stage {command[1]} with key {command[2]} and amount {command[3]}{more}"
             self.elements[number] = Element(number, number, int(command[1]), 0, row, text)
         elif verb == "restore" and line[0] == "restored":
-            self.restore(row, dict(map(int, it.split(":")) for it in line[2:]))
+            moved = line[2:line.index("units")] if "units" in line else line[2:]
+            self.restore(row, dict(map(int, it.split(":")) for it in moved))
         elif verb == "kill" and line[0] == "killed":
             self.kill(row, int(command[1]))
         elif verb == "cancel" and line[0] == "cancelled":
@@ -149,6 +152,9 @@ class Story:
     def serve(self, row, lane, answer):
         """What a server or worker did with an element: `answer` is the report's line without its name."""
         what = answer[0]
+        if what in ("lost", "already") and lane not in self.open:
+            # (the element was lost where the session was dumped, and has no line here)
+            return
         element = self.elements.get(int(answer[1])) if len(answer) > 1 else self.open.get(lane)
         if what == "work":
             # (what a drain has made isn't known)
@@ -193,7 +199,13 @@ class Story:
             text = f"restored, which was element {old} where it was dumped, " + ("a reply" if stage == 15 else f"for stage {stage}")
             of = int(root[0]) if root else old
             it = self.elements[new] = Element(new, moved.get(of, -1 - of), stage, 0, row, text, past=-int(attempts))
-            self.wait_again(row, it)
+            if old in self.holders:
+                # (the attempt in hand is one of them)
+                lane, it.past = self.lane(self.holders[old]), it.past + 1
+                self.open[lane] = it
+                it.holds.append(Hold(lane, "", row))
+            else:
+                self.wait_again(row, it)
 
     def wait_again(self, row, element):
         if element.how == "waiting" and len(element.holds) - element.past >= self.attempts:

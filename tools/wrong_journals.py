@@ -5,6 +5,8 @@ drop    drops the journal's last line when it starts
 skip    has the session skip the last line of the journal when it starts
 again   tells the answers to recovered lines again
 count   tells one line more than was recovered
+lost    drops an element that is alive from the dump that a rollover has left
+moved   has that dump be of what stood behind the rollover
 """
 import os
 import subprocess
@@ -12,7 +14,7 @@ import sys
 import threading
 import time
 
-from journal_text import attested, flat, made
+from journal_text import COUNTED, attested, flat, made, sent_in
 
 PIPE = subprocess.PIPE
 
@@ -79,7 +81,23 @@ def main():
     elif error == "again":
         around(program, path, b"recovered %d\n" % len(lines) + told_of(program, lines))
     elif error == "count":
-        around(program, path, b"recovered %d\n" % (len(lines) + 1))
+        before, behind = sent_in(path)
+        around(program, path, b"recovered %d\n" % (before + len(behind) + 1))
+    elif error in ("lost", "moved"):
+        count = COUNTED.fullmatch(lines[0]) if lines else None
+        alive = [it for it in lines if it.startswith(b"alive ")]
+        if count and alive:
+            many = 1 + int(count[1])
+            head = lines[:many]
+            if error == "lost":
+                head.remove(alive[-1])
+            else:
+                told = subprocess.run(program, input=b"".join([*head, b"dump\n"]), stdout=PIPE, check=True).stdout
+                head[1:] = [it[2:] for it in told.splitlines(keepends=True) if it.startswith(b"> ")]
+            head[0] = b"# covetrivet: %d lines for %s\n" % (len(head) - 1, count[2])
+            with open(path, "wb") as file:
+                file.write(made([head + lines[many:]]))
+        os.execv(program[0], [*program, "--journal", path])
     elif error == "drop":
         if lines:
             with open(path, "wb") as file:

@@ -75,7 +75,7 @@ def main() -> None:
         of_dead = claim(session, held, "ann", 60)
         release_late(session, held, 100)
         try:
-            session.dump()
+            session.account()
         except refusals.Busy:
             print("her unit is still open")
         bury(session, "ann")

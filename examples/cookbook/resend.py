@@ -25,7 +25,9 @@ def requests(session: Session) -> dict[int, int]:
     """
     found = {}
     for words in (line.split() for line in session.dump().lines):
-        if words[0] == "alive":
+        if words[0] == "held":
+            del words[1]  # (the worker that has it in hand)
+        if words[0] in ("alive", "held"):
             root, out = words[5:] or (words[1], words[4])
             found[int(out.split(":")[1])] = int(root)
     return found

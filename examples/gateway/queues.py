@@ -1,8 +1,8 @@
 """The queues: a session, and beside it the messages' bodies and what waits for whom.
 
 An element has the number of its message as word 0. A message in a consumer's hand is a *lease* of the
-gateway's: its element waits. Where it is acknowledged the element is taken and committed at once, so no unit
-of work stays open, and the session can roll over at any time.
+gateway's: its element waits. Where it is acknowledged the element is taken and committed at once. So there
+may be any number of leases, where a worker has one element in hand.
 """
 from __future__ import annotations
 

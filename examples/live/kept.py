@@ -1,7 +1,7 @@
 #!/usr/bin/env python3
 """A queue that is kept in a file: a log of what the session was sent, which a dump makes short now and then.
 
-The first session is lost, and a second one goes on from the log.
+The first session is lost with an order in hand, and a second one goes on from the log.
 """
 from __future__ import annotations
 
@@ -11,7 +11,7 @@ from pathlib import Path
 
 # (the package need not be installed: it is the checkout's)
 sys.path.insert(0, str(Path(__file__).resolve().parents[2] / "clients/python"))
-from covetrivet import Draft, Session, SessionEnded, refusals  # noqa: E402
+from covetrivet import Draft, Session, SessionEnded  # noqa: E402
 
 HEAD = ["rows 64", "units 64", "worker clerk 1", "worker late 2"]
 REPLIES = 15
@@ -38,21 +38,17 @@ def main() -> None:
         log = Path(folder) / "orders.log"
         try:
             with opened(log) as session:
-                work_off(session, range(200))
-                # With work in hand the log can't be made short, and goes on as it is.
+                work_off(session, range(100))
+                # What is in hand stays there, however often the log is made short.
                 session.claim("late")
-                try:
-                    session.shorten_log()
-                except refusals.Busy:
-                    print("the late one has work in hand")
-                session.abort("late")
-                work_off(session, range(200, 205))
+                work_off(session, range(100, 205))
                 session.process.kill()
         except SessionEnded as ended:
             print("lost by signal", -ended.status)
         print("lines of the log:", len(log.read_text(encoding="ascii").splitlines()))
         with opened(log) as session:
-            print("restored:", len(session.moved), "and then:", session.count())
+            print("restored:", len(session.moved), "in hand:", session.units, "and then:", session.count())
+            print("done:", session.commit("late").element)
             while work := session.claim("late"):
                 print(work.words[0], end=" ")
                 session.commit("late")

@@ -15,8 +15,8 @@ once in a batch:
     ids = [it.value.element for it in asked]
 
 One process owns a session, and all its threads may call it. A manager's rows and units are used once.
-`rollover` carries what is alive into a new one. A session with `on_full="rollover"` does so by itself, and
-the ids that it tells last.
+`rollover` carries what is alive into a new one, and workers keep what they have in hand. A session with
+`on_full="rollover"` does so by itself, and the ids that it tells last.
 
 `dump` returns all that there is as lines, with which a new session goes on: `Session(session.dump().lines)`.
 `Session.open` has a session whose lines are in a journal on the disk before they are answered: it goes on

@@ -30,7 +30,7 @@ Server   turn NAME   claim, next, take, prepare, commit, abort, drop NAME
          balance NAME REGISTER    sum REGISTER    drain    drain next
 All      rollover           rolled over N OLD:NEW ..  used rows are free again
          dump               dumped N, and N lines: a session that goes on there
-         restore            the first command behind alive lines
+         restore            the first command behind alive, held and lost lines
 Refused  refused [line L:] K WHY [U]
          NAME idle, busy, none, nounit, lost, full or ended
 One answer each, in order. More: docs/LIVE.md, DURABLE.md, SERVICE.md

@@ -3,7 +3,7 @@ from __future__ import annotations
 
 import re
 from collections.abc import Callable
-from dataclasses import dataclass
+from dataclasses import dataclass, field
 
 from covetrivet import refusals
 from covetrivet.faults import Unknown
@@ -142,9 +142,12 @@ class Account:
 
 @dataclass(frozen=True)
 class RolledOver:
-    """What is alive, by its id in the old manager, and its id in the new one."""
+    """What is alive, by its id in the old manager, and its id in the new one; and by each worker that has an
+    element in hand the id of that one.
+    """
 
     moved: dict[int, int]
+    units: dict[str, int] = field(default_factory=dict)
 
 
 @dataclass(frozen=True)
@@ -248,6 +251,8 @@ def words_of(text: str) -> Words:
     return zero, one, two, three
 
 
-def pairs_of(listed: list[str]) -> dict[int, int]:
-    """Returns what is listed as OLD:NEW."""
-    return {int(old): int(new) for old, new in (it.split(":") for it in listed)}
+def carried_of(listed: list[str]) -> tuple[dict[int, int], dict[str, int]]:
+    """Returns what is listed as OLD:NEW, and behind the word `units` as NAME:NEW."""
+    at = listed.index("units") if "units" in listed else len(listed)
+    moved = {int(old): int(new) for old, new in (it.split(":") for it in listed[:at])}
+    return moved, {name: int(new) for name, new in (it.split(":") for it in listed[at + 1 :])}

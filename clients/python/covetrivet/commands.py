@@ -246,15 +246,15 @@ def drain_next() -> Command[None]:
 
 
 def rollover() -> Command[answers.RolledOver]:
-    """What is alive goes on in a new manager of the same limits. Not for a batch. Busy where a unit of work
-    is open.
+    """What is alive goes on in a new manager of the same limits, what a worker has in hand in its hand. Not
+    for a batch. Busy where a unit of a server's desk is open.
     """
     form = "rolled over N"
-    return Command("rollover", read=lambda it: answers.RolledOver(answers.pairs_of(it.listed(form))))
+    return Command("rollover", read=lambda it: answers.RolledOver(*answers.carried_of(it.listed(form))))
 
 
 def dump() -> Command[answers.Dumped]:
-    """All that there is is told as the lines of a session. Busy where a unit of work is open."""
+    """All that there is is told as the lines of a session. Busy where a unit of a server's desk is open."""
 
     def read(heard: Heard) -> answers.Dumped:
         first, *lines = heard.text.split("\n")
@@ -267,11 +267,14 @@ def dump() -> Command[answers.Dumped]:
 
 @dataclass(frozen=True)
 class Restored:
-    """What a restore made alive: by each id in the head its id from then on."""
+    """What a restore made alive: by each id in the head its id from then on; and by each worker that has an
+    element in hand the id of that one.
+    """
 
     moved: dict[int, int]
+    units: dict[str, int]
 
 
 def restore() -> Command[Restored]:
     """The first command behind a head that says what is alive. A session sends it by itself."""
-    return Command("restore", read=lambda it: Restored(answers.pairs_of(it.listed("restored N"))))
+    return Command("restore", read=lambda it: Restored(*answers.carried_of(it.listed("restored N"))))

@@ -3,7 +3,7 @@ from __future__ import annotations
 
 import re
 import time
-from collections.abc import Callable
+from collections.abc import Callable, Sequence
 from dataclasses import dataclass, field
 
 from covetrivet.relay import Asked, Caller
@@ -26,6 +26,11 @@ class Holders:
 
     def __init__(self) -> None:
         self.units: dict[str, Unit] = {}
+
+    def have(self, names: Sequence[str], caller: Caller) -> list[Unit]:
+        """Takes note that these have units open, which are this caller's, and returns those."""
+        self.units |= {it: Unit(it, caller) for it in names}
+        return [self.units[it] for it in names]
 
     def hear(self, asked: Asked, answer: str) -> Unit | None:
         """Takes note of an answer. Returns the unit that it says is open from now on."""

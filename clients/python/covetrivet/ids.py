@@ -7,7 +7,7 @@ been before its birth.
 from __future__ import annotations
 
 import re
-from collections.abc import Iterable, Mapping
+from collections.abc import Callable, Iterable, Mapping
 from dataclasses import dataclass, field
 
 LOW = 0xFFFFFFFF
@@ -16,11 +16,13 @@ LOW = 0xFFFFFFFF
 @dataclass(frozen=True)
 class Ids:
     """The ids of one manager: how many rollovers were before it, and by its id now the lasting id of each
-    element that was carried over into it, and of each root of such a one. All others were born in it.
+    element that was carried over into it, and of each root of such a one. All others were born in it. `lost`
+    has, by the worker's name, the lasting id of what was lost before, until the worker hears of it.
     """
 
     past: int = 0
     lasting: Mapping[int, int] = field(default_factory=dict)
+    lost: dict[str, int] = field(default_factory=dict)
     now: Mapping[int, int] = field(init=False, repr=False, compare=False)
 
     def __post_init__(self) -> None:
@@ -39,36 +41,60 @@ class Ids:
         element = lasting & LOW
         return element if lasting >> 32 == self.past and element not in self.lasting else None
 
-    def after(self, moved: Mapping[int, int], copies: Mapping[int, int]) -> Ids:
+    def teller(self, answer: str) -> Callable[[int], int]:
+        """Returns what tells the ids in an answer. A worker that hears of what it lost before a rollover is
+        told the id that it knew.
+        """
+        name, _, said = answer.partition(" ")
+        if name in self.lost and said.startswith(("lost ", "already ")):
+            last = self.lost.pop(name)
+            return lambda _element: last
+        return self.told
+
+    def after(self, moved: Mapping[int, int], copies: Mapping[int, int], dumped: Iterable[str]) -> Ids:
         """Returns the ids behind a rollover that moved these. `copies` has the old root, by the id of its
-        copy, where it wasn't alive.
+        copy, where it wasn't alive. `dumped` are the lines of a dump before.
         """
         olds = {**copies, **{new: old for old, new in moved.items()}}
-        return Ids(self.past + 1, {new: self.told(old) for new, old in olds.items()})
+        return Ids(self.past + 1, {new: self.told(old) for new, old in olds.items()}, self.lost_in(dumped))
 
-    def comments(self, alive: Iterable[str]) -> list[str]:
-        """Returns the comments by which a session that goes on from these lines `alive ..` knows the lasting
+    def lost_in(self, dumped: Iterable[str]) -> dict[str, int]:
+        """Returns what these lines of a dump say is lost, by lasting ids. What was lost before an earlier
+        rollover has an id of then.
+        """
+        words = [it.split() for it in dumped]
+        return {it[1]: self.lost.get(it[1], self.told(int(it[2]))) for it in words if it[:1] == ["lost"]}
+
+    def comments(self, dumped: Iterable[str]) -> list[str]:
+        """Returns the comments by which a session that goes on from these lines of a dump knows the lasting
         ids.
         """
-        roots = roots_of(alive)
+        roots = roots_of(dumped)
         named = sorted({*roots, *roots.values()} & {*self.lasting})
         lasts = [f"# covetrivet: {it} lasts as {self.lasting[it]}" for it in named]
-        return [f"# covetrivet: rollovers {self.past}", *lasts]
+        lost = [f"# covetrivet: {name} lost {last}" for name, last in self.lost_in(dumped).items()]
+        return [f"# covetrivet: rollovers {self.past}", *lasts, *lost]
 
     @staticmethod
     def of(lines: Iterable[str]) -> Ids | None:
         """Returns the ids that such comments say, or None where there are none."""
-        past, lasting = None, {}
+        past, lasting, lost = None, {}, {}
         for line in lines:
-            found = re.fullmatch(r"# covetrivet: (?:rollovers (\d+)|(\d+) lasts as (\d+))", line)
-            if found and found[1]:
-                past = int(found[1])
-            elif found:
-                lasting[int(found[2])] = int(found[3])
-        return None if past is None else Ids(past, lasting)
+            said = re.fullmatch(r"# covetrivet: (rollovers|\d+ lasts as|[a-z]{1,8} lost) (\d+)", line)
+            if not said:
+                continue
+            first, *others = said[1].split()
+            if not others:
+                past = int(said[2])
+            elif others == ["lost"]:
+                lost[first] = int(said[2])
+            else:
+                lasting[int(first)] = int(said[2])
+        return None if past is None else Ids(past, lasting, lost)
 
 
-def roots_of(alive: Iterable[str]) -> dict[int, int]:
-    """Returns each id in the lines `alive ..` among these, and the id of its root."""
-    words = [it.split() for it in alive]
-    return {int(it[1]): int(it[5] if len(it) == 7 else it[1]) for it in words if it[:1] == ["alive"]}
+def roots_of(dumped: Iterable[str]) -> dict[int, int]:
+    """Returns each id in the lines `alive ..` and `held ..` among these, and the id of its root."""
+    words = [it.split() for it in dumped]
+    told = [it[1:] for it in words if it[:1] == ["alive"]] + [it[2:] for it in words if it[:1] == ["held"]]
+    return {int(it[0]): int(it[4] if len(it) == 6 else it[0]) for it in told}

@@ -57,9 +57,10 @@ def sent(line: str, ids: Ids) -> Sent:
 
 def told(it: Sent, answer: str, ids: Ids) -> str:
     """Returns the answer to a line, in one line, as the client is told it."""
+    tell = ids.teller(answer)
 
     def last(element: int) -> int:
-        return it.nobody if element == NOBODY and it.nobody is not None else ids.told(element)
+        return it.nobody if element == NOBODY and it.nobody is not None else tell(element)
 
     if it.verb in LISTS and not answer.startswith("refused "):
         return re.sub(r"(?<= )\d+(?=[ :]|$)", lambda found: str(last(int(found[0]))), answer)

@@ -140,7 +140,7 @@ class Manager(Handle):
             count = self._number("roll_over", given)
             moved = [self._ask("moved_at", place) for place in range(count)]
         roots = {it.old_root: it.new_root for it in moved}
-        return RolledOver({it.old_id: it.new_id for it in moved}, roots)
+        return RolledOver({it.old_id: it.new_id for it in moved}, roots=roots)
 
     def close(self) -> None:
         """Gives up the manager. Callers that are open go on."""

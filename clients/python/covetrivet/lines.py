@@ -5,7 +5,8 @@ from __future__ import annotations
 import re
 from collections.abc import Iterator, Sequence
 
-OF_HEAD = ("rows", "units", "limit", "spare", "server", "start", "worker", "alive")
+TO_RESTORE = ("alive", "held", "lost")
+OF_HEAD = ("rows", "units", "limit", "spare", "server", "start", "worker", *TO_RESTORE)
 # What changes nothing. A log needs none of it.
 QUIET = ("read", "reply", "family", "errors", "count", "balance", "sum", "account", "dump")
 LONGEST_LINE = 200
@@ -51,8 +52,9 @@ def is_rollover(line: str) -> bool:
     return line.strip(" ") == "rollover" and len(line) <= LONGEST_LINE
 
 
-def is_alive(line: str) -> bool:
-    return line.split()[:1] == ["alive"]
+def is_to_restore(line: str) -> bool:
+    """Whether a line of a head says what is alive, or what a worker has in hand or has lost."""
+    return not is_empty(line) and line.split()[0] in TO_RESTORE
 
 
 def head_of(lines: Sequence[str]) -> list[str]:
@@ -62,13 +64,19 @@ def head_of(lines: Sequence[str]) -> list[str]:
     return list(lines[:first])
 
 
+def in_hand(lines: Sequence[str]) -> list[str]:
+    """Returns the workers of which the head says that they have an element in hand, or have lost one."""
+    words = [it.split() for it in head_of(lines) if not is_empty(it)]
+    return [it[1] for it in words if it[0] in ("held", "lost")]
+
+
 def beginning(lines: Sequence[str]) -> tuple[list[str], list[str]]:
     """Returns the lines up to the first command, and the others. That command is `restore` where the lines
     restore, else `count`, which they need not have.
     """
     head = head_of(lines)
     others = list(lines[len(head) :])
-    restores = any(map(is_alive, head)) or others[:1] and others[0].split() == ["restore"]
+    restores = any(map(is_to_restore, head)) or others[:1] and others[0].split() == ["restore"]
     return [*head, others.pop(0) if restores else "count"], others
 
 

@@ -12,7 +12,7 @@ from covetrivet.answers import Counts
 from covetrivet.faults import SessionFault
 from covetrivet.refusals import Refusal
 from covetrivet.replica import Replica
-from covetrivet.rollovers import Item, Rollovers, held_back, most_of, next_of
+from covetrivet.rollovers import Item, Rollovers, most_of, next_of
 from covetrivet.shared_log import BadHead, Base, Deposed, InDoubt, LogLost, Record, SharedLog, Token
 
 # Of a follower: between two looks at the log at most. Of a leader: between two looks at its lease.
@@ -62,7 +62,7 @@ class Member:
         self.leader: str | None = None
         # where a session was that is closed
         self.stood = 0, ""
-        self.is_leaving = self.is_ending = self.is_unreached = False
+        self.is_ending = self.is_unreached = False
         self.thread = threading.Thread(target=self.run, daemon=True)
 
     def run(self) -> None:
@@ -179,21 +179,15 @@ class Member:
         nobody's.
         """
         self.gather()
-        # (one that is about to end has no time for a rollover, nor for lines that wait for one)
-        is_due = not self.is_leaving and self.rollovers.is_due(replica.use)
-        has_units = bool(replica.holders.units)
-        if is_due and not has_units:
+        if self.rollovers.is_due(replica.use):
             return [], ["rollover"]
-        go, wait = self.pending, list[Item]()
-        if is_due and self.rollovers.is_patient():
-            go, wait = held_back(self.pending)
-        if not go:
+        if not self.pending:
             with contextlib.suppress(queue.Empty):
                 self.take(self.asked.get(timeout=SECONDS_TO_LOOK))
             return [], []
-        many = next_of(go)
-        self.pending = [*go[many:], *wait]
-        return go[:many], [it.line for it in go[:many]]
+        many = next_of(self.pending)
+        items, self.pending = self.pending[:many], self.pending[many:]
+        return items, [it.line for it in items]
 
     def gather(self) -> None:
         with contextlib.suppress(queue.Empty):

@@ -8,10 +8,8 @@ from collections.abc import Callable, Collection, Iterable, Sequence
 from covetrivet.answers import Counts
 from covetrivet.connection import Connection, Limits
 from covetrivet.faults import SessionFault
-from covetrivet.holders import Unit
 from covetrivet.member import NO_MORE, Member
 from covetrivet.relay import Asked, Caller, Hear, OnEnd, hand_out, words_of
-from covetrivet.replica import ELSEWHERE
 from covetrivet.rollovers import Item
 from covetrivet.server import Server
 from covetrivet.shared_log import LogLost, SharedLog, Token
@@ -55,7 +53,6 @@ class Office:
         return self.waiting.values()
 
     async def idle(self, seconds: float) -> bool:
-        self.member.is_leaving = True
         if self.waiting:
             self.when_idle = self.loop.create_future()
             await asyncio.wait([self.when_idle], timeout=seconds)
@@ -139,10 +136,8 @@ class NodeServer(Server):
 
     def lead(self, open_units: Sequence[str]) -> None:
         self.say(f"leads from place {self.office.member.place()}")
-        for name in open_units:
-            # Units of clients of earlier leaders: who comes back in time goes on with them.
-            unit = self.holders.units[name] = Unit(name, ELSEWHERE)
-            self.orphans.left(unit)
+        # Units of clients of earlier leaders: who comes back in time goes on with them.
+        self.adopt(open_units)
 
     def follow(self, why: str | None) -> None:
         self.say(f"leads no more: {why}")

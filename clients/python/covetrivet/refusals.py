@@ -98,7 +98,7 @@ class NoRound(Refusal):
 
 
 class Busy(Refusal):
-    """A unit of work is open."""
+    """A unit of work is open; for a rollover and a dump one of a server's desk."""
 
 
 class NotHeld(Refusal):

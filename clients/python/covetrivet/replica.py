@@ -6,9 +6,9 @@ from collections.abc import Iterable, Sequence
 
 from covetrivet import commands
 from covetrivet.holders import Holders
-from covetrivet.ids import Ids, roots_of
+from covetrivet.ids import Ids
 from covetrivet.lasting import sent, told
-from covetrivet.lines import is_rollover, pieces_of
+from covetrivet.lines import in_hand, is_rollover, pieces_of
 from covetrivet.relay import Asked, words_of
 from covetrivet.rollovers import Use
 from covetrivet.session import Session
@@ -43,6 +43,7 @@ class Replica(Session):
         self.place, self.digest = base.place, base.digest
         self.base: Base | None = None
         self.holders, self.use = Holders(), Use()
+        self.holders.have(in_hand(base.lines), ELSEWHERE)
 
     def feed(self, place: int, record: Record) -> list[str]:
         """Performs a record, and returns the answers to its lines. LogLost where it isn't the next one,
@@ -102,7 +103,7 @@ class Replica(Session):
         lines = self._read(commands.dump(), dumped).lines
         (answer,) = self._exchange(["rollover"])
         if not answer.startswith("refused "):
-            answer = self._rolled_over(answer, roots_of(lines))
+            answer = self._rolled_over(answer, lines)
         self._fold([dumped, answer])
         if not answer.startswith("refused "):
             self.use = Use()

@@ -1,4 +1,4 @@
-"""When a node that leads rolls over, and which lines wait for that."""
+"""When a node that leads rolls over, and which lines make a record."""
 from __future__ import annotations
 
 import re
@@ -11,9 +11,9 @@ from covetrivet.lines import is_rollover
 from covetrivet.relay import Asked
 from covetrivet.tally import refusal_in
 
-# A rollover comes after so many lines at the latest, waits so many seconds for open units to end, and is
-# tried again so many seconds after it couldn't be done.
-MOST_LINES, SECONDS_TO_WAIT, SECONDS_TO_REST = 20000, 5.0, 10.0
+# A rollover comes after so many lines at the latest, and is tried again so many seconds after it couldn't be
+# done.
+MOST_LINES, SECONDS_TO_REST = 20000, 10.0
 # After one that was for want of rows or units, the next such one comes so many seconds later.
 SECONDS_APART = 1.0
 LINES_OF_RECORD = 1000
@@ -62,13 +62,11 @@ def most_of(head: Iterable[str]) -> int:
 
 
 class Rollovers:
-    """The leader's choice of the lines that come next."""
+    """The leader's choice of when it rolls over."""
 
     def __init__(self, most: int) -> None:
         self.most = most
-        self.not_before = 0.0
-        self.waits_until: float | None = None
-        self.last = 0.0
+        self.not_before = self.last = 0.0
 
     def is_due(self, use: Use) -> bool:
         now = time.monotonic()
@@ -76,26 +74,11 @@ class Rollovers:
             return False
         return use.is_due(self.most) or use.is_wanting and now > self.last + SECONDS_APART
 
-    def is_patient(self) -> bool:
-        """Whether lines still wait for open units to end. Where that takes too long they wait no longer."""
-        now = time.monotonic()
-        if self.waits_until is None:
-            self.waits_until = now + SECONDS_TO_WAIT
-        if now < self.waits_until:
-            return True
-        self.rest()
-        return False
-
-    def rest(self) -> None:
-        self.waits_until = None
-        self.not_before = time.monotonic() + SECONDS_TO_REST
-
     def heard(self, answer: str) -> None:
         """Takes note of the answer to a rollover."""
-        self.waits_until = None
-        if answer.startswith("refused "):
-            self.rest()
         self.last = time.monotonic()
+        if answer.startswith("refused "):
+            self.not_before = self.last + SECONDS_TO_REST
 
 
 def next_of(pending: Sequence[Item]) -> int:
@@ -104,19 +87,3 @@ def next_of(pending: Sequence[Item]) -> int:
         if is_rollover(it.line):
             return at or 1
     return min(len(pending), LINES_OF_RECORD)
-
-
-def held_back(pending: Sequence[Item]) -> tuple[list[Item], list[Item]]:
-    """Returns the lines that go on while a rollover waits for open units to end, and those that wait for it:
-    lines that begin a unit, and what their callers have sent behind them.
-    """
-    go: list[Item] = []
-    wait: list[Item] = []
-    callers = set()
-    for it in pending:
-        if it.asked.caller in callers or it.asked.verb in BEGINS or is_rollover(it.line):
-            callers.add(it.asked.caller)
-            wait.append(it)
-        else:
-            go.append(it)
-    return go, wait

@@ -11,6 +11,7 @@ from pathlib import Path
 from covetrivet.answers import NotUnderstood
 from covetrivet.faults import JournalFault, NoProgram, SessionEnded, SessionFault
 from covetrivet.journal import Journaled
+from covetrivet.lines import in_hand
 from covetrivet.options import Serving, serving
 from covetrivet.pipe import Pipe
 from covetrivet.place import Place, PlaceTaken
@@ -92,7 +93,9 @@ def hold(options: Serving, head: Sequence[str], place: Place, metrics: Place | N
     session = ServedAgain(options.journal, head) if options.journal else Served(head)
     try:
         with session:
-            fault = asyncio.run(run(session, options, place, metrics))
+            # (of what a journal's own lines leave open nothing is known here)
+            names = [] if session.recovered else in_hand(head)
+            fault = asyncio.run(run(session, options, names, place, metrics))
             if fault:
                 raise fault
     except NoProgram as why:
@@ -115,12 +118,13 @@ def hold(options: Serving, head: Sequence[str], place: Place, metrics: Place | N
 
 
 async def run(
-    session: Served, options: Serving, place: Place, metrics: Place | None
+    session: Served, options: Serving, names: Sequence[str], place: Place, metrics: Place | None
 ) -> SessionFault | None:
-    """Serves. Returns the fault by which the session was lost."""
+    """Serves. These workers have units open. Returns the fault by which the session was lost."""
     again = session.again if isinstance(session, ServedAgain) else None
     pipe = session.pipe()
     server = Server(lambda hear, on_end: Relay(pipe, hear, on_end), options.limits, options.orphans, again)
+    server.adopt(names)
     await server.run(place, metrics, lambda: say(f"serves on {options.socket}"))
     return server.fault
 

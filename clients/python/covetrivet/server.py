@@ -4,7 +4,7 @@ from __future__ import annotations
 import asyncio
 import contextlib
 import signal
-from collections.abc import Callable, Iterable
+from collections.abc import Callable, Iterable, Sequence
 
 from covetrivet import commands
 from covetrivet.answers import Counts, Heard
@@ -82,6 +82,11 @@ class Server:
             self.orphans.left(unit)
         if not self.connections:
             self.is_empty.set()
+
+    def adopt(self, names: Sequence[str]) -> None:
+        """These workers have units open, or have lost them, of clients that aren't here."""
+        for unit in self.holders.have(names, self.orphans):
+            self.orphans.left(unit)
 
     def lets_go(self, why: str) -> None:
         self.tally.let_go[why] += 1

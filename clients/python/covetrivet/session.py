@@ -17,7 +17,7 @@ from covetrivet.commands import Command
 from covetrivet.faults import LogFault, SessionBroken, SessionClosed
 from covetrivet.ids import Ids, roots_of
 from covetrivet.lines import (
-    beginning, checked, head_of, is_alive, is_answered, is_for_logs, is_rollover, pieces_of,
+    beginning, checked, head_of, is_answered, is_for_logs, is_rollover, is_to_restore, pieces_of,
 )  # fmt: skip
 from covetrivet.log import Log
 from covetrivet.pipe import Pipe
@@ -44,9 +44,9 @@ class Session:
     """A session, in a `with` block, once.
 
     `head` are the lines of its head. Commands may follow, as in a dump: they are performed anew. Where the
-    head says what is alive, that is restored, and `moved` has the new id of each. The program is `program`,
-    or that of COVETRIVET_PROGRAM, or the checkout's own (NoProgram where there is none). What it writes on
-    standard error is shown there.
+    head says what is alive, that is restored: `moved` has the new id of each, and `units` the id of what each
+    worker has in hand. The program is `program`, or that of COVETRIVET_PROGRAM, or the checkout's own
+    (NoProgram where there is none). What it writes on standard error is shown there.
 
     **Threads.** Any thread may call any method: a lock lets one exchange at a time through. A batch is one
     exchange. An exchange that takes more than so many `seconds` is given up by TimeoutError (but for that of
@@ -55,9 +55,10 @@ class Session:
 
     **Rollovers.** With `on_full="rollover"` a call that finds no rows or no units left (`Full`, `NoUnit`) has
     the session roll over, and is made once more. A commit's unit is over then: its `Full` is raised after the
-    rollover, and the element waits or is parked. Where the rollover is refused, as with a unit open
-    elsewhere, the first refusal is raised, from the other. Commands of a batch are never made again. All ids
-    that are told last: they are the same before and after. Units begin anew.
+    rollover, and the element waits or is parked. What other workers have in hand goes on in their hands.
+    Where the rollover is refused, as with no room for what is alive, the first refusal is raised, from the
+    other. Commands of a batch are never made again. All ids that are told last: they are the same before and
+    after. Units begin anew.
 
     **Logs.** `log` names a file that isn't there yet. Each line is written into it before it is sent.
     Session.from_log goes on from it.
@@ -86,6 +87,8 @@ class Session:
         self._ids: Ids | None = Ids() if on_full else None
         # what was restored, by its id in the head: its id from then on
         self.moved: dict[int, int] = {}
+        # what each worker had in hand then
+        self.units: dict[str, int] = {}
         # how many there were, those of the lines that it began with among them
         self.rollovers = 0
         # how many lines a journal had, and how many with those that were sent since
@@ -155,7 +158,7 @@ class Session:
         if self._log_path:
             Log.refuse_what_is_there(self._log_path)
         lines = [checked(it) for it in self._head]
-        if len(head_of(lines)) == len(lines) and any(map(is_alive, lines)):
+        if len(head_of(lines)) == len(lines) and any(map(is_to_restore, lines)):
             lines.append("restore")
         if self._ids and not Ids.of(head_of(lines)):
             # A comment says that ids last.
@@ -188,16 +191,19 @@ class Session:
             if is_rollover(piece[0]):
                 self._roll_over_again()
             else:
-                self._exchange(piece, sum(map(is_answered, piece)), is_logged=False)
+                for answer in self._exchange(piece, sum(map(is_answered, piece)), is_logged=False):
+                    if self._ids:
+                        self._ids.teller(answer)
 
     def _restore(self, head: list[str], before: Ids | None, answer: str) -> None:
         heard = Heard(answer, "restore")
         heard.refused()
-        moved = commands.restore().read(heard).moved
-        told = {(before.told(old) if before else old): new for old, new in moved.items()}
+        restored = commands.restore().read(heard)
+        told = {(before.told(old) if before else old): new for old, new in restored.moved.items()}
+        self.moved, self.units = told, restored.units
         if self._ids:
-            self._ids = self._ids_after(before or Ids(), moved, roots_of(head))
-        self.moved = {it: it for it in told} if self._ids else told
+            self._ids = self._ids_after(before or Ids(), restored.moved, head)
+            self.moved, self.units = {it: it for it in told}, self._lasting(restored.units)
 
     def _roll_over_again(self) -> None:
         """Performs a rollover of the lines. That it was refused as Busy or Full comes again; for want of
@@ -371,7 +377,9 @@ class Session:
         return command.with_id(now)
 
     def _read(self, command: Command[T], answer: str) -> T:
-        heard = Heard(answer, command.line, self._ids.told) if self._ids else Heard(answer, command.line)
+        heard = Heard(answer, command.line)
+        if self._ids:
+            heard = Heard(answer, command.line, self._ids.teller(answer))
         heard.refused()
         value = command.read(heard)
         if self._ids and isinstance(value, Dumped):
@@ -382,35 +390,44 @@ class Session:
         """Rolls over, and returns the answer, by the ids that the session tells. It is logged once it is
         done: a refusal for want of memory need not come again.
         """
-        roots: dict[int, int] = {}
+        dumped: Sequence[str] = ()
         if self._ids:
             # The dump tells the roots, also of what was made where no answer told of it.
             (answer,) = self._exchange(["dump"])
-            roots = roots_of(self._read(commands.dump(), answer).lines)
+            dumped = self._read(commands.dump(), answer).lines
         (answer,) = self._exchange(["rollover"])
         Heard(answer, "rollover").refused()
         if self._log and is_logged:
             self._log.write(["rollover"])
-        return self._rolled_over(answer, roots)
+        return self._rolled_over(answer, dumped)
 
-    def _rolled_over(self, answer: str, roots: dict[int, int]) -> str:
-        """Takes note of a rollover. Returns its answer, by the ids that the session tells."""
-        moved = commands.rollover().read(Heard(answer, "rollover")).moved
+    def _rolled_over(self, answer: str, dumped: Sequence[str]) -> str:
+        """Takes note of a rollover behind a dump of these lines. Returns its answer, by the ids that the
+        session tells.
+        """
+        rolled = commands.rollover().read(Heard(answer, "rollover"))
         self.rollovers += 1
         if self._ids is None:
             return answer
-        kept = sorted(map(self._ids.told, moved))
-        self._ids = self._ids_after(self._ids, moved, roots)
-        return " ".join([f"rolled over {len(kept)}", *(f"{it}:{it}" for it in kept)])
+        kept = sorted(map(self._ids.told, rolled.moved))
+        self._ids = self._ids_after(self._ids, rolled.moved, dumped)
+        units = [f"{name}:{it}" for name, it in self._lasting(rolled.units).items()]
+        told = [f"rolled over {len(kept)}", *(f"{it}:{it}" for it in kept)]
+        return " ".join([*told, "units", *units] if units else told)
 
-    def _ids_after(self, ids: Ids, moved: dict[int, int], roots: dict[int, int]) -> Ids:
-        """Returns the ids behind a rollover or a restore that moved these, of which these were the roots. A
-        root that isn't alive has a copy, whose id is asked for.
+    def _lasting(self, units: dict[str, int]) -> dict[str, int]:
+        """Returns what workers have in hand, by the ids that the session tells."""
+        return {name: self._ids.told(it) if self._ids else it for name, it in units.items()}
+
+    def _ids_after(self, ids: Ids, moved: dict[int, int], dumped: Sequence[str]) -> Ids:
+        """Returns the ids behind a rollover that moved these, or a restore of these lines of a dump. A root
+        that isn't alive has a copy, whose id is asked for.
         """
+        roots = roots_of(dumped)
         one_of = {roots[old]: new for old, new in moved.items() if roots[old] not in moved}
         answers = self._exchange([f"read {it}" for it in one_of.values()])
         looks = [commands.read(0).read(Heard(it, "read")) for it in answers]
-        return ids.after(moved, {look.root: old for old, look in zip(one_of, looks)})
+        return ids.after(moved, {look.root: old for old, look in zip(one_of, looks)}, dumped)
 
     def _shorten_log(self) -> None:
         if self._log is None or self._log_path is None:

@@ -71,6 +71,28 @@ class Journals(unittest.TestCase):
             # (2 and 3 wait, and both replies)
             self.assertEqual(session.count(), Counts(4, 0, 3, 0, 0))
 
+    def test_work_in_hand_over_rollovers(self) -> None:
+        with Session.open(self.path, [*HEAD, "worker late 1"]) as session:
+            for customer in range(3):
+                session.submit(1, customer, 10)
+            session.kill(0)
+            session.claim("clerk")
+            session.claim("late")
+            self.assertEqual(session.rollover().units, {"clerk": 0, "late": 1})
+            session.kill(0)
+            self.assertEqual(session.rollover().units, {"late": 0})
+            self.lost(session)
+        with Session.open(self.path) as session:
+            with self.assertRaises(refusals.Lost) as lost:
+                session.commit("clerk")
+            self.assertEqual(lost.exception.element, 0)
+            session.commit("late", Draft(15, 2, 1))
+            self.assertEqual([it.words[0] for it in session.reply(0)], [2])
+            dumped = session.dump().lines
+        # A new journal goes on from a dump.
+        with Session.open(f"{self.path}.next", dumped) as session:
+            self.assertEqual(session.count(), Counts(1, 0, 1, 0, 0))
+
     def test_an_end_in_order_is_not_kept(self) -> None:
         for _life in range(2):
             with Session.open(self.path, HEAD) as session:

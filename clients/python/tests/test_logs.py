@@ -149,17 +149,44 @@ class Logs(unittest.TestCase):
             self.assertEqual(session.count(), Counts(2, 0, 1, 0, 1))
 
     def test_a_log_that_isnt_shortened(self) -> None:
-        with Session(["rows 64", "units 64", "worker clerk 1"], log=self.path) as session:
-            session.submit(1, 1)
-            session.claim("clerk")
+        with Session(["rows 64", "units 64", "server till eager 1 1 add"], log=self.path) as session:
+            session.submit(1, 0, 1)
+            session.claim("till")
             with self.assertRaises(refusals.Busy):
                 session.shorten_log()
-            session.commit("clerk", Draft(15, 1, 1))
+            session.commit("till")
             session.submit(1, 2, 2)
             self.lost(session)
-        self.assertEqual(self.lines()[-2:], ["commit clerk 15:1:1:0:0", "submit 1 2 2"])
+        self.assertEqual(self.lines()[-2:], ["commit till", "submit 1 2 2"])
         with Session.from_log(self.path) as session:
-            self.assertEqual(session.count(), Counts(2, 0, 1, 0, 0))
+            self.assertEqual(session.count(), Counts(1, 0, 1, 0, 0))
+
+    def test_a_short_log_with_work_in_hand(self) -> None:
+        with Session([*HEAD, "worker late 1"], log=self.path, on_full="rollover") as session:
+            early, first, second = (session.submit(1, it).element for it in range(3))
+            session.kill(early)
+            session.claim("clerk")
+            session.claim("late")
+            session.rollover()
+            session.kill(first)
+            session.shorten_log()
+            self.lost(session)
+        for _life in range(2):
+            with Session.from_log(self.path) as session:
+                self.assertEqual((session.units, session.count()), ({"late": second}, Counts(0, 1, 0, 0, 0)))
+                self.lost(session)
+        with Session.from_log(self.path) as session:
+            with self.assertRaises(refusals.Lost) as lost:
+                session.commit("clerk")
+            self.assertEqual((lost.exception.element, session.abort("late")), (first, second))
+            # It has heard of that, also in the next life.
+            session.claim("clerk")
+            session.kill(second)
+            self.lost(session)
+        with Session.from_log(self.path) as session:
+            with self.assertRaises(refusals.AlreadyAborted) as already:
+                session.abort("clerk")
+            self.assertEqual(already.exception.element, second)
 
     def test_a_log_with_no_room_to_roll(self) -> None:
         with Session(["rows 4", "worker w 1"], log=self.path) as session:

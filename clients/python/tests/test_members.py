@@ -5,13 +5,11 @@ from __future__ import annotations
 
 import os
 import signal
-import time
 import unittest
 from collections.abc import Callable
 from unittest import mock
 
 from covetrivet.replica import Replica
-from covetrivet.rollovers import SECONDS_TO_WAIT
 from covetrivet.shared_log import Base, Diverged, Record
 from memory_log import MemoryLog, Node, Store
 from serving import comes
@@ -163,44 +161,35 @@ class Members(unittest.TestCase):
         self.assertIn("has not answered in 1.0 seconds", str(node.fault))
         self.comes(lambda: self.store.holder is None)
 
-    def test_lines_wait_for_a_rollover(self) -> None:
-        # A worker has its unit, while the others' claims wait until it ends and the rollover is done.
-        node = self.node("n1")
-        self.comes(lambda: node.token)
-        self.asked(node, *(f"submit 1 {it} 5" for it in range(47)), "claim wa")
-        self.asked(node, "claim wb")
-        # (one is due after 48 elements)
-        self.asked(node, "submit 1 47 5", "abort wb")
-        waiting = node.ask("claim wb")[0]
-        self.asked(node, "submit 1 48 5", "read 0")
-        self.assertNotIn(waiting, node.answers)
-        self.assertEqual(self.asked(node, "abort wa"), ["wa aborted 0"])
-        self.comes(lambda: waiting in node.answers)
-        self.assertEqual(node.answers[waiting], "wb work 0 unit 192 attempt 2 root 0 body 0:5:0:0")
+    def test_a_rollover_waits_for_nobody(self) -> None:
+        # A worker has its unit, and commits it behind the rollover, which is due after 48 elements.
+        first = self.node("n1")
+        self.comes(lambda: first.token)
+        self.asked(first, *(f"submit 1 {it} 5" for it in range(47)), "claim wa", "claim wb")
+        self.asked(first, "kill 1", "submit 1 47 5")
+        self.assertEqual(self.asked(first, "read 0", "abort wb")[1], "wb already 1")
         self.assertIn(["rollover"], [list(it.lines) for it in self.store.records.values()])
+        # Another node that begins behind it knows who has something in hand.
+        self.comes(lambda: (self.store.the_base or Base(0, "", ())).place > 0)
+        second = self.node("n2")
+        self.comes(lambda: second.member.place() == first.member.place())
+        first.end()
+        self.comes(lambda: second.token)
+        self.assertEqual(second.open_units, ["wa"])
+        said = self.asked(second, "commit wa 15:1:2", "reply 0")
+        born = (1 << 32) + 128
+        self.assertEqual(said, [f"wa done 0 unit 128 outputs {born} 1", f"replies 0 {born}:1:2"])
 
-    def test_no_line_waits_at_the_end(self) -> None:
+    def test_a_rollover_that_is_refused(self) -> None:
+        # A desk has a unit open. Lines go on, and it is tried again much later.
         node = self.node("n1")
         self.comes(lambda: node.token)
-        self.asked(node, *(f"submit 1 {it} 5" for it in range(48)), "claim wa")
-        begun = time.monotonic()
-        waiting = node.ask("claim wb")[0]
-        self.asked(node, "count")
-        self.assertNotIn(waiting, node.answers)
-        node.member.is_leaving = True
-        self.comes(lambda: waiting in node.answers)
-        self.assertLess(time.monotonic(), begun + SECONDS_TO_WAIT - 1)
-
-    def test_lines_do_not_wait_for_ever(self) -> None:
-        node = self.node("n1")
-        self.comes(lambda: node.token)
-        self.asked(node, *(f"submit 1 {it} 5" for it in range(48)), "claim wa")
-        begun = time.monotonic()
-        self.assertRegex(self.asked(node, "claim wb")[0], "wb work 1 ")
-        self.assertGreater(time.monotonic(), begun + SECONDS_TO_WAIT - 1)
-        # From then on none waits for a while.
-        self.asked(node, "abort wb", "claim wb")
-        self.assertLess(time.monotonic(), begun + SECONDS_TO_WAIT + 3)
+        self.asked(node, "submit 2 0 5", "claim till", *(f"submit 1 {it} 5" for it in range(48)))
+        for _ in range(3):
+            self.assertRegex(self.asked(node, "claim wa", "abort wa")[1], r"wa aborted \d+")
+        self.assertRegex(self.asked(node, "commit till")[0], "till done 0 ")
+        rollovers = [it for it in self.store.records.values() if [*it.lines] == ["rollover"]]
+        self.assertEqual(len(rollovers), 1)
 
 
 if __name__ == "__main__":

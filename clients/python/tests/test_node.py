@@ -13,7 +13,7 @@ from covetrivet.ids import Ids
 from covetrivet.lasting import sent, told
 from covetrivet.relay import Asked
 from covetrivet.replica import ELSEWHERE, Replica
-from covetrivet.rollovers import Item, Use, held_back, most_of, next_of
+from covetrivet.rollovers import Item, Use, most_of, next_of
 from covetrivet.shared_log import Base, Diverged, LogLost, Record
 
 HEAD = ["rows 64", "units 64", "spare 8", "server till eager 2 1 add", "worker wa 1", "worker wb 1"]
@@ -87,6 +87,28 @@ class LastingLines(unittest.TestCase):
             with self.subTest(line, answer=answer):
                 it = sent(line, self.IDS)
                 self.assertEqual((it.line, told(it, answer, self.IDS)), (in_manager, as_told))
+
+    def test_what_was_lost_before_a_rollover(self) -> None:
+        # wa has lost 11 and wb 12, and hear of it once. What is lost later has an id of this manager.
+        ids = Ids(2, self.IDS.lasting, {"wa": 11, "wb": 12})
+        for line, answer, wanted in (
+            ("claim wa", "wa busy", "wa busy"),
+            ("commit wa", "wa lost 4", "wa lost 11"),
+            ("commit wa", "wa lost 4", "wa lost 9"),
+            ("abort wb", "wb already 3", "wb already 12"),
+            ("abort wb", "wb none", "wb none"),
+            ("commit wc", "wc lost 4", "wc lost 9"),
+        ):
+            self.assertEqual(told(sent(line, ids), answer, ids), wanted)
+        dumped = ["held wa 3 1 0 1:0:0:0:0", "lost wb 12", "lost wc 4", "alive 5 0 0 1:0:0:0:0 4 1:0:0:0:0"]
+        ids = Ids(2, self.IDS.lasting, {"wb": 12})
+        comments = ids.comments(dumped)
+        lasts = "# covetrivet: 3 lasts as 4294967303", "# covetrivet: 4 lasts as 9"
+        lost = "# covetrivet: wb lost 12", "# covetrivet: wc lost 9"
+        self.assertEqual(comments, ["# covetrivet: rollovers 2", *lasts, *lost])
+        self.assertEqual(Ids.of(comments), Ids(2, self.IDS.lasting, {"wb": 12, "wc": 9}))
+        behind = Ids(3, {0: 4294967303, 1: 2 << 32 | 5, 6: 9}, {"wb": 12, "wc": 9})
+        self.assertEqual(ids.after({3: 0, 5: 1}, {6: 4}, dumped), behind)
 
     def test_ids_that_no_element_has(self) -> None:
         # 3 and 4 are two of the manager's own numbers, and last as others; 5 was born before the rollovers.
@@ -198,19 +220,9 @@ class Replicas(unittest.TestCase):
 
 
 class Choices(unittest.TestCase):
-    def item(self, caller: str, line: str) -> Item:
+    def item(self, line: str) -> Item:
         words = (line.split() + ["", ""])[:2]
-        return Item(1, 0, Asked(self.CALLERS[caller], words[0], words[1], 0), line)
-
-    CALLERS = {it: type(ELSEWHERE)() for it in "ab"}
-
-    def test_which_lines_wait(self) -> None:
-        of_a = "claim wa", "commit wc"
-        of_b = "commit wb", "submit 1 2 3", "take wb 3"
-        lines = [("a", of_a[0]), ("b", of_b[0]), ("a", of_a[1]), ("b", of_b[1]), ("b", of_b[2])]
-        go, wait = held_back([self.item(*it) for it in lines])
-        self.assertEqual([it.line for it in go], ["commit wb", "submit 1 2 3"])
-        self.assertEqual([it.line for it in wait], ["claim wa", "commit wc", "take wb 3"])
+        return Item(1, 0, Asked(ELSEWHERE, words[0], words[1], 0), line)
 
     def test_a_rollover_is_a_record_of_its_own(self) -> None:
         wanted: list[tuple[list[str], int]] = [
@@ -222,7 +234,7 @@ class Choices(unittest.TestCase):
             (["\trollover", "rollover 1"], 2),
         ]
         for lines, many in wanted:
-            self.assertEqual(next_of([self.item("a", it) for it in lines]), many)
+            self.assertEqual(next_of([self.item(it) for it in lines]), many)
 
     def test_when_one_is_due(self) -> None:
         self.assertEqual(most_of(HEAD), 48)

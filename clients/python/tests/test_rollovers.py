@@ -16,12 +16,15 @@ class Rollovers(unittest.TestCase):
             session.submit(1, 5)
             session.submit(1, 6)
             session.claim("packer")
-            with self.assertRaises(refusals.Busy):
-                session.rollover()
+            self.assertEqual(session.rollover(), RolledOver({0: 0, 1: 1}, {"packer": 0}))
             session.commit("packer", Draft(2, 0, 10), Draft(15, 5, 6))
             self.assertEqual(session.rollover(), RolledOver({1: 0, 16: 17, 17: 18}))
             self.assertEqual(session.reply(16), (Reply(18, (5, 6, 0, 0)),))
-            self.assertEqual(session.turn("till"), Done(17, 8, range(0)))
+            session.claim("till")
+            for call in session.rollover, session.dump:
+                with self.assertRaises(refusals.Busy):
+                    call()
+            self.assertEqual(session.commit("till"), Done(17, 8, range(0)))
             self.assertEqual(session.account(), Account(4, 2, 0, 2, 0, 0))
         self.assertEqual(session.finals, {"till": (110,)})
 
@@ -58,19 +61,73 @@ class Rollovers(unittest.TestCase):
             self.assertEqual((work.root, work.words), (order, (0, 7, 0, 0)))
             self.assertEqual([it.state for it in session.family(order)], ["consumed", "held"])
 
+    def test_work_goes_on_in_hand(self) -> None:
+        with Session(["rows 8", "units 8", "worker w 1", "worker v 1"], on_full="rollover") as session:
+            first = session.submit(1, 7).element
+            work = session.claim("w")
+            assert work
+            for customer in range(40):
+                order = session.submit(1, customer).element
+                self.assertTrue(session.claim("v"))
+                session.commit("v", Draft(15, customer))
+                self.assertEqual([it.words[0] for it in session.collect(order)], [customer])
+            self.assertGreater(session.rollovers, 3)
+            self.assertEqual(session.rollover().units, {"w": first})
+            self.assertEqual(session.read(first).status.split()[::2], ["held", "1"])
+            self.assertEqual(session.commit("w", Draft(15, 8)).element, first)
+            self.assertEqual([it.words[0] for it in session.collect(first)], [8])
+
+    def test_what_was_lost_is_told_by_its_id(self) -> None:
+        with Session(["rows 8", "units 8", "worker w 1", "worker v 1"], on_full="rollover") as session:
+            early, first, second, third = (session.submit(1, it).element for it in range(4))
+            session.kill(early)
+            session.claim("w")
+            session.claim("v")
+            session.rollover()
+            session.kill(first)
+            dumped = session.dump()
+            session.rollover()
+            session.kill(second)
+            self.assertEqual(session.rollover(), RolledOver({third: third}))
+            again = session.dump()
+            with self.assertRaises(refusals.Busy):
+                session.claim("w")
+            with self.assertRaises(refusals.Lost) as lost:
+                session.commit("w")
+            with self.assertRaises(refusals.AlreadyAborted) as already:
+                session.abort("v")
+            self.assertEqual([lost.exception.element, already.exception.element], [first, second])
+            # What is lost in this manager is told by the ids of this one.
+            session.claim("w")
+            session.release(third)
+            with self.assertRaises(refusals.Lost) as lost:
+                session.commit("w")
+            self.assertEqual(lost.exception.element, third)
+        for lines, units in (dumped.lines, {"v": second}), (again.lines, {}):
+            with Session(lines, on_full="rollover") as session:
+                self.assertEqual(session.units, units)
+                with self.assertRaises(refusals.Lost) as lost:
+                    session.commit("w")
+                self.assertEqual(lost.exception.element, first)
+
     def test_what_finds_no_room(self) -> None:
-        head = ["rows 2", "units 8", "limit 2", "worker w 1", "worker v 1"]
+        head = ["rows 2", "units 8", "limit 2", "server till eager 1 1 add", "worker w 1"]
         with Session(head, on_full="rollover") as session:
             order = session.submit(1, 1).element
             session.claim("w")
             with self.assertRaises(refusals.Full):
                 session.commit("w", Draft(15), Draft(15), Draft(15))
             self.assertEqual(session.read(order).status, "waiting 1")
-            session.claim("v")
+            session.claim("till")
             session.submit(1, 2)
             with self.assertRaises(refusals.Full) as caught:
                 session.submit(1, 3)
             self.assertIsInstance(caught.exception.__cause__, refusals.Busy)
+            # Behind a rollover there is no room either.
+            session.abort("till")
+            with self.assertRaises(refusals.Full) as caught:
+                session.submit(1, 3)
+            self.assertIsNone(caught.exception.__cause__)
 
 
 class Dumps(unittest.TestCase):
@@ -85,12 +142,16 @@ class Dumps(unittest.TestCase):
             session.submit(1, 5)
             session.submit(1, 6)
             session.claim("packer")
-            with self.assertRaises(refusals.Busy):
-                session.dump()
+            held = session.dump().lines
             session.commit("packer", Draft(2, 0, 10), Draft(15, 5, 6))
             dumped = session.dump()
             self.assertEqual(dumped, Dumped(self.LINES))
             self.assertEqual(session.count(), Counts(3, 0, 1, 0, 0))
+        wanted = *self.LINES[:7], "held packer 0 1 0 1:5:0:0:0", "alive 1 0 0 1:6:0:0:0", "restore"
+        self.assertEqual(held, wanted)
+        with Session(held) as session:
+            self.assertEqual((session.moved, session.units), ({0: 0, 1: 1}, {"packer": 0}))
+            self.assertEqual(session.abort("packer"), 0)
         # The command `restore` is sent where it lacks.
         for lines in (dumped.lines, dumped.lines[:-1]):
             with Session(lines) as session:
@@ -99,6 +160,17 @@ class Dumps(unittest.TestCase):
                 self.assertEqual(session.turn("till"), Done(17, 8, range(0)))
                 self.assertEqual(session.account(), Account(4, 2, 0, 2, 0, 0))
             self.assertEqual(session.finals, {"till": (110,)})
+
+    def test_what_was_lost(self) -> None:
+        # `restore` is sent also where a head says no more than what was lost.
+        with Session([*HEAD, "worker fixer 3", "lost fixer 7"]) as session:
+            self.assertEqual((session.moved, session.units), ({}, {}))
+            self.assertEqual(session.dump().lines[-2:], ("lost fixer 7", "restore"))
+            with self.assertRaises(refusals.AlreadyAborted) as caught:
+                session.abort("fixer")
+            self.assertEqual(caught.exception.element, 7)
+            with self.assertRaises(refusals.NoneOpen):
+                session.abort("fixer")
 
     def test_a_dropped_desk(self) -> None:
         with Session(HEAD) as session:
@@ -121,8 +193,7 @@ class Dumps(unittest.TestCase):
                 another = batch.add(dump())
                 counted = batch.add(count())
             self.assertEqual(one.value.lines[-2:], ("alive 0 0 0 1:6:0:0:0", "restore"))
-            with self.assertRaises(refusals.Busy):
-                _ = another.value
+            self.assertEqual(another.value.lines[-2:], ("held packer 0 1 0 1:6:0:0:0", "restore"))
             self.assertEqual(counted.value, Counts(0, 1, 0, 0, 0))
             session.abort("packer")
             with session.batch() as batch:

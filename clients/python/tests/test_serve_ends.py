@@ -214,6 +214,16 @@ class ServeOrphans(unittest.TestCase):
             self.assertTrue(comes(lambda: server.counted("orphans_aborted_total") == 1))
             self.assertRegex(other.ask("claim other")[0], "other work 0 unit .* attempt 2")
 
+    def test_units_that_a_head_says_are_open(self) -> None:
+        # Two have something in hand, or have lost it. One comes back in time.
+        head = [*WORKER, "held packer 0 1 0 1:5:5", "lost other 7"]
+        with Serving(head, "--orphans", "abort:0.5") as server:
+            it = server.client()
+            self.assertRegex(it.ask("commit packer")[0], "packer done 0 ")
+            self.assertEqual(it.ask("claim other"), ["other busy"])
+            self.assertTrue(comes(lambda: server.counted("orphans_aborted_total") == 1))
+            self.assertEqual(it.ask("claim other"), ["other idle"])
+
     def test_the_claim_was_not_answered(self) -> None:
         # A client that ends with answers unread is gone at once, else once it is to be written to.
         for unread in 0, 1:

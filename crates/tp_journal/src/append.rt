@@ -81,6 +81,7 @@ impl<D: Device> Journal<D> {
         ensures later { D.faults self.old.device ≤ D.faults self.new.device }
         ensures failed { IsErrOf result AppendError.Failed
             → (self.new.poisoned ≡ true) × (D.faults self.old.device < D.faults self.new.device) }
+        ensures tried { IsErrOf result AppendError.Failed → IsBatch batch.now }
         ensures memory { IsErrOf result AppendError.Memory → self.new ≡ self.old }
         ensures not_full { IsErrOf result AppendError.Full → ⊥ }
         ensures had_failed { IsErrOf result AppendError.Poisoned → self.old.poisoned ≡ true }

@@ -8,11 +8,12 @@ use Rattle.tp_report.proofs.Devices.{Appends-none, Appends-then}
 use Rattle.tp_journal.specs.Event.{Event}
 use Rattle.tp_model.specs.declared.types.Refusal.TheVariants as refusals
 use Rattle.tp_report.specs.Answer.{line, refusal_text}
-use Rattle.tp_kept.specs.Events.{Writes, WritesSoFar, begins, contents_of, is_late, is_sure, lacks_memory, shown_by, told, written}
-use Rattle.tp_kept.specs.declared.events.TheConstants.{RESUMED, SHOWN}
+use Rattle.tp_kept.specs.Lines.{begins}
+use Rattle.tp_kept.specs.Events.{Writes, WritesSoFar, contents_of, is_late, is_sure, lacks_memory, shown_by, told, written}
+use Rattle.tp_kept.specs.declared.events.TheConstants.{NUMBERED, RESUMED, SHOWN}
 
 pub writes_none : (events : List Event) → Writes [] [] events events
-writes_none events = record { sure_is = λ none. refl; handed_is = refl; told_is = sym (append-nil (told events)); written_is = sym (append-nil (written events)); appended_is = refl; prompt_is = refl; begun_is = refl; gone_on_is = refl; late_is = λ on. refl }
+writes_none events = record { standing_is = refl; tried_is = refl; own_is = refl; taken_is = refl; quiet_is = refl; due_is = refl; right_is = refl; sure_is = λ none. refl; handed_is = refl; told_is = sym (append-nil (told events)); written_is = sym (append-nil (written events)); appended_is = refl; prompt_is = refl; begun_is = refl; gone_on_is = refl; late_is = λ on. refl }
 
 or_false : (a b : Bool) → (a || b) ≡ false → (a ≡ false) × (b ≡ false)
 or_false true b e = absurd cc
@@ -45,6 +46,13 @@ writes_part kind f part old mid (inl is) so = subst (λ k. Writes (shown_by k (f
   told_is = so.told_is ∙ ap (λ k. told old ++ shown_by k f) is;
   written_is = ap (λ l. l ++ part) so.written_is ∙ append_assoc (written old) f part;
   appended_is = so.appended_is;
+  standing_is = so.standing_is;
+  tried_is = so.tried_is;
+  own_is = so.own_is;
+  taken_is = so.taken_is;
+  quiet_is = so.quiet_is;
+  due_is = so.due_is;
+  right_is = so.right_is;
   prompt_is = so.prompt_is;
   begun_is = so.begun_is;
   gone_on_is = so.gone_on_is;
@@ -56,6 +64,13 @@ writes_part kind f part old mid (inr is) so = subst (λ k. Writes (shown_by k (f
   told_is = ap (λ l. l ++ part) (so.told_is ∙ ap (λ k. told old ++ shown_by k f) is) ∙ append_assoc (told old) f part;
   written_is = ap (λ l. l ++ part) so.written_is ∙ append_assoc (written old) f part;
   appended_is = so.appended_is;
+  standing_is = so.standing_is;
+  tried_is = so.tried_is;
+  own_is = so.own_is;
+  taken_is = so.taken_is;
+  quiet_is = so.quiet_is;
+  due_is = so.due_is;
+  right_is = so.right_is;
   prompt_is = so.prompt_is;
   begun_is = so.begun_is;
   gone_on_is = so.gone_on_is;
@@ -106,6 +121,12 @@ pub contents_muted : (a : Option (List ℕ)) (answers : List ℕ) (old new : Lis
 contents_muted None answers old new telling writing = tt
 contents_muted (Some x) answers old new telling writing =
     ap (λ w. take (length x - length w) x ++ told new) writing ∙ (ap (λ t. take (length x - length (written old)) x ++ t) telling ∙ sym (append_assoc (take (length x - length (written old)) x) (told old) answers))
+
+-- answers were told, and then others were written in their place
+pub contents_numbered : (a b : Option (List ℕ)) (answers text : List ℕ) (old mid new : List Event) → mid ≡ (NUMBERED, 0, true, answers) ∷ old → Appends a b text → Writes [] text mid new → Appends (contents_of old a) (contents_of new b) answers
+contents_numbered a b answers text old mid new is appends writes =
+    subst (λ l. Appends (contents_of old a) (contents_of new b) l) (append-nil answers)
+    (Appends-then (contents_of old a) (contents_of mid a) (contents_of new b) answers [] (contents_muted a answers old mid (ap told is) (ap written is)) (contents_more a b [] text mid new appends writes))
 
 -- nothing is left
 pub nothing : (xs : List ℕ) → length xs ≡ 0 → xs ≡ []

@@ -1,46 +1,51 @@
 -- A kept session and its journal.
-use Rattle.std.proofs.Common.{◌≡◌, ◌∙◌, ℕ, ◌<◌, ◌≤◌, ◌+◌, ◌-◌, ◌^◌, All, Bool, true, false, List, [], ◌∷◌, ◌++◌, refl, sym, ap, subst, arith, append-nil, append_assoc, drop, inl, inr, length, length-append, length-drop, min, take, take-append-drop}
+use Rattle.std.proofs.Common.{◌≡◌, ◌∙◌, ℕ, zero, suc, ◌<◌, ◌≤◌, ◌+◌, ◌-◌, ◌^◌, All, Bool, true, false, List, [], ◌∷◌, ◌++◌, refl, sym, ap, subst, arith, append-nil, append_assoc, drop, inl, inr, length, length-append, length-drop, take, take-append-drop}
 use Rattle.std.specs.Prelude.{◌⊎◌, Option, None, Some}
 use Rattle.std.specs.Io.KnownBytes.{Consumes, IsAtEnd}
 use Rattle.std.proofs.lemmas.List.{drop-drop, length-take-le, take_at}
-use Rattle.std.proofs.lemmas.List.Elements.{All-append, All-cons, All-nil}
 use Rattle.tp_journal.specs.Device.{LeavesOnly}
 use Rattle.tp_journal.specs.Journal.{IsOpen, IsSettled}
-use Rattle.tp_journal.specs.Text.{HasTorn, IsAtRest, IsBatch, IsPlain, end_line, text_of, with_end}
+use Rattle.tp_journal.specs.Text.{HasTorn, IsAtRest, IsBatch, IsPlain, end_line, first_line, text_of, with_end}
 use Rattle.tp_journal.specs.declared.journal.Journal.{Journal}
 use Rattle.tp_journal.proofs.Crashes.{keeps_batches, keeps_text}
 use Rattle.tp_kept.specs.Kept.{IsKept, Keeps, lines_in, rest_of}
-use Rattle.tp_kept.specs.Lines.{AreEnded, Puts, downs}
+use Rattle.tp_kept.specs.Lines.{AreEnded, Puts, before, downs, plain_line, shut}
+use Rattle.tp_kept.proofs.LinesLemmas.{shut_ended}
 use Rattle.tp_kept.proofs.EventsLemmas.{nothing}
 use Rattle.tp_kept.proofs.OwnLemmas.{lines_with}
 
-module _ {D : Type 0} (seen : D → List ℕ) (may_leave : D → List ℕ → Type 0) where
+module _ {D : Type 0} (seen : D → List ℕ) (may_leave : D → List ℕ → Type 0) (tried : Option (List ℕ)) where
   -- after a fault
-  pub kept_failed : (j : Journal D) (failed : Bool) (lines : List ℕ) → IsKept seen may_leave j failed lines → IsKept seen may_leave j true lines
+  pub kept_failed : (j : Journal D) (failed : Bool) (lines : List ℕ) → IsKept seen may_leave j failed tried lines → IsKept seen may_leave j true tried lines
   kept_failed j failed lines k = record { is_open = k.is_open; keeps = k.keeps; fine = λ e. absurd cc }
 
   -- where nothing has failed and nothing is ready
-  pub kept_given : (j : Journal D) (failed : Bool) (given left : List ℕ) → IsKept seen may_leave j failed (given ++ left) → failed ≡ false → left ≡ [] → IsKept seen may_leave j false given
-  kept_given j failed given left k fine none = subst (λ l. IsKept seen may_leave j false l) (ap (λ l. given ++ l) none ∙ append-nil given) (subst (λ b. IsKept seen may_leave j b (given ++ left)) fine k)
+  pub kept_given : (j : Journal D) (failed : Bool) (given left : List ℕ) → IsKept seen may_leave j failed tried (given ++ left) → failed ≡ false → left ≡ [] → IsKept seen may_leave j false tried given
+  kept_given j failed given left k fine none = subst (λ l. IsKept seen may_leave j false tried l) (ap (λ l. given ++ l) none ∙ append-nil given) (subst (λ b. IsKept seen may_leave j b tried (given ++ left)) fine k)
 
   -- the same lines
-  pub kept_same : (j : Journal D) (failed failed' : Bool) (lines lines' : List ℕ) → IsKept seen may_leave j failed lines → failed' ≡ failed → lines' ≡ lines → IsKept seen may_leave j failed' lines'
-  kept_same j failed failed' lines lines' k same is = subst (λ l. IsKept seen may_leave j failed' l) (sym is) (subst (λ b. IsKept seen may_leave j b lines) (sym same) k)
+  pub kept_same : (j : Journal D) (failed failed' : Bool) (tried' : Option (List ℕ)) (lines lines' : List ℕ) → IsKept seen may_leave j failed tried lines → failed' ≡ failed → tried' ≡ tried → lines' ≡ lines → IsKept seen may_leave j failed' tried' lines'
+  kept_same j failed failed' tried' lines lines' k same tries is = subst (λ l. IsKept seen may_leave j failed' tried' l) (sym is) (subst (λ t. IsKept seen may_leave j failed' t lines) (sym tries) (subst (λ b. IsKept seen may_leave j b tried lines) (sym same) k))
 
-  settled_keeps : (j : Journal D) → IsSettled seen may_leave j → Keeps (may_leave j.device) (lines_in (text_of (seen j.device)))
+  settled_keeps : (j : Journal D) → IsSettled seen may_leave j → Keeps (may_leave j.device) tried (lines_in (text_of (seen j.device)))
   settled_keeps j settled file recovered left is =
       let same : file ≡ seen j.device = settled.stands.durable file left in
       let text : recovered ≡ text_of (seen j.device) = keeps_text (text_of (seen j.device)) file recovered settled.stands.is_sealed (subst (IsAtRest (text_of (seen j.device))) (sym same) settled.stands.at_rest) is in
-      ([], ap lines_in text ∙ sym (append-nil (lines_in (text_of (seen j.device)))))
+      inl ([], ap lines_in text ∙ sym (append-nil (lines_in (text_of (seen j.device)))))
 
-  pub kept_new : (j : Journal D) (text : List ℕ) → IsSettled seen may_leave j → j.poisoned ≡ false → text ≡ text_of (seen j.device) → IsKept seen may_leave j false (lines_in text)
+  pub kept_new : (j : Journal D) (text : List ℕ) → IsSettled seen may_leave j → j.poisoned ≡ false → text ≡ text_of (seen j.device) → IsKept seen may_leave j false tried (lines_in text)
   kept_new j text settled fine is = record {
     is_open = λ e. settled;
-    keeps = subst (λ t. Keeps (may_leave j.device) (lines_in t)) (sym is) (settled_keeps j settled);
+    keeps = subst (λ t. Keeps (may_leave j.device) tried (lines_in t)) (sym is) (settled_keeps j settled);
     fine = λ e. (fine, ap lines_in (sym is));
   }
 
-  module _ (j j' : Journal D) (lines batch : List ℕ) (was : IsKept seen may_leave j false lines) (now : IsOpen seen may_leave j') where
+  -- other lines took the place of all
+  pub kept_replaced : (j : Journal D) (text : List ℕ) → IsOpen seen may_leave j → j.poisoned ≡ false → text_of (seen j.device) ≡ with_end (first_line ++ text) → IsBatch text → length (first_line ++ text) < 2 ^ 64 → IsKept seen may_leave j false tried text
+  kept_replaced j text now fine is batch_is short =
+      subst (λ l. IsKept seen may_leave j false tried l) (ap lines_in is ∙ lines_with first_line text (inl refl) batch_is short) (kept_new j (text_of (seen j.device)) (now fine) fine refl)
+
+  module _ (j j' : Journal D) (lines batch : List ℕ) (was : IsKept seen may_leave j false tried lines) (now : IsOpen seen may_leave j') where
     abbrev text : List ℕ
     text = text_of (seen j.device)
 
@@ -48,7 +53,7 @@ module _ {D : Type 0} (seen : D → List ℕ) (may_leave : D → List ℕ → Ty
     settled = was.is_open (was.fine refl).0
 
     -- a batch was appended
-    pub kept_appended : j'.poisoned ≡ false → text_of (seen j'.device) ≡ with_end (text ++ batch) → IsBatch batch → (j'.device ≡ j.device) ⊎ (length (with_end (text ++ batch)) < 2 ^ 64) → IsKept seen may_leave j' false (lines ++ batch)
+    pub kept_appended : j'.poisoned ≡ false → text_of (seen j'.device) ≡ with_end (text ++ batch) → IsBatch batch → (j'.device ≡ j.device) ⊎ (length (with_end (text ++ batch)) < 2 ^ 64) → IsKept seen may_leave j' false tried (lines ++ batch)
     kept_appended fine is batch_is (inl same) = absurd (omega (arith, ap length is, ap (λ d. length (text_of (seen d))) same, length-append (text ++ batch) (end_line (text ++ batch)), length-append text batch, some))
       where
         some : 1 ≤ length batch
@@ -58,23 +63,36 @@ module _ {D : Type 0} (seen : D → List ℕ) (may_leave : D → List ℕ → Ty
         ap lines_in is ∙ (lines_with text batch settled.stands.is_sealed batch_is (omega (arith, short, length-append (text ++ batch) (end_line (text ++ batch)))) ∙ ap (λ l. l ++ batch) (was.fine refl).1) in
         record {
           is_open = now;
-          keeps = subst (Keeps (may_leave j'.device)) added (settled_keeps j' (now fine));
+          keeps = subst (Keeps (may_leave j'.device) tried) added (settled_keeps j' (now fine));
           fine = λ e. (fine, added);
         }
 
     -- it may not have been
     pub kept_torn : (moment : D → ℕ) (left_since : D → ℕ → List ℕ → Type 0) → ((file : D) (t : ℕ) (c : List ℕ) → t ≤ moment file → may_leave file c → left_since file t c)
-        → LeavesOnly moment left_since j.device j'.device (HasTorn text (batch ++ end_line (text ++ batch))) → IsBatch batch → (j'.device ≡ j.device) ⊎ (length (with_end (text ++ batch)) < 2 ^ 64) → IsKept seen may_leave j' true lines
+        → LeavesOnly moment left_since j.device j'.device (HasTorn text (batch ++ end_line (text ++ batch))) → IsBatch batch → (j'.device ≡ j.device) ⊎ (length (with_end (text ++ batch)) < 2 ^ 64) → IsKept seen may_leave j' true tried lines
     kept_torn moment left_since counts leaves batch_is within = record { is_open = now; keeps = keeps within; fine = λ e. absurd cc }
       where
-        keeps : (j'.device ≡ j.device) ⊎ (length (with_end (text ++ batch)) < 2 ^ 64) → Keeps (may_leave j'.device) lines
-        keeps (inl same) = subst (λ d. Keeps (may_leave d) lines) (sym same) was.keeps
+        keeps : (j'.device ≡ j.device) ⊎ (length (with_end (text ++ batch)) < 2 ^ 64) → Keeps (may_leave j'.device) tried lines
+        keeps (inl same) = subst (λ d. Keeps (may_leave d) tried lines) (sym same) was.keeps
         keeps (inr short) = λ file recovered left is.
             let torn = leaves.each file (counts j'.device (moment j.device) file leaves.later left) in
             let less : length (text ++ batch) < 2 ^ 64 = omega (arith, short, length-append (text ++ batch) (end_line (text ++ batch))) in
             elim (keeps_batches text batch file recovered short settled.stands.at_rest.text_is settled.stands.is_sealed batch_is torn is) [
-              | inl old ↦ ([], ap lines_in old ∙ ((was.fine refl).1 ∙ sym (append-nil lines)))
-              | inr new ↦ (batch, ap lines_in new ∙ (lines_with text batch settled.stands.is_sealed batch_is less ∙ ap (λ l. l ++ batch) (was.fine refl).1))
+              | inl old ↦ inl ([], ap lines_in old ∙ ((was.fine refl).1 ∙ sym (append-nil lines)))
+              | inr new ↦ inl (batch, ap lines_in new ∙ (lines_with text batch settled.stands.is_sealed batch_is less ∙ ap (λ l. l ++ batch) (was.fine refl).1))
+            ]
+
+    -- other lines may have taken the place of all
+    pub kept_tried : (moment : D → ℕ) (left_since : D → ℕ → List ℕ → Type 0) → ((file : D) (t : ℕ) (c : List ℕ) → t ≤ moment file → may_leave file c → left_since file t c)
+        → LeavesOnly moment left_since j.device j'.device (λ c. IsAtRest text c ⊎ IsAtRest (with_end (first_line ++ batch)) c) → IsBatch batch → length (first_line ++ batch) < 2 ^ 64 → IsKept seen may_leave j' true (Some batch) lines
+    kept_tried moment left_since counts leaves batch_is short = record { is_open = now; keeps = keeps; fine = λ e. absurd cc }
+      where
+        keeps : Keeps (may_leave j'.device) (Some batch) lines
+        keeps = λ file recovered left is.
+            let rests = leaves.each file (counts j'.device (moment j.device) file leaves.later left) in
+            elim rests [
+              | inl old ↦ inl ([], ap lines_in (keeps_text text file recovered settled.stands.is_sealed old is) ∙ ((was.fine refl).1 ∙ sym (append-nil lines)))
+              | inr new ↦ inr (ap (λ l. Some l) (sym (ap lines_in (keeps_text (with_end (first_line ++ batch)) file recovered (inr (first_line ++ batch, record { rest = batch; whole = refl }, refl)) new is) ∙ lines_with first_line batch (inl refl) batch_is short)))
             ]
 
 -- some of what is ready was given
@@ -124,8 +142,12 @@ pub rest_over : (ready line : List ℕ) (rest : Option (List ℕ)) → ready ≡
 rest_over ready line rest none end = subst (λ r. IsAtEnd (rest_of r line rest)) (sym none) end
 
 -- a line with its end
-pub one_line : (lines line : List ℕ) → All IsPlain line → lines ≡ line ++ 10 ∷ [] → AreEnded lines
-one_line lines line plain is = (subst (All IsPlain) (sym is) (All-append IsPlain line (10 ∷ []) plain (All-cons IsPlain 10 [] refl (All-nil IsPlain))), inr (line, is))
+pub one_line : (lines line : List ℕ) → All IsPlain line → lines ≡ shut line → AreEnded lines
+one_line lines line plain is = subst AreEnded (sym is) (shut_ended line plain)
+
+-- it has one
+pub one_some : (lines line : List ℕ) → lines ≡ shut line → 1 ≤ length lines
+one_some lines line is = omega (arith, ap length is, length-append (before line ++ plain_line line) (10 ∷ []))
 
 -- ---- a read
 
@@ -146,13 +168,17 @@ given_bytes before ready ready' at at' n line line' rest rest' got so r a l s is
     (subst (λ o. Consumes before o (take n (drop at ready))) (sym (same_rest ready ready' at at' n line line' rest rest' r a l s))
     (rest_on before (rest_of (drop at ready) line rest) (rest_of (drop (at + n) ready) line rest) (take n (drop at ready)) so (rest_given ready line rest at n)))
 
-pub given_end : (ready ready' : List ℕ) (at at' n : ℕ) (line line' : List ℕ) (rest rest' : Option (List ℕ)) (room : ℕ) → n ≡ min room (length (drop at ready)) → n ≡ 0 → 0 < room
+pub given_end : (ready ready' : List ℕ) (at at' n : ℕ) (line line' : List ℕ) (rest rest' : Option (List ℕ)) (room : ℕ) → (0 < room → 0 < length (drop at ready) → 0 < n) → n ≡ 0 → 0 < room
     → (drop at ready ≡ [] → IsAtEnd (rest_of [] line rest)) → ready' ≡ ready → at' ≡ at + n → line' ≡ line → rest' ≡ rest → IsAtEnd (rest_of (drop at' ready') line' rest')
-given_end ready ready' at at' n line line' rest rest' room count none some end r a l s =
-    let empty : length (drop at ready) ≡ 0 = omega (arith, count, none, some) in
+given_end ready ready' at at' n line line' rest rest' room gives none some end r a l s =
+    let empty : length (drop at ready) ≡ 0 = is_none (length (drop at ready)) (gives some) in
     let over : drop at ready ≡ [] = nothing (drop at ready) empty in
     let after : drop (at + n) ready ≡ [] = nothing (drop (at + n) ready) (omega (arith, empty, length-drop at ready, length-drop (at + n) ready)) in
     subst IsAtEnd (sym (same_rest ready ready' at at' n line line' rest rest' r a l s)) (rest_over (drop (at + n) ready) line rest after (end over))
+  where
+    is_none : (many : ℕ) → (0 < many → 0 < n) → many ≡ 0
+    is_none zero more = refl
+    is_none (suc many) more = absurd (omega (arith, none, more (omega arith)))
 
 -- a buffer of which the first bytes were copied from what is ready
 pub filled : (n at : ℕ) (ready buffer got all : List ℕ) → got ≡ take ((at + n) - at) (drop at all) → all ≡ ready → length got ≡ length (take n buffer) → n ≤ length buffer → take n (got ++ drop n buffer) ≡ take n (drop at ready)

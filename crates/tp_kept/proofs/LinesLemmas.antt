@@ -1,12 +1,13 @@
 -- Lines that are put down, and taken out again.
 use Rattle.std.proofs.Common.{◌≡◌, ◌∙◌, ◌==◌, ℕ, ◌+◌, Bool, true, false, List, [], ◌∷◌, ◌++◌, None, Some, refl, sym, ap, append-nil, append_assoc, drop, inl, inr, take}
-use Rattle.std.specs.Prelude.{if◌then◌else◌, position}
+use Rattle.std.specs.Prelude.{if◌then◌else◌, position, All, codes, nat_lt, length, ◌&&◌}
 use Rattle.std.proofs.lemmas.List.{drop-drop}
-use Rattle.std.proofs.lemmas.List.Elements.{All-append, All-head, All-nil, All-tail}
+use Rattle.std.proofs.lemmas.List.Elements.{All-append, All-cons, All-head, All-nil, All-tail}
 use Rattle.tp_journal.specs.Text.{IsPlain}
 use Rattle.tp_session.specs.Heard.{IsInLine}
 use Rattle.tp_session.proofs.HeardLemmas.{EndsAt, ends_at, no_end}
-use Rattle.tp_kept.specs.Lines.{AreEnded, Puts, downs, given_from, given_in, is_own}
+use Rattle.tp_kept.specs.Lines.{AreEnded, Puts, before, downs, given_from, given_in, is_own, longer, opens, own_dump, plain_line, shut}
+use Rattle.tp_session.specs.declared.reading.TheConstants.{MAX_KEPT}
 
 -- ---- put down
 
@@ -25,6 +26,45 @@ ended_then a b (plain, inr t) (plains, ends) = (
     | inr u ↦ inr (a ++ u.0, ap (λ l. a ++ l) u.1 ∙ sym (append_assoc a u.0 (10 ∷ [])))
   ],
 )
+
+-- neither byte 0 nor 23
+abbrev EachPlain : List ℕ → Type 0
+EachPlain [] = Unit {0}
+EachPlain (b ∷ bs) = IsPlain b × EachPlain bs
+
+each_plain : (bs : List ℕ) → EachPlain bs → All IsPlain bs
+each_plain [] each = All-nil IsPlain
+each_plain (b ∷ bs) each = All-cons IsPlain b bs each.0 (each_plain bs each.1)
+
+plain_if : (b : Bool) (xs ys : List ℕ) → All IsPlain xs → All IsPlain ys → All IsPlain (if b then xs else ys)
+plain_if true xs ys a b = a
+plain_if false xs ys a b = b
+
+pub shut_ended : (line : List ℕ) → All IsPlain line → AreEnded (shut line)
+shut_ended line plain =
+    let dumps : All IsPlain (before line) = plain_if (opens (codes "rollover") line) own_dump [] (each_plain own_dump (refl, (refl, (refl, (refl, (refl, tt)))))) (All-nil IsPlain) in
+    let text : All IsPlain (plain_line line) = plain_if (opens (codes "# covetrivet: ") line && nat_lt (length line) MAX_KEPT) (codes "#") line (each_plain (codes "#") (refl, tt)) plain in (
+      All-append IsPlain (before line ++ plain_line line) (10 ∷ []) (All-append IsPlain (before line) (plain_line line) dumps text) (each_plain (10 ∷ []) (refl, tt)),
+      inr (before line ++ plain_line line, refl),
+    )
+
+-- a line has ended
+pub puts_shut : (b : ℕ) (line lines line' lines' : List ℕ) → b ≡ 10 → All IsPlain line → line' ≡ [] → lines' ≡ lines ++ shut line → Puts (b ∷ []) line lines line' lines'
+puts_shut b line lines line' lines' end plain none is = record {
+  added = shut line;
+  lines_are = is;
+  ended = shut_ended line plain;
+  follows = λ more. ap (λ b. downs line (b ∷ more)) end ∙ ap (λ l. shut line ++ downs l more) (sym none);
+}
+
+-- it has not
+pub puts_more : (b : ℕ) (line lines line' : List ℕ) → (b == 10) ≡ false → line' ≡ longer line b → Puts (b ∷ []) line lines line' lines
+puts_more b line lines line' other is = record {
+  added = [];
+  lines_are = sym (append-nil lines);
+  ended = (All-nil IsPlain, inl refl);
+  follows = λ more. rw other (ap (λ l. downs l more) (sym is));
+}
 
 pub puts_none : (line lines : List ℕ) → Puts [] line lines line lines
 puts_none line lines = record { added = []; lines_are = sym (append-nil lines); ended = (All-nil IsPlain, inl refl); follows = λ more. refl }

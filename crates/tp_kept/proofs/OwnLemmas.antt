@@ -17,14 +17,14 @@ use Rattle.tp_kept.proofs.LinesLemmas.{given_line}
 -- ---- the journal's own line
 
 -- no end of a line
-abbrev IsIn : ℕ → Type 0
+abbrev pub IsIn : ℕ → Type 0
 IsIn b = (b == 10) ≡ false
 
-abbrev EachIn : List ℕ → Type 0
+abbrev pub EachIn : List ℕ → Type 0
 EachIn [] = Unit {0}
 EachIn (b ∷ bs) = IsIn b × EachIn bs
 
-each_in : (bs : List ℕ) → EachIn bs → All IsIn bs
+pub each_in : (bs : List ℕ) → EachIn bs → All IsIn bs
 each_in [] each = All-nil IsIn
 each_in (b ∷ bs) each = All-cons IsIn b bs each.0 (each_in bs each.1)
 
@@ -44,7 +44,7 @@ hex_in (b ∷ bs) all =
 digit_in : (d : ℕ) → d < 10 → IsIn (48 + d)
 digit_in d lt = grind (arith, nat_tests)
 
-decimal_in : (n : ℕ) → n < 2 ^ 64 → All IsIn (decimal n)
+pub decimal_in : (n : ℕ) → n < 2 ^ 64 → All IsIn (decimal n)
 decimal_in = decimal_by_steps (λ n ds. All IsIn ds)
     (λ n lt. All-cons IsIn (48 + n) [] (digit_in n lt) (All-nil IsIn))
     (λ n ds le all. All-append IsIn ds ((48 + n % 10) ∷ []) all (All-cons IsIn (48 + n % 10) [] (digit_in (n % 10) (omega arith)) (All-nil IsIn)))

@@ -1,5 +1,5 @@
 -- Whether bytes tell of want of memory, place by place.
-use Rattle.std.proofs.Common.{◌≡◌, ◌∙◌, ◌==◌, ℕ, zero, suc, ◌+◌, ◌-◌, ◌<◌, Bool, true, false, List, [], ◌∷◌, refl, sym, ap, subst, arith, drop, length, take}
+use Rattle.std.proofs.Common.{◌≡◌, ◌∙◌, ◌==◌, ℕ, zero, suc, ◌+◌, ◌-◌, ◌<◌, Bool, List, [], ◌∷◌, refl, sym, ap, subst, arith, drop, length, take}
 use Rattle.std.specs.Prelude.{◌&&◌, ◌||◌, codes}
 use Rattle.std.specs.List.{starts_with}
 use Rattle.std.proofs.lemmas.List.{take_rest}
@@ -7,7 +7,8 @@ use Rattle.std.proofs.lemmas.Fmt.{decimal_digit}
 use Rattle.tp_model.specs.declared.types.Refusal.TheVariants as refusals
 use Rattle.tp_report.specs.Answer.{line, refusal_text}
 use Rattle.tp_script.specs.Fault.{◌<>◌}
-use Rattle.tp_kept.specs.Events.{begins, lacks_memory}
+use Rattle.tp_kept.specs.Events.{lacks_memory}
+use Rattle.tp_kept.specs.Lines.{begins}
 
 abbrev short : List ℕ
 short = line (refusal_text refusals.NoMemory)

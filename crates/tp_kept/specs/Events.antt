@@ -1,14 +1,16 @@
 -- What has happened to a kept session, the last first.
 use Rattle.std.specs.Prelude.{◌≡◌, ◌-◌, ◌||◌, ◌&&◌, not, ◌==◌, if◌then◌else◌, ℕ, Bool, true, false}
 use Rattle.std.specs.Prelude.{List, [], ◌∷◌, ◌++◌}
-use Rattle.std.specs.Prelude.{Option, Result, OnOk, length, take}
+use Rattle.std.specs.Prelude.{Option, Some, None, Result, OnOk, length, take}
 use Rattle.std.specs.Io.KnownBytes.{Appends}
 use Rattle.tp_script.specs.declared.source.Failed.{Failed}
 use Rattle.std.specs.Option.{option_map}
 use Rattle.tp_journal.specs.Event.{Event}
 use Rattle.tp_model.specs.declared.types.Refusal.TheVariants as refusals
 use Rattle.tp_report.specs.Answer.{line, refusal_text}
-use Rattle.tp_kept.specs.declared.events.TheConstants.{APPENDED, ASKED, BEGUN, HANDED, MUTED, RESUMED, SHOWN}
+use Rattle.tp_kept.specs.declared.events.TheConstants.{APPENDED, ASKED, BEGUN, HANDED, MUTED, NUMBERED, RESUMED, ROLLED, SHORTENED, SHOWN, TAKEN, TRIED}
+use Rattle.tp_kept.specs.Lines.{begins, opens, own_dump}
+use Rattle.tp_kept.specs.Short.{is_dumped, is_rolled, is_short}
 
 -- the bytes of the events of one kind or another, in the order in which they came
 abbrev pub bytes_of : ℕ → ℕ → List Event → List ℕ
@@ -28,9 +30,12 @@ begun events = bytes_of BEGUN BEGUN events
 abbrev pub only_begun : List ℕ → List Event
 only_begun lines = (BEGUN, 0, true, lines) ∷ []
 
--- what it has told, also where that was told before
+-- what it has told, also where that was told before, or taken, or has other numbers
 abbrev pub told : List Event → List ℕ
-told events = bytes_of MUTED SHOWN events
+told [] = []
+told ((kind, number, ok, bytes) ∷ past) =
+    if (kind == MUTED) || ((kind == SHOWN) || ((kind == TAKEN) || (kind == NUMBERED))) then told past ++ bytes
+    else told past
 
 -- what was written of it, behind how many lines were recovered
 abbrev pub written : List Event → List ℕ
@@ -58,12 +63,6 @@ is_late [] = true
 is_late ((kind, number, ok, bytes) ∷ past) =
     (not ((kind == RESUMED) || (kind == SHOWN)) || has_gone_on past) && is_late past
 
--- one list begins with another
-abbrev pub begins : List ℕ → List ℕ → Bool
-begins [] bs = true
-begins (x ∷ xs) [] = false
-begins (x ∷ xs) (b ∷ bs) = (x == b) && begins xs bs
-
 -- the bytes have the end of a line that tells of want of memory
 abbrev pub lacks_memory : List ℕ → Bool
 lacks_memory [] = false
@@ -73,7 +72,52 @@ lacks_memory (b ∷ bs) = begins (line (refusal_text refusals.NoMemory)) (b ∷ 
 abbrev pub is_sure : List Event → Bool
 is_sure [] = true
 is_sure ((kind, number, ok, bytes) ∷ past) =
-    not (((kind == MUTED) || (kind == SHOWN)) && lacks_memory bytes) && is_sure past
+    not (((kind == MUTED) || ((kind == SHOWN) || ((kind == TAKEN) || (kind == NUMBERED)))) && lacks_memory bytes)
+    && is_sure past
+
+-- ---- what makes a journal short
+
+-- what the journal has of what the session was given
+abbrev pub standing : List Event → List ℕ
+standing [] = []
+standing ((kind, number, ok, bytes) ∷ past) =
+    if kind == SHORTENED then bytes else if kind == HANDED then standing past ++ bytes else standing past
+
+-- what may have taken the place of all
+abbrev pub tried : List Event → Option (List ℕ)
+tried [] = None
+tried ((kind, number, ok, bytes) ∷ past) = if kind == TRIED then Some bytes else tried past
+
+-- the session was given a `dump` of its own last
+abbrev pub has_own : List Event → Bool
+has_own [] = false
+has_own ((kind, number, ok, bytes) ∷ past) =
+    if kind == HANDED then (number == 1) && opens own_dump bytes else has_own past
+
+-- what the last one was told
+abbrev pub taken : List Event → List ℕ
+taken [] = []
+taken ((kind, number, ok, bytes) ∷ past) =
+    if kind == TAKEN then taken past ++ bytes
+    else if (kind == HANDED) && (number == 1) then [] else taken past
+
+-- nothing else that was told was taken
+abbrev pub is_quiet : List Event → Bool
+is_quiet [] = true
+is_quiet ((kind, number, ok, bytes) ∷ past) = (not (kind == TAKEN) || has_own past) && is_quiet past
+
+-- a rollover has succeeded behind a dump, and nothing was given since
+abbrev pub is_due : List Event → Bool
+is_due [] = false
+is_due ((kind, number, ok, bytes) ∷ past) =
+    if kind == ROLLED then is_rolled bytes && is_dumped (taken past)
+    else if (kind == HANDED) || (kind == SHORTENED) then false else is_due past
+
+-- only then were lines shortened, to those of the dump
+abbrev pub is_right : List Event → Bool
+is_right [] = true
+is_right ((kind, number, ok, bytes) ∷ past) =
+    (not (kind == SHORTENED) || (is_due past && is_short bytes (taken past))) && is_right past
 
 -- What the session has told, behind what a writer had before: of what the writer has, that was written.
 abbrev pub contents_of : List Event → Option (List ℕ) → Option (List ℕ)
@@ -91,6 +135,13 @@ pub record Writes (more_told more_written : List ℕ) (old new : List Event) : T
   pub gone_on_is : has_gone_on new ≡ has_gone_on old
   pub late_is : has_gone_on old ≡ true → is_late new ≡ is_late old
   pub sure_is : lacks_memory more_told ≡ false → is_sure new ≡ is_sure old
+  pub standing_is : standing new ≡ standing old
+  pub tried_is : tried new ≡ tried old
+  pub own_is : has_own new ≡ has_own old
+  pub taken_is : taken new ≡ taken old
+  pub quiet_is : is_quiet new ≡ is_quiet old
+  pub due_is : is_due new ≡ is_due old
+  pub right_is : is_right new ≡ is_right old
 
 -- what of written bytes was told: answers are, how many lines were recovered isn't
 abbrev pub shown_by : ℕ → List ℕ → List ℕ

@@ -1,6 +1,6 @@
 -- Lines as they are put down in a journal, and as they are taken out of it.
-use Rattle.std.specs.Prelude.{◌≡◌, ◌⊎◌, ℕ, Bool, All, List, [], ◌∷◌, ◌++◌, if◌then◌else◌, ◌==◌, nat_lt, length}
-use Rattle.std.specs.List.{list_any}
+use Rattle.std.specs.Prelude.{◌≡◌, ◌⊎◌, ℕ, Bool, true, false, All, List, [], ◌∷◌, ◌++◌, if◌then◌else◌, ◌==◌, ◌&&◌, nat_lt, length, codes}
+use Rattle.std.specs.List.{list_any, starts_with}
 use Rattle.tp_journal.specs.Text.{IsPlain, is_reserved}
 use Rattle.tp_session.specs.declared.reading.TheConstants.{MAX_KEPT}
 
@@ -12,15 +12,42 @@ put_down b = if is_reserved b then 1 else b
 abbrev pub longer : List ℕ → ℕ → List ℕ
 longer line b = if nat_lt (length line) MAX_KEPT then line ++ put_down b ∷ [] else line
 
+-- one list begins with another
+abbrev pub begins : List ℕ → List ℕ → Bool
+begins [] bs = true
+begins (x ∷ xs) [] = false
+begins (x ∷ xs) (b ∷ bs) = (x == b) && begins xs bs
+
+-- so do bytes, as the code tests it
+abbrev pub opens : List ℕ → List ℕ → Bool
+opens p bytes = starts_with (λ a b. a == b) bytes p
+
+-- a line `dump` of the session's own, which stands before each line that may ask for a rollover
+abbrev pub own_dump : List ℕ
+own_dump = codes "dump\n"
+
+-- what stands before a line
+abbrev pub before : List ℕ → List ℕ
+before line = if opens (codes "rollover") line then own_dump else []
+
+-- a line that would be taken for one that says how many lines a journal had has another text: both are comments
+abbrev pub plain_line : List ℕ → List ℕ
+plain_line line =
+    if opens (codes "# covetrivet: ") line && nat_lt (length line) MAX_KEPT then codes "#" else line
+
+-- a line as it is put down, with its end
+abbrev pub shut : List ℕ → List ℕ
+shut line = before line ++ plain_line line ++ 10 ∷ []
+
 -- a last line has an end too
 abbrev pub ended : List ℕ → List ℕ
 ended [] = []
-ended (b ∷ bs) = (b ∷ bs) ++ 10 ∷ []
+ended (b ∷ bs) = shut (b ∷ bs)
 
 -- bytes as they are put down, behind what is there of a line: each line with its end
 abbrev pub downs : List ℕ → List ℕ → List ℕ
 downs line [] = ended line
-downs line (b ∷ bs) = if b == 10 then line ++ 10 ∷ downs [] bs else downs (longer line b) bs
+downs line (b ∷ bs) = if b == 10 then shut line ++ downs [] bs else downs (longer line b) bs
 
 -- a line is the journal's own: it has the byte that ends a batch
 abbrev pub is_own : List ℕ → Bool

@@ -1,5 +1,5 @@
 //! What is read, and put into the journal before the session has it.
-ghost use Rattle.std.specs.Prelude.{◌≡◌, ◌≤◌, ◌<◌, ◌+◌, ◌^◌, [], None, OnErr, OnOk, IfOk, drop};
+ghost use Rattle.std.specs.Prelude.{◌≡◌, ◌≤◌, ◌<◌, ◌+◌, ◌^◌, [], None, OnErr, OnOk, IfOk, drop, ◌==◌, if◌then◌else◌};
 ghost use Rattle.std.specs.Prelude.{length, min, take, true, false};
 ghost use Rattle.std.specs.Io.KnownBytes.{Appends, Consumes, IsAtEnd};
 ghost use Rattle.std.specs.Option.{is_some};
@@ -11,9 +11,11 @@ ghost use Rattle.tp_kept.specs.Ready.{IsReady};
 ghost use Rattle.tp_session.specs.declared.reading.TheConstants.{MAX_ASKED};
 
 use crate::cause::{Cause, cause_of};
+use crate::counting::{count, stands_in};
 use crate::events::{APPENDED, ASKED, BEGUN, HANDED, RESUMED};
 use crate::kept::Kept;
-use crate::lines::{count, end, given, put};
+use crate::lines::{end, given, put};
+use crate::stage::{Stage, next, own_number, staged};
 use crate::writing::write_noted;
 use std::alloc::{AllocError, Global};
 use tp_journal::{Device, FIRST_LINE, Journal, Record};
@@ -46,7 +48,10 @@ impl<R: Source + Drop, W: Sink + Drop, D: Device + Drop> Kept<R, W, D> {
         ensures is_ready { IfOk result (IsReady D.seen D.may_leave) }
     {
         let ready = given(alloc, &text[FIRST_LINE.len()..])?;
-        let recovered = count(&ready);
+        let stands = stands_in(&ready);
+        let counted = count(&ready)
+            .saturating_sub(stands.lines)
+            .saturating_add(stands.counted);
         let mut log = Record::new();
         log.note(&[BEGUN, 0, 1], &ready);
         Ok(Kept {
@@ -57,7 +62,12 @@ impl<R: Source + Drop, W: Sink + Drop, D: Device + Drop> Kept<R, W, D> {
             ready,
             at: 0,
             line: Vec::new(alloc),
-            recovered,
+            counted,
+            stage: Stage::Lines,
+            dump: Vec::new(alloc),
+            due: false,
+            more: stands.counted,
+            less: stands.lines,
             recovering: true,
             left: MAX_ASKED,
             asked: 0,
@@ -119,8 +129,10 @@ impl<R: Source + Drop, W: Sink + Drop, D: Device + Drop> Kept<R, W, D> {
             × (written self.new.log.events ≡ written self.old.log.events) }
         ensures cause { OnErr result (is_some self.new.cause ≡ true) }
     {
+        let more = count(&batch);
         match self.journal.append(self.alloc, &batch) {
             Ok(()) => {
+                self.counted = self.counted.saturating_add(more);
                 self.log.note(&[APPENDED, 0, 1], &batch);
                 self.ready = batch;
                 self.at = 0;
@@ -224,7 +236,7 @@ impl<R: Source + Drop, W: Sink + Drop, D: Device + Drop> Kept<R, W, D> {
         if !self.recovering {
             return Ok(());
         }
-        let recovered = self.recovered;
+        let recovered = self.counted;
         let Ok(text) = format!(in self.alloc; "recovered {recovered}\n") else {
             self.cause = Some(Cause::NoMemory);
             return Err(Failed);
@@ -262,6 +274,29 @@ impl<R: Source + Drop, W: Sink + Drop, D: Device + Drop> Kept<R, W, D> {
     }
 
     /// Has some bytes ready, if there are more.
+    fn more(&mut self) -> Result<(), Failed>
+        requires ready { IsReady D.seen D.may_leave self.old }
+        requires fine { self.old.cause ≡ None }
+        ensures is_ready { IsReady D.seen D.may_leave self.new }
+        ensures rest { OnOk result (Consumes
+            (rest_of (drop self.old.at self.old.ready.items) self.old.line.items (R.rest self.old.reader))
+            (rest_of (drop self.new.at self.new.ready.items) self.new.line.items (R.rest self.new.reader))
+            []) }
+        ensures end { OnOk result (drop self.new.at self.new.ready.items ≡ []
+            → IsAtEnd (rest_of [] self.new.line.items (R.rest self.new.reader))) }
+        ensures contents { Appends (contents_of self.old.log.events (W.contents self.old.writer))
+            (contents_of self.new.log.events (W.contents self.new.writer)) [] }
+        ensures same { self.new.asked ≡ self.old.asked }
+        ensures cause { OnErr result (is_some self.new.cause ≡ true) }
+    {
+        if self.at == self.ready.len() {
+            self.log.note(&[ASKED, 0, 1], &[]);
+            return self.refill();
+        }
+        Ok(())
+    }
+
+    /// Makes the journal short where it can, and then has some bytes ready, if there are more.
     pub(crate) fn prepare(&mut self) -> Result<(), Failed>
         requires ready { IsReady D.seen D.may_leave self.old }
         requires asked { self.old.asked + 1 < 2 ^ 64 }
@@ -281,18 +316,17 @@ impl<R: Source + Drop, W: Sink + Drop, D: Device + Drop> Kept<R, W, D> {
         if self.cause.is_some() {
             return Err(Failed);
         }
-        if self.at == self.ready.len() {
-            self.log.note(&[ASKED, 0, 1], &[]);
-            return self.refill();
-        }
-        Ok(())
+        self.shorten()?;
+        self.more()
     }
 
     /// Gives what is ready to the session, as much as there is room for.
     pub(crate) fn give(&mut self, buffer: &mut [u8]) -> usize
         requires ready { IsReady D.seen D.may_leave self.old }
         ensures is_ready { IsReady D.seen D.may_leave self.new }
-        ensures count { result ≡ min (length buffer.old) (length (drop self.old.at self.old.ready.items)) }
+        ensures at_most { (result ≤ length buffer.old)
+            × (result ≤ length (drop self.old.at self.old.ready.items)) }
+        ensures some { 0 < length buffer.old → 0 < length (drop self.old.at self.old.ready.items) → 0 < result }
         ensures room { length buffer.new ≡ length buffer.old }
         ensures bytes { take result buffer.new ≡ take result (drop self.old.at self.old.ready.items) }
         ensures at { (self.new.ready ≡ self.old.ready) × (self.new.at ≡ self.old.at + result) }
@@ -301,10 +335,26 @@ impl<R: Source + Drop, W: Sink + Drop, D: Device + Drop> Kept<R, W, D> {
             × (told self.new.log.events ≡ told self.old.log.events)
             × (written self.new.log.events ≡ written self.old.log.events) }
     {
-        let n = buffer.len().min(self.ready.len() - self.at);
+        let room = buffer.len().min(self.ready.len() - self.at);
+        let (stage, n) = next(self.stage, &self.ready[self.at..], room);
         buffer[..n].copy_from_slice(&self.ready[self.at..self.at + n]);
-        self.log.note(&[HANDED, 0, 1], &buffer[..n]);
+        let stage = staged(stage, &buffer[..n]);
+        let number = own_number(stage);
+        self.log.note(&[HANDED, number, 1], &buffer[..n]);
+        forget(&mut self.dump, number);
+        self.less = self.less.saturating_add(number);
+        self.stage = stage;
+        self.due = false;
         self.at += n;
         n
+    }
+}
+
+/// Forgets what the last `dump` of the session's own was told, where it is given another one.
+fn forget(dump: &mut Vec<u8>, number: u64)
+    ensures { dump.new.items ≡ (if number == 1 then [] else dump.old.items) }
+{
+    if number == 1 {
+        dump.clear();
     }
 }

@@ -4,10 +4,12 @@ ghost use Rattle.std.specs.Prelude.{drop, false, nat_lt, true, vec_len};
 ghost use Rattle.tp_journal.specs.declared.append.TheConstants.{MAX_LEN};
 ghost use Rattle.tp_kept.specs.declared.cause.Cause.TheVariants as Cause;
 ghost use Rattle.tp_kept.specs.Events.{begun, handed, has_appended, has_gone_on, written};
-ghost use Rattle.tp_kept.specs.Events.{is_late, is_prompt, is_sure};
+ghost use Rattle.tp_kept.specs.Events.{has_own, is_due, is_late, is_prompt, is_quiet, is_right, is_sure, taken};
+ghost use Rattle.tp_kept.specs.declared.stage.Stage.TheVariants as Stage;
 ghost use Rattle.tp_session.specs.declared.reading.TheConstants.{MAX_KEPT};
 
 use crate::cause::Cause;
+use crate::stage::Stage;
 use std::alloc::Global;
 use tp_journal::{Device, Journal, Record};
 use tp_report::Sink;
@@ -27,8 +29,18 @@ pub struct Kept<R: Source + Drop, W: Sink + Drop, D: Device + Drop> {
     pub(crate) at: usize,
     /// What was read of a line that hasn't ended.
     pub(crate) line: Vec<u8>,
-    /// How many lines the journal had.
-    pub(crate) recovered: usize,
+    /// How many lines the client has sent since the journal was first made, as far as it has them.
+    pub(crate) counted: u64,
+    /// What the session was given last.
+    pub(crate) stage: Stage,
+    /// What the last `dump` of its own was told.
+    pub(crate) dump: Vec<u8>,
+    /// A rollover has succeeded behind it.
+    pub(crate) due: bool,
+    /// How many lines of the client the lines stand for that the session wasn't given by it.
+    pub(crate) more: u64,
+    /// How many these are.
+    pub(crate) less: u64,
     /// The session has no line yet but those.
     pub(crate) recovering: bool,
     /// How often the reader may still be asked.
@@ -48,6 +60,11 @@ pub struct Kept<R: Source + Drop, W: Sink + Drop, D: Device + Drop> {
     ghost gone_on: { recovering ≡ false → has_gone_on log.events ≡ true },
     ghost late: { is_late log.events ≡ true },
     ghost sure: { is_sure log.events ≡ true },
+    ghost own: { stage ≡ Stage.Dump → has_own log.events ≡ true },
+    ghost quiet: { is_quiet log.events ≡ true },
+    ghost dumped: { dump.items ≡ taken log.events },
+    ghost rolled: { due ≡ true → is_due log.events ≡ true },
+    ghost right: { is_right log.events ≡ true },
     ghost read_fault: { cause ≡ Some Cause.Read → (R.has_failed reader || (left == 0)) ≡ true },
     ghost write_fault: { cause ≡ Some Cause.Write → IsTrue (W.has_failed writer) },
     ghost journal_fault: { cause ≡ Some Cause.Journal

@@ -1,7 +1,7 @@
 //! Lines as they are put down in a journal, and as they are taken out of it.
-ghost use Rattle.std.specs.Prelude.{◌≡◌, ◌==◌, ◌≤◌, ◌∷◌, ◌++◌, [], All, OnOk, IfOk, position, vec_len};
+ghost use Rattle.std.specs.Prelude.{◌≡◌, ◌==◌, ◌≤◌, ◌∷◌, ◌++◌, [], All, OnOk, IfOk, position, vec_len, codes, length, nat_lt, ◌&&◌};
 ghost use Rattle.tp_journal.specs.Text.{IsPlain};
-ghost use Rattle.tp_kept.specs.Lines.{Puts, given_in, is_own, put_down};
+ghost use Rattle.tp_kept.specs.Lines.{Puts, given_in, is_own, opens, plain_line, put_down, shut};
 ghost use Rattle.tp_session.specs.declared.reading.TheConstants.{MAX_KEPT};
 
 use std::alloc::{AllocError, Global};
@@ -24,6 +24,45 @@ fn put_down(byte: u8) -> u8
     }
 }
 
+/// A line `dump` of the session's own.
+pub(crate) const OWN_DUMP: &[u8] = b"dump\n";
+
+/// How a line begins that asks for a rollover. (A longer word is a faulty line: no harm is done.)
+pub(crate) const ROLLOVER: &[u8] = b"rollover";
+
+/// How the line of a journal begins that says for how many lines those behind it stand.
+pub(crate) const COUNTED: &[u8] = b"# covetrivet: ";
+
+/// Whether a line would be taken for one that says for how many lines others stand.
+fn is_counted(line: &[u8]) -> bool
+    ensures { result ≡ (opens (codes "# covetrivet: ") line.now && nat_lt (length line.now) MAX_KEPT) }
+{
+    line.starts_with(COUNTED) && line.len() < MAX_KEPT
+}
+
+/// A line's text as it is put down.
+fn plain_line(line: &[u8]) -> &[u8]
+    ensures { result.now ≡ plain_line line.now }
+{
+    if is_counted(line) {
+        return b"#";
+    }
+    line
+}
+
+/// Puts a line down, with its end, and before one that may ask for a rollover a line `dump`: its answer is
+/// what makes the journal short.
+fn shut(line: &[u8], ready: &mut Vec<u8>) -> Result<(), AllocError>
+    ensures { OnOk result (ready.new.items ≡ ready.old.items ++ shut line.now) }
+{
+    if line.starts_with(ROLLOVER) {
+        ready.extend_from_slice(OWN_DUMP)?;
+    }
+    ready.extend_from_slice(plain_line(line))?;
+    ready.push(b'\n')?;
+    Ok(())
+}
+
 /// Takes a byte, behind what is there of a line.
 fn put_byte(line: &mut Vec<u8>, byte: u8, ready: &mut Vec<u8>) -> Result<(), AllocError>
     requires short { vec_len line.old ≤ MAX_KEPT }
@@ -34,8 +73,7 @@ fn put_byte(line: &mut Vec<u8>, byte: u8, ready: &mut Vec<u8>) -> Result<(), All
         (Puts (byte ∷ []) line.old.items ready.old.items line.new.items ready.new.items) }
 {
     if byte == b'\n' {
-        ready.extend_from_slice(line.as_slice())?;
-        ready.push(b'\n')?;
+        shut(line.as_slice(), ready)?;
         line.clear();
     } else if line.len() < MAX_KEPT {
         line.push(put_down(byte))?;
@@ -48,11 +86,10 @@ pub(crate) fn end(line: &mut Vec<u8>, ready: &mut Vec<u8>) -> Result<(), AllocEr
     requires plain { All IsPlain line.old.items }
     ensures short { vec_len line.new ≤ vec_len line.old }
     ensures plain { All IsPlain line.new.items }
-    ensures ended { OnOk result ((ready.new.items ≡ ready.old.items ++ line.old.items ++ 10 ∷ [])
+    ensures ended { OnOk result ((ready.new.items ≡ ready.old.items ++ shut line.old.items)
         × (line.new.items ≡ [])) }
 {
-    ready.extend_from_slice(line.as_slice())?;
-    ready.push(b'\n')?;
+    shut(line.as_slice(), ready)?;
     line.clear();
     Ok(())
 }
@@ -72,7 +109,7 @@ pub(crate) fn put(line: &mut Vec<u8>, bytes: &[u8], ready: &mut Vec<u8>) -> Resu
 }
 
 /// Where the first line of these bytes ends, if it does.
-fn line_end(bytes: &[u8]) -> Option<usize>
+pub(crate) fn line_end(bytes: &[u8]) -> Option<usize>
     ensures { result ≡ position (λ b. b == 10) bytes.now }
 {
     bytes.iter().position(|byte| *byte == b'\n')
@@ -100,9 +137,4 @@ pub(crate) fn given(alloc: Global, text: &[u8]) -> Result<Vec<u8>, AllocError>
         rest = &others[1..];
     }
     Ok(lines)
-}
-
-/// How many lines end in these bytes.
-pub(crate) fn count(bytes: &[u8]) -> usize {
-    bytes.iter().filter(|byte| **byte == b'\n').count()
 }

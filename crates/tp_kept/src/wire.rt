@@ -6,10 +6,9 @@ ghost use Rattle.tp_kept.specs.Kept.{rest_of};
 ghost use Rattle.tp_kept.specs.Ready.{IsReady};
 
 use crate::cause::Cause;
-use crate::events::{MUTED, SHOWN};
 use crate::kept::Kept;
+use crate::stage::Stage;
 use crate::sure::lacks_memory;
-use crate::writing::write_noted;
 use tp_journal::Device;
 use tp_report::Sink;
 use tp_script::{Failed, Source};
@@ -41,16 +40,10 @@ impl<R: Source + Drop, W: Sink + Drop, D: Device + Drop> Wire for Kept<R, W, D> 
             self.cause = Some(Cause::NoMemory);
             return Err(Failed);
         }
-        if self.recovering {
-            self.log.note(&[MUTED, 0, 1], answers);
-            return Ok(());
+        if self.stage == Stage::Dump {
+            return self.take(answers);
         }
-        match write_noted(&mut self.writer, &mut self.log, SHOWN, answers) {
-            Ok(()) => Ok(()),
-            Err(Failed) => {
-                self.cause = Some(Cause::Write);
-                Err(Failed)
-            }
-        }
+        self.look(answers);
+        self.say(answers)
     }
 }

@@ -55,6 +55,15 @@ fn moved(old: u32, new: u32, old_root: u32, new_root: u32) -> Moved {
         new,
         old_root,
         new_root,
+        holder: None,
+    }
+}
+
+/// The same, which this pass has in hand.
+fn held_by(pass: u16, moved: Moved) -> Moved {
+    Moved {
+        holder: Some(pass),
+        ..moved
     }
 }
 

@@ -19,7 +19,6 @@ use Rattle.tp_script.specs.declared.head.WorkerLine.{WorkerLine}
 use Rattle.tp_script.specs.declared.script.Command.{Command}
 use Rattle.tp_commands.specs.declared.place.Place.{Place}
 use Rattle.tp_commands.specs.Acting.{work_in}
-use Rattle.tp_perform.specs.Rollover.{RollsOn, stand}
 use Rattle.tp_perform.specs.Scenes.{Scene}
 use Rattle.tp_perform.specs.Told.{AreReady, IsScene, PerformsAll, units_held}
 use Rattle.tp_perform.proofs.Gatherings.{gathered, held_gathered, ready_gathered}

@@ -1,8 +1,9 @@
 -- What restores and dumps leave: what holds of what is held, and what is there.
-use Rattle.std.proofs.Common.{◌≡◌, ◌∙◌, ◌⊎◌, ℕ, ◌||◌, Bool, List, [], ◌∷◌, All, Option, Result, Ok, Err, IfOk, OnOk, inl, refl, sym, ap, subst, arith, length, map, is_some}
+use Rattle.std.proofs.Common.{◌≡◌, ◌∙◌, ◌⊎◌, ℕ, ◌||◌, Bool, List, [], ◌∷◌, All, Option, Result, Ok, Err, IfOk, OnOk, inl, refl, sym, ap, subst, arith, length, map, is_some, ◌≤◌, ◌+◌, drop}
 use Rattle.std.specs.List.{AllZip, list_any}
 use Rattle.std.specs.declared.alloc.Global.{Global}
 use Rattle.std.specs.declared.dyn_box.DynBox.{DynBox}
+use Rattle.tp_model.specs.declared.types.Limits.{Limits}
 use Rattle.tp_server.specs.Behaviour.{Behaviour}
 use Rattle.tp_server.specs.Pending.{Pending}
 use Rattle.tp_manager.specs.Shown.{IsOf, ManagerShown, PassShown}
@@ -20,7 +21,7 @@ use Rattle.tp_commands.specs.Acting.{places_shown, work_in}
 use Rattle.tp_commands.specs.Places.{AllLie, workers}
 use Rattle.tp_perform.specs.Rollover.{stand}
 use Rattle.tp_perform.specs.Scenes.{OnlyPass, Scene, Stand, passes_in}
-use Rattle.tp_perform.specs.Told.{AreReady, IsScene}
+use Rattle.tp_perform.specs.Told.{AreReady, IsScene, units_held}
 use Rattle.tp_perform.proofs.Gatherings.{Looks, all_in, only_passes, ready_on, same_held, scene_on, zip_drop, zip_take, zip_with}
 use Rattle.tp_perform.proofs.Rollovers.{own_of, stayed}
 use Rattle.tp_perform.proofs.Slices.{scene_there}
@@ -28,7 +29,9 @@ use Rattle.tp_session.specs.Dump.{dump_lines, dump_text}
 use Rattle.tp_session.specs.Live.{FoundAlive, HoldsUnits, IsHeld, IsLive, Leads, Live, LiveLooks, Surveyed, TellsDump, Unsurveyed, has_desk_open, lines_of}
 use Rattle.tp_session.specs.declared.held.Held.{Held}
 use Rattle.tp_session.proofs.LiveLemmas.{is_live, live_of}
+use Rattle.tp_session.specs.Hands.{unit_of}
 use Rattle.tp_session.specs.declared.hand.Holding.{Holding}
+use Rattle.tp_session.specs.declared.hand.Holding.TheVariants.{Nothing}
 use Rattle.tp_session.proofs.OpenLemmas.{desk_open, live_units}
 
 pub both_ok : {T E : Type 0} (r : Result T E) (P Q : T → Type 0) → IfOk r P → IfOk r Q → IfOk r (λ x. P x × Q x)
@@ -54,6 +57,29 @@ module _ {X : Type 0} {F : X → Type 0} (behaviour : DynBox X Global F → Beha
     leads = (live_units behaviour registers pending head old (live_of behaviour registers pending old t.0) held (is_live behaviour registers pending old t.0 t.2), t.3);
     is = is_live behaviour registers pending new t.1 t.4;
   }
+
+  -- where another manager has taken the place of the first
+  pub held_anew : (head : Head) (old new : Held X F) (os : List (Place X F)) (ws : List Holding) → IsHeld behaviour registers pending head old → IsManaged new.managed → new.managed.manager.limits ≡ old.managed.manager.limits
+      → new.servers.items ≡ old.servers.items → new.places.items ≡ os → new.works.items ≡ ws → AreReady behaviour registers pending new.managed.manager new.managed.passes.items old.servers.items os
+      → length ws ≡ length old.works.items → units_held (length old.servers.items) new.managed.passes.items ≡ map unit_of ws → All (λ w. w ≡ Nothing) (drop (length head.workers.items) ws) → IsHeld behaviour registers pending head new
+  held_anew head old new os ws held is limits servers places works ready long units idle =
+      let many : length new.works.items ≡ length ws = ap length works in
+      let each : length new.servers.items ≡ length old.servers.items = ap length servers in
+      let parts : new.managed.manager.limits.parts ≡ old.managed.manager.limits.parts = ap (λ (l : Limits). l.parts) limits in
+      let whole = is.parts in
+      let was = held.managed.parts in
+      let before = held.parts in
+      let enough = held.each_worker in
+      record {
+        managed = is;
+        ready = subst (λ x. AreReady behaviour registers pending new.managed.manager new.managed.passes.items x new.places.items) (sym servers)
+            (subst (λ x. AreReady behaviour registers pending new.managed.manager new.managed.passes.items old.servers.items x) (sym places) ready);
+        each_server = each ∙ held.each_server;
+        each_worker = omega (arith, many, long, enough);
+        racers = subst (λ zs. All (λ (w : Holding). w ≡ Nothing) (drop (length head.workers.items) zs)) (sym works) idle;
+        parts = omega (arith, whole, parts, was, before, each, many, long);
+        in_hand = ap (λ x. units_held (length x) new.managed.passes.items) servers ∙ (units ∙ ap (map unit_of) (sym works));
+      }
 
   -- ---- a look for what is alive
 

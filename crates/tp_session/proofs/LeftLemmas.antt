@@ -9,7 +9,6 @@ use Rattle.tp_script.specs.declared.head.Act.{Act}
 use Rattle.tp_script.specs.declared.head.Head.{Head}
 use Rattle.tp_commands.specs.declared.place.Place.{Place}
 use Rattle.tp_commands.specs.Places.{firsts}
-use Rattle.tp_perform.specs.Rollover.{RollsOn, stand}
 use Rattle.tp_perform.specs.Scenes.{Scene}
 use Rattle.tp_perform.specs.Told.{AreReady, IsScene, began_of}
 use Rattle.tp_perform.proofs.Began.{began_same, scene_began}

@@ -67,6 +67,10 @@ module _ {X : Type 0} {F : X → Type 0} (behaviour : DynBox X Global F → Beha
     pub begins_so : ((a b : Live) → R a b → S a b) → Leads behaviour registers pending R h h' → Begins behaviour registers pending S h
     begins_so so p = record { before = p.before; after = p.after; was = p.was; leads = so p.before p.after p.leads }
 
+  -- by what is held before and after
+  pub leads_is : (R S : Live → Live → Type 0) (h h' : Held X F) → ((a b : Live) → Is h a → Is h' b → R a b → S a b) → Leads behaviour registers pending R h h' → Leads behaviour registers pending S h h'
+  leads_is R S h h' so p = record { before = p.before; after = p.after; was = p.was; leads = so p.before p.after p.was p.is p.leads; is = p.is }
+
   -- where nothing was done
   pub leads_none : (head : Head) (h : Held X F) (R : Live → Live → Type 0) → IsHeld behaviour registers pending head h → ((l : Live) → R l l) → Leads behaviour registers pending R h h
   leads_none head h R held same =

@@ -1,5 +1,5 @@
 -- What a script asks for, done one act after another.
-use Rattle.std.proofs.Common.{◌≡◌, ◌∙◌, ℕ, ◌+◌, ◌<◌, Bool, true, false, List, [], ◌∷◌, ◌++◌, refl, sym, ap, subst, arith, append-nil, append_assoc, length, take, get_or, inl, inr, Option}
+use Rattle.std.proofs.Common.{◌≡◌, ◌∙◌, ℕ, ◌+◌, ◌<◌, Bool, true, false, List, [], ◌∷◌, ◌++◌, refl, sym, ap, subst, arith, append-nil, append_assoc, length, take, get_or, inl, inr, Option, ⊎_elim}
 use Rattle.std.specs.Prelude.{IfSome, None, Some, Result, Ok, Err}
 use Rattle.std.specs.Io.KnownBytes.{Appends}
 use Rattle.std.proofs.lemmas.List.{length-set, take_more}
@@ -20,7 +20,9 @@ use Rattle.tp_script.specs.declared.head.Head.{Head}
 use Rattle.tp_script.specs.declared.script.Command.{Command}
 use Rattle.tp_script.specs.declared.whole.Script.{Script}
 use Rattle.tp_session.specs.Left.{OrSame}
-use Rattle.tp_session.specs.Live.{ActTold, Live, TellsBy, TellsDump, TellsRaced, is_open}
+use Rattle.tp_session.specs.Carried.{lost_works}
+use Rattle.tp_session.specs.Live.{ActTold, Live, RefusedLive, RestoreTold, RestoredLive, RolledLive, TellsBy, TellsDump, TellsRaced, has_desk_open}
+use Rattle.tp_session.proofs.CarriedLemmas.{lost_long, works_long}
 use Rattle.tp_session.specs.Performed.{ActsDone, ActsTold, Ran, Report, ReportFront}
 
 -- ---- one act more
@@ -57,24 +59,27 @@ acts_done s i raced d old mid new text within is so_far (inr one) = record {
 
 -- ---- as much is in hand as can be
 
-by_rollover : (h : HeadView) (c : Command) (b : Bool) (old new : Live) (text : List ℕ) → TellsBy b h c old text new → new.works ≡ old.works
-by_rollover h c true old new text t = t.works
-by_rollover h c false old new text t = t.works
+by_rollover : (h : HeadView) (c : Command) (b : Bool) (old new : Live) (text : List ℕ) → TellsBy b h c old text new → length new.works ≡ length old.works
+by_rollover h c true old new text t = ⊎_elim (λ (r : RolledLive h old text new). ap length r.works ∙ works_long r.moved _ _ old.works) (λ (r : RefusedLive _ old text new). ap length r.works) t.told
+by_rollover h c false old new text t = ap length t.works
 
-by_race : (head : Head) (raced : ℕ) (c : Command) (b : Bool) (old new : Live) (text : List ℕ) → TellsRaced b head raced (act.Command c) old text new → new.works ≡ old.works
-by_race head raced c true old new text t = t.works
+by_race : (head : Head) (raced : ℕ) (c : Command) (b : Bool) (old new : Live) (text : List ℕ) → TellsRaced b head raced (act.Command c) old text new → length new.works ≡ length old.works
+by_race head raced c true old new text t = ap length t.works
 by_race head raced c false old new text t = by_rollover (head_view head) c (is_rollover c) old new text t
+
+by_restore : (h : HeadView) (old new : Live) (text : List ℕ) → RestoreTold h old text new → length new.works ≡ length old.works
+by_restore h old new text t = ⊎_elim (λ (r : RestoredLive h old text new). ap length r.works ∙ (works_long r.moved _ _ (lost_works h.lost 0 old.works) ∙ lost_long h.lost 0 old.works)) (λ (r : RefusedLive _ old text new). ap length r.works) t.told
 
 by_dump : (h : HeadView) (b : Bool) (old new : Live) (text : List ℕ) → TellsDump h b old text new → new.works ≡ old.works
 by_dump h true old new text t = ap (λ (l : Live). l.works) t.1
 by_dump h false old new text t = t.0.works
 
 pub works_same : (head : Head) (raced : ℕ) (a : Act) (old new : Live) (text : List ℕ) → ActTold head raced a old text new → length new.works ≡ length old.works
-works_same head raced (act.Command c) old new text t = ap length (by_race head raced c (is_race c) old new text t)
+works_same head raced (act.Command c) old new text t = by_race head raced c (is_race c) old new text t
 works_same head raced (act.Worker at act) old new text t = ap length (t.gathers.works ∙ t.did.works) ∙ length-set old.works at _
 works_same head raced act.Account old new text t = ap length (t.gathers.works ∙ t.counts.works)
-works_same head raced act.Dump old new text t = ap length (t.gathers.works ∙ by_dump (head_view head) (is_open old) old t.done text t.tells)
-works_same head raced act.Restore old new text t = ap length t.works
+works_same head raced act.Dump old new text t = ap length (t.gathers.works ∙ by_dump (head_view head) (has_desk_open old) old t.done text t.tells)
+works_same head raced act.Restore old new text t = by_restore (head_view head) old new text t
 
 -- ---- the whole run
 

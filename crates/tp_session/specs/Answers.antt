@@ -34,9 +34,9 @@ worker_line name (Told answer) = line (named_text name answer)
 abbrev pub restored_text : List Renamed → List ℕ
 restored_text elements = (codes "restored " <> decimal (length elements)) <> flat_map renamed_text elements
 
--- ` NAME:UNIT` of a worker that has a unit open
+-- ` NAME:ID` of a worker that has a unit open, which has this element
 abbrev pub unit_text : Option WorkerView → Option Holding → List ℕ
-unit_text (Some worker) (Some (Open unit element)) = codes " " <> worker.name <> codes ":" <> decimal unit
+unit_text (Some worker) (Some (Open unit element)) = codes " " <> worker.name <> codes ":" <> decimal element
 unit_text worker work = []
 
 -- those of the first n workers
@@ -45,7 +45,7 @@ unit_texts workers works zero = []
 unit_texts workers works (suc n) =
     unit_texts workers works n <> unit_text (slice_get workers n) (slice_get works n)
 
--- ` units NAME:UNIT ..`, where there is one
+-- ` units NAME:ID ..`, where there is one
 abbrev pub behind_units : List ℕ → List ℕ
 behind_units [] = []
 behind_units (x ∷ xs) = codes " units" <> (x ∷ xs)

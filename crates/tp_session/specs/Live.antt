@@ -90,7 +90,7 @@ works_in new moved works =
     works_after moved (first_worker new) (map (λ p. p.open_unit) new.scene.racers) works
 
 -- What was alive has gone on in another manager, the workers have in hand what their passes have, and the line
--- tells what each element and each open unit is called.
+-- tells what each element is called, and which of them each worker has.
 pub record RolledLive (h : HeadView) (old : Live) (text : List ℕ) (new : Live) : Type 0 where
   pub moved : List Moved
   pub rolled : RolledOver old.stand moved new.stand
@@ -187,7 +187,7 @@ abbrev pub survivors_of : HeadView → List Survivor
 survivors_of h = map (survivor_of h.settings.attempts (1 + length h.servers)) h.alive
 
 -- This stands again in another manager, the workers have in hand what their passes have, or have lost what the
--- head says, and the line tells what each element and each open unit is called.
+-- head says, and the line tells what each element is called, and which of them each worker has.
 pub record RestoredLive (h : HeadView) (old : Live) (text : List ℕ) (new : Live) : Type 0 where
   pub moved : List Moved
   pub restored : Restored (survivors_of h) old.stand moved new.stand

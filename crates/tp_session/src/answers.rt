@@ -85,20 +85,15 @@ fn restored<W: fmt::Write>(f: &mut fmt::Formatter<W>, elements: &[Renamed]) -> f
     Ok(())
 }
 
-/// ` NAME:UNIT` of a worker that has a unit open, behind this text.
-fn with_unit(
-    alloc: Global,
-    text: &str,
-    worker: &WorkerLine,
-    work: Holding,
-) -> Result<String, AllocError>
-    ensures { IfOk result (λ s. string_bytes s ≡ text.now <> unit_text (Some (worker_view worker.now)) (Some work)) }
+/// ` NAME:ID` of a worker that has a unit open, which has this element.
+fn unit_text(alloc: Global, worker: &WorkerLine, work: Holding) -> Result<String, AllocError>
+    ensures { IfOk result (λ s. string_bytes s ≡ unit_text (Some (worker_view worker.now)) (Some work)) }
 {
     let name = worker.name.as_str();
     match work {
-        Holding::Open { unit, element: _ } => format!(in alloc; "{text} {name}:{unit}"),
-        Holding::Nothing => format!(in alloc; "{text}"),
-        Holding::Lost { element: _ } => format!(in alloc; "{text}"),
+        Holding::Open { unit: _, element } => format!(in alloc; " {name}:{element}"),
+        Holding::Nothing => Ok(String::new(alloc)),
+        Holding::Lost { element: _ } => Ok(String::new(alloc)),
     }
 }
 
@@ -114,12 +109,15 @@ fn unit_texts(
 {
     let mut text = String::new(alloc);
     for at in 0..workers.len() {
-        text = with_unit(alloc, text.as_str(), &workers[at], works[at])?;
+        let next = unit_text(alloc, &workers[at], works[at])?;
+        let so_far = text.as_str();
+        let one = next.as_str();
+        text = format!(in alloc; "{so_far}{one}")?;
     }
     Ok(text)
 }
 
-/// ` units NAME:UNIT ..`, where there is one.
+/// ` units NAME:ID ..`, where there is one.
 fn units_text(
     alloc: Global,
     workers: &[WorkerLine],

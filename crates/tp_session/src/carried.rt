@@ -1,5 +1,6 @@
 //! What workers have in hand once another manager has taken the place of theirs.
-ghost use Rattle.std.specs.Prelude.{◌≡◌, ◌+◌, ◌≤◌, length, map};
+ghost use Rattle.std.specs.Prelude.{◌≡◌, ◌==◌, ◌+◌, ◌≤◌, length, map};
+ghost use Rattle.std.specs.List.{find};
 ghost use Rattle.tp_model.specs.declared.types.TheConstants.{MAX_PASSES};
 ghost use Rattle.tp_script.specs.Holders.{is_holder};
 ghost use Rattle.tp_session.specs.Carried.{hand_after, held_in, lost_at, lost_works, not_carried, works_after};
@@ -19,14 +20,21 @@ pub(crate) fn is_holder(pass: usize, holder: Option<u16>) -> bool
     }
 }
 
-/// What the element is called that this pass has in hand, if it has one.
+/// The element that this pass has in hand, if it has one.
+fn find_held(pass: usize, moved: &[Moved]) -> Option<Moved>
+    ensures { result ≡ find (λ one. is_holder pass one.holder) moved.now }
+{
+    moved
+        .iter()
+        .copied()
+        .find(|one| is_holder(pass, one.holder))
+}
+
+/// What it is called.
 fn held_in(pass: usize, moved: &[Moved]) -> Option<u32>
     ensures { result ≡ held_in pass moved.now }
 {
-    let one = moved
-        .iter()
-        .copied()
-        .find(|one| is_holder(pass, one.holder))?;
+    let one = find_held(pass, moved)?;
     Some(one.new)
 }
 
@@ -71,11 +79,18 @@ pub(crate) fn go_on_all(passes: &[Pass], first: usize, moved: &[Moved], works: &
     go_on_all(passes, first + 1, moved, works);
 }
 
+/// The line that says that a worker lost something, if there is one.
+fn find_lost(worker: usize, lines: &[LostLine]) -> Option<LostLine>
+    ensures { result ≡ find (λ line. line.worker == worker) lines.now }
+{
+    lines.iter().copied().find(|line| line.worker == worker)
+}
+
 /// What these lines say that a worker lost.
 fn lost_at(worker: usize, lines: &[LostLine]) -> Holding
     ensures { result ≡ lost_at worker lines.now }
 {
-    match lines.iter().copied().find(|line| line.worker == worker) {
+    match find_lost(worker, lines) {
         Some(line) => Holding::Lost {
             element: line.element,
         },

@@ -47,13 +47,7 @@ fn dump_text(
     add_starts(alloc, head, servers, &mut lines)?;
     add_workers(alloc, head.workers.as_slice(), &mut lines)?;
     let first = 1 + servers.len();
-    add_alive(
-        alloc,
-        head.workers.as_slice(),
-        first,
-        survivors,
-        &mut lines,
-    )?;
+    add_alive(alloc, head.workers.as_slice(), first, survivors, &mut lines)?;
     add_all_lost(alloc, head, works, survivors, &mut lines)?;
     add_text(alloc, "restore", &mut lines)?;
     add_drops(alloc, head, places, &mut lines)?;

@@ -1,5 +1,5 @@
 //! The lines that a dump tells of units of work that were lost before their workers heard of it.
-ghost use Rattle.std.specs.Prelude.{◌≡◌, ◌++◌, ◌+◌, ◌<◌, ◌≤◌, OnOk, length, map, slice_get, string_bytes, vec_len};
+ghost use Rattle.std.specs.Prelude.{◌≡◌, ◌++◌, ◌+◌, ◌<◌, ◌≤◌, OnOk, length, map, slice_get, string_bytes};
 ghost use Rattle.tp_script.specs.Script.{head_view};
 ghost use Rattle.tp_session.specs.Dump.{holds_one, lost_element, lost_lines, lost_of};
 
@@ -25,13 +25,7 @@ fn lost_element(holds: bool, work: Holding) -> Option<u32>
     match work {
         Holding::Nothing => None,
         Holding::Lost { element } => Some(element),
-        Holding::Open { unit: _, element } => {
-            if holds {
-                None
-            } else {
-                Some(element)
-            }
-        }
+        Holding::Open { unit: _, element } => { if holds { None } else { Some(element) } }
     }
 }
 
@@ -44,17 +38,17 @@ fn add_lost(
     at: usize,
     lines: &mut Vec<String>,
 ) -> Result<(), AllocError>
-    requires within { at < vec_len head.now.workers }
-    requires each { vec_len head.now.workers ≤ length works.now }
+    requires within { at < length head.now.workers.items }
+    requires each { length head.now.workers.items ≤ length works.now }
     ensures { OnOk result (map string_bytes lines.new.items ≡ map string_bytes lines.old.items
         ++ lost_of (slice_get (head_view head.now).workers at)
         (holds_one (1 + length (head_view head.now).servers + at) survivors.now) (slice_get works.now at)) }
 {
+    let name = head.workers[at].name.as_str();
     let pass = 1 + head.servers.len() + at;
     let Some(element) = lost_element(holds_one(pass, survivors), works[at]) else {
         return Ok(());
     };
-    let name = head.workers[at].name.as_str();
     lines.push(format!(in alloc; "lost {name} {element}")?)?;
     Ok(())
 }
@@ -67,7 +61,7 @@ pub(crate) fn add_all_lost(
     survivors: &[Survivor],
     lines: &mut Vec<String>,
 ) -> Result<(), AllocError>
-    requires each { vec_len head.now.workers ≤ length works.now }
+    requires each { length head.now.workers.items ≤ length works.now }
     ensures { OnOk result (map string_bytes lines.new.items ≡ map string_bytes lines.old.items
         ++ lost_lines (head_view head.now).workers (1 + length (head_view head.now).servers)
         works.now survivors.now (length (head_view head.now).workers)) }

@@ -136,12 +136,7 @@ fn take(manager: &Manager, pass: &mut Pass, work: &mut Holding, id: u32) -> Work
 }
 
 /// `commit NAME OUT..`
-fn commit(
-    manager: &Manager,
-    pass: &mut Pass,
-    work: &mut Holding,
-    drafts: &[Draft],
-) -> WorkerAnswer
+fn commit(manager: &Manager, pass: &mut Pass, work: &mut Holding, drafts: &[Draft]) -> WorkerAnswer
     requires holds { IsHand manager.now (hand pass.old work.old) }
     requires few { length drafts.now ≤ 4 }
     ensures holds { IsHand manager.now (hand pass.new work.new) }
@@ -158,9 +153,7 @@ fn commit(
         Holding::Open { unit, element } => {
             let outcome = manager.commit(pass, drafts);
             *work = Holding::Nothing;
-            WorkerAnswer::Told(ServerAnswer::Turned(Turned::settled_as(
-                unit, element, outcome,
-            )))
+            WorkerAnswer::Told(ServerAnswer::Turned(Turned::settled_as(unit, element, outcome)))
         }
     }
 }

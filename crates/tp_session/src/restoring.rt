@@ -1,5 +1,5 @@
 //! The act `restore`: what the head says is alive stands again in a new manager.
-ghost use Rattle.std.specs.Prelude.{◌≡◌, ◌+◌, ◌<◌, ◌≤◌, All, List, ℕ, IfErr, IfOk, IfSome, OnOk, drop, length, map};
+ghost use Rattle.std.specs.Prelude.{◌≡◌, ◌+◌, ◌<◌, ◌≤◌, All, List, ℕ, IfErr, IfOk, IfSome, drop, length, map};
 ghost use Rattle.std.specs.Prelude.{string_bytes};
 ghost use Rattle.std.specs.Option.{ForSome, option_map};
 ghost use Rattle.tp_report.specs.Answer.{line};
@@ -128,9 +128,9 @@ fn restore_works(
     ensures as_many { length places.new ≡ length places.old }
     ensures many { length works.new ≡ length works.old }
     ensures in_hand { units_held (length servers.now) managed.new.passes.items ≡ map unit_of works.new }
-    ensures idle { OnOk result ((k : ℕ) → All (IsLostBy k) lost.now
+    ensures idle { (k : ℕ) → All (λ work. work ≡ Nothing) (drop k works.old) → All (IsLostBy k) lost.now
         → All (λ one. IfSome one.holder (λ pass. pass < 1 + length servers.now + k)) survivors.now
-        → All (λ work. work ≡ Nothing) (drop k works.new)) }
+        → All (λ work. work ≡ Nothing) (drop k works.new) }
     ensures restored { IfOk result (λ moved. (old : Scene) × (new : Scene)
         × IsScene behaviour registers pending managed.old.passes.items servers.now places.old old
         × (Restored survivors.now (stand managed.old old) moved.items (stand managed.new new)
@@ -165,12 +165,12 @@ fn restore_held(
     requires described { survivors.now ≡ survivors_of (head_view head.now) }
     ensures held { IsHeld behaviour registers pending head.now held.new }
     ensures restored { IfOk result (λ moved. Leads behaviour registers pending (λ old new.
-        HoldsUnits old × Restored survivors.now old.stand moved.items new.stand
-        × (new.works ≡ works_in new.stand moved.items (lost_works head.now.lost.items 0 old.works)))
+        HoldsUnits old × (Restored survivors.now old.stand moved.items new.stand
+        × (new.works ≡ works_in new.stand moved.items (lost_works head.now.lost.items 0 old.works))))
         held.old held.new) }
     ensures refused { IfErr result (λ why. Leads behaviour registers pending (λ old new.
-        HoldsUnits old × RollRefused (IsUnrestoredIn old.stand.manager.limits survivors.now)
-        old.stand (line (roll_refused_text why)) new.stand × (new.works ≡ old.works)) held.old held.new) }
+        HoldsUnits old × (RollRefused (IsUnrestoredIn old.stand.manager.limits survivors.now)
+        old.stand (line (roll_refused_text why)) new.stand × (new.works ≡ old.works))) held.old held.new) }
 {
     restore_works(
         alloc,
@@ -211,7 +211,7 @@ fn stand_again(
 
 /// What the head says is alive stands again in a new manager of the same limits, each element once, and the
 /// desks begin anew there. Workers have in hand what the head says. Answers `restored N OLD:NEW ..`, and where
-/// workers have units open ` units NAME:UNIT ..` behind it; or why it was refused: then nothing has changed.
+/// workers have units open ` units NAME:ID ..` behind it; or why it was refused: then nothing has changed.
 pub(crate) fn restore_told(
     alloc: Global,
     head: &Head,

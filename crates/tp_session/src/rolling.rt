@@ -75,11 +75,11 @@ fn roll_over_held(alloc: Global, head: &Head, held: &mut Held) -> Result<Vec<Mov
     requires held { IsHeld behaviour registers pending head.now held.old }
     ensures held { IsHeld behaviour registers pending head.now held.new }
     ensures rolled { IfOk result (λ moved. Leads behaviour registers pending (λ old new.
-        HoldsUnits old × RolledOver old.stand moved.items new.stand
-        × (new.works ≡ works_in new.stand moved.items old.works)) held.old held.new) }
+        HoldsUnits old × (RolledOver old.stand moved.items new.stand
+        × (new.works ≡ works_in new.stand moved.items old.works))) held.old held.new) }
     ensures refused { IfErr result (λ why. Leads behaviour registers pending (λ old new.
-        HoldsUnits old × RollRefused (IsUnrolled old.stand.manager.limits) old.stand
-        (line (roll_refused_text why)) new.stand × (new.works ≡ old.works)) held.old held.new) }
+        HoldsUnits old × (RollRefused (IsUnrolled old.stand.manager.limits) old.stand
+        (line (roll_refused_text why)) new.stand × (new.works ≡ old.works))) held.old held.new) }
 {
     roll_over_works(
         alloc,
@@ -91,7 +91,7 @@ fn roll_over_held(alloc: Global, head: &Head, held: &mut Held) -> Result<Vec<Mov
 }
 
 /// Has what is alive, each element once, go on in a new manager. Answers `rolled over N OLD:NEW ..`, and where
-/// workers have units open ` units NAME:UNIT ..` behind it; or why it was refused: then nothing has changed.
+/// workers have units open ` units NAME:ID ..` behind it; or why it was refused: then nothing has changed.
 pub(crate) fn rollover_told(
     alloc: Global,
     head: &Head,

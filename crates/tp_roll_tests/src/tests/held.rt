@@ -3,7 +3,7 @@
 use super::plays::Call;
 use super::plays::Call::{Aborts, Cancels, Commits, IsFree, IsOver, Kills, Shows, Submits, Takes};
 use super::scenes::rolls;
-use super::{LIMITS, bears, body, draft, moved, side, stands, waits};
+use super::{LIMITS, bears, body, draft, held_by, moved, side, stands, waits};
 use std::process::Abort;
 use tp_model::types::{Outcome, Status};
 
@@ -35,7 +35,7 @@ fn commits_behind_it(rt: HostRuntime) {
     rolls(
         &rt,
         &[side(&IN_HAND, &after), side(&[], &new_after)],
-        Ok(&[moved(0, 0, 0, 0)]),
+        Ok(&[held_by(1, moved(0, 0, 0, 0))]),
     );
 }
 
@@ -46,13 +46,13 @@ fn ended_behind_it(rt: HostRuntime) {
     rolls(
         &rt,
         &[side(&IN_HAND, &[]), side(&[], &killed)],
-        Ok(&[moved(0, 0, 0, 0)]),
+        Ok(&[held_by(1, moved(0, 0, 0, 0))]),
     );
     let cancelled = [(0, Cancels(0)), (1, IsOver), (1, IsFree)];
     rolls(
         &rt,
         &[side(&IN_HAND, &[]), side(&[], &cancelled)],
-        Ok(&[moved(0, 0, 0, 0)]),
+        Ok(&[held_by(1, moved(0, 0, 0, 0))]),
     );
 }
 
@@ -83,7 +83,7 @@ fn in_its_second_attempt(rt: HostRuntime) {
     rolls(
         &rt,
         &[side(&before, &[]), side(&[], &new_after)],
-        Ok(&[moved(0, 0, 0, 0)]),
+        Ok(&[held_by(1, moved(0, 0, 0, 0))]),
     );
 }
 
@@ -123,7 +123,7 @@ fn in_both_hands(rt: HostRuntime) {
     rolls(
         &rt,
         &[side(&before, &after), side(&[], &new_after)],
-        Ok(&[moved(0, 0, 0, 0), moved(8, 8, 8, 8)]),
+        Ok(&[held_by(1, moved(0, 0, 0, 0)), held_by(0, moved(8, 8, 8, 8))]),
     );
 }
 
@@ -145,7 +145,7 @@ fn of_a_family(rt: HostRuntime) {
     rolls(
         &rt,
         &[side(&before, &[]), side(&[], &new_after)],
-        Ok(&[moved(1, 1, 0, 0), moved(2, 2, 0, 0)]),
+        Ok(&[moved(1, 1, 0, 0), held_by(1, moved(2, 2, 0, 0))]),
     );
 }
 

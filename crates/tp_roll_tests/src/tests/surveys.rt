@@ -5,7 +5,7 @@ ghost use Rattle.tp_manager.specs.Shown.{IsKeptBy, IsOf};
 use super::plays::Call::{Aborts, Requeues, Shows, Stands, Submits, Takes};
 use super::plays::{Call, Stand, play};
 use super::scenes::{is_answer, kept};
-use super::{LIMITS, NEW, bears, body, moved};
+use super::{LIMITS, NEW, bears, body, held_by, moved};
 use std::alloc::Global;
 use std::process::Abort;
 use tp_manager::{Keeper, Manager, Pass};
@@ -242,7 +242,7 @@ fn held_elements(rt: HostRuntime) {
 
 #[test]
 fn held_elements_again(rt: HostRuntime) {
-    let wanted = [moved(0, 0, 0, 0), moved(8, 8, 8, 8)];
+    let wanted = [held_by(1, moved(0, 0, 0, 0)), held_by(0, moved(8, 8, 8, 8))];
     let calls = [
         (
             0,
@@ -328,7 +328,7 @@ fn one_unit_each(rt: HostRuntime) {
         holder: Some(0),
         ..first
     }];
-    let wanted = [moved(0, 0, 0, 0)];
+    let wanted = [held_by(0, moved(0, 0, 0, 0))];
     let calls = [(
         0,
         Shows(

@@ -1,9 +1,12 @@
-use Rattle.std.proofs.Common.{◌∙◌, ap, arith, length}
+use Rattle.std.proofs.Common.{◌∙◌, [], ap, append-nil, arith, length, refl, subst, sym}
 use Rattle.tp_report.proofs.Devices.{always_err}
 use Rattle.tp_script.specs.Script.{head_view}
+use Rattle.tp_session.specs.Heard.{Tells}
+use Rattle.tp_session.specs.Reading.{to_come}
+use Rattle.tp_session.proofs.HeardLemmas.{Hears-none}
 use Rattle.tp_session.proofs.AttendLemmas.{come_same, head_command, head_end, head_front, head_next}
-use Rattle.tp_session.proofs.SpendLemmas.{spends_same, spends_then}
-use Rattle.tp_session.proofs.ToldLemmas.{told_so_far}
+use Rattle.tp_session.proofs.SpendLemmas.{spends_none, spends_same, spends_then}
+use Rattle.tp_session.proofs.ToldLemmas.{told_none, told_so_far}
 use Rattle.tp_session.proofs.heading.read_head.Goals as goal
 
 pub returns-in_err-next-clause-front : goal.returns-in_err-next-clause-front
@@ -33,4 +36,19 @@ loop-past-preserved g c = record {
       (rw c.if-not-branch.false at c.in_ok-next.ensures.spends)) c.in_ok-act.ensures.left c.in_ok-act.ensures.unused;
   read = head_next _ _ _ _ c.loop-past.past _ _ _ _ _ _ c.next.new.self.line.items _ _ _ _ c.loop-past.invariant.read (rw c.if-not-branch.false at c.in_ok-next.ensures.next) c.in_ok-next.ensures.told
       (come_same c.next.new.self c.take_line.new.lines (g.W.Wire.rest c.next.new.wire) c.in_ok-act.ensures.unused) (rw c.in_default.is at c.in_ok-act.ensures.takes);
+}
+
+pub loop-past-init : goal.loop-past-init
+loop-past-init g c = record {
+  ready = c.requires.ready;
+  asked = refl;
+  room = omega arith;
+  spends = spends_none c.args.lines.now (g.W.Wire.rest c.args.wire.now);
+  read = record {
+    taken = [];
+    heard = (Hears-none (to_come c.args.lines.now (g.W.Wire.rest c.args.wire.now)), refl);
+    text = [];
+    lines = (refl, refl);
+    told = subst (Tells (g.W.Wire.contents c.args.wire.now) (g.W.Wire.contents c.args.wire.now) c.args.lines.now.answers.items) (sym (append-nil c.args.lines.now.answers.items)) (told_none (g.W.Wire.contents c.args.wire.now) c.args.lines.now.answers.items);
+  };
 }

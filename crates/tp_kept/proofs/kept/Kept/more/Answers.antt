@@ -3,7 +3,7 @@ use Rattle.std.specs.Io.KnownBytes.{Consumes}
 use Rattle.std.proofs.lemmas.List.{drop_all}
 use Rattle.std.proofs.lemmas.Result.{on_ok_weaker}
 use Rattle.tp_kept.specs.Kept.{rest_of}
-use Rattle.tp_kept.proofs.kept.Kept.prepare.Goals as goal
+use Rattle.tp_kept.proofs.kept.Kept.more.Goals as goal
 
 pub returns-then-self-len-clause-rest : goal.returns-then-self-len-clause-rest
 returns-then-self-len-clause-rest g c =
