@@ -1,5 +1,5 @@
 -- The `lost` lines of a dump, read one after another.
-use Rattle.std.proofs.Common.{◌≡◌, ◌≢◌, ◌∙◌, ◌<◌, ◌≤◌, ◌+◌, ◌-◌, ◌^◌, ◌==◌, ◌||◌, ◌&&◌, not, ℕ, zero, suc, Bool, true, false, List, [], ◌∷◌, ◌++◌, length, Option, None, Some, Result, Ok, refl, sym, ap, subst, append_assoc, arith}
+use Rattle.std.proofs.Common.{◌≡◌, ◌≢◌, ◌∙◌, ◌<◌, ◌≤◌, ◌+◌, ◌-◌, ◌^◌, ◌==◌, ◌||◌, ◌&&◌, not, ℕ, zero, suc, Bool, false, List, [], ◌∷◌, ◌++◌, length, Option, None, Some, Ok, refl, sym, ap, subst, append_assoc, arith}
 use Rattle.std.specs.Prelude.{codes, decimal, nat_le, slice_get}
 use Rattle.std.specs.List.{list_all, list_any}
 use Rattle.std.proofs.lemmas.Bool.{and_parts, leb-true}
@@ -8,7 +8,7 @@ use Rattle.std.proofs.lemmas.List.{length-append}
 use Rattle.tp_model.proofs.Bridges.{append_nil}
 use Rattle.tp_rollover.specs.declared.survivors.Survivor.{Survivor}
 use Rattle.tp_script.specs.Grammar.{head_at, head_keyword, head_words, line_words, lost_line, with_lost}
-use Rattle.tp_script.specs.Hands.{free_worker, has_in_hand}
+use Rattle.tp_script.specs.Hands.{free_worker}
 use Rattle.tp_script.specs.Holders.{is_holder}
 use Rattle.tp_script.specs.LineWords.{number_at}
 use Rattle.tp_script.specs.Script.{HeadView, WorkerView}

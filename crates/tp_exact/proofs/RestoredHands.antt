@@ -1,5 +1,5 @@
 -- What workers have in hand where a dump was restored is what they would have after a rollover.
-use Rattle.std.proofs.Common.{◌≡◌, ◌≢◌, ◌∙◌, ◌<◌, ◌≤◌, ◌+◌, ◌-◌, ◌==◌, ◌||◌, ℕ, zero, suc, IfSome, Bool, true, false, cond, if◌then◌else◌, List, [], ◌∷◌, ◌++◌, length, map, Option, None, Some, inl, inr, refl, sym, ap, subst, arith}
+use Rattle.std.proofs.Common.{◌≡◌, ◌≢◌, ◌∙◌, ◌<◌, ◌≤◌, ◌+◌, ◌-◌, ◌==◌, ◌||◌, ℕ, zero, suc, IfSome, Bool, true, false, if◌then◌else◌, List, [], ◌∷◌, ◌++◌, length, map, Option, None, Some, inl, inr, refl, sym, ap, subst, arith}
 use Rattle.std.specs.Prelude.{slice_get}
 use Rattle.std.specs.List.{AllZip, find, list_any}
 use Rattle.std.specs.Option.{option_map}
@@ -17,14 +17,13 @@ use Rattle.tp_rollover.specs.declared.moved.Moved.{Moved}
 use Rattle.tp_rollover.specs.declared.survivors.Survivor.{Survivor}
 use Rattle.tp_rollover.proofs.Lists.{zip_of_left}
 use Rattle.tp_script.specs.Holders.{is_holder}
-use Rattle.tp_script.specs.Script.{HeadView}
 use Rattle.tp_script.specs.declared.head.LostLine.{LostLine}
 use Rattle.tp_commands.specs.Acting.{PlaceShown}
 use Rattle.tp_perform.specs.Rollover.{BeginsAgain}
 use Rattle.tp_perform.specs.Scenes.{Scene, passes_in}
 use Rattle.tp_session.specs.Carried.{hand_after, held_in, lost_at, lost_by, lost_works, works_after}
 use Rattle.tp_session.specs.Dump.{holds_one, lost_element}
-use Rattle.tp_session.specs.Live.{Live, survivors_of}
+use Rattle.tp_session.specs.Live.{survivors_of}
 use Rattle.tp_session.specs.declared.hand.Holding.{Holding}
 use Rattle.tp_session.specs.declared.hand.Holding.TheVariants.{Nothing, Open, Lost}
 use Rattle.tp_exact.specs.Dumps.{RestoredHands, all_lost, lost_in, lost_told}
