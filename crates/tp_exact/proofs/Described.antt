@@ -63,7 +63,7 @@ module _ (l : Limits) where
   standing_lives is x (Some c) (u, n, held, waits, by) = subst IsLiving (sym held) tt
 
 -- such ids are no less
-no_less : (low : ℕ) (xs : List Survivor) (s : Survivor) → Ascending low (map (λ (x : Survivor). x.id) xs) → In s xs → low ≤ s.id
+pub no_less : (low : ℕ) (xs : List Survivor) (s : Survivor) → Ascending low (map (λ (x : Survivor). x.id) xs) → In s xs → low ≤ s.id
 no_less low [] s up at = absurd (in_none at)
 no_less low (x ∷ xs) s up here = up.0
 no_less low (x ∷ xs) s up (there at) = let a = up.0 in let b = no_less (x.id + 1) xs s up.1 at in omega (arith, a, b)

@@ -26,9 +26,10 @@ use Rattle.tp_script.specs.Grammar.{head_at}
 use Rattle.tp_script.specs.Holders.{is_holder}
 use Rattle.tp_session.specs.Dump.{attempts_of, holds_one, life_text}
 use Rattle.tp_session.specs.Told.{HeadLine, HeadLines}
-use Rattle.tp_exact.specs.AliveReads.{AreOneEach, FoundLinesRead, IsBody64, IsFit, IsFreeWorker, IsWorkersPass}
+use Rattle.tp_exact.specs.AliveReads.{FoundLinesRead, IsBody64, IsFit, IsFreeWorker, IsWorkersPass}
 use Rattle.tp_exact.specs.Dumps.{line_of, tries_of}
 use Rattle.tp_exact.proofs.AliveReads.{alive_line_reads, held_line_reads}
+use Rattle.tp_exact.proofs.HoldsOnce.{AreOneEach, one_each}
 use Rattle.tp_exact.proofs.SessionLines.{either_false}
 use Rattle.tp_exact.proofs.Tries.{Fits, fits}
 
@@ -170,5 +171,8 @@ module _ (l : Limits) (h : List Event) (limits : AreLimits l) (legal : IsLegal l
       ([], [], next, subst (λ r. HeadLine (past + 1) r head [] next) (sym read) (refl, refl), subst (HeadLines (past + 1) (map (life_text workers first) ss) next []) whole rest, refl)
 
 pub found_lines_read : FoundLinesRead
-found_lines_read old done survivors workers first h past limits found bodies holds once room =
-    all_read old.stand.manager.limits done.stand.keeper.seen limits found.together.legal workers first survivors h past found.found.described bodies holds once room
+found_lines_read old done survivors workers first h past limits found bodies holds room =
+    let l = old.stand.manager.limits in
+    let seen = done.stand.keeper.seen in
+    all_read l seen limits found.together.legal workers first survivors h past found.found.described bodies holds
+    (one_each l seen found.together.legal 0 survivors found.found.once found.found.described) room

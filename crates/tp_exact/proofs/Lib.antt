@@ -36,6 +36,7 @@ pub mod RestoredDumps
 pub mod RestoredHands
 pub mod Cuts
 pub mod AliveReads
+pub mod HoldsOnce
 pub mod FoundLines
 pub mod LostReads
 pub mod Scripts

@@ -62,15 +62,9 @@ pub record IsWorkersPass (workers : List WorkerView) (first : ℕ) (h : HeadView
   pub there : slice_get workers (c - first) ≡ Some it
   pub free : IsFreeWorker it.name (c - first) h
 
--- no pass holds two of these
-abbrev pub AreOneEach : List Survivor → Type 0
-AreOneEach [] = Unit {0}
-AreOneEach (s ∷ survivors) =
-    IfSome s.holder (λ c. holds_one c survivors ≡ false) × AreOneEach survivors
-
 -- What was found for a dump is so, where the words of the bodies are 64-bit numbers. So its lines, read one
 -- after another, add to a head just what they tell, and none is refused: where any of it is held, that is by
--- workers of the head, each of which holds one, and the line isn't too long.
+-- workers of the head, and the line isn't too long.
 abbrev pub FoundLinesRead : Type 0
 FoundLinesRead =
     (old done : Live) (survivors : List Survivor) (workers : List WorkerView) (first : ℕ) (h : HeadView)
@@ -79,7 +73,7 @@ FoundLinesRead =
     → ((s : Survivor) → In s survivors → IsBody64 s.body × IsBody64 s.root_body)
     → ((s : Survivor) → In s survivors → IfSome s.holder (λ c. IsWorkersPass workers first h c
     × (length (life_text workers first s) ≤ 200)))
-    → AreOneEach survivors → length h.alive + length survivors ≤ MAX_ALIVE
+    → length h.alive + length survivors ≤ MAX_ALIVE
     → HeadLines past (map (life_text workers first) survivors) h []
     (record h { alive = h.alive ++ map (line_of first) survivors })
 
