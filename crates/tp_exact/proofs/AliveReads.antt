@@ -30,7 +30,7 @@ use Rattle.tp_exact.specs.Dumps.{tries_of}
 use Rattle.tp_exact.proofs.Cuts.{Bytes, Free, allowed, and_true, counted, cut, digits, free_of, le_true, number_is, uncounted, uncut, wider, with_more, words_last, words_more}
 
 -- what is read first, and then the rest
-bind_ok : {A B : Type 0} (r : Result A LineFault) (x : A) (f : A → Result B LineFault) → r ≡ Ok x → (r >>= f) ≡ f x
+pub bind_ok : {A B : Type 0} (r : Result A LineFault) (x : A) (f : A → Result B LineFault) → r ≡ Ok x → (r >>= f) ≡ f x
 bind_ok r x f e = ap (λ z. z >>= f) e
 
 -- ---- numbers
@@ -38,13 +38,13 @@ bind_ok r x f e = ap (λ z. z >>= f) e
 word_long : (n : ℕ) → n < 2 ^ 64 → length (decimal n) ≤ 20
 word_long n h = length-decimal-le 20 n (omega arith) (omega (arith, h)) h
 
-number_ok : (most n : ℕ) → n < 2 ^ 64 → n ≤ most → number_at most (decimal n) ≡ Ok n
+pub number_ok : (most n : ℕ) → n < 2 ^ 64 → n ≤ most → number_at most (decimal n) ≡ Ok n
 number_ok most n h within = ap (λ o. known o BadNumber) (number_is most n h (word_long n h) within)
 
-digits_free : (k n : ℕ) → n < 2 ^ 64 → ((c : ℕ) → 48 ≤ c → c ≤ 57 → c ≢ k) → Free k (decimal n)
+pub digits_free : (k n : ℕ) → n < 2 ^ 64 → ((c : ℕ) → 48 ≤ c → c ≤ 57 → c ≢ k) → Free k (decimal n)
 digits_free k n h other = free_of k 48 57 (decimal n) other (digits n h)
 
-no_space : (c : ℕ) → 48 ≤ c → c ≤ 57 → c ≢ 32
+pub no_space : (c : ℕ) → 48 ≤ c → c ≤ 57 → c ≢ 32
 no_space c low high e = omega (arith, low, e)
 
 no_colon : (c : ℕ) → 48 ≤ c → c ≤ 57 → c ≢ 58
@@ -231,7 +231,7 @@ module _ (id attempts rounds root : ℕ) (own : List ℕ) (stage : ℕ) (body : 
       ∙ (bind_ok (held_of worker said) (in_hand worker) _ (held_ok worker some) ∙ one_more (in_hand worker) h room)))
 
 -- a line of allowed bytes that isn't too long, and no comment, is its words
-line_ok : (c : ℕ) (rest : List ℕ) → (c == 35) ≡ false → length (c ∷ rest) ≤ 200 → Bytes 32 126 (c ∷ rest) → line_words (c ∷ rest) ≡ Ok (words (c ∷ rest))
+pub line_ok : (c : ℕ) (rest : List ℕ) → (c == 35) ≡ false → length (c ∷ rest) ≤ 200 → Bytes 32 126 (c ∷ rest) → line_words (c ∷ rest) ≡ Ok (words (c ∷ rest))
 unfolding line_words
 line_ok c rest no_comment short all =
     let line = c ∷ rest in
@@ -248,7 +248,7 @@ alive_word : Free 32 (codes "alive")
 alive_word = (λ e. omega (arith, e), (λ e. omega (arith, e), (λ e. omega (arith, e), (λ e. omega (arith, e), (λ e. omega (arith, e), tt)))))
 
 -- numbers and spaces are allowed
-digits_allowed : (n : ℕ) → n < 2 ^ 64 → Bytes 32 126 (decimal n)
+pub digits_allowed : (n : ℕ) → n < 2 ^ 64 → Bytes 32 126 (decimal n)
 digits_allowed n h = wider 48 57 32 126 (decimal n) (omega arith) (omega arith) (digits n h)
 
 text_allowed : (text : List ℕ) → Bytes 48 58 text → Bytes 32 126 text
@@ -489,18 +489,18 @@ alive_line_reads workers first s h fit none room =
     ∙ ap (λ o. Ok (record h { alive = h.alive ++ line_by first s o ∷ [] }, None)) (sym none))
 
 -- a name is of small letters
-letters_of : (xs : List ℕ) → list_all (λ b. nat_le 97 b && nat_le b 122) xs ≡ true → Bytes 97 122 xs
+pub letters_of : (xs : List ℕ) → list_all (λ b. nat_le 97 b && nat_le b 122) xs ≡ true → Bytes 97 122 xs
 letters_of [] all = tt
 letters_of (x ∷ xs) all =
     let parts = and_parts (nat_le 97 x && nat_le x 122) (list_all (λ b. nat_le 97 b && nat_le b 122) xs) all in
     let one = and_parts (nat_le 97 x) (nat_le x 122) parts.0 in
     ((leb-true 97 x one.0, leb-true x 122 one.1), letters_of xs parts.1)
 
-some_letters : (xs : List ℕ) → not (length xs == 0) ≡ true → 0 < length xs
+pub some_letters : (xs : List ℕ) → not (length xs == 0) ≡ true → 0 < length xs
 some_letters [] is = absurd cc
 some_letters (x ∷ xs) is = omega arith
 
-free_ok : (name : List ℕ) (worker : ℕ) (h : HeadView) → IsFreeWorker name worker h → free_worker name h ≡ Ok worker
+pub free_ok : (name : List ℕ) (worker : ℕ) (h : HeadView) → IsFreeWorker name worker h → free_worker name h ≡ Ok worker
 unfolding free_worker
 free_ok name worker h free =
     bind_ok (known (worker_at name h) BadName) worker _ (ap (λ o. known o BadName) free.at)

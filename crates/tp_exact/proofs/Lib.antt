@@ -33,8 +33,10 @@ pub mod Described
 pub mod DumpActs
 pub mod Tries
 pub mod RestoredDumps
+pub mod RestoredHands
 pub mod Cuts
 pub mod AliveReads
 pub mod FoundLines
+pub mod LostReads
 pub mod Scripts
 pub mod Plains

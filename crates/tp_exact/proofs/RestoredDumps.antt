@@ -8,7 +8,7 @@ use Rattle.tp_model.specs.declared.types.Status.{Status}
 use Rattle.tp_model.specs.declared.types.Status.TheVariants.{Waiting, Held, Consumed, Parked, Killed}
 use Rattle.tp_model.specs.declared.event.Event.{Event}
 use Rattle.tp_model.specs.History.{In, here, status_of, there}
-use Rattle.tp_model.specs.Steps.{IsKillable, IsLegal}
+use Rattle.tp_model.specs.Steps.{AreLimits, IsKillable, IsLegal}
 use Rattle.tp_model.proofs.Bridges.{in_none}
 use Rattle.tp_model.proofs.Lists.{if_same, if_other}
 use Rattle.tp_manager.specs.Accounts.{AreNumberedFrom}
@@ -18,12 +18,13 @@ use Rattle.tp_rollover.specs.Survivors.{IsStanding, IsSurvivor, StandAgain}
 use Rattle.tp_rollover.specs.declared.survivors.Survivor.{Survivor}
 use Rattle.tp_rollover.proofs.Carrying.{each_of}
 use Rattle.tp_rollover.proofs.Restored.{restored_rolls}
+use Rattle.tp_script.specs.Script.{HeadView}
 use Rattle.tp_commands.specs.Acting.{PlaceShown}
 use Rattle.tp_perform.specs.Scenes.{Scene, passes_in}
 use Rattle.tp_reference.specs.declared.plain_desk.PlainDesk.{PlainDesk}
 use Rattle.tp_session.specs.Dump.{attempts_of}
-use Rattle.tp_session.specs.Live.{status_at, status_in, survivor_of}
-use Rattle.tp_exact.specs.Dumps.{HeldByWorkers, RestoredDump, line_of, tries_of}
+use Rattle.tp_session.specs.Live.{FoundAlive, Live, status_at, status_in, survivor_of, survivors_of}
+use Rattle.tp_exact.specs.Dumps.{AreHeldFrom, HeldByWorkers, RestoredDump, line_of, tries_of}
 use Rattle.tp_exact.specs.Stands.{IsFor, IsServedBy}
 use Rattle.tp_exact.proofs.Drains.{beside_long}
 use Rattle.tp_exact.proofs.Places.{passes}
@@ -63,13 +64,21 @@ all_again l h first (s ∷ ss) legal some each =
     let rest = all_again l h first ss legal some (λ t p. each t (there p)) in
     ap (λ z. z ∷ map (survivor_of l.attempts first) (map (line_of first) ss)) one ∙ ap (λ zs. s ∷ zs) rest
 
-pub restored_dump : RestoredDump
-restored_dump old done survivors head first new moved limits found low lines same also restored =
+-- the head describes what was found
+pub described_again : (old done : Live) (survivors : List Survivor) (head : HeadView) → AreLimits old.stand.manager.limits → FoundAlive old survivors done → AreHeldFrom (1 + length head.servers) survivors → head.alive ≡ map (line_of (1 + length head.servers)) survivors
+    → head.settings.attempts ≡ old.stand.manager.limits.attempts → survivors_of head ≡ survivors
+described_again old done survivors head limits found low lines same =
     let l = old.stand.manager.limits in
     let h = done.stand.keeper.seen in
     let n : ℕ = 1 + length head.servers in
     let back : map (survivor_of l.attempts n) (map (line_of n) survivors) ≡ survivors = all_again l h n survivors found.together.legal limits.attempts.0 (λ s p. (found.found.described s p, low s p)) in
-    let is : map (survivor_of head.settings.attempts n) head.alive ≡ survivors = ap (λ k. map (survivor_of k n) head.alive) same ∙ (ap (map (survivor_of l.attempts n)) lines ∙ back) in
+    ap (λ k. map (survivor_of k n) head.alive) same ∙ (ap (map (survivor_of l.attempts n)) lines ∙ back)
+
+pub restored_dump : RestoredDump
+restored_dump old done survivors head first new moved limits found low lines same also restored =
+    let l = old.stand.manager.limits in
+    let h = done.stand.keeper.seen in
+    let is : survivors_of head ≡ survivors = described_again old done survivors head limits found low lines same in
     let again = restored.restores.again in (
       is,
       restored_rolls l new.manager.limits h new.keeper.seen survivors moved limits also found.together.legal restored.restores.together.legal found.found (subst (λ ss. StandAgain new.manager.limits new.keeper.seen ss moved) is again),

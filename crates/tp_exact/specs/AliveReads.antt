@@ -1,4 +1,4 @@
--- What is read of the `alive` and `held` lines that a dump tells.
+-- What is read of the `alive`, `held` and `lost` lines that a dump tells.
 use Rattle.std.specs.Prelude.{◌≡◌, ◌<◌, ◌≤◌, ◌+◌, ◌-◌, ◌^◌, IfSome, ℕ, true, false, List, [], ◌∷◌, ◌++◌, None, Some, Ok, length, map}
 use Rattle.std.specs.Prelude.{slice_get}
 use Rattle.tp_model.specs.History.{In}
@@ -11,10 +11,11 @@ use Rattle.tp_script.specs.LineWords.{is_name}
 use Rattle.tp_script.specs.Script.{HeadView, WorkerView}
 use Rattle.tp_script.specs.ServerLines.{worker_at}
 use Rattle.tp_script.specs.declared.head.TheConstants.{MAX_ALIVE}
-use Rattle.tp_session.specs.Dump.{holds_one, life_text}
+use Rattle.tp_session.specs.Dump.{holds_one, life_text, lost_element, lost_lines}
 use Rattle.tp_session.specs.Live.{FoundAlive, Live}
 use Rattle.tp_session.specs.Told.{HeadLines}
-use Rattle.tp_exact.specs.Dumps.{line_of, tries_of}
+use Rattle.tp_session.specs.declared.hand.Holding.{Holding}
+use Rattle.tp_exact.specs.Dumps.{all_lost, line_of, tries_of}
 
 -- a body of four 64-bit numbers
 abbrev pub IsBody64 : List ℕ → Type 0
@@ -81,3 +82,15 @@ FoundLinesRead =
     → AreOneEach survivors → length h.alive + length survivors ≤ MAX_ALIVE
     → HeadLines past (map (life_text workers first) survivors) h []
     (record h { alive = h.alive ++ map (line_of first) survivors })
+
+-- The lines that a dump tells of what was lost, read one after another, add to a head just what they tell, and
+-- none is refused: they are of workers of the head that have nothing in hand there, and the ids have 32 bits.
+abbrev pub LostLinesRead : Type 0
+LostLinesRead =
+    (workers : List WorkerView) (first : ℕ) (works : List Holding) (survivors : List Survivor) (h : HeadView)
+    (past : ℕ)
+    → ((n element : ℕ) (w : WorkerView) (work : Holding) → slice_get workers n ≡ Some w
+    → slice_get works n ≡ Some work → lost_element (holds_one (first + n) survivors) work ≡ Some element
+    → IsFreeWorker w.name n h × (element < 2 ^ 32))
+    → HeadLines past (lost_lines workers first works survivors (length workers)) h []
+    (record h { lost = h.lost ++ all_lost first works survivors (length workers) })

@@ -1,7 +1,7 @@
 -- What a dump of a live session tells where nobody else acts: the computed lines. And what a restore of these
 -- lines is.
-use Rattle.std.specs.Prelude.{◌≡◌, ◌≤◌, ◌⊎◌, ◌+◌, ◌-◌, ◌++◌, IfSome, ℕ, Bool, true, false, Option, None, Some}
-use Rattle.std.specs.Prelude.{List, length, map}
+use Rattle.std.specs.Prelude.{◌≡◌, ◌≤◌, ◌⊎◌, ◌+◌, ◌-◌, ◌++◌, IfSome, ℕ, zero, suc, Bool, true, false, Option, None}
+use Rattle.std.specs.Prelude.{Some, List, [], ◌∷◌, length, map, slice_get}
 use Rattle.std.specs.Option.{option_map}
 use Rattle.tp_model.specs.History.{In}
 use Rattle.tp_model.specs.Steps.{AreLimits}
@@ -14,11 +14,14 @@ use Rattle.tp_report.specs.declared.answer.Answer.TheVariants as answer
 use Rattle.tp_script.specs.Script.{HeadView, head_view}
 use Rattle.tp_script.specs.declared.head.AliveLine.{AliveLine}
 use Rattle.tp_script.specs.declared.head.Head.{Head}
+use Rattle.tp_script.specs.declared.head.LostLine.{LostLine}
 use Rattle.tp_perform.specs.Restore.{Restored}
 use Rattle.tp_perform.specs.Scenes.{Stand}
-use Rattle.tp_session.specs.Dump.{attempts_of, dump_text}
+use Rattle.tp_session.specs.Dump.{attempts_of, dump_text, holds_one, lost_element}
 use Rattle.tp_session.specs.Live as lives
-use Rattle.tp_session.specs.Live.{DumpTold, FoundAlive, HoldsUnits, Live, Unsurveyed, survivors_of}
+use Rattle.tp_session.specs.Live.{DumpTold, FoundAlive, HoldsUnits, Live, RestoredLive, Unsurveyed, survivors_of}
+use Rattle.tp_session.specs.Live.{works_in}
+use Rattle.tp_session.specs.declared.hand.Holding.{Holding}
 use Rattle.tp_exact.specs.PlainSession.{SessionState, dump_of, has_desk_open}
 use Rattle.tp_exact.specs.Sessions.{StandsLive}
 
@@ -54,6 +57,22 @@ line_of first s = record {
   holder = option_map (λ pass. pass - first) s.holder;
 }
 
+-- what the line says that a dump tells of the worker at this place, where one was lost
+abbrev pub lost_told : ℕ → Option ℕ → List LostLine
+lost_told worker None = []
+lost_told worker (Some element) = record { worker = worker; element = element } ∷ []
+
+-- the same of what it has in hand, by whether its pass holds one that is alive
+abbrev pub lost_in : ℕ → Bool → Option Holding → List LostLine
+lost_in worker holds None = []
+lost_in worker holds (Some work) = lost_told worker (lost_element holds work)
+
+-- those of the first n workers, which have these works in hand, and of which the first one's pass has this number
+abbrev pub all_lost : ℕ → List Holding → List Survivor → ℕ → List LostLine
+all_lost first works survivors zero = []
+all_lost first works survivors (suc n) = all_lost first works survivors n
+    ++ lost_in n (holds_one (first + n) survivors) (slice_get works n)
+
 -- where passes hold these, they have this number or a later one
 abbrev pub AreHeldFrom : ℕ → List Survivor → Type 0
 AreHeldFrom first survivors = (s : Survivor) → In s survivors → IfSome s.holder (λ pass. first ≤ pass)
@@ -81,3 +100,17 @@ RestoredDump =
     × RollsOver old.stand.manager.limits new.manager.limits 0 done.stand.keeper.seen
     (done.stand.keeper.seen ++ kills old.stand.manager.limits.attempts done.stand.keeper.seen 0 moved)
     new.keeper.seen moved
+
+-- And the workers of the session in which it is restored, which are as many, have in hand there what they would
+-- have after a rollover of the session that was dumped, where the head says what was lost too.
+abbrev pub RestoredHands : Type 0
+RestoredHands =
+    (dumped done : Live) (survivors : List Survivor) (head : HeadView) (old : Live) (text : List ℕ) (new : Live)
+    → AreLimits dumped.stand.manager.limits → FoundAlive dumped survivors done
+    → AreHeldFrom (1 + length head.servers) survivors
+    → head.alive ≡ map (line_of (1 + length head.servers)) survivors
+    → head.lost ≡ all_lost (1 + length head.servers) dumped.works survivors (length dumped.works)
+    → head.settings.attempts ≡ dumped.stand.manager.limits.attempts
+    → length old.works ≡ length dumped.works → length old.stand.scene.racers ≡ length old.works
+    → length old.stand.scene.places ≡ length head.servers → (t : RestoredLive head old text new)
+    → new.works ≡ works_in new.stand t.moved dumped.works

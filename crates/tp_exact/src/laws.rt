@@ -3,8 +3,8 @@
 ghost use Rattle.tp_exact.specs.Client.{ExactClient};
 ghost use Rattle.tp_exact.specs.Commands.{ExactCommand};
 ghost use Rattle.tp_exact.specs.Desks.{ExactDesk};
-ghost use Rattle.tp_exact.specs.AliveReads.{AliveLineReads, FoundLinesRead, HeldLineReads};
-ghost use Rattle.tp_exact.specs.Dumps.{ExactDump, HeldByWorkers, RestoredDump};
+ghost use Rattle.tp_exact.specs.AliveReads.{AliveLineReads, FoundLinesRead, HeldLineReads, LostLinesRead};
+ghost use Rattle.tp_exact.specs.Dumps.{ExactDump, HeldByWorkers, RestoredDump, RestoredHands};
 ghost use Rattle.tp_exact.specs.Finals.{ExactAccount, ExactFinals};
 ghost use Rattle.tp_exact.specs.Programs.{ComputedOfScript, ExactProgram, SamePlain};
 ghost use Rattle.tp_exact.specs.Sessions.{ComputedOfBytes, ExactLine, ExactSession, ExactSessionFront};
@@ -51,10 +51,11 @@ pub fn exact_dump()
 {}
 
 /// A head that says what a dump has found alive describes just that, and where it is restored the new
-/// session's manager stands as after a rollover of the dumped one. What a dump finds in hand workers have in
-/// hand.
+/// session's manager stands as after a rollover of the dumped one, and so do its workers. What a dump finds in
+/// hand, workers have in hand.
 pub fn restored_dump()
     ensures restored { RestoredDump }
+    ensures hands { RestoredHands }
     ensures held { HeldByWorkers }
 {}
 
@@ -65,9 +66,11 @@ pub fn alive_line_reads()
     ensures held { HeldLineReads }
 {}
 
-/// All `alive` lines of a dump, read one after another, add to a head just what the dump has found alive.
+/// All `alive` and `held` lines of a dump, read one after another, add to a head just what the dump has found
+/// alive. All its `lost` lines add just what workers lost.
 pub fn found_lines_read()
-    ensures { FoundLinesRead }
+    ensures found { FoundLinesRead }
+    ensures lost { LostLinesRead }
 {}
 
 /// The answers to a whole live session: they are the computed ones, and after a fault a prefix of them. They

@@ -1,5 +1,9 @@
 use Rattle.tp_exact.proofs.FoundLines.{found_lines_read}
+use Rattle.tp_exact.proofs.LostReads.{lost_lines_read}
 use Rattle.tp_exact.proofs.laws.found_lines_read.Goals as goal
 
-pub returns : goal.returns
-returns c = found_lines_read
+pub returns-clause-found : goal.returns-clause-found
+returns-clause-found c = found_lines_read
+
+pub returns-clause-lost : goal.returns-clause-lost
+returns-clause-lost c = lost_lines_read
