@@ -2,7 +2,7 @@
 import hashlib
 import re
 
-FIRST = b"# covetrivet journal 1\n"
+FIRST = b"# covetrivet journal 2\n"
 COUNTED = re.compile(rb"# covetrivet: (\d+) lines for (\d+)\n")
 END = re.compile(rb"# (\d+) ([0-9a-f]{64})\x17\n")
 

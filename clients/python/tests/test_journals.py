@@ -20,7 +20,7 @@ HEAD = ["rows 16", "units 16", "server till eager 2 1 add", "worker clerk 1"]
 
 def text_of(lines: Sequence[str]) -> bytes:
     """Returns the text of a journal that has these lines as one batch."""
-    text = "".join(f"{it}\n" for it in ["# covetrivet journal 1", *lines]).encode("ascii")
+    text = "".join(f"{it}\n" for it in ["# covetrivet journal 2", *lines]).encode("ascii")
     return text + f"# {len(text)} {hashlib.sha256(text).hexdigest()}\x17\n".encode("ascii")
 
 
@@ -153,7 +153,7 @@ class Journals(unittest.TestCase):
         for text, why in (
             (good.replace(b"till", b"tell"), "damaged from line 2 on"),
             (b"rows 8\n", "no journal"),
-            (good.replace(b"journal 1", b"journal 2"), "of another version"),
+            (good.replace(b"journal 2", b"journal 1"), "of another version"),
         ):
             self.write(text)
             with self.assertRaisesRegex(JournalFault, why), Session.open(self.path, HEAD):

@@ -41,7 +41,7 @@ pub record IsBatch (batch : List ℕ) : Type 0 where
 
 -- the first line of a journal
 abbrev pub first_line : List ℕ
-first_line = codes "# covetrivet journal 1\n"
+first_line = codes "# covetrivet journal 2\n"
 
 -- The line behind a text that ends it: how many bytes the text has, and their digest.
 unfoldable pub end_line : List ℕ → List ℕ

@@ -11,7 +11,7 @@ use sha2::{Digest, Sha256};
 use std::alloc::{AllocError, Global};
 
 /// The first line of a journal.
-pub const FIRST_LINE: &[u8] = b"# covetrivet journal 1\n";
+pub const FIRST_LINE: &[u8] = b"# covetrivet journal 2\n";
 
 /// The line that ends a text of so many bytes, which the hasher has been given.
 #[tactic(auto, unfolding(crate::specs::Text::end_line))]
