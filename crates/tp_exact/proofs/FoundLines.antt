@@ -33,7 +33,7 @@ use Rattle.tp_exact.proofs.HoldsOnce.{AreOneEach, one_each}
 use Rattle.tp_exact.proofs.SessionLines.{either_false}
 use Rattle.tp_exact.proofs.Tries.{Fits, fits}
 
-few_rows : (l : Limits) → AreLimits l → rows_of l ≤ 10240
+pub few_rows : (l : Limits) → AreLimits l → rows_of l ≤ 10240
 few_rows l limits =
     let a = mul-le l.parts l.rows 32 256 limits.parts.1 limits.rows.1 in
     let b = limits.spare in

@@ -1,5 +1,5 @@
 -- No pass holds two elements.
-use Rattle.std.proofs.Common.{◌≡◌, ◌∙◌, ◌<◌, ◌≤◌, ◌+◌, ◌-◌, ◌*◌, ◌==◌, ◌||◌, IfSome, ℕ, Bool, true, false, List, [], ◌∷◌, ◌++◌, map, Option, None, Some, inl, inr, refl, sym, ap, subst, arith}
+use Rattle.std.proofs.Common.{◌≡◌, ◌∙◌, ◌<◌, ◌≤◌, ◌+◌, ◌-◌, ◌*◌, ◌||◌, IfSome, ℕ, Bool, false, List, [], ◌∷◌, ◌++◌, map, Option, None, Some, inl, inr, refl, sym, ap, subst, arith}
 use Rattle.std.specs.List.{list_any}
 use Rattle.std.proofs.lemmas.Bool.Decides.{eqb_tells}
 use Rattle.tp_model.specs.History.{In, UnitClaim, claim_by, claim_of, here, status_of, there}
@@ -7,7 +7,6 @@ use Rattle.tp_model.specs.Steps.{IsLegal, IsOpen, IsUnitOf, Step}
 use Rattle.tp_model.specs.declared.event.Event.{Event}
 use Rattle.tp_model.specs.declared.event.Event.TheVariants.{Enqueue, Claim, Commit, Abort, Kill, Requeue}
 use Rattle.tp_model.specs.declared.types.Limits.{Limits}
-use Rattle.tp_model.specs.declared.types.Status.{Status}
 use Rattle.tp_model.specs.declared.types.Status.TheVariants.{Held}
 use Rattle.tp_model.proofs.Histories.{by_steps, open_before}
 use Rattle.tp_model.proofs.Later.{claims_inside}
@@ -96,7 +95,7 @@ abbrev pub AreOneEach : List Survivor → Type 0
 AreOneEach [] = Unit {0}
 AreOneEach (s ∷ survivors) = IfSome s.holder (λ c. holds_one c survivors ≡ false) × AreOneEach survivors
 
-any_false : {A : Type 0} (f : A → Bool) (xs : List A) → ((x : A) → In x xs → f x ≡ false) → list_any f xs ≡ false
+pub any_false : {A : Type 0} (f : A → Bool) (xs : List A) → ((x : A) → In x xs → f x ≡ false) → list_any f xs ≡ false
 any_false f [] each = refl
 any_false f (x ∷ xs) each = ap (λ b. b || list_any f xs) (each x here) ∙ any_false f xs (λ y at. each y (there at))
 

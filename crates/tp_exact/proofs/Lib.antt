@@ -39,5 +39,6 @@ pub mod AliveReads
 pub mod HoldsOnce
 pub mod FoundLines
 pub mod LostReads
+pub mod DumpReads
 pub mod Scripts
 pub mod Plains

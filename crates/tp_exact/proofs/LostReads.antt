@@ -105,7 +105,7 @@ any_parts f (x ∷ xs) ys first second =
     let parts = either_false (f x) (list_any f xs) first in
     ap (λ b. b || list_any f (xs ++ ys)) parts.0 ∙ any_parts f xs ys parts.1 second
 
-got_some : {A : Type 0} (xs : List A) (n : ℕ) → n < length xs → (x : A) × (slice_get xs n ≡ Some x)
+pub got_some : {A : Type 0} (xs : List A) (n : ℕ) → n < length xs → (x : A) × (slice_get xs n ≡ Some x)
 got_some [] n less = absurd (omega (arith, less))
 got_some (x ∷ xs) zero less = (x, refl)
 got_some (x ∷ xs) (suc n) less = got_some xs n (omega (arith, less))

@@ -55,7 +55,7 @@ find_some {A} f (z ∷ xs) x (there at) is = go (find_some f xs x at is) (f z) r
     go rest true one = (z, ap (λ b. if b then Some z else find f xs) one)
     go rest false one = (rest.0, ap (λ b. if b then Some z else find f xs) one ∙ rest.1)
 
-any_some : {A : Type 0} (f : A → Bool) (xs : List A) → list_any f xs ≡ true → (x : A) × In x xs × (f x ≡ true)
+pub any_some : {A : Type 0} (f : A → Bool) (xs : List A) → list_any f xs ≡ true → (x : A) × In x xs × (f x ≡ true)
 any_some f [] is = absurd cc
 any_some {A} f (x ∷ xs) is = go (any_some f xs) (f x) refl is
   where
@@ -80,7 +80,7 @@ lost_as (Some element) = Lost element
 abbrev by : ℕ → LostLine → Bool
 by i line = line.worker == i
 
-same_is : (i : ℕ) → (i == i) ≡ true
+pub same_is : (i : ℕ) → (i == i) ≡ true
 same_is i = elim (eqb_tells i i) [
   | inl p ↦ p.0
   | inr p ↦ absurd (p.1 refl)
@@ -153,7 +153,7 @@ got_behind (p ∷ ps) rs i =
     let e : suc (length ps) + i ≡ suc (length ps + i) = omega arith in
     ap (slice_get (map (λ (q : PassShown). q.open_unit) (passes (p ∷ ps) ++ rs))) e ∙ got_behind ps rs i
 
-racer_unit : (z : Scene) (p : PassShown) (i : ℕ) → AreNumberedFrom 0 (passes_in z) → In p (passes_in z) → p.number ≡ 1 + length z.places + i → slice_get (map (λ (q : PassShown). q.open_unit) z.racers) i ≡ Some p.open_unit
+pub racer_unit : (z : Scene) (p : PassShown) (i : ℕ) → AreNumberedFrom 0 (passes_in z) → In p (passes_in z) → p.number ≡ 1 + length z.places + i → slice_get (map (λ (q : PassShown). q.open_unit) z.racers) i ≡ Some p.open_unit
 racer_unit z p i numbered at number =
     let got = (unit_at 0 (passes_in z) p numbered at).1 in
     let e : p.number - 0 ≡ suc (length z.places + i) = omega (arith, number) in
@@ -198,7 +198,7 @@ taken_after unit element u e old work has holds =
     ap (λ x. hand_after x element old) has ∙ (ap (λ y. hand_after (Some u) y old) holds
     ∙ (ap (λ y. hand_after (Some u) y work) (sym holds) ∙ ap (λ x. hand_after x element work) (sym has)))
 
-holder_is : (c : ℕ) (o : Option ℕ) → is_holder c o ≡ true → o ≡ Some c
+pub holder_is : (c : ℕ) (o : Option ℕ) → is_holder c o ≡ true → o ≡ Some c
 holder_is c None is = absurd cc
 holder_is c (Some d) is = elim (eqb_tells d c) [
   | inl p ↦ ap Some p.1

@@ -61,7 +61,7 @@ zip_long R [] (y ∷ ys) a = absurd a
 zip_long R (x ∷ xs) [] a = absurd a
 zip_long R (x ∷ xs) (y ∷ ys) a = ap suc (zip_long R xs ys a.1)
 
-append_long : {A : Type 0} (xs ys : List A) → length (xs ++ ys) ≡ length xs + length ys
+pub append_long : {A : Type 0} (xs ys : List A) → length (xs ++ ys) ≡ length xs + length ys
 append_long [] ys = omega arith
 append_long (x ∷ xs) ys = let e = append_long xs ys in omega (arith, e)
 
@@ -69,7 +69,7 @@ append_parts : {A : Type 0} (xs ys : List A) (z : A) (zs : List A) → xs ++ (ys
 append_parts [] ys z zs = refl
 append_parts (x ∷ xs) ys z zs = ap (λ ws. x ∷ ws) (append_parts xs ys z zs)
 
-passes_long : (ps : List PlaceShown) → length (passes ps) ≡ length ps
+pub passes_long : (ps : List PlaceShown) → length (passes ps) ≡ length ps
 passes_long [] = refl
 passes_long (p ∷ ps) = ap suc (passes_long ps)
 

@@ -12,10 +12,13 @@ use Rattle.tp_script.specs.Script.{HeadView, WorkerView}
 use Rattle.tp_script.specs.ServerLines.{worker_at}
 use Rattle.tp_script.specs.declared.head.TheConstants.{MAX_ALIVE}
 use Rattle.tp_session.specs.Dump.{holds_one, life_text, lost_element, lost_lines}
-use Rattle.tp_session.specs.Live.{FoundAlive, Live}
+use Rattle.tp_session.specs.Live as lives
+use Rattle.tp_session.specs.Live.{FoundAlive, HoldsUnits, Live}
 use Rattle.tp_session.specs.Told.{HeadLines}
 use Rattle.tp_session.specs.declared.hand.Holding.{Holding}
 use Rattle.tp_exact.specs.Dumps.{all_lost, line_of, tries_of}
+use Rattle.tp_exact.specs.PlainSession.{SessionState}
+use Rattle.tp_exact.specs.Sessions.{StandsLive}
 
 -- a body of four 64-bit numbers
 abbrev pub IsBody64 : List ℕ → Type 0
@@ -88,3 +91,34 @@ LostLinesRead =
     → IsFreeWorker w.name n h × (element < 2 ^ 32))
     → HeadLines past (lost_lines workers first works survivors (length workers)) h []
     (record h { lost = h.lost ++ all_lost first works survivors (length workers) })
+
+-- each worker of a head has a name of its own
+abbrev pub AreNamed : HeadView → Type 0
+AreNamed h = (n : ℕ) (w : WorkerView) → slice_get h.workers n ≡ Some w
+    → (is_name w.name ≡ true) × (worker_at w.name h ≡ Some n)
+
+-- what these lines say, of a session with head h that has these works in hand and in which this is alive
+abbrev pub lines_between : HeadView → List Holding → List Survivor → List (List ℕ)
+lines_between h works survivors = let first = 1 + length h.servers in
+    map (life_text h.workers first) survivors
+    ++ lost_lines h.workers first works survivors (length h.workers)
+
+-- So all lines of a dump from the `alive` ones to the `lost` ones, read one after another by a head g that has
+-- the workers of the dumped session's head, and in which nothing is alive or lost yet, lead to a head that says
+-- just that; and none is refused. The session stands for a computed state, and no desk has a unit open. The
+-- words of the bodies have 64 bits and the ids 32, as all that a program has, and no `held` line is too long.
+abbrev pub DumpLinesRead : Type 0
+DumpLinesRead =
+    (h g : HeadView) (old done : Live) (survivors : List Survivor) (s : SessionState) (past : ℕ)
+    → StandsLive h old s → HoldsUnits old → lives.has_desk_open old ≡ false → FoundAlive old survivors done
+    → AreLimits old.stand.manager.limits → length old.works ≡ length h.workers
+    → g.workers ≡ h.workers → AreNamed g → g.alive ≡ [] → g.lost ≡ []
+    → ((s : Survivor) → In s survivors → IsBody64 s.body × IsBody64 s.root_body)
+    → ((s : Survivor) → In s survivors
+    → IfSome s.holder (λ c. length (life_text h.workers (1 + length h.servers) s) ≤ 200))
+    → ((n element : ℕ) (work : Holding) → slice_get old.works n ≡ Some work
+    → lost_element false work ≡ Some element → element < 2 ^ 32)
+    → HeadLines past (lines_between h old.works survivors) g [] (record g {
+      alive = map (line_of (1 + length h.servers)) survivors;
+      lost = all_lost (1 + length h.servers) old.works survivors (length old.works);
+    })

@@ -3,7 +3,8 @@
 ghost use Rattle.tp_exact.specs.Client.{ExactClient};
 ghost use Rattle.tp_exact.specs.Commands.{ExactCommand};
 ghost use Rattle.tp_exact.specs.Desks.{ExactDesk};
-ghost use Rattle.tp_exact.specs.AliveReads.{AliveLineReads, FoundLinesRead, HeldLineReads, LostLinesRead};
+ghost use Rattle.tp_exact.specs.AliveReads.{AliveLineReads, DumpLinesRead, FoundLinesRead, HeldLineReads};
+ghost use Rattle.tp_exact.specs.AliveReads.{LostLinesRead};
 ghost use Rattle.tp_exact.specs.Dumps.{ExactDump, HeldByWorkers, RestoredDump, RestoredHands};
 ghost use Rattle.tp_exact.specs.Finals.{ExactAccount, ExactFinals};
 ghost use Rattle.tp_exact.specs.Programs.{ComputedOfScript, ExactProgram, SamePlain};
@@ -67,10 +68,12 @@ pub fn alive_line_reads()
 {}
 
 /// All `alive` and `held` lines of a dump, read one after another, add to a head just what the dump has found
-/// alive. All its `lost` lines add just what workers lost.
+/// alive. All its `lost` lines add just what workers lost. So a head that reads all these says just what
+/// `restored_dump` asks for.
 pub fn found_lines_read()
     ensures found { FoundLinesRead }
     ensures lost { LostLinesRead }
+    ensures whole { DumpLinesRead }
 {}
 
 /// The answers to a whole live session: they are the computed ones, and after a fault a prefix of them. They

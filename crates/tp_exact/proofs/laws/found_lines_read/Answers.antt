@@ -1,3 +1,4 @@
+use Rattle.tp_exact.proofs.DumpReads.{dump_lines_read}
 use Rattle.tp_exact.proofs.FoundLines.{found_lines_read}
 use Rattle.tp_exact.proofs.LostReads.{lost_lines_read}
 use Rattle.tp_exact.proofs.laws.found_lines_read.Goals as goal
@@ -7,3 +8,6 @@ returns-clause-found c = found_lines_read
 
 pub returns-clause-lost : goal.returns-clause-lost
 returns-clause-lost c = lost_lines_read
+
+pub returns-clause-whole : goal.returns-clause-whole
+returns-clause-whole c = dump_lines_read
