@@ -152,10 +152,11 @@ module _ (workers : List WorkerView) (first : ℕ) (works : List Holding) (ss : 
   one_taken n element w free within =
       let parts = and_parts (not (length w.name == 0) && nat_le (length w.name) 8) (list_all (λ b. nat_le 97 b && nat_le b 122) w.name) free.named in
       let some = and_parts (not (length w.name == 0)) (nat_le (length w.name) 8) parts.0 in
-      let now = still_free n w.name free in
-      (with_more_lost n (lost_told n (Some element)),
-      reads w.name (letters_of w.name parts.1) (some_letters w.name some.0) (leb-true (length w.name) 8 some.1) element within n (behind_first n) (free_ok w.name n (behind_first n) now),
-      refl)
+      let now = still_free n w.name free in (
+        with_more_lost n (lost_told n (Some element)),
+        reads w.name (letters_of w.name parts.1) (some_letters w.name some.0) (leb-true (length w.name) 8 some.1) element within n (behind_first n) (free_ok w.name n (behind_first n) now),
+        refl,
+      )
 
   place_taken : (n : ℕ) (w : WorkerView) (o : Option Holding) → slice_get workers n ≡ Some w → slice_get works n ≡ o → AreTaken (lost_of (Some w) (holds_one (first + n) ss) o) (behind_first n) (with_more_lost n (lost_in n (holds_one (first + n) ss) o))
   place_taken n w None there_is has = none_more n
