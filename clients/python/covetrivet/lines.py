@@ -9,7 +9,7 @@ TO_RESTORE = ("alive", "held", "lost")
 OF_HEAD = ("rows", "units", "limit", "spare", "server", "start", "worker", *TO_RESTORE)
 # What changes nothing. A log needs none of it.
 QUIET = ("read", "reply", "family", "errors", "count", "balance", "sum", "account", "dump")
-LONGEST_LINE = 200
+LONGEST_LINE = 208
 LINES_AT_ONCE = 1000
 # What a server answers to a line that its session was lost with: it has been performed, or not.
 UNKNOWN = "unknown"

@@ -60,7 +60,7 @@ class BadName(Refusal):
 
 
 class TooLong(Refusal):
-    """The line has more than 200 bytes."""
+    """The line has more than 208 bytes."""
 
 
 class Order(Refusal):

@@ -103,7 +103,7 @@ class Calls(unittest.TestCase):
             refusals.NotParked: lambda: session.requeue(0),
             refusals.NotHeld: lambda: session.release(0),
             refusals.NoneOpen: lambda: session.abort("packer"),
-            refusals.TooLong: lambda: session.do(Command("count", "x" * 200, read=str)),
+            refusals.TooLong: lambda: session.do(Command("count", "x" * 208, read=str)),
             refusals.Order: lambda: session.do(Command("rows", 8, read=str)),
         }
         for kind, call in refused.items():
@@ -195,14 +195,14 @@ class Heads(unittest.TestCase):
             refusals.BadNumber: ["alive 0 8 0 1:5:6"],
             refusals.Syntax: ["alive 0 0 0 1:5:6", "restore now"],
             refusals.Order: ["alive 0 0 0 1:5:6", "count", "restore"],
-            refusals.TooLong: ["rows 8", "#" * 201],
+            refusals.TooLong: ["rows 8", "#" * 209],
         }
         for kind, head in refused.items():
             with self.subTest(kind.__name__), self.assertRaises(kind), Session(head):
                 pass
 
     def test_lines_that_go_on(self) -> None:
-        long_comment = "#".ljust(201)
+        long_comment = "#".ljust(209)
         lines = [*HEAD, "", "# a shop", "submit 1 5 6", "", long_comment, "claim packer", "nonsense"]
         with Session(lines) as session:
             self.assertEqual(session.moved, {})

@@ -54,7 +54,7 @@ class ServeAnswers(unittest.TestCase):
             some = bytes([byte])
             lines = [some, some * 3, b"#" + some, b"# x" + some, b"count " + some, b" " + some, b" # x"]
             lines += [b"dump", b"dump" + some, b"submit 1 1 1" + some, b"restore", b"rows 8", b"claim a"]
-            lines += [dice.randbytes(dice.choice((3, 199, 200, 201, 202))).replace(b"\n", b"")]
+            lines += [dice.randbytes(dice.choice((3, 207, 208, 209, 210))).replace(b"\n", b"")]
             dice.shuffle(lines)
             pieces.append(b"\n".join([*lines, b""]))
         head = [*WIDE, *WORKERS]
@@ -109,11 +109,11 @@ class ServeBounds(unittest.TestCase):
         refused = r"refused line \d+: 6 TooLong"
         with Serving([*WIDE]) as server:
             it = server.client()
-            for long in ("submit 1 5 " + "5" * 190, "#" * 201, " " * 201, "x" * 1_000_000):
+            for long in ("submit 1 5 " + "5" * 198, "#" * 209, " " * 209, "x" * 1_000_000):
                 said = it.ask(long, "count")
                 self.assertRegex(said[0], refused)
                 self.assertEqual(said[1], COUNTED)
-            it.send("#" * 200, " " * 200, "count")
+            it.send("#" * 208, " " * 208, "count")
             self.assertEqual(it.line(), COUNTED)
             # It is refused once, also where it comes in pieces. The server doesn't keep it.
             before = server.memory()

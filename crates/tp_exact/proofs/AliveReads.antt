@@ -231,11 +231,11 @@ module _ (id attempts rounds root : ℕ) (own : List ℕ) (stage : ℕ) (body : 
       ∙ (bind_ok (held_of worker said) (in_hand worker) _ (held_ok worker some) ∙ one_more (in_hand worker) h room)))
 
 -- a line of allowed bytes that isn't too long, and no comment, is its words
-pub line_ok : (c : ℕ) (rest : List ℕ) → (c == 35) ≡ false → length (c ∷ rest) ≤ 200 → Bytes 32 126 (c ∷ rest) → line_words (c ∷ rest) ≡ Ok (words (c ∷ rest))
+pub line_ok : (c : ℕ) (rest : List ℕ) → (c == 35) ≡ false → length (c ∷ rest) ≤ 208 → Bytes 32 126 (c ∷ rest) → line_words (c ∷ rest) ≡ Ok (words (c ∷ rest))
 unfolding line_words
 line_ok c rest no_comment short all =
     let line = c ∷ rest in
-    bind_ok (require (nat_le (length line) 200) TooLong) tt (λ _. require (list_all (λ b. nat_le 32 b && nat_le b 126) line) Syntax >>= λ _. said (c == 35)) (ap (λ t. require t TooLong) (le_true (length line) 200 short))
+    bind_ok (require (nat_le (length line) 208) TooLong) tt (λ _. require (list_all (λ b. nat_le 32 b && nat_le b 126) line) Syntax >>= λ _. said (c == 35)) (ap (λ t. require t TooLong) (le_true (length line) 208 short))
     ∙ (bind_ok (require (list_all (λ b. nat_le 32 b && nat_le b 126) line) Syntax) tt (λ _. said (c == 35)) (ap (λ t. require t Syntax) (allowed line all)) ∙ ap said no_comment)
   where
     said : Bool → Result (List (List ℕ)) LineFault
@@ -378,13 +378,13 @@ module _ (s : Survivor) (tries : ℕ) (fit : IsFit s) (few : tries ≤ MAX_ATTEM
 
   module _ (front : List ℕ) (before : List (List ℕ)) (f : Front front before) where
     -- the line's words
-    read_with : (behind : List ℕ) (last : List (List ℕ)) → Last behind last → length (front ++ element_with behind) ≤ 200 → line_words (front ++ element_with behind) ≡ Ok (before ++ numbers_with last)
+    read_with : (behind : List ℕ) (last : List (List ℕ)) → Last behind last → length (front ++ element_with behind) ≤ 208 → line_words (front ++ element_with behind) ≡ Ok (before ++ numbers_with last)
     read_with behind last is short =
         let rest : List ℕ = f.others ++ element_with behind in
         let same : front ++ element_with behind ≡ f.first ∷ rest = ap (λ z. z ++ element_with behind) f.whole in
         let all = with_more 32 126 front (element_with behind) f.bytes (element_bytes behind is.bytes) in
         ap line_words same
-        ∙ (line_ok f.first rest f.no_comment (subst (λ z. length z ≤ 200) same short) (subst (Bytes 32 126) same all)
+        ∙ (line_ok f.first rest f.no_comment (subst (λ z. length z ≤ 208) same short) (subst (Bytes 32 126) same all)
         ∙ (ap (λ z. Ok (words z)) (sym same) ∙ ap Ok (f.words_are (element_with behind) ∙ ap (λ z. before ++ z) (words_with behind ∙ ap numbers_with is.words_are))))
 
   abbrev added : HeadView → Option ℕ → HeadView
@@ -402,7 +402,7 @@ module _ (s : Survivor) (tries : ℕ) (fit : IsFit s) (few : tries ≤ MAX_ATTEM
   abbrev alive_with : List ℕ → List ℕ
   alive_with behind = codes "alive " ++ element_with behind
 
-  alive_long : (behind : List ℕ) (last : List (List ℕ)) → Last behind last → length (alive_with behind) ≤ 200
+  alive_long : (behind : List ℕ) (last : List (List ℕ)) → Last behind last → length (alive_with behind) ≤ 208
   alive_long behind last is =
       let l = element_long behind in
       let m = is.long in
@@ -444,14 +444,14 @@ module _ (s : Survivor) (tries : ℕ) (fit : IsFit s) (few : tries ≤ MAX_ATTEM
     abbrev held_with : List ℕ → List ℕ
     held_with behind = name_front ++ element_with behind
 
-    held_own : (h : HeadView) → free_worker name h ≡ Ok worker → length h.alive < MAX_ALIVE → s.root ≡ s.id → length (held_with behind_own) ≤ 200 → head_at (held_with behind_own) h ≡ Ok (added h (Some worker), None)
+    held_own : (h : HeadView) → free_worker name h ≡ Ok worker → length h.alive < MAX_ALIVE → s.root ≡ s.id → length (held_with behind_own) ≤ 208 → head_at (held_with behind_own) h ≡ Ok (added h (Some worker), None)
     unfolding head_at
     held_own h free room e short =
         let read = read_with name_front (codes "held" ∷ name ∷ []) (held_front name small letters) behind_own (behind_own ∷ []) last_own short in
         let line = in_head_held s.id tries s.rounds s.id behind_own s.stage s.body own behind_own s.stage s.body own fit.id few fit.rounds_are fit.id name worker (numbers_with (behind_own ∷ [])) h refl some free room in
         bind_ok (line_words (held_with behind_own)) _ (λ ws. head_words drivers.Session ws h) read ∙ (line ∙ ap (λ (a : AliveLine). Ok (record h { alive = h.alive ++ a ∷ [] }, None)) (own_told (Some worker) e))
 
-    held_other : (h : HeadView) → free_worker name h ≡ Ok worker → length h.alive < MAX_ALIVE → length (held_with behind_other) ≤ 200 → head_at (held_with behind_other) h ≡ Ok (added h (Some worker), None)
+    held_other : (h : HeadView) → free_worker name h ≡ Ok worker → length h.alive < MAX_ALIVE → length (held_with behind_other) ≤ 208 → head_at (held_with behind_other) h ≡ Ok (added h (Some worker), None)
     unfolding head_at
     held_other h free room short =
         let read = read_with name_front (codes "held" ∷ name ∷ []) (held_front name small letters) behind_other last_words last_other short in
@@ -461,20 +461,20 @@ module _ (s : Survivor) (tries : ℕ) (fit : IsFit s) (few : tries ≤ MAX_ATTEM
     held_same : codes "held " ++ (name ++ (32 ∷ element_text s tries)) ≡ name_front ++ element_text s tries
     held_same = ap (λ z. codes "held " ++ z) (sym (append_assoc name (32 ∷ []) (element_text s tries)))
 
-    held_reads_so : (h : HeadView) → free_worker name h ≡ Ok worker → length h.alive < MAX_ALIVE → length (name_front ++ element_text s tries) ≤ 200 → head_at (name_front ++ element_text s tries) h ≡ Ok (added h (Some worker), None)
+    held_reads_so : (h : HeadView) → free_worker name h ≡ Ok worker → length h.alive < MAX_ALIVE → length (name_front ++ element_text s tries) ≤ 208 → head_at (name_front ++ element_text s tries) h ≡ Ok (added h (Some worker), None)
     held_reads_so h free room short =
         elim (eqb_tells s.root s.id) [
           | inl p ↦
               let same : element_text s tries ≡ element_with behind_own = ap (λ t. element_with (draft_text s.stage s.body ++ root_with t)) p.0 ∙ ap element_with (append_nil behind_own) in
-              ap (λ z. head_at (name_front ++ z) h) same ∙ held_own h free room p.1 (subst (λ z. length (name_front ++ z) ≤ 200) same short)
+              ap (λ z. head_at (name_front ++ z) h) same ∙ held_own h free room p.1 (subst (λ z. length (name_front ++ z) ≤ 208) same short)
           | inr p ↦
               let same : element_text s tries ≡ element_with behind_other = ap (λ t. element_with (draft_text s.stage s.body ++ root_with t)) p.0 in
-              ap (λ z. head_at (name_front ++ z) h) same ∙ held_other h free room (subst (λ z. length (name_front ++ z) ≤ 200) same short)
+              ap (λ z. head_at (name_front ++ z) h) same ∙ held_other h free room (subst (λ z. length (name_front ++ z) ≤ 208) same short)
         ]
 
-    pub held_reads : (h : HeadView) → free_worker name h ≡ Ok worker → length h.alive < MAX_ALIVE → length (codes "held " ++ (name ++ (32 ∷ element_text s tries))) ≤ 200
+    pub held_reads : (h : HeadView) → free_worker name h ≡ Ok worker → length h.alive < MAX_ALIVE → length (codes "held " ++ (name ++ (32 ∷ element_text s tries))) ≤ 208
         → head_at (codes "held " ++ (name ++ (32 ∷ element_text s tries))) h ≡ Ok (added h (Some worker), None)
-    held_reads h free room short = ap (λ z. head_at z h) held_same ∙ held_reads_so h free room (subst (λ z. length z ≤ 200) held_same short)
+    held_reads h free room short = ap (λ z. head_at z h) held_same ∙ held_reads_so h free room (subst (λ z. length z ≤ 208) held_same short)
 
 -- ---- the lines of survivors
 
@@ -515,6 +515,6 @@ held_line_reads workers first worker w s h fit holds there free short room =
     let text : text_by (holder_in workers first s.holder) s ≡ held_text w.name s =
     ap (λ o. text_by (holder_in workers first o) s) holds ∙ (ap (λ n. text_by (slice_get workers n) s) back ∙ ap (λ o. text_by o s) there) in
     ap (λ t. head_at t h) text
-    ∙ (held_reads s (attempts_of s.status + 1) fit few w.name (letters_of w.name parts.1) (some_letters w.name some.0) worker (omega arith) h (free_ok w.name worker h free) room (subst (λ t. length t ≤ 200) text short)
+    ∙ (held_reads s (attempts_of s.status + 1) fit few w.name (letters_of w.name parts.1) (some_letters w.name some.0) worker (omega arith) h (free_ok w.name worker h free) room (subst (λ t. length t ≤ 208) text short)
     ∙ (ap (λ n. Ok (record h { alive = h.alive ++ record (line_by first s (Some (first + worker))) { holder = Some n } ∷ [] }, None)) (sym back)
     ∙ ap (λ o. Ok (record h { alive = h.alive ++ line_by first s o ∷ [] }, None)) (sym holds)))

@@ -116,10 +116,10 @@ module _ (h g : HeadView) (old done : Live) (survivors : List Survivor) (s : Ses
       let name = named n w (ap (λ (ws : List WorkerView). slice_get ws n) workers ∙ stored) in
       record { named = name.0; at = name.1; idle = idle n }
 
-  workers_pass : (t : Survivor) → In t survivors → IfSome t.holder (λ c. length (life_text h.workers first t) ≤ 200) → IfSome t.holder (λ c. IsWorkersPass h.workers first g c × (length (life_text h.workers first t) ≤ 200))
+  workers_pass : (t : Survivor) → In t survivors → IfSome t.holder (λ c. length (life_text h.workers first t) ≤ 208) → IfSome t.holder (λ c. IsWorkersPass h.workers first g c × (length (life_text h.workers first t) ≤ 208))
   workers_pass t at short = go t.holder (each_of (λ (x : Survivor). IfSome x.holder (HasOpen (passes_in old.stand.scene))) survivors t found.in_hand at) (held t at) short
     where
-      go : (o : Option ℕ) → IfSome o (HasOpen (passes_in old.stand.scene)) → IfSome o (λ c. first ≤ c) → IfSome o (λ c. length (life_text h.workers first t) ≤ 200) → IfSome o (λ c. IsWorkersPass h.workers first g c × (length (life_text h.workers first t) ≤ 200))
+      go : (o : Option ℕ) → IfSome o (HasOpen (passes_in old.stand.scene)) → IfSome o (λ c. first ≤ c) → IfSome o (λ c. length (life_text h.workers first t) ≤ 208) → IfSome o (λ c. IsWorkersPass h.workers first g c × (length (life_text h.workers first t) ≤ 208))
       go None has low short = tt
       go (Some c) has low short =
           let it = got_some h.workers (c - first) (below c has low) in
@@ -216,7 +216,7 @@ module _ (h g : HeadView) (old done : Live) (survivors : List Survivor) (s : Ses
   abbrev g_done : HeadView
   g_done = record g { alive = map (line_of first) survivors; lost = all_lost first old.works survivors (length h.workers) }
 
-  pub all_read : (past : ℕ) → ((t : Survivor) → In t survivors → IsBody64 t.body × IsBody64 t.root_body) → ((t : Survivor) → In t survivors → IfSome t.holder (λ c. length (life_text h.workers first t) ≤ 200))
+  pub all_read : (past : ℕ) → ((t : Survivor) → In t survivors → IsBody64 t.body × IsBody64 t.root_body) → ((t : Survivor) → In t survivors → IfSome t.holder (λ c. length (life_text h.workers first t) ≤ 208))
       → ((n element : ℕ) (work : Holding) → slice_get old.works n ≡ Some work → lost_element false work ≡ Some element → element < 2 ^ 32) → HeadLines past (lines_between h old.works survivors) g [] g_done
   all_read past bodies short ids =
       let none_yet : length g.alive ≡ 0 = ap (λ (ls : List AliveLine). length ls) no_alive in

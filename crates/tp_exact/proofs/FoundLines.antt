@@ -56,7 +56,7 @@ held_tries l is status (Some c) (u, n, held, waits, by) fit =
 
 -- what a line needs to be read, whose element this pass holds
 abbrev Holds : List WorkerView → ℕ → HeadView → Survivor → Option ℕ → Type 0
-Holds workers first head s holder = IfSome holder (λ c. IsWorkersPass workers first head c × (length (life_text workers first s) ≤ 200))
+Holds workers first head s holder = IfSome holder (λ c. IsWorkersPass workers first head c × (length (life_text workers first s) ≤ 208))
 
 any_more : {A : Type 0} (f : A → Bool) (xs : List A) (x : A) → list_any f xs ≡ false → f x ≡ false → list_any f (xs ++ x ∷ []) ≡ false
 any_more f [] x none one = ap (λ b. b || false) one

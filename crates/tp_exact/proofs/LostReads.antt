@@ -69,7 +69,7 @@ module _ (name : List ℕ) (small : Bytes 97 122 name) (letters : 0 < length nam
   line_bytes : Bytes 32 126 line
   line_bytes = ((omega arith, omega arith), ((omega arith, omega arith), ((omega arith, omega arith), ((omega arith, omega arith), ((omega arith, omega arith), behind_bytes)))))
 
-  short : length line ≤ 200
+  short : length line ≤ 208
   short =
       let d = length-decimal-le 20 element (omega arith) (omega (arith, f_element)) f_element in
       let l = length-append name (32 ∷ decimal element) in

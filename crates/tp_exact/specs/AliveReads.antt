@@ -55,7 +55,7 @@ abbrev pub HeldLineReads : Type 0
 HeldLineReads =
     (workers : List WorkerView) (first worker : ℕ) (w : WorkerView) (s : Survivor) (h : HeadView)
     → IsFit s → s.holder ≡ Some (first + worker) → slice_get workers worker ≡ Some w
-    → IsFreeWorker w.name worker h → length (life_text workers first s) ≤ 200 → length h.alive < MAX_ALIVE
+    → IsFreeWorker w.name worker h → length (life_text workers first s) ≤ 208 → length h.alive < MAX_ALIVE
     → head_at (life_text workers first s) h ≡ Ok (record h { alive = h.alive ++ line_of first s ∷ [] }, None)
 
 -- pass c is that of such a worker, of which the first one's pass has this number
@@ -75,7 +75,7 @@ FoundLinesRead =
     → AreLimits old.stand.manager.limits → FoundAlive old survivors done
     → ((s : Survivor) → In s survivors → IsBody64 s.body × IsBody64 s.root_body)
     → ((s : Survivor) → In s survivors → IfSome s.holder (λ c. IsWorkersPass workers first h c
-    × (length (life_text workers first s) ≤ 200)))
+    × (length (life_text workers first s) ≤ 208)))
     → length h.alive + length survivors ≤ MAX_ALIVE
     → HeadLines past (map (life_text workers first) survivors) h []
     (record h { alive = h.alive ++ map (line_of first) survivors })
@@ -115,7 +115,7 @@ DumpLinesRead =
     → g.workers ≡ h.workers → AreNamed g → g.alive ≡ [] → g.lost ≡ []
     → ((s : Survivor) → In s survivors → IsBody64 s.body × IsBody64 s.root_body)
     → ((s : Survivor) → In s survivors
-    → IfSome s.holder (λ c. length (life_text h.workers (1 + length h.servers) s) ≤ 200))
+    → IfSome s.holder (λ c. length (life_text h.workers (1 + length h.servers) s) ≤ 208))
     → ((n element : ℕ) (work : Holding) → slice_get old.works n ≡ Some work
     → lost_element false work ≡ Some element → element < 2 ^ 32)
     → HeadLines past (lines_between h old.works survivors) g [] (record g {

@@ -38,10 +38,10 @@ abbrev pub is_comment : List ℕ → Bool
 is_comment [] = false
 is_comment (b ∷ bs) = b == 35
 
--- the words of a line of at most 200 bytes, each a space or visible; a comment has none
+-- the words of a line of at most 208 bytes, each a space or visible; a comment has none
 unfoldable pub line_words : List ℕ → Result (List (List ℕ)) LineFault
 line_words line = do
-  _ ← require (nat_le (length line) 200) TooLong
+  _ ← require (nat_le (length line) 208) TooLong
   _ ← require (list_all (λ b. nat_le 32 b && nat_le b 126) line) Syntax
   if is_comment line then Ok [] else Ok (words line)
 

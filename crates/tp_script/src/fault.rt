@@ -37,7 +37,7 @@ pub enum LineFault {
     /// 5: a name that isn't 1 to 8 small letters, that another server or worker has, or that none has, a
     /// command that workers don't have, or a second `held` or `lost` line of one worker.
     BadName,
-    /// 6: a line above 200 bytes, or a script above 65,536 bytes.
+    /// 6: a line above 208 bytes, or a script above 65,536 bytes.
     TooLong,
     /// 7: a setting after a server, a line of the head or `restore` after a command, another first command
     /// than `restore` after an `alive`, `held` or `lost` line, or in a script that is no session a line of

@@ -35,7 +35,7 @@ use tp_model::types::{MAX_ATTEMPTS, MAX_BLOCKS, MAX_PART_ROWS, MAX_UNITS};
 pub(crate) fn line_words(alloc: Global, line: &[u8]) -> Result<Vec<&[u8]>, LineError>
     ensures { Gives (λ v. map (λ x. x.now) v.items) result (line_words line.now) }
 {
-    if line.len() > 200 {
+    if line.len() > 208 {
         return Err(LineFault::TooLong.into());
     }
     if !all_allowed(line) {

@@ -200,7 +200,7 @@ read_whole a b c kept so_far p = (so_far.bytes, so_far.kept_is, hears_next a c s
 -- so has the input
 pub read_to_end : (more : Bool) (a b : Option (List ℕ)) (kept : List ℕ) → ReadsLine a b kept → IsAtEnd b → more ≡ not (length kept == 0) → Next more a kept b
 read_to_end more a b [] so_far end is =
-    let nothing : so_far.bytes ≡ [] = kept_none 200 so_far.bytes (sym so_far.kept_is) in
+    let nothing : so_far.bytes ≡ [] = kept_none 208 so_far.bytes (sym so_far.kept_is) in
     subst (λ m. Next m a [] b) (sym is) (hears_none a b (subst (λ w. Consumes a b w) nothing so_far.consumed) end, silent_end b end)
 read_to_end more a b (c ∷ cs) so_far end is =
     let some : 0 < length so_far.bytes = omega (arith, ap length so_far.kept_is, length-take MAX_KEPT so_far.bytes) in

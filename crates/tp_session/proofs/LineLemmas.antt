@@ -33,12 +33,12 @@ module _ (head : Head) where
 
 -- ---- a line that is too long says as much as its front
 
-long_words : (line : List ℕ) → 200 < length line → line_words line ≡ Err TooLong
+long_words : (line : List ℕ) → 208 < length line → line_words line ≡ Err TooLong
 unfolding line_words
-long_words line long = rw (lt-leb (length line) 200 long) refl
+long_words line long = rw (lt-leb (length line) 208 long) refl
 
 kept_words : (line : List ℕ) → line_words (take MAX_KEPT line) ≡ line_words line
-kept_words line = elim (cases_lt 200 (length line)) [
+kept_words line = elim (cases_lt 208 (length line)) [
   | inl long ↦ long_words (take MAX_KEPT line) (omega (arith, length-take MAX_KEPT line, long)) ∙ sym (long_words line long)
   | inr short ↦ ap line_words (take_all MAX_KEPT line (omega (arith, short)))
 ]

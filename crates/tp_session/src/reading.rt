@@ -9,7 +9,7 @@ use tp_report::Fault;
 use tp_script::Failed;
 
 /// The bytes of a line that are kept: one more than a line may have, so that a longer one is known by it.
-pub const MAX_KEPT: usize = 201;
+pub const MAX_KEPT: usize = 209;
 
 /// How often a wire is asked in a session at most: a million times a second for 71 years. The lines that
 /// come meanwhile have numbers below 2 ^ 64.
