@@ -6,7 +6,6 @@ skip    has the session skip the last line of the journal when it starts
 again   tells the answers to recovered lines again
 count   tells one line more than was recovered
 lost    drops an element that is alive from the dump that a rollover has left
-moved   has that dump be of what stood behind the rollover
 """
 import os
 import subprocess
@@ -79,24 +78,19 @@ def main():
     elif error == "skip":
         beside(program, path, lines[:-1], 0)
     elif error == "again":
-        around(program, path, b"recovered %d\n" % len(lines) + told_of(program, lines))
+        before, behind = sent_in(path)
+        around(program, path, b"recovered %d\n" % (before + len(behind)) + told_of(program, lines))
     elif error == "count":
         before, behind = sent_in(path)
         around(program, path, b"recovered %d\n" % (before + len(behind) + 1))
-    elif error in ("lost", "moved"):
+    elif error == "lost":
         count = COUNTED.fullmatch(lines[0]) if lines else None
         alive = [it for it in lines if it.startswith(b"alive ")]
         if count and alive:
-            many = 1 + int(count[1])
-            head = lines[:many]
-            if error == "lost":
-                head.remove(alive[-1])
-            else:
-                told = subprocess.run(program, input=b"".join([*head, b"dump\n"]), stdout=PIPE, check=True).stdout
-                head[1:] = [it[2:] for it in told.splitlines(keepends=True) if it.startswith(b"> ")]
-            head[0] = b"# covetrivet: %d lines for %s\n" % (len(head) - 1, count[2])
+            lines[0] = b"# covetrivet: %d lines for %s\n" % (int(count[1]) - 1, count[2])
+            lines.remove(alive[-1])
             with open(path, "wb") as file:
-                file.write(made([head + lines[many:]]))
+                file.write(made([lines]))
         os.execv(program[0], [*program, "--journal", path])
     elif error == "drop":
         if lines:
