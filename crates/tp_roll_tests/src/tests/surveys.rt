@@ -350,6 +350,7 @@ fn one_unit_each(rt: HostRuntime) {
             },
         ),
     )];
+    let wanted = [held_by(1, moved(0, 0, 0, 0))];
     restored(&rt, few, &[first], Ok(&wanted), &calls);
     restored(&rt, few, &[first, second], Err(RollFault::Full), &[]);
 }
