@@ -15,6 +15,8 @@ pub enum Cause {
     Write,
     /// The journal didn't take a line: its disk has failed, or it is as long as it may be.
     Journal,
+    /// What the dump at the front of the journal says is alive couldn't be restored.
+    Unrestored,
 }
 
 /// Why a session ends whose journal didn't take a line.

@@ -68,6 +68,7 @@ impl<R: Source + Drop, W: Sink + Drop, D: Device + Drop> Kept<R, W, D> {
             due: false,
             more: stands.counted,
             less: stands.lines,
+            restoring: stands.lines > 0,
             recovering: true,
             left: MAX_ASKED,
             asked: 0,

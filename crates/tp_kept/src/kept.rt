@@ -41,6 +41,8 @@ pub struct Kept<R: Source + Drop, W: Sink + Drop, D: Device + Drop> {
     pub(crate) more: u64,
     /// How many these are.
     pub(crate) less: u64,
+    /// The first answer has to be that a dump was restored.
+    pub(crate) restoring: bool,
     /// The session has no line yet but those.
     pub(crate) recovering: bool,
     /// How often the reader may still be asked.

@@ -54,6 +54,10 @@ fn tell_fault<E: Sink>(fault: Fault, cause: Option<Cause>, faults: &mut E) {
             let _ = write_all(faults, b"fault 4 Journal\n");
             return;
         }
+        Some(Cause::Unrestored) => {
+            let _ = write_all(faults, b"fault 4 Journal: not restored\n");
+            return;
+        }
     };
     write_fault(Err(fault), faults);
 }

@@ -1,5 +1,6 @@
 //! A journal is made short: the lines of a dump take the place of those up to the rollover behind it.
-ghost use Rattle.std.specs.Prelude.{◌≡◌, ◌++◌, None, IfOk, OnErr, OnOk, drop, false, true};
+ghost use Rattle.std.specs.Prelude.{◌≡◌, ◌⊎◌, ◌++◌, [], None, IfOk, OnErr, OnOk, codes, drop, false, true};
+ghost use Rattle.tp_kept.specs.Lines.{opens};
 ghost use Rattle.std.specs.Option.{is_some};
 ghost use Rattle.std.specs.Io.KnownBytes.{Appends};
 ghost use Rattle.tp_report.specs.Written.{AppendsFront};
@@ -52,6 +53,33 @@ impl<R: Source + Drop, W: Sink + Drop, D: Device + Drop> Kept<R, W, D> {
             return Err(Failed);
         }
         self.log.note(&[TAKEN, 0, 1], answers);
+        Ok(())
+    }
+
+    /// Looks whether the dump at the front of the journal was restored. Where it wasn't, nothing of it is lost
+    /// silently: the session ends.
+    pub(crate) fn expect_restored(&mut self, answers: &[u8]) -> Result<(), Failed>
+        requires ready { IsReady D.seen D.may_leave self.old }
+        requires fine { self.old.cause ≡ None }
+        ensures is_ready { IsReady D.seen D.may_leave self.new }
+        ensures contents { contents_of self.new.log.events (W.contents self.new.writer)
+            ≡ contents_of self.old.log.events (W.contents self.old.writer) }
+        ensures rest { rest_of (drop self.new.at self.new.ready.items) self.new.line.items (R.rest self.new.reader)
+            ≡ rest_of (drop self.old.at self.old.ready.items) self.old.line.items (R.rest self.old.reader) }
+        ensures asked { self.new.asked ≡ self.old.asked }
+        ensures fine { OnOk result (self.new.cause ≡ None) }
+        ensures cause { OnErr result (is_some self.new.cause ≡ true) }
+        ensures restored { OnOk result (self.old.restoring ≡ true
+            → (answers.now ≡ []) ⊎ (opens (codes "restored ") answers.now ≡ true)) }
+    {
+        if !self.restoring || answers.is_empty() {
+            return Ok(());
+        }
+        if !answers.starts_with(b"restored ") {
+            self.cause = Some(Cause::Unrestored);
+            return Err(Failed);
+        }
+        self.restoring = false;
         Ok(())
     }
 

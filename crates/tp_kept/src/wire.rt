@@ -44,6 +44,9 @@ impl<R: Source + Drop, W: Sink + Drop, D: Device + Drop> Wire for Kept<R, W, D> 
             return self.take(answers);
         }
         self.look(answers);
-        self.say(answers)
+        match self.expect_restored(answers) {
+            Ok(()) => self.say(answers),
+            Err(Failed) => Err(Failed),
+        }
     }
 }
