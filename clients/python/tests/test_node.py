@@ -119,7 +119,7 @@ class LastingLines(unittest.TestCase):
             self.assertEqual(answer, f"wa refused {asked} NotThere")
             it = sent(f"family {asked}", self.IDS)
             self.assertEqual(told(it, "family 4294967295", self.IDS), f"family {asked}")
-        too_long = "kill" + " " * 196 + "9"
+        too_long = "kill" + " " * 204 + "9"
         for line in f"kill {1 << 64}", "kill\t9", "kill +9", too_long, "take abcdefghi 9", "kil 9":
             self.assertEqual(sent(line, self.IDS).line, line)
 
