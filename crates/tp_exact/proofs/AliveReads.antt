@@ -437,44 +437,55 @@ module _ (s : Survivor) (tries : ℕ) (fit : IsFit s) (few : tries ≤ MAX_ATTEM
       ]
 
   -- a `held` line
-  module _ (name : List ℕ) (small : Bytes 97 122 name) (letters : 0 < length name) (worker : ℕ) (some : 1 ≤ tries) where
+  module _ (name : List ℕ) (small : Bytes 97 122 name) (letters : 0 < length name) (few_letters : length name ≤ 8) (worker : ℕ) (some : 1 ≤ tries) where
     abbrev name_front : List ℕ
     name_front = codes "held " ++ (name ++ 32 ∷ [])
 
     abbrev held_with : List ℕ → List ℕ
     held_with behind = name_front ++ element_with behind
 
-    held_own : (h : HeadView) → free_worker name h ≡ Ok worker → length h.alive < MAX_ALIVE → s.root ≡ s.id → length (held_with behind_own) ≤ 208 → head_at (held_with behind_own) h ≡ Ok (added h (Some worker), None)
+    -- 14 bytes up to the element, 10 of its numbers and 184 behind them
+    held_long : (behind : List ℕ) (last : List (List ℕ)) → Last behind last → length (held_with behind) ≤ 208
+    held_long behind last is =
+        let l = element_long behind in
+        let m = is.long in
+        let l1 = length-append name_front (element_with behind) in
+        let l2 = length-append name (32 ∷ []) in
+        let n : length name_front ≡ 5 + length (name ++ 32 ∷ []) = omega arith in
+        let few = few_letters in
+        omega (arith, l, m, l1, l2, n, few)
+
+    held_own : (h : HeadView) → free_worker name h ≡ Ok worker → length h.alive < MAX_ALIVE → s.root ≡ s.id → head_at (held_with behind_own) h ≡ Ok (added h (Some worker), None)
     unfolding head_at
-    held_own h free room e short =
-        let read = read_with name_front (codes "held" ∷ name ∷ []) (held_front name small letters) behind_own (behind_own ∷ []) last_own short in
+    held_own h free room e =
+        let read = read_with name_front (codes "held" ∷ name ∷ []) (held_front name small letters) behind_own (behind_own ∷ []) last_own (held_long behind_own (behind_own ∷ []) last_own) in
         let line = in_head_held s.id tries s.rounds s.id behind_own s.stage s.body own behind_own s.stage s.body own fit.id few fit.rounds_are fit.id name worker (numbers_with (behind_own ∷ [])) h refl some free room in
         bind_ok (line_words (held_with behind_own)) _ (λ ws. head_words drivers.Session ws h) read ∙ (line ∙ ap (λ (a : AliveLine). Ok (record h { alive = h.alive ++ a ∷ [] }, None)) (own_told (Some worker) e))
 
-    held_other : (h : HeadView) → free_worker name h ≡ Ok worker → length h.alive < MAX_ALIVE → length (held_with behind_other) ≤ 208 → head_at (held_with behind_other) h ≡ Ok (added h (Some worker), None)
+    held_other : (h : HeadView) → free_worker name h ≡ Ok worker → length h.alive < MAX_ALIVE → head_at (held_with behind_other) h ≡ Ok (added h (Some worker), None)
     unfolding head_at
-    held_other h free room short =
-        let read = read_with name_front (codes "held" ∷ name ∷ []) (held_front name small letters) behind_other last_words last_other short in
+    held_other h free room =
+        let read = read_with name_front (codes "held" ∷ name ∷ []) (held_front name small letters) behind_other last_words last_other (held_long behind_other last_words last_other) in
         let line = in_head_held s.id tries s.rounds s.root (draft_text s.stage s.body) s.stage s.body own (draft_text s.root_stage s.root_body) s.root_stage s.root_body of_root fit.id few fit.rounds_are fit.root name worker (numbers_with last_words) h refl some free room in
         bind_ok (line_words (held_with behind_other)) _ (λ ws. head_words drivers.Session ws h) read ∙ line
 
     held_same : codes "held " ++ (name ++ (32 ∷ element_text s tries)) ≡ name_front ++ element_text s tries
     held_same = ap (λ z. codes "held " ++ z) (sym (append_assoc name (32 ∷ []) (element_text s tries)))
 
-    held_reads_so : (h : HeadView) → free_worker name h ≡ Ok worker → length h.alive < MAX_ALIVE → length (name_front ++ element_text s tries) ≤ 208 → head_at (name_front ++ element_text s tries) h ≡ Ok (added h (Some worker), None)
-    held_reads_so h free room short =
+    held_reads_so : (h : HeadView) → free_worker name h ≡ Ok worker → length h.alive < MAX_ALIVE → head_at (name_front ++ element_text s tries) h ≡ Ok (added h (Some worker), None)
+    held_reads_so h free room =
         elim (eqb_tells s.root s.id) [
           | inl p ↦
               let same : element_text s tries ≡ element_with behind_own = ap (λ t. element_with (draft_text s.stage s.body ++ root_with t)) p.0 ∙ ap element_with (append_nil behind_own) in
-              ap (λ z. head_at (name_front ++ z) h) same ∙ held_own h free room p.1 (subst (λ z. length (name_front ++ z) ≤ 208) same short)
+              ap (λ z. head_at (name_front ++ z) h) same ∙ held_own h free room p.1
           | inr p ↦
               let same : element_text s tries ≡ element_with behind_other = ap (λ t. element_with (draft_text s.stage s.body ++ root_with t)) p.0 in
-              ap (λ z. head_at (name_front ++ z) h) same ∙ held_other h free room (subst (λ z. length (name_front ++ z) ≤ 208) same short)
+              ap (λ z. head_at (name_front ++ z) h) same ∙ held_other h free room
         ]
 
-    pub held_reads : (h : HeadView) → free_worker name h ≡ Ok worker → length h.alive < MAX_ALIVE → length (codes "held " ++ (name ++ (32 ∷ element_text s tries))) ≤ 208
+    pub held_reads : (h : HeadView) → free_worker name h ≡ Ok worker → length h.alive < MAX_ALIVE
         → head_at (codes "held " ++ (name ++ (32 ∷ element_text s tries))) h ≡ Ok (added h (Some worker), None)
-    held_reads h free room short = ap (λ z. head_at z h) held_same ∙ held_reads_so h free room (subst (λ z. length z ≤ 208) held_same short)
+    held_reads h free room = ap (λ z. head_at z h) held_same ∙ held_reads_so h free room
 
 -- ---- the lines of survivors
 
@@ -507,7 +518,7 @@ free_ok name worker h free =
     ∙ bind_ok (require (not (has_in_hand worker h)) BadName) tt _ (ap (λ b. require (not b) BadName) free.idle)
 
 pub held_line_reads : HeldLineReads
-held_line_reads workers first worker w s h fit holds there free short room =
+held_line_reads workers first worker w s h fit holds there free room =
     let few : attempts_of s.status + 1 ≤ MAX_ATTEMPTS = subst (λ o. tries_of s.status o ≤ MAX_ATTEMPTS) holds fit.attempts in
     let back : (first + worker) - first ≡ worker = omega arith in
     let parts = and_parts (not (length w.name == 0) && nat_le (length w.name) 8) (list_all (λ b. nat_le 97 b && nat_le b 122) w.name) free.named in
@@ -515,6 +526,6 @@ held_line_reads workers first worker w s h fit holds there free short room =
     let text : text_by (holder_in workers first s.holder) s ≡ held_text w.name s =
     ap (λ o. text_by (holder_in workers first o) s) holds ∙ (ap (λ n. text_by (slice_get workers n) s) back ∙ ap (λ o. text_by o s) there) in
     ap (λ t. head_at t h) text
-    ∙ (held_reads s (attempts_of s.status + 1) fit few w.name (letters_of w.name parts.1) (some_letters w.name some.0) worker (omega arith) h (free_ok w.name worker h free) room (subst (λ t. length t ≤ 208) text short)
+    ∙ (held_reads s (attempts_of s.status + 1) fit few w.name (letters_of w.name parts.1) (some_letters w.name some.0) (leb-true (length w.name) 8 some.1) worker (omega arith) h (free_ok w.name worker h free) room
     ∙ (ap (λ n. Ok (record h { alive = h.alive ++ record (line_by first s (Some (first + worker))) { holder = Some n } ∷ [] }, None)) (sym back)
     ∙ ap (λ o. Ok (record h { alive = h.alive ++ line_by first s o ∷ [] }, None)) (sym holds)))

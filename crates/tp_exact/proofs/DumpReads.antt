@@ -116,14 +116,14 @@ module _ (h g : HeadView) (old done : Live) (survivors : List Survivor) (s : Ses
       let name = named n w (ap (λ (ws : List WorkerView). slice_get ws n) workers ∙ stored) in
       record { named = name.0; at = name.1; idle = idle n }
 
-  workers_pass : (t : Survivor) → In t survivors → IfSome t.holder (λ c. length (life_text h.workers first t) ≤ 208) → IfSome t.holder (λ c. IsWorkersPass h.workers first g c × (length (life_text h.workers first t) ≤ 208))
-  workers_pass t at short = go t.holder (each_of (λ (x : Survivor). IfSome x.holder (HasOpen (passes_in old.stand.scene))) survivors t found.in_hand at) (held t at) short
+  workers_pass : (t : Survivor) → In t survivors → IfSome t.holder (IsWorkersPass h.workers first g)
+  workers_pass t at = go t.holder (each_of (λ (x : Survivor). IfSome x.holder (HasOpen (passes_in old.stand.scene))) survivors t found.in_hand at) (held t at)
     where
-      go : (o : Option ℕ) → IfSome o (HasOpen (passes_in old.stand.scene)) → IfSome o (λ c. first ≤ c) → IfSome o (λ c. length (life_text h.workers first t) ≤ 208) → IfSome o (λ c. IsWorkersPass h.workers first g c × (length (life_text h.workers first t) ≤ 208))
-      go None has low short = tt
-      go (Some c) has low short =
+      go : (o : Option ℕ) → IfSome o (HasOpen (passes_in old.stand.scene)) → IfSome o (λ c. first ≤ c) → IfSome o (IsWorkersPass h.workers first g)
+      go None has low = tt
+      go (Some c) has low =
           let it = got_some h.workers (c - first) (below c has low) in
-          (record { low = low; it = it.0; there = it.1; free = free (c - first) it.0 it.1 }, short)
+          record { low = low; it = it.0; there = it.1; free = free (c - first) it.0 it.1 }
 
   few : length survivors ≤ MAX_ALIVE
   few =
@@ -216,12 +216,12 @@ module _ (h g : HeadView) (old done : Live) (survivors : List Survivor) (s : Ses
   abbrev g_done : HeadView
   g_done = record g { alive = map (line_of first) survivors; lost = all_lost first old.works survivors (length h.workers) }
 
-  pub all_read : (past : ℕ) → ((t : Survivor) → In t survivors → IsBody64 t.body × IsBody64 t.root_body) → ((t : Survivor) → In t survivors → IfSome t.holder (λ c. length (life_text h.workers first t) ≤ 208))
+  pub all_read : (past : ℕ) → ((t : Survivor) → In t survivors → IsBody64 t.body × IsBody64 t.root_body)
       → ((n element : ℕ) (work : Holding) → slice_get old.works n ≡ Some work → lost_element false work ≡ Some element → element < 2 ^ 32) → HeadLines past (lines_between h old.works survivors) g [] g_done
-  all_read past bodies short ids =
+  all_read past bodies ids =
       let none_yet : length g.alive ≡ 0 = ap (λ (ls : List AliveLine). length ls) no_alive in
       let room = few in
-      let alive = found_lines_read old done survivors h.workers first g past limits found bodies (λ t at. workers_pass t at (short t at)) (omega (arith, none_yet, room)) in
+      let alive = found_lines_read old done survivors h.workers first g past limits found bodies workers_pass (omega (arith, none_yet, room)) in
       let alive_so : HeadLines past (map (life_text h.workers first) survivors) g [] g_alive = subst (λ (ls : List AliveLine). HeadLines past (map (life_text h.workers first) survivors) g [] (record g { alive = ls ++ map (line_of first) survivors })) no_alive alive in
       let lost = λ (n : ℕ). lost_lines_read h.workers first old.works survivors g_alive n
       (λ i element w work w_stored stored is_lost. let parts = none_held i element work stored is_lost in (lost_free i w w_stored parts.0, ids i element work stored parts.1)) in
@@ -229,7 +229,7 @@ module _ (h g : HeadView) (old done : Live) (survivors : List Survivor) (s : Ses
       both_told (map (life_text h.workers first) survivors) (lost_lines h.workers first old.works survivors (length h.workers)) past g g_alive g_done alive_so lost_so
 
 pub dump_lines_read : DumpLinesRead
-dump_lines_read h g old done survivors s past is holds none found limits long workers named no_alive no_lost bodies short ids =
+dump_lines_read h g old done survivors s past is holds none found limits long workers named no_alive no_lost bodies ids =
     let first : ℕ = 1 + length h.servers in
     subst (λ n. HeadLines past (lines_between h old.works survivors) g [] (record g { alive = map (line_of first) survivors; lost = all_lost first old.works survivors n })) (sym long)
-    (all_read h g old done survivors s is holds none found limits long workers named no_alive no_lost past bodies short ids)
+    (all_read h g old done survivors s is holds none found limits long workers named no_alive no_lost past bodies ids)

@@ -55,8 +55,8 @@ held_tries l is status (Some c) (u, n, held, waits, by) fit =
 -- ---- who holds it
 
 -- what a line needs to be read, whose element this pass holds
-abbrev Holds : List WorkerView → ℕ → HeadView → Survivor → Option ℕ → Type 0
-Holds workers first head s holder = IfSome holder (λ c. IsWorkersPass workers first head c × (length (life_text workers first s) ≤ 208))
+abbrev Holds : List WorkerView → ℕ → HeadView → Option ℕ → Type 0
+Holds workers first head holder = IfSome holder (IsWorkersPass workers first head)
 
 any_more : {A : Type 0} (f : A → Bool) (xs : List A) (x : A) → list_any f xs ≡ false → f x ≡ false → list_any f (xs ++ x ∷ []) ≡ false
 any_more f [] x none one = ap (λ b. b || false) one
@@ -101,22 +101,22 @@ module _ (workers : List WorkerView) (first : ℕ) (head : HeadView) (s : Surviv
         idle = ap (λ b. b || list_any (λ (line : LostLine). line.worker == worker) head.lost) (any_more (λ (line : AliveLine). is_holder worker line.holder) head.alive (line_of first s) parts.0 other) ∙ parts.1;
       }
 
-  lows : (o : Option ℕ) → Holds workers first head s o → IfSome o (λ d. first ≤ d)
+  lows : (o : Option ℕ) → Holds workers first head o → IfSome o (λ d. first ≤ d)
   lows None holds = tt
-  lows (Some d) holds = holds.0.low
+  lows (Some d) holds = holds.low
 
   not_here : (ss : List Survivor) (t : Survivor) (c : ℕ) (o : Option ℕ) → In t ss → t.holder ≡ Some c → IfSome o (λ d. holds_one d ss ≡ false) → IfSome o (λ d. (c == d) ≡ false)
   not_here ss t c None at is once = tt
   not_here ss t c (Some d) at is once = sym (ap (is_holder d) is) ∙ any_none (λ (x : Survivor). is_holder d x.holder) ss t once at
 
-  pub holds_next : (ss : List Survivor) (t : Survivor) → In t ss → Holds workers first head s s.holder → IfSome s.holder (λ d. holds_one d ss ≡ false) → Holds workers first head t t.holder → Holds workers first next_head t t.holder
+  pub holds_next : (ss : List Survivor) (t : Survivor) → In t ss → Holds workers first head s.holder → IfSome s.holder (λ d. holds_one d ss ≡ false) → Holds workers first head t.holder → Holds workers first next_head t.holder
   holds_next ss t at mine once its = by_holder t.holder refl its
     where
-      by_holder : (o : Option ℕ) → t.holder ≡ o → Holds workers first head t o → Holds workers first next_head t o
+      by_holder : (o : Option ℕ) → t.holder ≡ o → Holds workers first head o → Holds workers first next_head o
       by_holder None is holds = tt
-      by_holder (Some c) is (pass, short) =
+      by_holder (Some c) is pass =
           let other = not_its s.holder c (lows s.holder mine) pass.low (not_here ss t c s.holder at is once) in
-          (record { low = pass.low; it = pass.it; there = pass.there; free = still_free pass.it.name (c - first) other pass.free }, short)
+          record { low = pass.low; it = pass.it; there = pass.there; free = still_free pass.it.name (c - first) other pass.free }
 
 -- ---- lines
 
@@ -146,18 +146,18 @@ module _ (l : Limits) (h : List Event) (limits : AreLimits l) (legal : IsLegal l
   }
 
   -- one line, whether a pass holds the element or not
-  one_read : (workers : List WorkerView) (first : ℕ) (s : Survivor) (head : HeadView) → IsFit s → Holds workers first head s s.holder → length head.alive < MAX_ALIVE
+  one_read : (workers : List WorkerView) (first : ℕ) (s : Survivor) (head : HeadView) → IsFit s → Holds workers first head s.holder → length head.alive < MAX_ALIVE
       → head_at (life_text workers first s) head ≡ Ok (record head { alive = head.alive ++ line_of first s ∷ [] }, None)
   one_read workers first s head fit holds room = by_holder s.holder refl holds
     where
-      by_holder : (o : Option ℕ) → s.holder ≡ o → Holds workers first head s o → head_at (life_text workers first s) head ≡ Ok (record head { alive = head.alive ++ line_of first s ∷ [] }, None)
+      by_holder : (o : Option ℕ) → s.holder ≡ o → Holds workers first head o → head_at (life_text workers first s) head ≡ Ok (record head { alive = head.alive ++ line_of first s ∷ [] }, None)
       by_holder None is holds = alive_line_reads workers first s head fit is room
-      by_holder (Some c) is (pass, short) =
+      by_holder (Some c) is pass =
           let low = pass.low in
-          held_line_reads workers first (c - first) pass.it s head fit (is ∙ ap Some (omega (arith, low))) pass.there pass.free short room
+          held_line_reads workers first (c - first) pass.it s head fit (is ∙ ap Some (omega (arith, low))) pass.there pass.free room
 
   all_read : (workers : List WorkerView) (first : ℕ) (survivors : List Survivor) (head : HeadView) (past : ℕ) → ((s : Survivor) → In s survivors → IsSurvivor l h s) → ((s : Survivor) → In s survivors → IsBody64 s.body × IsBody64 s.root_body)
-      → ((s : Survivor) → In s survivors → Holds workers first head s s.holder) → AreOneEach survivors
+      → ((s : Survivor) → In s survivors → Holds workers first head s.holder) → AreOneEach survivors
       → length head.alive + length survivors ≤ MAX_ALIVE → HeadLines past (map (life_text workers first) survivors) head [] (record head { alive = head.alive ++ map (line_of first) survivors })
   all_read workers first [] head past each bodies holds once room = (refl, ap (λ (a : List AliveLine). record head { alive = a }) (append_nil head.alive))
   all_read workers first (s ∷ ss) head past each bodies holds once room =

@@ -50,12 +50,13 @@ pub record IsFreeWorker (name : List ℕ) (worker : ℕ) (h : HeadView) : Type 0
   pub at : worker_at name h ≡ Some worker
   pub idle : has_in_hand worker h ≡ false
 
--- and so does the line of one that a worker has in hand, where the line isn't too long
+-- And so does the line of one that a worker has in hand. The worker has a name of at most 8 letters, so the line
+-- isn't too long: it has at most 208 bytes.
 abbrev pub HeldLineReads : Type 0
 HeldLineReads =
     (workers : List WorkerView) (first worker : ℕ) (w : WorkerView) (s : Survivor) (h : HeadView)
     → IsFit s → s.holder ≡ Some (first + worker) → slice_get workers worker ≡ Some w
-    → IsFreeWorker w.name worker h → length (life_text workers first s) ≤ 208 → length h.alive < MAX_ALIVE
+    → IsFreeWorker w.name worker h → length h.alive < MAX_ALIVE
     → head_at (life_text workers first s) h ≡ Ok (record h { alive = h.alive ++ line_of first s ∷ [] }, None)
 
 -- pass c is that of such a worker, of which the first one's pass has this number
@@ -67,15 +68,14 @@ pub record IsWorkersPass (workers : List WorkerView) (first : ℕ) (h : HeadView
 
 -- What was found for a dump is so, where the words of the bodies are 64-bit numbers. So its lines, read one
 -- after another, add to a head just what they tell, and none is refused: where any of it is held, that is by
--- workers of the head, and the line isn't too long.
+-- workers of the head.
 abbrev pub FoundLinesRead : Type 0
 FoundLinesRead =
     (old done : Live) (survivors : List Survivor) (workers : List WorkerView) (first : ℕ) (h : HeadView)
     (past : ℕ)
     → AreLimits old.stand.manager.limits → FoundAlive old survivors done
     → ((s : Survivor) → In s survivors → IsBody64 s.body × IsBody64 s.root_body)
-    → ((s : Survivor) → In s survivors → IfSome s.holder (λ c. IsWorkersPass workers first h c
-    × (length (life_text workers first s) ≤ 208)))
+    → ((s : Survivor) → In s survivors → IfSome s.holder (IsWorkersPass workers first h))
     → length h.alive + length survivors ≤ MAX_ALIVE
     → HeadLines past (map (life_text workers first) survivors) h []
     (record h { alive = h.alive ++ map (line_of first) survivors })
@@ -106,7 +106,7 @@ lines_between h works survivors = let first = 1 + length h.servers in
 -- So all lines of a dump from the `alive` ones to the `lost` ones, read one after another by a head g that has
 -- the workers of the dumped session's head, and in which nothing is alive or lost yet, lead to a head that says
 -- just that; and none is refused. The session stands for a computed state, and no desk has a unit open. The
--- words of the bodies have 64 bits and the ids 32, as all that a program has, and no `held` line is too long.
+-- words of the bodies have 64 bits and the ids 32, as all that a program has.
 abbrev pub DumpLinesRead : Type 0
 DumpLinesRead =
     (h g : HeadView) (old done : Live) (survivors : List Survivor) (s : SessionState) (past : ℕ)
@@ -114,8 +114,6 @@ DumpLinesRead =
     → AreLimits old.stand.manager.limits → length old.works ≡ length h.workers
     → g.workers ≡ h.workers → AreNamed g → g.alive ≡ [] → g.lost ≡ []
     → ((s : Survivor) → In s survivors → IsBody64 s.body × IsBody64 s.root_body)
-    → ((s : Survivor) → In s survivors
-    → IfSome s.holder (λ c. length (life_text h.workers (1 + length h.servers) s) ≤ 208))
     → ((n element : ℕ) (work : Holding) → slice_get old.works n ≡ Some work
     → lost_element false work ≡ Some element → element < 2 ^ 32)
     → HeadLines past (lines_between h old.works survivors) g [] (record g {
