@@ -343,7 +343,7 @@ ERRORS = [
     ),
     Error(
         "node_server.py",
-        "self.orphans.left(unit)",
+        "self.adopt(open_units)",
         "pass",
         "NodeServers.test_units_of_clients_of_an_earlier_leader",
     ),
