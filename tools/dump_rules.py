@@ -5,6 +5,7 @@ A dump's lines are read anew here, and never taken from the run that was dumped:
 """
 from dataclasses import replace
 
+from client_rules import OF_HEAD, Notes
 from rollover_rules import Alive, Births, Full, described, told
 from rules import Run, Server, Worker
 
@@ -31,12 +32,13 @@ def alive_line(it, run):
 
 def dump_lines(run):
     """The lines that say all that there is, once no unit of a desk is open."""
-    lost = [(it.name, run.lost_by(it)) for it in run.workers]
+    lost, alive = [(it.name, run.lost_by(it)) for it in run.workers], described(run)
     return [
         *(f"{it} {getattr(run, it)}" for it in SETTINGS), *map(server_line, run.servers),
         *(f"start {it.name} {k} {value}" for it in run.servers for k, value in enumerate(it.registers) if value),
-        *(f"worker {it.name} {it.stage}" for it in run.workers), *(alive_line(it, run) for it in described(run)),
-        *(f"lost {name} {number}" for name, number in lost if number is not None), "restore",
+        *(f"worker {it.name} {it.stage}" for it in run.workers), *(alive_line(it, run) for it in alive),
+        *(f"lost {name} {number}" for name, number in lost if number is not None),
+        *run.notes.dumped({it.root for it in alive}, run.workers), "restore",
         *(f"drop {it.name}" for it in run.servers if it.dropped),
     ]
 
@@ -69,6 +71,7 @@ def head_of(lines):
     """Reads the lines of a head, of which none is faulty. Returns a run in which nothing has happened, and what is alive. Who holds what
     is known by name until all workers are known, and so all passes."""
     settings, servers, workers, alive = {"rows": 64, "units": 256, "limit": 3, "spare": 0}, {}, [], []
+    notes = Notes()
     for line in lines:
         first, *words = line.split()
         if first == "server":
@@ -85,9 +88,11 @@ def head_of(lines):
             alive.append(replace(alive_of(words[1:]), holder=words[0]))
         elif first == "lost":
             next(it for it in workers if it.name == words[0]).lost = int(words[1])
+        elif first in OF_HEAD:
+            notes.read(first, words)
         else:
             settings[first] = int(words[0])
-    run = Run(**settings, servers=[*servers.values()], workers=workers)
+    run = Run(**settings, servers=[*servers.values()], workers=workers, notes=notes)
     run.begin()
     by_name = {it.name: by for by, it in enumerate([*run.servers, *run.workers], 1)}
     return run, [replace(it, holder=by_name.get(it.holder)) for it in alive]
@@ -113,15 +118,18 @@ def contradict(alive, run):
 
 def restore(run, alive):
     """Returns the line, and the run that goes on: one in which this is alive, or where it is refused one in which nothing is."""
-    births = Births(alive, run.afresh())
+    births, notes = Births(alive, run.afresh()), run.notes
+    run.notes = notes.behind({})
     for it in run.workers:
         it.lost = None
     if contradict(alive, run):
         return "refused 14 Unequal", run
     try:
-        return f"restored {told(births.all(), births.new)}", births.new
+        answer = f"restored {told(births.all(), births.new)}"
     except Full:
         return "refused 7 Full", run
+    births.new.notes = notes.behind(births.known())
+    return answer, births.new
 
 
 def sent_anew(lines):

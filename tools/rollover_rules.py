@@ -170,6 +170,10 @@ class Births:
                 self.hold(was.holder, new)
         return self.moved
 
+    def known(self):
+        """The new ids of what goes on, and of the roots of that, by their old ones."""
+        return {root: it.root for root, it in self.families.items()} | dict(self.moved)
+
 
 def told(moved, run):
     """What is said of a rollover or a restore, behind its first words: what was carried over, and what workers have in hand since."""
@@ -183,6 +187,8 @@ def roll_over(run):
         return "refused 11 Busy", run
     births = Births(described(run), run.afresh())
     try:
-        return f"rolled over {told(births.all(), births.new)}", births.new
+        answer = f"rolled over {told(births.all(), births.new)}"
     except Full:
         return "refused 7 Full", run
+    births.new.notes = run.notes.behind(births.known())
+    return answer, births.new

@@ -2,9 +2,11 @@
 by one thread and one list of elements.
 
 No words, no marks, and no units of work but their numbers. tools/random_scripts and tools/random_sessions hold the programs against
-this. A rollover is in rollover_rules.py, and what a dump is and leads to in dump_rules.py.
+this. A rollover is in rollover_rules.py, what a dump is and leads to in dump_rules.py, and clients that may crash in client_rules.py.
 """
 from dataclasses import dataclass, field, replace
+
+from client_rules import VERBS, Notes
 
 TOP = 2**64
 
@@ -110,6 +112,7 @@ class Run:
     workers: list = field(default_factory=list)
     # the client's, one for each server, and one for each worker
     passes: list = field(default_factory=list)
+    notes: Notes = field(default_factory=Notes)
 
     def begin(self):
         """Gives each pass its rows."""
@@ -275,6 +278,13 @@ class Run:
         worker, by = self.workers[at], 1 + len(self.servers) + at
         if verb == "claim" or verb == "take":
             return self.taken(worker, by, *words) if worker.is_free() else "busy"
+        was_before = worker.lost is not None
+        answer = self.ended_at(worker, by, verb, words)
+        self.notes.heard(worker.name, answer, was_before)
+        return answer
+
+    def ended_at(self, worker, by, verb, words):
+        """What a worker's commit or abort is answered."""
         if worker.lost is not None:
             lost, worker.lost = worker.lost, None
             return f"{'lost' if verb == 'commit' else 'already'} {lost}"
@@ -379,6 +389,8 @@ class Run:
 
     def line(self, words):
         verb, numbers = words[0], words[1:]
+        if verb in VERBS:
+            return self.notes.line(self, *words)
         if verb in ("turn", "claim", "next", "take", "prepare", "commit", "abort", "drop"):
             return f"{self.servers[numbers[0]].name} {self.at_server(verb, *numbers)}"
         if verb == "balance":

@@ -22,6 +22,8 @@ One process owns a session, and all its threads may call it. A manager's rows an
 `Session.open` has a session whose lines are in a journal on the disk before they are answered: it goes on
 after a crash. (A session with a log of the client's own is gone on from by `Session.from_log`.)
 
+A `Client` may crash: what it sends is submitted once, and a reply that it was working on is received again.
+
 `connect` returns the session that a server has (`covetrivet serve`), which many processes share.
 
 `covetrivet.library` has the manager in this process, for its threads, by the C library.
@@ -31,14 +33,15 @@ alone.
 """
 from covetrivet import refusals
 from covetrivet.answers import (
-    Account, Cancelled, Counts, Done, Draft, Dumped, Heard, Killed, Look, Member, NotUnderstood, Released,
-    Reply, Requeued, RolledOver, Submitted, Work,
+    Account, Cancelled, Counts, Done, Draft, Dumped, Heard, Killed, Last, LastWork, Look, Member,
+    NotUnderstood, Received, Released, Reply, Requeued, RolledOver, Sent, Submitted, UnitEnd, Work,
 )  # fmt: skip
 from covetrivet.batch import Batch, Later
+from covetrivet.client import Client
 from covetrivet.commands import (
     Command, abort, account, balance, cancel, claim, claim_next, collect, commit, count, drain,
-    drain_next, drop, dump, errors, family, kill, prepare, read, release, reply, requeue, rollover,
-    submit, take, total, turn,
+    drain_next, drop, dump, errors, family, forget, kill, last, last_work, prepare, read, receive,
+    register, release, reply, requeue, rollover, send, submit, take, total, turn,
 )  # fmt: skip
 from covetrivet.faults import (
     Disconnected, JournalFault, LogFault, NoProgram, SessionBroken, SessionClosed, SessionEnded,
@@ -49,13 +52,14 @@ from covetrivet.remote import connect
 from covetrivet.session import Session
 
 __all__ = [
-    "Account", "Batch", "Cancelled", "Command", "Counts", "Disconnected", "Done", "Draft", "Dumped",
-    "Heard", "JournalFault", "Killed", "Later", "LogFault", "Look", "Member", "NoProgram",
-    "NotUnderstood", "Released", "Reply", "Requeued", "RolledOver", "Session", "SessionBroken",
-    "SessionClosed", "SessionEnded", "SessionFault", "Submitted", "Unknown", "Work", "abort", "account",
-    "balance", "cancel", "claim", "claim_next", "collect", "commit", "connect", "count", "drain",
-    "drain_next", "drop", "dump", "errors", "family", "kill", "prepare", "read", "refusals", "release",
-    "reply", "requeue", "rollover", "submit", "take", "total", "turn",
+    "Account", "Batch", "Cancelled", "Client", "Command", "Counts", "Disconnected", "Done", "Draft",
+    "Dumped", "Heard", "JournalFault", "Killed", "Last", "LastWork", "Later", "LogFault", "Look",
+    "Member", "NoProgram", "NotUnderstood", "Received", "Released", "Reply", "Requeued", "RolledOver",
+    "Sent", "Session", "SessionBroken", "SessionClosed", "SessionEnded", "SessionFault", "Submitted",
+    "UnitEnd", "Unknown", "Work", "abort", "account", "balance", "cancel", "claim", "claim_next",
+    "collect", "commit", "connect", "count", "drain", "drain_next", "drop", "dump", "errors", "family",
+    "forget", "kill", "last", "last_work", "prepare", "read", "receive", "refusals", "register",
+    "release", "reply", "requeue", "rollover", "send", "submit", "take", "total", "turn",
 ]  # fmt: skip
 
 __version__ = version()

@@ -16,21 +16,21 @@ covetrivet --help, --version    COVETRIVET_PROGRAM names the program of sessions
 Head     rows N  units N  limit N  spare N   (to 256, 1024, 7, 256; these first)
          worker NAME STAGE       NAME is 1 to 8 letters, STAGE 1 to 14
          server NAME eager|lazy STAGE REGISTERS add|take|pass OUT ..
-         start NAME REGISTER N   alive ID ATTEMPTS ROUNDS OUT [ROOT OUT]
+         start NAME REGISTER N   OUT is STAGE:W0:W1[:W2[:W3]]; 15 replies
 Client   submit STAGE W0 W1 [W2 [W3]]                   submitted ID
          kill ID  cancel ROOT  requeue ID  release ID   killed ID aborted N ..
          reply ROOT  collect ROOT  family ROOT          replies ROOT ID:W0:W1 ..
          read ID  errors  count  account                one line each
+         send NAME N STAGE W0 W1 ..  receive NAME N [ROOT]   N counts from 1
+         register NAME  last NAME  forget NAME          last also of a worker
 Worker   claim NAME         NAME work ID unit U attempt N root R body W0:..:W3
          take NAME ID       the same of this element; NAME refused ID WHY
-         commit NAME OUT .. NAME done ID unit U outputs FIRST COUNT
+         commit NAME OUT .. NAME done ID unit U outputs FIRST COUNT (4 OUT)
          abort NAME         NAME aborted ID
-         OUT is STAGE:W0:W1[:W2[:W3]], four at most; STAGE 15 is a reply's
 Server   turn NAME   claim, next, take, prepare, commit, abort, drop NAME
          balance NAME REGISTER    sum REGISTER    drain    drain next
 All      rollover           rolled over N OLD:NEW ..  used rows are free again
-         dump               dumped N, and N lines: a session that goes on there
-         restore            the first command behind alive, held and lost lines
+         dump, restore      dumped N, and N lines (alive ..) to go on from
 Refused  refused [line L:] K WHY [U]
          NAME idle, busy, none, nounit, lost, full or ended
 One answer each, in order. More: docs/LIVE.md, DURABLE.md, SERVICE.md

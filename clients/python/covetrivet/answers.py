@@ -95,6 +95,62 @@ class Reply:
 
 
 @dataclass(frozen=True)
+class Sent:
+    """A client's send of this number is made. `element` is what it submitted; None where a rollover has left
+    that behind, and of an earlier send than the last.
+    """
+
+    number: int
+    element: int | None
+
+
+@dataclass(frozen=True)
+class Received:
+    """A client's receive of this number: the reply's id, its request's, and its words. An id is None where a
+    rollover has left it behind.
+    """
+
+    number: int
+    element: int | None
+    root: int | None
+    words: Words
+
+
+@dataclass(frozen=True)
+class Last:
+    """How many sends and receives a client has made, what the last send submitted, and the last receive."""
+
+    sent: int
+    element: int | None
+    received: int
+    reply: Received | None
+
+
+@dataclass(frozen=True)
+class UnitEnd:
+    """How a worker's last unit ended: `done`, `aborted`, `lost` or `full`. Of one that is done: the unit, its
+    first output and how many there were. An id is None where a rollover has left it behind.
+    """
+
+    how: str
+    element: int | None
+    unit: int | None = None
+    first: int | None = None
+    outputs: int = 0
+
+
+@dataclass(frozen=True)
+class LastWork:
+    """What a worker has in hand, or has lost without having heard of it; and how its last unit ended, if one
+    has.
+    """
+
+    work: Work | None
+    lost: int | None
+    ended: UnitEnd | None
+
+
+@dataclass(frozen=True)
 class Member:
     """An element of a request; `state` is waiting, held, consumed, parked or killed."""
 
@@ -177,23 +233,26 @@ class NotUnderstood(ValueError):
     """An answer hasn't the form that its command's answers have. The session is broken then."""
 
 
+def as_it_is(_name: str, element: int) -> int:
+    return element
+
+
 @dataclass(frozen=True)
 class Heard:
     """The answer to a command. `told` makes of the program's id of an element the one by which the session
-    tells it.
+    tells it, and `of_lost` of that which the worker of this name has lost.
     """
 
     text: str
     command: str
     told: Callable[[int], int] = int
+    of_lost: Callable[[str, int], int] = as_it_is
 
     def numbers(self, form: str) -> tuple[int, ...]:
         """Returns the numbers of an answer of this form. In it each N is a number, and each E an element's
         id, which is told as the session tells it.
         """
-        found = re.fullmatch(re.sub("[NE]", "([0-9]+)", form), self.text)
-        if not found:
-            raise NotUnderstood(f"{self.command!r} was answered {self.text!r}")
+        found = self.formed(re.sub("[NE]", "([0-9]+)", form))
         kinds = re.findall("[NE]", form)
         told = zip(kinds, map(int, found.groups()))
         return tuple(self.told(it) if kind == "E" else it for kind, it in told)
@@ -210,6 +269,24 @@ class Heard:
         words, wanted = self.text.split(" "), form.split(" ")
         Heard(" ".join(words[: len(wanted)]), self.command).numbers(form)
         return words[len(wanted) :]
+
+    def noted(self, word: str) -> int | None:
+        """Returns an id as the session tells it, or None where it is `gone`."""
+        return None if word == "gone" else self.elements([word])[0]
+
+    def of_number(self, first: str, client: str, nth: int) -> list[str]:
+        """Returns the words behind those that name a client's send or receive."""
+        words = self.text.split(" ")
+        if words[:3] != [first, client, str(nth)] or len(words) == 3:
+            raise NotUnderstood(f"{self.command!r} was answered {self.text!r}")
+        return words[3:]
+
+    def formed(self, form: str) -> re.Match[str]:
+        """Returns what the groups of this form are in the answer."""
+        found = re.fullmatch(form, self.text)
+        if not found:
+            raise NotUnderstood(f"{self.command!r} was answered {self.text!r}")
+        return found
 
     def refused(self) -> None:
         """Raises the refusal that the answer is, by its name, if it is one that any command may have; or

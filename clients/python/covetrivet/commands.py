@@ -9,7 +9,7 @@ from collections.abc import Callable
 from dataclasses import dataclass
 from typing import Generic, TypeVar
 
-from covetrivet import answers
+from covetrivet import answers, refusals
 from covetrivet.answers import Draft, Heard, Reply
 
 T = TypeVar("T")
@@ -202,6 +202,95 @@ def family(root: int) -> Command[tuple[answers.Member, ...]]:
 def errors() -> Command[tuple[int, ...]]:
     """The parked elements are listed."""
     return Command("errors", read=lambda it: it.elements(it.listed("errors")))
+
+
+def register(client: str) -> Command[None]:
+    """A client that may crash is registered. One that is already stays as it is."""
+    return Command("register", client, read=lambda it: nothing(f"registered {client}")(it))
+
+
+def forget(client: str) -> Command[None]:
+    """A client's counts are gone, and its requests are nobody's."""
+    return Command("forget", client, read=lambda it: nothing(f"forgotten {client}")(it))
+
+
+def send(client: str, nth: int, stage: int, *words: int) -> Command[answers.Sent]:
+    """The client submits an element, as its send of this number. Sent again it submits nothing."""
+    nth = number(nth)
+    told = [nth, number(stage), *map(number, words), *[0] * (2 - len(words))]
+
+    def read(heard: Heard) -> answers.Sent:
+        (element,) = heard.of_number("sent", client, nth)
+        return answers.Sent(nth, None if element == "done" else heard.noted(element))
+
+    return Command("send", client, *told, read=read)
+
+
+def receive(client: str, nth: int, root: int | None = None) -> Command[answers.Received | None]:
+    """The client takes a reply to any of its requests, or to this one, as its receive of this number. None
+    where no reply waits. Asked again it is answered the same, and nothing is taken. Past where the number is
+    an earlier one.
+    """
+    nth = number(nth)
+
+    def read(heard: Heard) -> answers.Received | None:
+        element, *others = heard.of_number("received", client, nth)
+        if element == "done":
+            raise refusals.Past(heard.command)
+        return received(heard, nth, element, *others) if others else None
+
+    return Command("receive", client, nth, element=root, read=read)
+
+
+def received(heard: Heard, nth: int, element: str, root: str, body: str) -> answers.Received:
+    return answers.Received(nth, heard.noted(element), heard.noted(root), answers.words_of(body))
+
+
+def last(client: str) -> Command[answers.Last]:
+    """What a client has sent and received. BadName of a worker's name."""
+    sends, receives = r"sent (\d+)(?: (\d+|gone))?", r"received (\d+)(?: (\d+|gone) (\d+|gone) ([\d:]+))?"
+
+    def read(heard: Heard) -> answers.Last:
+        if heard.text.startswith(f"last {client} hand "):
+            raise refusals.BadName(heard.command, worker=client)
+        found = heard.formed(rf"last {client} {sends} {receives}")
+        sent, element, nth, reply, root, body = found.groups()
+        taken = received(heard, int(nth), reply, root, body) if reply else None
+        return answers.Last(int(sent), heard.noted(element) if element else None, int(nth), taken)
+
+    return Command("last", client, read=read)
+
+
+def last_work(worker: str) -> Command[answers.LastWork]:
+    """What a worker has in hand, and how its last unit ended (`last`, of a worker). BadName of a client's
+    name.
+    """
+    hand = r"none|lost (\d+)|(\d+ unit \d+ attempt \d+ root \d+) body ([\d:]+)"
+    end = r"none|(aborted|lost|full) (\d+|gone)|done (\d+|gone) unit (\d+) outputs (\d+|gone) (\d)"
+
+    def read(heard: Heard) -> answers.LastWork:
+        if heard.text.startswith(f"last {worker} sent "):
+            raise refusals.BadName(heard.command, worker=worker)
+        lost, taken, body, *ended = heard.formed(rf"last {worker} hand (?:{hand}) (?:{end})").groups()
+        work = None
+        if taken:
+            said = Heard(taken, heard.command, heard.told)
+            element, unit, attempt, root = said.numbers("E unit N attempt N root E")
+            work = answers.Work(element, unit, attempt, root, answers.words_of(body))
+        known = heard.of_lost(worker, int(lost)) if lost else None
+        return answers.LastWork(work, known, unit_end(heard, *ended))
+
+    return Command("last", worker, read=read)
+
+
+def unit_end(heard: Heard, how: str | None, of: str, element: str, *done: str) -> answers.UnitEnd | None:
+    if how:
+        return answers.UnitEnd(how, heard.noted(of))
+    if not element:
+        return None
+    unit, first, outputs = done
+    made = heard.noted(first) if int(outputs) else None
+    return answers.UnitEnd("done", heard.noted(element), int(unit), made, int(outputs))
 
 
 def count() -> Command[answers.Counts]:

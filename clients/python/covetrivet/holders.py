@@ -6,6 +6,7 @@ import time
 from collections.abc import Callable, Sequence
 from dataclasses import dataclass, field
 
+from covetrivet.lines import UNKNOWN
 from covetrivet.relay import Asked, Caller
 
 BEGINS = ("claim", "take", "next")
@@ -44,6 +45,20 @@ class Holders:
         if name in self.units and ends(asked.verb, rest):
             del self.units[name]
         return None
+
+    def settle(self, names: Sequence[str], lost: Sequence[Asked], caller: Caller) -> list[Unit]:
+        """Takes note that these have units open and no others, where the answers to lines were lost. Returns
+        the units. One that isn't known is of the caller whose lost line asked for it, or else this one's.
+        """
+        may_be_over = set()
+        for it in lost:
+            if it.verb in BEGINS and (it.name not in self.units or it.name in may_be_over):
+                self.units[it.name] = Unit(it.name, it.caller)
+                may_be_over.discard(it.name)
+            elif ends(it.verb, ""):
+                may_be_over.add(it.name)
+        self.units = {it: self.units.get(it) or Unit(it, caller) for it in names}
+        return list(self.units.values())
 
     def of(self, caller: Caller) -> list[Unit]:
         return [it for it in self.units.values() if it.caller is caller]
@@ -87,11 +102,11 @@ class Orphans:
         if self.is_named(unit.name):
             self.later(0.01, lambda: self.abort(unit))
             return
-        self.aborted += 1
         self.ask(self, [f"abort {unit.name}".encode("ascii")])
 
     def answered(self, answer: str) -> None:
-        """The answer is heard by the holders alone."""
+        """Counts what was aborted. The holders hear the answer too."""
+        self.aborted += answer != UNKNOWN
 
     def all_taken(self) -> None:
         """Nothing is left to do."""

@@ -41,15 +41,20 @@ class Ids:
         element = lasting & LOW
         return element if lasting >> 32 == self.past and element not in self.lasting else None
 
-    def teller(self, answer: str) -> Callable[[int], int]:
-        """Returns what tells the ids in an answer. A worker that hears of what it lost before a rollover is
-        told the id that it knew.
+    def teller(self, line: str, answer: str) -> Callable[[int], int]:
+        """Returns what tells the ids in the answer to a line. A worker that hears of what it lost before a
+        rollover is told the id that it knew.
         """
         name, _, said = answer.partition(" ")
-        if name in self.lost and said.startswith(("lost ", "already ")):
+        ends = line.split(maxsplit=1)[:1] in (["commit"], ["abort"])
+        if ends and name in self.lost and said.startswith(("lost ", "already ")):
             last = self.lost.pop(name)
             return lambda _element: last
         return self.told
+
+    def of_lost(self, name: str, element: int) -> int:
+        """Returns the lasting id of what a worker has lost and hasn't heard of yet."""
+        return self.lost.get(name, self.told(element))
 
     def after(self, moved: Mapping[int, int], copies: Mapping[int, int], dumped: Iterable[str]) -> Ids:
         """Returns the ids behind a rollover that moved these. `copies` has the old root, by the id of its
@@ -91,6 +96,22 @@ class Ids:
             else:
                 lasting[int(first)] = int(said[2])
         return None if past is None else Ids(past, lasting, lost)
+
+
+def rolled_over(before: Ids, ids: Ids, moved: Iterable[int], units: Mapping[str, int]) -> str:
+    """Returns the answer to a rollover by lasting ids, which were these before."""
+    kept = sorted(map(before.told, moved))
+    told = [f"rolled over {len(kept)}", *(f"{it}:{it}" for it in kept)]
+    named = [f"{name}:{ids.told(it)}" for name, it in units.items()]
+    return " ".join([*told, "units", *named] if named else told)
+
+
+def copied_in(moved: Mapping[int, int], dumped: Iterable[str]) -> dict[int, int]:
+    """Returns the roots that aren't alive behind a dump of these lines, each with the new id of one of its
+    family: a look at that tells the id of the root's copy.
+    """
+    roots = roots_of(dumped)
+    return {roots[old]: new for old, new in moved.items() if roots[old] not in moved}
 
 
 def roots_of(dumped: Iterable[str]) -> dict[int, int]:

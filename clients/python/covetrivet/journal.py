@@ -7,26 +7,21 @@ import os
 import re
 import time
 from collections.abc import Iterable, Sequence
-from itertools import islice, takewhile
+from itertools import islice
+from typing import Literal
 
+from covetrivet import refusals
 from covetrivet.faults import JournalFault, SessionEnded
-from covetrivet.lines import beginning, head_of
+from covetrivet.ids import Ids
+from covetrivet.journal_lines import lines_in
+from covetrivet.kept_ids import KeptIds
+from covetrivet.lines import beginning, is_only_head
 from covetrivet.pipe import Pipe
 from covetrivet.program import find
 from covetrivet.session import Path, Session
 from covetrivet.wire import Wire
 
-# A journal's own lines are comments: the first one, and those with this sign.
-END_OF_BATCH = "\x17"
 SECONDS_TO_LET_GO = 5
-
-
-def first_lines(path: str, many: int) -> list[str]:
-    """Returns the first lines of the session that this journal has."""
-    with open(path, encoding="latin-1", newline="\n") as file:
-        next(file, "")
-        text = takewhile(lambda it: not it.startswith("\0"), file)
-        return list(islice((it.rstrip("\n") for it in text if END_OF_BATCH not in it), many))
 
 
 def journaled(program: Sequence[str], path: str) -> list[str]:
@@ -72,15 +67,22 @@ class Journaled(Session):
         head: Iterable[str] | None,
         program: Sequence[str] | Path | None = None,
         seconds: float | None = None,
+        on_full: Literal["rollover"] | None = None,
     ) -> None:
-        super().__init__([] if head is None else head, program, seconds=seconds)
+        super().__init__([] if head is None else head, program, None, on_full, seconds)
         self._path = os.fspath(path)
         self._is_begun = head is None
+        self._kept = KeptIds(self._path)
 
     def _started(self) -> tuple[Wire, list[str]]:
         if self._is_begun and not os.path.exists(self._path):
             raise JournalFault(f"there is no journal {self._path}: begin it by Session.open(path, head)")
-        lines = self._opened()
+        # (comments that say which ids last are kept beside the journal, which has none)
+        lines = [it for it in self._opened() if not it.startswith("# covetrivet: ")]
+        if self._ids and not self._is_begun:
+            self._kept.begin(self._head)
+        elif not self._ids and self._kept.is_there():
+            raise JournalFault(f"ids of {self._path} last: go on with on_full 'rollover'")
         wait_until_free(self._path)
         self._pipe = Pipe(journaled(find(self._program), self._path))
         return self._pipe, lines
@@ -91,13 +93,28 @@ class Journaled(Session):
             raise JournalFault(f"{self._path} has no lines: begin it by Session.open(path, head)")
         if not self._is_begun:
             self._send_beginning(lines, self._known(lines))
+        self._recover_ids()
+
+    def _ids_of(self, head: list[str]) -> Ids | None:
+        return super()._ids_of(self._head)
+
+    def _recover_ids(self) -> None:
+        if self._ids:
+            self._ids = self._kept.recovered(self._program)
+
+    def _keep_ids(self, number: int, comments: Sequence[str]) -> None:
+        try:
+            self._kept.keep(number, comments)
+        except OSError as fault:
+            raise refusals.NoMemory("rollover") from fault
 
     def again(self) -> Pipe:
         """Starts the program again over its journal, once it has ended, and returns it."""
         self._pipe.let_go()
         wait_until_free(self._path)
         self._wire = self._pipe = Pipe(journaled(find(self._program), self._path))
-        self.recovered = recovered(self._pipe, self._path)
+        self.recovered = self.lines = recovered(self._pipe, self._path)
+        self._recover_ids()
         return self._pipe
 
     def _known(self, lines: list[str]) -> int:
@@ -112,9 +129,9 @@ class Journaled(Session):
                 return 0
         if self.recovered >= len(wanted):
             return len(wanted)
-        there = first_lines(self._path, self.recovered)
+        there = list(islice(lines_in(self._path), self.recovered))
         if there == wanted[: self.recovered]:
             return self.recovered
-        if len(head_of(there)) == len(there):
+        if is_only_head(there):
             raise JournalFault(f"{self._path} has the beginning of another head")
         return len(wanted)

@@ -7,19 +7,27 @@ import re
 from collections.abc import Callable
 from typing import NamedTuple
 
+from covetrivet import commands
+from covetrivet.answers import Heard
 from covetrivet.ids import Ids
-from covetrivet.lines import LONGEST_LINE
+from covetrivet.lines import LONGEST_LINE, NOBODY
 
-# The greatest id that a line may have. No element has it: there are 10,240 at most.
-NOBODY = 0xFFFFFFFF
 GREATEST = 0xFFFFFFFFFFFFFFFF
 LISTS = ("reply", "collect", "family", "errors")
 OF_ID = re.compile(
-    r" *(kill|cancel|requeue|release|read|reply|collect|family|take +[a-z]{1,8}) +(\d{1,20}) *"
+    r" *(kill|cancel|requeue|release|read|reply|collect|family|take +[a-z]{1,8}"
+    r"|receive +[a-z]{1,8} +\d{1,20}) +(\d{1,20}) *"
 )
 OF_NAME = re.compile(
     r"\w+ (?:work|done|lost|full|already|aborted|refused) (\d+)"
     r"(?: unit \d+ attempt \d+ root (\d+)| unit \d+ outputs (\d+) [1-9])?"
+)
+OF_LOST = re.compile(r"last ([a-z]{1,8}) hand lost (\d+)")
+# (of a client's and of a worker's last; an id that isn't known any more is `gone`)
+OF_LAST = re.compile(
+    r"last \w+ (?:sent \d+(?: (?:(\d+)|gone))? received \d+(?: (?:(\d+)|gone) (?:(\d+)|gone) .*)?$"
+    r"|hand (?:none|lost \d+|(\d+) unit \d+ attempt \d+ root (\d+) body [\d:]+)"
+    r" (?:none|(?:aborted|lost|full) (?:(\d+)|gone)|done (?:(\d+)|gone) unit \d+ outputs (?:(\d+) [1-4])?))"
 )
 # Where the ids are in the answers to each command, but for lists.
 FORMS = {
@@ -30,6 +38,9 @@ FORMS = {
     "requeue": re.compile(r"requeued (\d+)"),
     "release": re.compile(r"released (\d+)"),
     "read": re.compile(r"(\d+) stage \d+ root (\d+)"),
+    "send": re.compile(r"sent \w+ \d+ (\d+)"),
+    "receive": re.compile(r"received \w+ \d+ (?:(\d+)|gone) (?:(\d+)|gone) "),
+    "last": OF_LAST,
 }
 
 
@@ -57,7 +68,10 @@ def sent(line: str, ids: Ids) -> Sent:
 
 def told(it: Sent, answer: str, ids: Ids) -> str:
     """Returns the answer to a line, in one line, as the client is told it."""
-    tell = ids.teller(answer)
+    tell = ids.teller(it.verb, answer)
+    lost = OF_LOST.match(answer) if it.verb == "last" else None
+    if lost:
+        answer = f"last {lost[1]} hand lost {ids.of_lost(lost[1], int(lost[2]))}{answer[lost.end():]}"
 
     def last(element: int) -> int:
         return it.nobody if element == NOBODY and it.nobody is not None else tell(element)
@@ -66,6 +80,19 @@ def told(it: Sent, answer: str, ids: Ids) -> str:
         return re.sub(r"(?<= )\d+(?=[ :]|$)", lambda found: str(last(int(found[0]))), answer)
     form = FORMS.get(it.verb)
     return with_groups(form, answer, last) if form else answer
+
+
+def told_dump(answer: str, ids: Ids) -> str:
+    """Returns the answer to a dump, with the comments by which its lines' ids last. A refusal is as it is."""
+    if not answer.startswith("dumped "):
+        return answer
+    lines = dumped_in(answer)
+    told_lines = [*ids.comments(lines), *lines]
+    return "\n".join([f"dumped {len(told_lines)}", *(f"> {it}" for it in told_lines)])
+
+
+def dumped_in(answer: str) -> tuple[str, ...]:
+    return commands.dump().read(Heard(answer, "dump")).lines
 
 
 def with_groups(form: re.Pattern[str], text: str, changed: Callable[[int], int]) -> str:

@@ -3,13 +3,18 @@
 from __future__ import annotations
 
 import re
-from collections.abc import Iterator, Sequence
+from collections.abc import Iterable, Iterator, Sequence
+from itertools import takewhile
 
-TO_RESTORE = ("alive", "held", "lost")
-OF_HEAD = ("rows", "units", "limit", "spare", "server", "start", "worker", *TO_RESTORE)
+TO_RESTORE = ("alive", "held", "lost", "request", "ended")
+OF_HEAD = (
+    "rows", "units", "limit", "spare", "server", "start", "worker", "register", "client", *TO_RESTORE
+)  # fmt: skip
 # What changes nothing. A log needs none of it.
-QUIET = ("read", "reply", "family", "errors", "count", "balance", "sum", "account", "dump")
+QUIET = ("read", "reply", "family", "errors", "count", "balance", "sum", "account", "last", "dump")
 LONGEST_LINE = 208
+# The greatest id that a line may have. No element has it: there are 10,240 at most.
+NOBODY = 0xFFFFFFFF
 LINES_AT_ONCE = 1000
 # What a server answers to a line that its session was lost with: it has been performed, or not.
 UNKNOWN = "unknown"
@@ -53,15 +58,43 @@ def is_rollover(line: str) -> bool:
 
 
 def is_to_restore(line: str) -> bool:
-    """Whether a line of a head says what is alive, or what a worker has in hand or has lost."""
-    return not is_empty(line) and line.split()[0] in TO_RESTORE
+    """Whether a line of a head says what is alive, or names an id: of what a worker has in hand or has lost,
+    or of a client's or a worker's notes.
+    """
+    if is_empty(line):
+        return False
+    first, *words = line.split()
+    return first in TO_RESTORE or first == "client" and {*words[2:3], *words[4:6]} > {"gone"}
 
 
 def head_of(lines: Sequence[str]) -> list[str]:
-    """Returns the lines before the first command."""
-    commands = (at for at, it in enumerate(lines) if not is_empty(it) and it.split()[0] not in OF_HEAD)
-    first = next(commands, len(lines))
-    return list(lines[:first])
+    """Returns the lines before the first command. A `register` that may be one is: with too many clients it
+    is refused, where a line of the head would be faulty.
+    """
+    head = list(takewhile(is_of_head, lines))
+    if any(map(is_to_restore, head)) or lines[len(head) : len(head) + 1] == ["restore"]:
+        return head
+    last = max((at for at, it in enumerate(head) if not is_empty(it) and not is_register(it)), default=-1)
+    return head[: next((at for at in range(last + 1, len(head)) if is_register(head[at])), len(head))]
+
+
+def is_register(line: str) -> bool:
+    return line.split()[:1] == ["register"]
+
+
+def is_of_head(line: str) -> bool:
+    return is_empty(line) or line.split()[0] in OF_HEAD
+
+
+def is_only_head(lines: Sequence[str]) -> bool:
+    """Whether none of the lines must be a command."""
+    return all(map(is_of_head, lines))
+
+
+def names_in(lines: Iterable[str]) -> list[str]:
+    """Returns the names that these lines have for workers and servers. A line may have been refused."""
+    found = (re.match(r" *(?:worker|server) +([a-z]{1,8}) ", it) for it in lines)
+    return list(dict.fromkeys(it[1] for it in found if it))
 
 
 def in_hand(lines: Sequence[str]) -> list[str]:

@@ -12,6 +12,9 @@ from collections.abc import Iterable
 
 from covetrivet.faults import LogFault
 
+# The first line. Its number changes with each change by which the same lines may lead elsewhere.
+FIRST = "# covetrivet log 1"
+
 
 class Log:
     """An open log. One at a time has the file open: it is locked (`flock`)."""
@@ -58,9 +61,12 @@ class Log:
             whole = text.rpartition(b"\n")[0]
             if not whole:
                 raise LogFault(f"{path} has no lines to go on from: begin it by Session(head, log={path!r})")
+            first, *lines = whole.decode("ascii").split("\n")
+            if first != FIRST:
+                raise LogFault(f"{path} is no log of this version: its first line isn't {FIRST!r}")
             if len(whole) + 1 < len(text):
                 os.truncate(descriptor, len(whole) + 1)
-            return log, whole.decode("ascii").split("\n")
+            return log, lines
         except UnicodeDecodeError as fault:
             log.close()
             raise LogFault(f"{path} is no log: {fault}") from fault
@@ -80,7 +86,7 @@ class Log:
         try:
             log.lock()
             os.truncate(log.descriptor, 0)
-            log.write(lines)
+            log.write([FIRST, *lines])
             os.fsync(log.descriptor)
         except OSError as fault:
             log.close()

@@ -15,9 +15,8 @@ from covetrivet.options import Joining, joining
 from covetrivet.place import Place, PlaceTaken
 from covetrivet.postgres import PostgresLog
 from covetrivet.program import find
-from covetrivet.serve import (
-    BAD_HEAD, NO_HEAD, NO_PLACE, NO_PROGRAM, allow_files, lines_of, place_at, say,
-)  # fmt: skip
+from covetrivet.serve import BAD_HEAD, NO_HEAD, NO_PLACE, NO_PROGRAM, allow_files, lines_of, place_at
+from covetrivet.served import say
 from covetrivet.shared_log import BadHead, SharedLog
 
 SECONDS_TO_LEAVE = 10

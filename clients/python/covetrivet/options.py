@@ -30,6 +30,7 @@ class Serving:
     metrics: str | None
     limits: Limits
     journal: str | None
+    rolls_over: bool
 
 
 def mode_of(word: str) -> int:
@@ -104,9 +105,14 @@ def serving(words: Sequence[str]) -> Serving:
     parser.add_argument("--head", required=True, metavar="FILE", help="the lines to begin with, as of a dump")
     what = "each line is in it before it is answered, and the session goes on from it"
     parser.add_argument("--journal", metavar="FILE", help=what)
+    what = "ids last, and the session rolls over by itself before rows or units run out (refuse)"
+    parser.add_argument("--on-full", choices=("refuse", "rollover"), default="refuse", help=what)
     add_sockets(parser)
     it = parser.parse_args(words)
-    return Serving(it.socket, it.head, it.mode, it.orphans, it.metrics, limits_of(it), it.journal)
+    return Serving(
+        it.socket, it.head, it.mode, it.orphans, it.metrics, limits_of(it),
+        it.journal, it.on_full == "rollover",
+    )  # fmt: skip
 
 
 def joining(words: Sequence[str]) -> Joining:
@@ -127,7 +133,7 @@ def joining(words: Sequence[str]) -> Joining:
     add_sockets(parser)
     it = parser.parse_args(words)
     return Joining(
-        it.socket, it.head, it.mode, it.orphans, it.metrics, limits_of(it), None,
+        it.socket, it.head, it.mode, it.orphans, it.metrics, limits_of(it), None, True,
         it.name, it.etcd, it.postgres, it.prefix, it.lease, it.ca, it.cert, it.key,
     )  # fmt: skip
 

@@ -41,6 +41,8 @@ class Pipe(Wire):
     def write(self, left: memoryview) -> int:
         # (whole lines, no more than the system writes as a whole: where this process is killed no line is
         # torn, which the program would perform at the end of its input)
+        if len(left) <= select.PIPE_BUF:
+            return super().write(left)
         some = left[: select.PIPE_BUF]
         return super().write(some[: bytes(some).rfind(b"\n") + 1] or some)
 

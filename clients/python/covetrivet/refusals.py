@@ -74,7 +74,9 @@ class BadStage(Refusal):
 
 
 class NotThere(Refusal):
-    """No such element is born; where ids last, also: it was consumed or killed before a rollover."""
+    """No such element is born, or no such client is registered, or the request isn't the client's; where ids
+    last, also: the element was consumed or killed before a rollover.
+    """
 
 
 class Consumed(Refusal):
@@ -86,7 +88,9 @@ class AlreadyKilled(Refusal):
 
 
 class Full(Refusal):
-    """The pass has no rows left. Of a commit or a turn: the unit is aborted."""
+    """The pass has no rows left. Of a commit or a turn: the unit is aborted. Of `register`: there are 64
+    clients.
+    """
 
 
 class NotParked(Refusal):
@@ -121,6 +125,14 @@ class Unequal(Refusal):
     """What a head says is alive contradicts itself or the settings; or a rollover would have been wrong, to
     which no test came.
     """
+
+
+class Gap(Refusal):
+    """The number is greater than the client's next one."""
+
+
+class Past(Refusal):
+    """The number is of an earlier receive than the last one, whose answer isn't kept. It was received."""
 
 
 class NoneOpen(Refusal):

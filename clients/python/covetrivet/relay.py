@@ -9,7 +9,8 @@ import asyncio
 import select
 import time
 from collections import deque
-from collections.abc import Callable, Collection, Iterable, Sequence
+from collections.abc import Callable, Collection, Sequence
+from itertools import islice
 from typing import NamedTuple, Protocol
 
 from covetrivet.faults import SessionEnded, SessionFault
@@ -68,22 +69,23 @@ class Performer(Protocol):
         """Performs nothing any more."""
 
 
-def hand_out(answers: Iterable[tuple[Asked, str]], hear: Hear) -> None:
-    """Tells each caller its answers, and each answer to `hear` before."""
+def hand_out(answers: Sequence[tuple[Asked, str]], hear: Hear) -> None:
+    """Tells each caller its answers, and then all to `hear`: who waits for one has it so much earlier."""
     now = time.monotonic()
     callers: dict[Caller, None] = {}
     for it, answer in answers:
-        hear(it, answer, now - it.since)
         it.caller.answered(answer)
         callers[it.caller] = None
     for caller in callers:
         caller.all_taken()
+    for it, answer in answers:
+        hear(it, answer, now - it.since)
 
 
 class Relay:
     """The program's input and output, for many callers.
 
-    Each answer is told to `hear` too, before its caller has it. `on_end` is told how the program has ended.
+    Each answer is told to `hear` too. `on_end` is told how the program has ended.
     """
 
     def __init__(self, pipe: Pipe, hear: Hear, on_end: OnEnd) -> None:
@@ -114,20 +116,31 @@ class Relay:
         """
         if self.is_over:
             return
-        is_alone = caller is self.last and len(lines) == 1 and not self.asked and not self.is_handing_out
-        self.last = caller
         now = time.monotonic()
-        self.asked.extend([Asked(caller, *words_of(it), now) for it in lines])
+        if caller is self.last and len(lines) == 1 and self.is_free():
+            self.new.append(lines[0])
+            self.write()
+            # (whose it is is noted while the program is at work)
+            self.asked.append(Asked(caller, *words_of(lines[0]), now))
+            self.rush()
+            return
+        self.last = caller
+        self.put([Asked(caller, *words_of(it), now) for it in lines], lines)
+
+    def is_free(self) -> bool:
+        """Whether a line that comes now is the only one."""
+        return not (self.asked or self.is_handing_out or self.is_waiting)
+
+    def put(self, asked: Sequence[Asked], lines: Sequence[bytes]) -> None:
+        """Has these lines written."""
+        self.asked.extend(asked)
         is_next = not self.new and not self.is_blocked and not self.is_waiting
         self.new += lines
-        if is_next and is_alone:
-            self.rush()
-        elif is_next:
+        if is_next:
             self.loop.call_soon(self.write)
 
     def rush(self) -> None:
-        """Writes a line, and hands out its answer."""
-        self.write()
+        """Waits for the answer to the only line, and hands it out."""
         if not self.left and self.output.poll(MILLISECONDS_TO_RUSH):
             self.read()
 
@@ -175,19 +188,21 @@ class Relay:
 
     def hand(self, answers: Sequence[str]) -> None:
         """Hands out the answers to the first lines that had none."""
+        self.hand_out([(self.asked.popleft(), it) for it in answers])
+
+    def hand_out(self, answers: Sequence[tuple[Asked, str]]) -> None:
         self.is_handing_out = True
         try:
-            hand_out([(self.asked.popleft(), it) for it in answers], self.hear)
+            hand_out(answers, self.hear)
         finally:
             self.is_handing_out = False
-        if not self.asked:
-            self.wake()
+        self.wake()
 
     def unanswered(self) -> Collection[Asked]:
         return self.asked
 
     def wake(self) -> None:
-        if self.when_idle and not self.when_idle.done():
+        if self.when_idle and not self.when_idle.done() and (self.is_over or not self.unanswered()):
             self.when_idle.set_result(None)
 
     def read_errors(self) -> None:
@@ -196,11 +211,11 @@ class Relay:
 
     async def idle(self, seconds: float) -> bool:
         """Waits until all is answered. False where it isn't so many seconds later, or never will be."""
-        if self.asked:
+        if self.unanswered():
             self.when_idle = self.loop.create_future()
             await asyncio.wait([self.when_idle], timeout=seconds)
             self.when_idle = None
-        return not self.asked
+        return not self.unanswered()
 
     def give_up(self) -> SessionEnded:
         """Ends the program."""
@@ -211,6 +226,10 @@ class Relay:
         """Waits for another program. What wasn't answered is lost, and what is asked from now on is not."""
         self.is_over, self.is_waiting = False, True
         self.lost, self.new, self.left = len(self.asked), [], memoryview(b"")
+
+    def lost_lines(self) -> list[Asked]:
+        """Returns those that were handed over to a program that ended before it had answered them."""
+        return list(islice(self.asked, self.lost))
 
     def go_on(self, pipe: Pipe) -> None:
         """Goes on with another program. Lines that were lost are answered by `unknown`."""

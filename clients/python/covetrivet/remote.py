@@ -81,6 +81,7 @@ def connect(path: Path, seconds: float | None = None) -> Session:
 
     Disconnected where no server is there, or where it ends the connection. An exchange that takes more than
     so many `seconds` is given up by TimeoutError. `process` and `shorten_log` are the server's: they raise
-    SessionClosed and LogFault. A `rollover` gives other ids to the elements of all clients.
+    SessionClosed and LogFault. A `rollover` gives other ids to the elements of all clients, unless the server
+    has ids last (`serve --on-full rollover`).
     """
     return Connected(path, seconds)

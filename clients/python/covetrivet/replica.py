@@ -7,7 +7,7 @@ from collections.abc import Iterable, Sequence
 from covetrivet import commands
 from covetrivet.holders import Holders
 from covetrivet.ids import Ids
-from covetrivet.lasting import sent, told
+from covetrivet.lasting import sent, told, told_dump
 from covetrivet.lines import in_hand, is_rollover, pieces_of
 from covetrivet.relay import Asked, words_of
 from covetrivet.rollovers import Use
@@ -70,10 +70,7 @@ class Replica(Session):
         them = [sent(it, ids) for it in lines]
         answers = []
         for it, line, answer in zip(them, lines, self._exchange_bytes([it.line for it in them])):
-            if it.verb == "dump" and answer.startswith("dumped "):
-                answers.append(self._told_dump(answer))
-            else:
-                answers.append(told(it, answer, ids))
+            answers.append(told_dump(answer, ids) if it.verb == "dump" else told(it, answer, ids))
             asked = Asked(ELSEWHERE, *words_of(line.encode("latin-1")), 0)
             self.holders.hear(asked, answers[-1])
             self.use.hear(asked.verb, asked.name, answers[-1])
@@ -88,10 +85,6 @@ class Replica(Session):
         answers = self._wire.exchange(sent_bytes, len(lines), self._seconds)
         self._wire.refuse_more()
         return answers
-
-    def _told_dump(self, answer: str) -> str:
-        lines = self._read(commands.dump(), answer).lines
-        return "\n".join([f"dumped {len(lines)}", *(f"> {it}" for it in lines)])
 
     def _roll(self, is_base: bool) -> str:
         """Rolls over. Where this is a record of its own, what was before it is kept as the next base."""

@@ -7,7 +7,7 @@ from collections.abc import Iterable, Sequence
 from typing import NamedTuple
 
 from covetrivet.holders import BEGINS
-from covetrivet.lines import is_rollover
+from covetrivet.lines import NOBODY, is_rollover
 from covetrivet.relay import Asked
 from covetrivet.tally import refusal_in
 
@@ -38,10 +38,22 @@ class Use:
         self.lines = self.born = self.begun = 0
         self.is_wanting = False
 
+    @classmethod
+    def about(cls, lines: Iterable[str]) -> Use:
+        """Returns about what these lines have used up, whose answers aren't known."""
+        use = cls()
+        for verb, *others in filter(None, map(str.split, lines)):
+            use.lines += 1
+            use.born += verb == "submit" or len(others[1:]) * (verb == "commit")
+            use.begun += verb in (*BEGINS, "turn") and others[1:] != [str(NOBODY)]
+        return use
+
     def hear(self, verb: str, name: str, answer: str) -> None:
         self.lines += 1
         done = DONE.match(answer)
-        self.born += int(done[1]) if done else verb == "submit" and answer.startswith("submitted ")
+        # (a send that is made again counts again: then a rollover comes too early)
+        submits = verb in ("submit", "send") and answer.startswith(("submitted ", "sent "))
+        self.born += int(done[1]) if done else submits
         self.begun += verb in BEGINS and answer.startswith(f"{name} work ") or verb == "turn" and bool(done)
         self.is_wanting |= refusal_in(answer, name) in ("Full", "NoUnit")
 

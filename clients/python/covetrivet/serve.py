@@ -10,43 +10,14 @@ from pathlib import Path
 
 from covetrivet.answers import NotUnderstood
 from covetrivet.faults import JournalFault, NoProgram, SessionEnded, SessionFault
-from covetrivet.journal import Journaled
-from covetrivet.lines import in_hand
 from covetrivet.options import Serving, serving
-from covetrivet.pipe import Pipe
 from covetrivet.place import Place, PlaceTaken
 from covetrivet.refusals import Refusal
-from covetrivet.relay import Relay
+from covetrivet.served import Served, ServedAgain, say, served
 from covetrivet.server import Server
-from covetrivet.session import Session
 
 BAD_HEAD, NO_HEAD, NO_PROGRAM, NO_PLACE, NO_JOURNAL = 65, 66, 69, 73, 74
 FILES_BESIDE = 64
-
-
-class Served(Session):
-    """A session whose program is used by an event loop between its beginning and its end."""
-
-    def pipe(self) -> Pipe:
-        """Returns the program's. NotUnderstood where it has answered more than it was asked."""
-        if not isinstance(self._wire, Pipe):
-            raise TypeError("the session has not begun")
-        self._wire.look()
-        self._wire.refuse_more()
-        return self._wire
-
-
-class ServedAgain(Served, Journaled):
-    """One with a journal, from which it goes on in another process."""
-
-    def again(self) -> Pipe:
-        say("the session has ended, and goes on over its journal")
-        return super().again()
-
-
-def say(text: object) -> None:
-    with contextlib.suppress(OSError):
-        print(f"covetrivet: {text}", file=sys.stderr, flush=True)
 
 
 def serve(words: Sequence[str]) -> int:
@@ -90,12 +61,10 @@ def lines_of(text: str) -> list[str]:
 
 def hold(options: Serving, head: Sequence[str], place: Place, metrics: Place | None) -> int:
     """Has the session, from its beginning to its end."""
-    session = ServedAgain(options.journal, head) if options.journal else Served(head)
     try:
+        session = served(head, options.journal, options.rolls_over)
         with session:
-            # (of what a journal's own lines leave open nothing is known here)
-            names = [] if session.recovered else in_hand(head)
-            fault = asyncio.run(run(session, options, names, place, metrics))
+            fault = asyncio.run(run(session, options, place, metrics))
             if fault:
                 raise fault
     except NoProgram as why:
@@ -118,12 +87,12 @@ def hold(options: Serving, head: Sequence[str], place: Place, metrics: Place | N
 
 
 async def run(
-    session: Served, options: Serving, names: Sequence[str], place: Place, metrics: Place | None
+    session: Served, options: Serving, place: Place, metrics: Place | None
 ) -> SessionFault | None:
-    """Serves. These workers have units open. Returns the fault by which the session was lost."""
-    again = session.again if isinstance(session, ServedAgain) else None
-    pipe = session.pipe()
-    server = Server(lambda hear, on_end: Relay(pipe, hear, on_end), options.limits, options.orphans, again)
+    """Serves. Returns the fault by which the session was lost."""
+    again = session.go_on if isinstance(session, ServedAgain) else None
+    names = session.in_hand()
+    server = Server(session.relay(), options.limits, options.orphans, again)
     server.adopt(names)
     await server.run(place, metrics, lambda: say(f"serves on {options.socket}"))
     return server.fault

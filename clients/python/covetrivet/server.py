@@ -9,7 +9,7 @@ from collections.abc import Callable, Iterable, Sequence
 from covetrivet import commands
 from covetrivet.answers import Counts, Heard
 from covetrivet.connection import Connection, Limits
-from covetrivet.faults import SessionFault
+from covetrivet.faults import SessionEnded, SessionFault
 from covetrivet.holders import Holders, Orphans
 from covetrivet.lines import UNKNOWN
 from covetrivet.metrics import LONGEST_REQUEST, Metrics
@@ -39,7 +39,7 @@ class Once:
 class Server:
     """The server, within an event loop. `make` makes what performs the lines. Units of clients that are gone
     are aborted `orphans` seconds later, or kept. `again` starts the session's program again once it has
-    ended, where that can go on.
+    ended, where that can go on, and returns its streams, and who has a unit open.
     """
 
     def __init__(
@@ -47,7 +47,7 @@ class Server:
         make: Callable[[Hear, OnEnd], Performer],
         limits: Limits,
         orphans: float | None,
-        again: Callable[[], Pipe] | None = None,
+        again: Callable[[], tuple[Pipe, list[str]]] | None = None,
     ) -> None:
         self.limits = limits
         self.loop = asyncio.get_running_loop()
@@ -101,8 +101,11 @@ class Server:
         if answer == UNKNOWN:
             return
         unit = self.holders.hear(asked, answer)
-        if unit and isinstance(unit.caller, Connection) and unit.caller.is_gone:
+        if unit and self.is_gone(unit.caller):
             self.orphans.left(unit)
+
+    def is_gone(self, caller: Caller) -> bool:
+        return caller is self.orphans or isinstance(caller, Connection) and caller.is_gone
 
     def is_named(self, name: str) -> bool:
         """Whether a line that isn't answered has this second word."""
@@ -122,15 +125,22 @@ class Server:
         self.fault = fault
         self.is_over.set()
 
-    async def go_on(self, again: Callable[[], Pipe], relay: Relay) -> None:
-        """Has the session go on in another process."""
-        try:
-            pipe = await self.loop.run_in_executor(None, again)
-        except SessionFault as fault:
-            relay.is_over = True
-            self.session_is_lost(fault)
-            return
+    async def go_on(self, again: Callable[[], tuple[Pipe, list[str]]], relay: Relay) -> None:
+        """Has the session go on in another process, which may end too before it does."""
+        while True:
+            try:
+                pipe, names = await self.loop.run_in_executor(None, again)
+                break
+            except SessionFault as fault:
+                self.in_vain += 1
+                if not isinstance(fault, SessionEnded) or self.in_vain >= RESTARTS_IN_VAIN:
+                    relay.is_over = True
+                    self.session_is_lost(fault)
+                    return
         self.restarts += 1
+        for unit in self.holders.settle(names, relay.lost_lines(), self.orphans):
+            if self.is_gone(unit.caller):
+                self.orphans.left(unit)
         relay.go_on(pipe)
 
     # ---- its run

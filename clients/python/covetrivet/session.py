@@ -15,9 +15,10 @@ from covetrivet.answers import Dumped, Heard
 from covetrivet.batch import Batch, Later
 from covetrivet.commands import Command
 from covetrivet.faults import LogFault, SessionBroken, SessionClosed
-from covetrivet.ids import Ids, roots_of
+from covetrivet.ids import Ids, copied_in, rolled_over
 from covetrivet.lines import (
-    beginning, checked, head_of, is_answered, is_for_logs, is_rollover, is_to_restore, pieces_of,
+    NOBODY, beginning, checked, head_of, is_answered, is_empty, is_for_logs, is_only_head, is_rollover,
+    is_to_restore, pieces_of,
 )  # fmt: skip
 from covetrivet.log import Log
 from covetrivet.pipe import Pipe
@@ -114,6 +115,7 @@ class Session:
         head: Iterable[str] | None = None,
         program: Sequence[str] | Path | None = None,
         seconds: float | None = None,
+        on_full: Literal["rollover"] | None = None,
     ) -> Session:
         """Returns a session whose program has each line in the journal in this file, on the disk, before it
         is answered. It stands where the journal's lines lead to, with work in hand; `recovered` says how many
@@ -122,11 +124,11 @@ class Session:
         `lines` counts the journal's lines and those that were sent since. Where the program or this process
         ends, the next session's `recovered` is how many of them are kept: all that were answered, and maybe
         more, in their order. JournalFault where the journal can't be opened, or has no lines and no head is
-        given.
+        given. With `on_full` ids last, by a file beside the journal.
         """
         from covetrivet.journal import Journaled
 
-        return Journaled(path, head, program, seconds)
+        return Journaled(path, head, program, seconds, on_full)
 
     # ---- its beginning and its end
 
@@ -158,7 +160,7 @@ class Session:
         if self._log_path:
             Log.refuse_what_is_there(self._log_path)
         lines = [checked(it) for it in self._head]
-        if len(head_of(lines)) == len(lines) and any(map(is_to_restore, lines)):
+        if is_only_head(lines) and any(map(is_to_restore, lines)):
             lines.append("restore")
         if self._ids and not Ids.of(head_of(lines)):
             # A comment says that ids last.
@@ -177,7 +179,7 @@ class Session:
         """
         first, others = beginning(lines)
         head = head_of(lines)
-        before = Ids.of(head)
+        before = self._ids_of(head)
         if known < len(first):
             (answer,) = self._exchange(first[known:], 1, is_logged=False, is_head=True)
             refused = re.fullmatch(r"refused line (\d+): \d+ (\w+)", answer)
@@ -191,9 +193,14 @@ class Session:
             if is_rollover(piece[0]):
                 self._roll_over_again()
             else:
-                for answer in self._exchange(piece, sum(map(is_answered, piece)), is_logged=False):
+                said = list(filter(is_answered, piece))
+                for line, answer in zip(said, self._exchange(piece, len(said), is_logged=False)):
                     if self._ids:
-                        self._ids.teller(answer)
+                        self._ids.teller(line, answer)
+
+    def _ids_of(self, head: list[str]) -> Ids | None:
+        """Returns the ids that the lines to begin with say last."""
+        return Ids.of(head)
 
     def _restore(self, head: list[str], before: Ids | None, answer: str) -> None:
         heard = Heard(answer, "restore")
@@ -308,6 +315,12 @@ class Session:
     collect = asked(commands.collect)
     family = asked(commands.family)
     errors = asked(commands.errors)
+    register = asked(commands.register)
+    send = asked(commands.send)
+    receive = asked(commands.receive)
+    last = asked(commands.last)
+    last_work = asked(commands.last_work)
+    forget = asked(commands.forget)
     count = asked(commands.count)
     balance = asked(commands.balance)
     total = asked(commands.total)
@@ -347,7 +360,7 @@ class Session:
                 self._roll_over()
             except Refusal as why:
                 raise refusal from why
-            if isinstance(refusal, refusals.Full) and command.words[0] != "submit":
+            if isinstance(refusal, refusals.Full) and command.words[0] not in ("submit", "send"):
                 raise
         return self._once(command)
 
@@ -372,6 +385,9 @@ class Session:
         if self._ids is None or command.element is None:
             return command.line
         now = self._ids.known(command.element)
+        if now is None and command.words[0] == "receive":
+            # The number may be the last one again, which is answered whatever the root.
+            return command.with_id(NOBODY)
         if now is None:
             raise refusals.NotThere(command.line, element=command.element)
         return command.with_id(now)
@@ -379,7 +395,7 @@ class Session:
     def _read(self, command: Command[T], answer: str) -> T:
         heard = Heard(answer, command.line)
         if self._ids:
-            heard = Heard(answer, command.line, self._ids.teller(answer))
+            heard = Heard(answer, command.line, self._ids.teller(command.line, answer), self._ids.of_lost)
         heard.refused()
         value = command.read(heard)
         if self._ids and isinstance(value, Dumped):
@@ -395,11 +411,15 @@ class Session:
             # The dump tells the roots, also of what was made where no answer told of it.
             (answer,) = self._exchange(["dump"])
             dumped = self._read(commands.dump(), answer).lines
+            self._keep_ids(self.lines + 1, [it for it in dumped if is_empty(it)])
         (answer,) = self._exchange(["rollover"])
         Heard(answer, "rollover").refused()
         if self._log and is_logged:
             self._log.write(["rollover"])
         return self._rolled_over(answer, dumped)
+
+    def _keep_ids(self, number: int, comments: Sequence[str]) -> None:
+        """Takes note of the ids before a rollover, which will be this line. A journal has them beside it."""
 
     def _rolled_over(self, answer: str, dumped: Sequence[str]) -> str:
         """Takes note of a rollover behind a dump of these lines. Returns its answer, by the ids that the
@@ -409,11 +429,8 @@ class Session:
         self.rollovers += 1
         if self._ids is None:
             return answer
-        kept = sorted(map(self._ids.told, rolled.moved))
-        self._ids = self._ids_after(self._ids, rolled.moved, dumped)
-        units = [f"{name}:{it}" for name, it in self._lasting(rolled.units).items()]
-        told = [f"rolled over {len(kept)}", *(f"{it}:{it}" for it in kept)]
-        return " ".join([*told, "units", *units] if units else told)
+        before, self._ids = self._ids, self._ids_after(self._ids, rolled.moved, dumped)
+        return rolled_over(before, self._ids, rolled.moved, rolled.units)
 
     def _lasting(self, units: dict[str, int]) -> dict[str, int]:
         """Returns what workers have in hand, by the ids that the session tells."""
@@ -423,8 +440,7 @@ class Session:
         """Returns the ids behind a rollover that moved these, or a restore of these lines of a dump. A root
         that isn't alive has a copy, whose id is asked for.
         """
-        roots = roots_of(dumped)
-        one_of = {roots[old]: new for old, new in moved.items() if roots[old] not in moved}
+        one_of = copied_in(moved, dumped)
         answers = self._exchange([f"read {it}" for it in one_of.values()])
         looks = [commands.read(0).read(Heard(it, "read")) for it in answers]
         return ids.after(moved, {look.root: old for old, look in zip(one_of, looks)}, dumped)

@@ -17,6 +17,11 @@ from typing import Any, NamedTuple, Protocol
 from covetrivet.faults import SessionFault
 
 
+# What is in a log says with which version it was written. The number changes with each change by which the
+# same lines may be answered otherwise, or ids be others.
+VERSION = 1
+
+
 class InDoubt(Exception):
     """The log couldn't be asked, or its answer didn't come: what was to be done may have been done, or may be
     yet. The text says why.
@@ -43,7 +48,7 @@ class Record(NamedTuple):
     lines: Sequence[str]
 
     def text(self) -> str:
-        return json.dumps(self._asdict(), separators=(",", ":"))
+        return text_of(self._asdict())
 
     @classmethod
     def of(cls, text: str) -> Record:
@@ -59,7 +64,7 @@ class Base(NamedTuple):
     lines: Sequence[str]
 
     def text(self) -> str:
-        return json.dumps(self._asdict(), separators=(",", ":"))
+        return text_of(self._asdict())
 
     @classmethod
     def of(cls, text: str) -> Base:
@@ -67,12 +72,21 @@ class Base(NamedTuple):
             return cls(int(told["place"]), str(told["digest"]), [str(it) for it in told["lines"]])
 
 
+def text_of(said: dict[str, Any]) -> str:
+    return json.dumps({"version": VERSION, **said}, separators=(",", ":"))
+
+
 @contextlib.contextmanager
 def understood(text: str) -> Iterator[Any]:
-    """Yields what the text says. LogLost where it isn't what a record or a base says."""
+    """Yields what the text says. LogLost where it isn't what a record or a base says, or of another version.
+    """
     try:
-        yield json.loads(text)
-    except (ValueError, TypeError, KeyError) as fault:
+        said = json.loads(text)
+        version = said.get("version", "none")
+        if version != VERSION:
+            raise LogLost(f"the log is of another version ({version}), and this node knows {VERSION} alone")
+        yield said
+    except (ValueError, TypeError, KeyError, AttributeError) as fault:
         raise LogLost(f"this is no record and no base: {text[:60]!r}") from fault
 
 

@@ -1,7 +1,8 @@
 #!/usr/bin/env python3
-"""Measures a server, by hand: rates.py [SECONDS [etcd|postgres]]. How many lines a second are answered, and
-after how long. With a second word it is the leader of three nodes, over three members of etcd on this machine
-or a PostgreSQL.
+"""Measures a server, by hand: rates.py [SECONDS [etcd|postgres|stuck]]. How many lines a second are answered,
+and after how long. With a second word it is the leader of three nodes, over three members of etcd on this
+machine or a PostgreSQL; or clients are measured without and with 50 others, half of which send and read
+nothing, and half of which say nothing, by turns.
 
 Each client sends so many lines at once and waits for their answers. All clients of a row are in one process,
 so where there are many it takes a processor too.
@@ -66,6 +67,9 @@ def main() -> None:
             session.read(0)
             many += 1
         print(f"a session of one's own, a call each: {many / (time.perf_counter() - begun):.0f} a second")
+    if sys.argv[2:] == ["stuck"]:
+        tell_stuck(seconds)
+        return
     if len(sys.argv) > 2:
         with Machines(WIDE, postgres=sys.argv[2] == "postgres") as machines:
             begin(machines)
@@ -81,10 +85,31 @@ def tell(path: str, seconds: float) -> None:
     with Client(path) as it:
         it.ask(submit(1, 5).line)
     for clients, at_once in ROWS:
-        rate, took = measure(path, clients, at_once, seconds)
-        half, most = took[len(took) // 2] * 1e6, took[len(took) * 99 // 100] * 1e6
-        said = f"{clients} clients, {at_once} at once: {rate:.0f} a second"
-        print(f"{said}; half in {half:.0f} us, 99 of 100 in {most:.0f} us", flush=True)
+        tell_one(path, clients, at_once, seconds)
+
+
+def tell_one(path: str, clients: int, at_once: int, seconds: float, beside: str = "") -> None:
+    rate, took = measure(path, clients, at_once, seconds)
+    half, most = took[len(took) // 2] * 1e6, took[len(took) * 99 // 100] * 1e6
+    said = f"{clients} clients, {at_once} at once{beside}: {rate:.0f} a second"
+    print(f"{said}; half in {half:.0f} us, 99 of 100 in {most:.0f} us", flush=True)
+
+
+def tell_stuck(seconds: float) -> None:
+    with Serving(WIDE, "--connections", "1000", "--slow", "10000") as alone, contextlib.ExitStack() as stack:
+        beside = stack.enter_context(Serving(WIDE, "--connections", "1000", "--slow", "10000"))
+        for server in (alone, beside):
+            server.client().ask(submit(1, 5).line)
+        for number in range(49):
+            it = beside.client()
+            if number % 2:
+                it.socket.settimeout(0.01)
+                with contextlib.suppress(TimeoutError):
+                    for _ in range(1000):
+                        it.send(*["count"] * 500)
+        for clients in (1, 10, 100, 950) * 2:
+            tell_one(alone.path, clients, 1, seconds)
+            tell_one(beside.path, clients, 1, seconds, " beside 50")
 
 
 if __name__ == "__main__":

@@ -14,6 +14,7 @@ from collections.abc import Sequence
 from unittest import mock
 
 from covetrivet import Counts, Draft, JournalFault, LogFault, Session, SessionEnded, journal, refusals
+from covetrivet.journal_lines import lines_in
 
 HEAD = ["rows 16", "units 16", "server till eager 2 1 add", "worker clerk 1"]
 
@@ -31,7 +32,7 @@ class Journals(unittest.TestCase):
         self.path = f"{folder.name}/orders.journal"
 
     def lines(self) -> list[str]:
-        return journal.first_lines(self.path, 1_000_000)
+        return list(lines_in(self.path))
 
     def write(self, text: bytes) -> None:
         with open(self.path, "wb") as file:
@@ -144,6 +145,53 @@ class Journals(unittest.TestCase):
             with Session.open(self.path, begin) as session:
                 self.assertEqual(session.count().waiting, 2)
             self.assertEqual(self.lines(), [*whole, "count"])
+
+    def replied(self, session: Session, order: int, customer: int) -> None:
+        """Replies to an order, the only one that waits. Where there is no row the session rolls over."""
+        work = session.claim("clerk")
+        assert work
+        self.assertEqual((work.element, work.words[0]), (order, customer))
+        try:
+            session.commit("clerk", Draft(15, customer))
+        except refusals.Full:
+            self.replied(session, order, customer)
+
+    def test_ids_last(self) -> None:
+        """Orders over many rollovers and lives, each of which is killed. Every tenth one stays in hand."""
+        head = ["rows 8", "units 8", "worker clerk 1", "worker late 1"]
+        early = -1
+        for life in range(4):
+            with Session.open(self.path, head, on_full="rollover") as session:
+                if life == 0:
+                    early = session.submit(1, 1000).element
+                    session.claim("late")
+                self.assertEqual(session.read(early).words[0], 1000)
+                told: list[int] = []
+                for customer in range(12):
+                    order = session.submit(1, customer).element
+                    self.replied(session, order, customer)
+                    if customer > 0:
+                        # (the reply to the one before it may have been carried over)
+                        self.assertEqual([it.words[0] for it in session.collect(told[-1])], [customer - 1])
+                    told.append(order)
+                self.assertGreater(session.rollovers, 0)
+                last = told[-1]
+                self.lost(session)
+            with Session.open(self.path, on_full="rollover") as session:
+                self.assertEqual([it.words[0] for it in session.collect(last)], [11])
+                with self.assertRaises(refusals.NotThere):
+                    session.read(told[0])
+                self.lost(session)
+        with self.assertRaisesRegex(JournalFault, "ids of .* last"), Session.open(self.path):
+            pass
+        with Session.open(self.path, on_full="rollover") as session:
+            self.assertEqual(session.commit("late", Draft(15, 7)).element, early)
+            with mock.patch.object(os, "fsync", side_effect=OSError(28, "No space left on device")):
+                with self.assertRaises(refusals.NoMemory):
+                    session.rollover()
+            self.assertEqual([it.words[0] for it in session.reply(early)], [7])
+            session.rollover()
+            self.assertEqual([it.words[0] for it in session.collect(early)], [7])
 
     def test_what_is_no_journal(self) -> None:
         with self.assertRaisesRegex(JournalFault, "there is no journal"), Session.open(self.path):

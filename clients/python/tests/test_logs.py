@@ -11,6 +11,7 @@ from pathlib import Path
 
 from covetrivet import Counts, Draft, LogFault, NoProgram, Session, SessionBroken, SessionEnded, refusals
 
+FIRST = "# covetrivet log 1"
 HEAD = ["rows 16", "units 16", "worker clerk 1"]
 
 
@@ -37,7 +38,7 @@ class Logs(unittest.TestCase):
             session.commit("clerk", Draft(15, 0, 1))
             session.claim("clerk")
             self.lost(session)
-        wanted = [*HEAD, "submit 1 0 10", "submit 1 1 10", "submit 1 2 10", "submit 1 3 10"]
+        wanted = [FIRST, *HEAD, "submit 1 0 10", "submit 1 1 10", "submit 1 2 10", "submit 1 3 10"]
         wanted += ["claim clerk", "commit clerk 15:0:1:0:0", "claim clerk"]
         for _life in range(3):
             self.assertEqual(self.lines(), wanted)
@@ -88,7 +89,7 @@ class Logs(unittest.TestCase):
                     pass
             self.assertEqual(session.count(), Counts(1, 0, 0, 0, 0))
         # Neither has changed it, and where the session is closed it still isn't begun anew.
-        self.assertEqual(self.lines(), [*HEAD, "submit 1 1 0"])
+        self.assertEqual(self.lines(), [FIRST, *HEAD, "submit 1 1 0"])
         with self.assertRaises(LogFault), Session(HEAD, log=self.path):
             pass
         self.assertEqual(os.listdir(os.path.dirname(self.path)), ["orders.log"])
@@ -102,6 +103,22 @@ class Logs(unittest.TestCase):
         self.assertEqual(os.listdir(os.path.dirname(self.path)), [])
         with Session(HEAD, log=self.path) as session:
             self.assertEqual(session.submit(1, 1).element, 0)
+
+    def test_another_version(self) -> None:
+        with Session(HEAD, log=self.path) as session:
+            session.submit(1, 1)
+        text = Path(self.path).read_bytes()
+        # (older ones have no such line)
+        for first in (b"", b"# covetrivet log 2\n", b"# covetrivet log\n", b"# covetrivet log 1 \n"):
+            other = text.replace(b"# covetrivet log 1\n", first) + b"torn"
+            Path(self.path).write_bytes(other)
+            with self.assertRaisesRegex(LogFault, "no log of this version"), Session.from_log(self.path):
+                pass
+            # It is left as it is, and so is a torn last line.
+            self.assertEqual(Path(self.path).read_bytes(), other)
+        Path(self.path).write_bytes(text)
+        with Session.from_log(self.path) as session:
+            self.assertEqual(session.count(), Counts(1, 0, 0, 0, 0))
 
     def test_no_log(self) -> None:
         with self.assertRaises(LogFault), Session.from_log(self.path):
@@ -141,7 +158,7 @@ class Logs(unittest.TestCase):
             self.assertEqual((work.element, work.unit, work.words), (0, 16, (0, 0, 0, 0)))
             session.commit("clerk", Draft(15, 5))
         alive = [f"alive {it} 0 0 1:{it}:0:0:0" for it in (0, 2, 3)]
-        wanted = ["rows 16", "units 16", "limit 3", "spare 0", "worker clerk 1", *alive, "restore"]
+        wanted = [FIRST, "rows 16", "units 16", "limit 3", "spare 0", "worker clerk 1", *alive, "restore"]
         self.assertEqual(self.lines(), [*wanted, "claim clerk", "commit clerk 15:5:0:0:0"])
         with Session.from_log(self.path) as session:
             self.assertEqual(session.moved, {0: 0, 2: 1, 3: 2})

@@ -71,6 +71,40 @@ count | count
   waiting 3 held 4 consumed 3 parked 4 killed 3 | waiting 3 held 4 consumed 3 parked 4 killed 3
 reply 9 | reply 4
   refused 4 NotThere | refused 4 NotThere
+send shop 3 4 3 4 | send shop 3 4 3 4
+  sent shop 3 4 | sent shop 3 9
+send shop 3 4 3 4 | send shop 3 4 3 4
+  sent shop 3 10 | sent shop 3 8589934602
+send shop 3 4 3 4 | send shop 3 4 3 4
+  sent shop 3 gone | sent shop 3 gone
+receive shop 3 | receive shop 3
+  received shop 3 10 4 3:4:3:4 | received shop 3 8589934602 9 3:4:3:4
+receive shop 3 9 | receive shop 3 4
+  received shop 3 gone 4 3:4:3:4 | received shop 3 gone 9 3:4:3:4
+receive  shop  3  9 | receive shop 3 4
+  received shop 3 none | received shop 3 none
+receive shop 3 5 | receive shop 3 4294967295
+  received shop 3 10 gone 3:4:3:4 | received shop 3 8589934602 gone 3:4:3:4
+receive shop 4 | receive shop 4
+  refused 15 Gap | refused 15 Gap
+last shop | last shop
+  last shop sent 3 4 received 3 10 4 3:4:3:4 | last shop sent 3 9 received 3 8589934602 9 3:4:3:4
+last shop | last shop
+  last shop sent 4 gone received 3 gone 3 3:4:3:4 | last shop sent 4 gone received 3 gone 4294967303 3:4:3:4
+last shop | last shop
+  last shop sent 0 received 0 | last shop sent 0 received 0
+last shop | last shop
+  last shop sent 4 3 received 0 | last shop sent 4 4294967303 received 0
+last wa | last wa
+  last wa hand none none | last wa hand none none
+last wa | last wa
+  last wa hand lost 4 done 3 unit 4 outputs 4 3 | last wa hand lost 9 done 4294967303 unit 4 outputs 9 3
+last wa | last wa
+  last wa hand none done 4 unit 4 outputs 0 0 | last wa hand none done 9 unit 4 outputs 0 0
+last wa | last wa
+  last wa hand none done gone unit 4 outputs gone 3 | last wa hand none done gone unit 4 outputs gone 3
+last wa | last wa
+  last wa hand none full 4 | last wa hand none full 9
 kill 9 9 | kill 9 9
   refused line 3: 4 Syntax | refused line 3: 4 Syntax
 """
@@ -90,7 +124,15 @@ class LastingLines(unittest.TestCase):
 
     def test_what_was_lost_before_a_rollover(self) -> None:
         # wa has lost 11 and wb 12, and hear of it once. What is lost later has an id of this manager.
-        ids = Ids(2, self.IDS.lasting, {"wa": 11, "wb": 12})
+        ids = Ids(2, self.IDS.lasting, {"wa": 11, "wb": 12, "last": 13})
+        old, body = 1 << 32 | 7, "body 3:4:3:4"
+        for hand, wanted in (
+            ("lost 4 aborted 4", "lost 11 aborted 9"),
+            (f"4 unit 3 attempt 4 root 3 {body} none", f"9 unit 3 attempt 4 root {old} {body} none"),
+            (f"3 unit 3 attempt 4 root 4 {body} full 3", f"{old} unit 3 attempt 4 root 9 {body} full {old}"),
+        ):
+            answer = told(sent("last wa", ids), f"last wa hand {hand}", ids)
+            self.assertEqual(answer, f"last wa hand {wanted}")
         for line, answer, wanted in (
             ("claim wa", "wa busy", "wa busy"),
             ("commit wa", "wa lost 4", "wa lost 11"),
@@ -98,6 +140,9 @@ class LastingLines(unittest.TestCase):
             ("abort wb", "wb already 3", "wb already 12"),
             ("abort wb", "wb none", "wb none"),
             ("commit wc", "wc lost 4", "wc lost 9"),
+            # (of a worker called last, and a client called lost)
+            ("last lost", "last lost sent 0 received 0", "last lost sent 0 received 0"),
+            ("commit last", "last lost 4", "last lost 13"),
         ):
             self.assertEqual(told(sent(line, ids), answer, ids), wanted)
         dumped = ["held wa 3 1 0 1:0:0:0:0", "lost wb 12", "lost wc 4", "alive 5 0 0 1:0:0:0:0 4 1:0:0:0:0"]
@@ -122,6 +167,19 @@ class LastingLines(unittest.TestCase):
         too_long = "kill" + " " * 204 + "9"
         for line in f"kill {1 << 64}", "kill\t9", "kill +9", too_long, "take abcdefghi 9", "kil 9":
             self.assertEqual(sent(line, self.IDS).line, line)
+
+    def test_clients_over_a_rollover(self) -> None:
+        # Element 1 waits behind the rollover as 0, and keeps the id by which the client knows it.
+        with Replica(Base(0, "", [*HEAD, "register shop"])) as replica:
+            assert isinstance(replica, Replica)
+            lines = ["submit 1 0 0", "kill 0", "send shop 1 1 5 6", "rollover", "submit 1 7 8"]
+            answers = replica.feed(0, Record("", "", lines))
+            self.assertEqual(answers[2], "sent shop 1 1")
+            lines = ["send shop 1 1 5 6", "last shop", "receive shop 1 1", "receive shop 1 9", "read 1"]
+            answers = replica.feed(1, Record("", replica.digest, lines))
+            self.assertEqual(answers[:2], ["sent shop 1 1", "last shop sent 1 1 received 0"])
+            self.assertEqual(answers[2:4], ["received shop 1 none", "refused 4 NotThere"])
+            self.assertEqual(answers[4], "1 stage 1 root 1 key 5 amount 6 by client waiting 0")
 
     def test_a_session_of_lines_tells_what_calls_do(self) -> None:
         with Session(HEAD, on_full="rollover") as session, Replica(Base(0, "", HEAD)) as replica:
@@ -192,6 +250,21 @@ class Replicas(unittest.TestCase):
             with self.assertRaises(Diverged):
                 replica.feed(4, Record("n1", "d1", ["count"]))
             self.assertEqual(replica.feed(4, Record("n1", "d0", ["errors"])), ["errors"])
+
+    def test_a_log_of_another_version(self) -> None:
+        # (those of 0.15 have none)
+        record = '{"version":1,"by":"n1","digest":"d0","lines":["count"]}'
+        base = '{"version":1,"place":7,"digest":"d0","lines":["rows 8"]}'
+        both = Record("n1", "d0", ["count"]), Base(7, "d0", ["rows 8"])
+        self.assertEqual((both[0].text(), both[1].text()), (record, base))
+        self.assertEqual((Record.of(record), Base.of(base)), both)
+        for other, named in ("", "none"), ('"version":2,', "2"), ('"version":"1",', "1"):
+            for text, of in (record, Record.of), (base, Base.of):
+                with self.assertRaisesRegex(LogLost, f"of another version .{named}.,"):
+                    of(text.replace('"version":1,', other))
+        for text in "[]", "7", "{", '{"version":1}', '{"version":1,"by":"n1","digest":"","lines":7}':
+            with self.assertRaisesRegex(LogLost, "no record and no base"):
+                Record.of(text)
 
     def test_a_dump_that_a_client_has_taken_is_a_head(self) -> None:
         with Replica(Base(0, "", HEAD)) as replica:

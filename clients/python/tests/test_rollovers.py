@@ -134,7 +134,7 @@ class Dumps(unittest.TestCase):
     LINES = (
         "rows 8", "units 8", "limit 2", "spare 0", "server till eager 2 1 add", "start till 0 100",
         "worker packer 1", "alive 1 0 0 1:6:0:0:0", "alive 16 0 0 2:0:10:0:0 0 1:5:0:0:0",
-        "alive 17 0 0 15:5:6:0:0 0 1:5:0:0:0", "restore",
+        "alive 17 0 0 15:5:6:0:0 0 1:5:0:0:0", "ended packer done 0 16 16 2", "restore",
     )  # fmt: skip
 
     def test_a_dump(self) -> None:
@@ -198,7 +198,8 @@ class Dumps(unittest.TestCase):
             session.abort("packer")
             with session.batch() as batch:
                 asked = [batch.add(dump()) for _ in range(2000)]
-            self.assertEqual({it.value.lines[-2] for it in asked}, {"alive 0 1 0 1:6:0:0:0"})
+            alive, ended = "alive 0 1 0 1:6:0:0:0", "ended packer aborted 0"
+            self.assertEqual({it.value.lines[-3:] for it in asked}, {(alive, ended, "restore")})
 
     def test_ids_last(self) -> None:
         with Session(["rows 8", "units 8", "worker w 1"], on_full="rollover") as session:

@@ -172,7 +172,8 @@ class ServeSessions(unittest.TestCase):
             with one.batch() as batch:
                 asked = [batch.add(submit(1, it)) for it in range(700)]
             self.assertEqual(two.read(asked[-1].value.element).words[0], 699)
-            self.assertEqual(len(two.dump().lines), 700 + 7)
+            # (also how the packer's last unit ended)
+            self.assertEqual(len(two.dump().lines), 700 + 8)
             with self.assertRaises(LogFault):
                 one.shorten_log()
             with self.assertRaises(SessionClosed):

@@ -89,7 +89,9 @@ class ServeJournals(unittest.TestCase):
             server.signal_session(signal.SIGKILL)
             for it in clients:
                 self.assertEqual([it.line() for _ in range(64)], ["unknown"] * 64)
-            self.assertEqual(clients[0].ask("submit 1 5 6", "x"), ["submitted 0", "refused line 9: 1 Syntax"])
+            # (six of the head and the first command; two ask for open units, at the start and behind it)
+            said = clients[0].ask("submit 1 5 6", "x")
+            self.assertEqual(said, ["submitted 0", "refused line 13: 1 Syntax"])
 
     def test_the_server_is_killed(self) -> None:
         told = -1
@@ -139,8 +141,12 @@ class ServeJournals(unittest.TestCase):
 
     def test_a_session_that_ends_again_and_again(self) -> None:
         found = " ".join(program.find())
+        # (what the server asks behind a start is answered, and nothing else)
+        asked = (f"read it; echo {name} refused 4294967295 NotThere" for name in ("till", "packer"))
+        nothing = "; ".join(asked)
         for act, why in (
             ("echo recovered 3; exit 1", "status 1"),
+            (f"echo recovered 3; {nothing}; exit 1", "status 1"),
             ("echo 'fault 4 Journal: damaged from line 3 on' >&2; exit 1", "damaged from line 3 on"),
         ):
             with tempfile.TemporaryDirectory() as folder:

@@ -1,6 +1,7 @@
 pub mod Alls
 pub mod Lies
 pub mod Lefts
+pub mod Receivings
 pub mod Listings
 pub mod Collections
 pub mod Finds

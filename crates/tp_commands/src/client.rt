@@ -51,7 +51,7 @@ pub fn client_line(
 }
 
 /// `submit STAGE KEY AMOUNT W2 W3`
-fn submit(manager: &Manager, client: &mut Pass, stage: u8, body: Body) -> Answer<'static>
+pub fn submit(manager: &Manager, client: &mut Pass, stage: u8, body: Body) -> Answer<'static>
     requires { IsFreePass manager.now client.old }
     ensures free { IsFreePass manager.now client.new }
     ensures number { client.new.number ≡ client.old.number }
@@ -126,7 +126,7 @@ fn release(manager: &Manager, client: &mut Pass, id: u32) -> Answer<'static>
 }
 
 /// `read ID`
-fn read(manager: &Manager, client: &mut Pass, id: u32) -> Answer<'static>
+pub fn read(manager: &Manager, client: &mut Pass, id: u32) -> Answer<'static>
     requires { IsFreePass manager.now client.old }
     ensures free { IsFreePass manager.now client.new }
     ensures number { client.new.number ≡ client.old.number }

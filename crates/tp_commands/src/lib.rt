@@ -7,9 +7,11 @@ mod desks;
 mod giving_up;
 mod lines;
 mod place;
+mod receiving;
 
-pub use client::{client_line, count};
+pub use client::{client_line, count, read, submit};
 pub use desks::{desk_line, turn_in};
 pub use giving_up::give_up_in;
 pub use lines::{balance_line, sum};
 pub use place::{Place, begin_again, end_all, places_for};
+pub use receiving::{Asked, has_sent, receive};

@@ -11,9 +11,9 @@ use Rattle.tp_model.specs.declared.types.TheConstants.{MAX_ATTEMPTS, MAX_ROUNDS,
 use Rattle.tp_model.proofs.Bridges.{append_nil}
 use Rattle.tp_rollover.specs.declared.survivors.Survivor.{Survivor}
 use Rattle.tp_script.specs.Alive.{AliveWords, alive_at, alive_of, alive_places, alive_words}
-use Rattle.tp_script.specs.Commands.{SubmitWords, submit_words}
+use Rattle.tp_script.specs.Commands.{SubmitWords, submit_body, submit_words}
 use Rattle.tp_script.specs.Drafts.{draft_at, draft_of, is_draft, output_stage}
-use Rattle.tp_script.specs.LineWords.{◌>>=◌, known, number_at, require}
+use Rattle.tp_script.specs.LineWords.{◌>>=◌, body_of, known, number_at, require}
 use Rattle.tp_script.specs.Grammar.{alive_line, head_at, head_keyword, head_words, held_line, line_words, with_alive}
 use Rattle.tp_script.specs.Hands.{free_worker, has_in_hand, held_of, held_words}
 use Rattle.tp_script.specs.Script.{HeadView}
@@ -102,14 +102,19 @@ module _ (stage a b c d : ℕ) (low : 1 ≤ stage) (high : stage ≤ REPLY_STAGE
   abbrev submitted : SubmitWords
   submitted = record { stage = decimal stage; key = decimal a; amount = decimal b; word_two = decimal c; word_three = decimal d }
 
+  body_ok : submit_body submitted ≡ Ok body
+  unfolding body_of
+  body_ok =
+      bind_ok (number_at (2 ^ 64 - 1) (decimal a)) a _ (number_ok (2 ^ 64 - 1) a fa (omega (arith, fa)))
+      ∙ (bind_ok (number_at (2 ^ 64 - 1) (decimal b)) b _ (number_ok (2 ^ 64 - 1) b fb (omega (arith, fb)))
+      ∙ (bind_ok (number_at (2 ^ 64 - 1) (decimal c)) c _ (number_ok (2 ^ 64 - 1) c fc (omega (arith, fc)))
+      ∙ bind_ok (number_at (2 ^ 64 - 1) (decimal d)) d _ (number_ok (2 ^ 64 - 1) d fd (omega (arith, fd)))))
+
   numbers : draft_of submitted ≡ Ok (record { stage = stage; body = body })
   unfolding draft_of
   numbers =
       bind_ok (output_stage (decimal stage)) stage _ stage_ok
-      ∙ (bind_ok (number_at (2 ^ 64 - 1) (decimal a)) a _ (number_ok (2 ^ 64 - 1) a fa (omega (arith, fa)))
-      ∙ (bind_ok (number_at (2 ^ 64 - 1) (decimal b)) b _ (number_ok (2 ^ 64 - 1) b fb (omega (arith, fb)))
-      ∙ (bind_ok (number_at (2 ^ 64 - 1) (decimal c)) c _ (number_ok (2 ^ 64 - 1) c fc (omega (arith, fc)))
-      ∙ bind_ok (number_at (2 ^ 64 - 1) (decimal d)) d _ (number_ok (2 ^ 64 - 1) d fd (omega (arith, fd))))))
+      ∙ bind_ok (submit_body submitted) body _ body_ok
 
   reads : draft_at text ≡ Ok (record { stage = stage; body = body })
   unfolding draft_at

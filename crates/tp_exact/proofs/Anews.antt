@@ -36,10 +36,11 @@ use Rattle.tp_session.specs.Dump.{dump_text}
 use Rattle.tp_session.specs.Hands.{has_unit, unit_of}
 use Rattle.tp_session.specs.Live as lives
 use Rattle.tp_session.specs.Live.{DumpTold, HoldsUnits, Live, LiveGathers, RestoreTold, RestoredLive, RolledLive, RolloverTold, survivors_of}
+use Rattle.tp_session.specs.Notes.{NotesView, notes_in}
 use Rattle.tp_session.specs.declared.hand.Holding.{Holding}
 use Rattle.tp_exact.specs.Alive.{alive_of}
 use Rattle.tp_exact.specs.Dumps.{DumpComputed}
-use Rattle.tp_exact.specs.PlainSession.{SessionState, anew, anew_as, dump_of, has_desk_open, is_open, restored, rolled_over, unless_refused, works_in}
+use Rattle.tp_exact.specs.PlainSession.{SessionState, anew, anew_as, dump_of, has_desk_open, is_open, restored, rolled_over, unless_refused, works_in, unrestored}
 use Rattle.tp_exact.specs.Sessions.{IsStep, IsUnforeseen, StandsLive}
 use Rattle.tp_exact.specs.Stands.{IsFor, IsServedBy}
 use Rattle.tp_exact.proofs.Described.{described_so}
@@ -211,32 +212,32 @@ module _ (head : Head) (old new : Live) (text : List ℕ) (s : SessionState) (is
   -- ---- answers
 
   -- what is so where this was done, unless such a unit is open or it was refused
-  abbrev Answered : Bool → List ℕ × SessionState → Type 0
-  Answered b done = (why : Option RollFault) × IsUnforeseen why × IsStep h new text (unless_refused b why s done)
+  abbrev Answered : Bool → SessionState → List ℕ × SessionState → Type 0
+  Answered b left done = (why : Option RollFault) × IsUnforeseen why × IsStep h new text (unless_refused b why left done)
 
-  with_open : (b c : Bool) (why : Option RollFault) (done : List ℕ × SessionState) → b ≡ c → IsStep h new text (unless_refused c why s done) → IsStep h new text (unless_refused b why s done)
-  with_open b c why done same step = subst (λ x. IsStep h new text (unless_refused x why s done)) (sym same) step
+  with_open : (b c : Bool) (why : Option RollFault) (left : SessionState) (done : List ℕ × SessionState) → b ≡ c → IsStep h new text (unless_refused c why left done) → IsStep h new text (unless_refused b why left done)
+  with_open b c why left done same step = subst (λ x. IsStep h new text (unless_refused x why left done)) (sym same) step
 
-  answered : (b : Bool) (done : List ℕ × SessionState) → b ≡ false → IsStep h new text done → Answered b done
-  answered b done none step = (None, tt, with_open b false None done none step)
+  answered : (b : Bool) (left : SessionState) (done : List ℕ × SessionState) → b ≡ false → IsStep h new text done → Answered b left done
+  answered b left done none step = (None, tt, with_open b false None left done none step)
 
   -- a unit is open
-  busy : (b c : Bool) (ps : List PassShown) (done : List ℕ × SessionState) → b ≡ c → ¬ AreFree ps → (b ≡ false → AreFree ps) → text ≡ line (roll_refused_text faults.Busy) → StandsLive h new s → Answered b done
-  busy b true ps done same due free text_is stands = (None, tt, with_open b true None done same (text_is, stands))
-  busy b false ps done same due free text_is stands = absurd (due (free same))
+  busy : (b c : Bool) (ps : List PassShown) (left : SessionState) (done : List ℕ × SessionState) → b ≡ c → ¬ AreFree ps → (b ≡ false → AreFree ps) → text ≡ line (roll_refused_text faults.Busy) → StandsLive h new left → Answered b left done
+  busy b true ps left done same due free text_is stands = (None, tt, with_open b true None left done same (text_is, stands))
+  busy b false ps left done same due free text_is stands = absurd (due (free same))
 
-  failed : (b : Bool) (done : List ℕ × SessionState) (why : RollFault) → IsUnforeseen (Some why) → b ≡ false → text ≡ line (roll_refused_text why) → StandsLive h new s → Answered b done
-  failed b done why unforeseen none text_is stands = (Some why, unforeseen, with_open b false (Some why) done none (text_is, stands))
+  failed : (b : Bool) (left : SessionState) (done : List ℕ × SessionState) (why : RollFault) → IsUnforeseen (Some why) → b ≡ false → text ≡ line (roll_refused_text why) → StandsLive h new left → Answered b left done
+  failed b left done why unforeseen none text_is stands = (Some why, unforeseen, with_open b false (Some why) left done none (text_is, stands))
 
   limits_are : k ≡ l
   limits_are = ap (λ (m : State). m.limits) is.stands.manager
 
   -- these find no room in another manager, and so it is computed
-  no_room : (b : Bool) (told : List Renamed → List ℕ) (survivors : List Survivor) (before : List Holding) → made_anew l l.parts survivors (start l) ≡ None → b ≡ false → text ≡ line (roll_refused_text faults.Full) → StandsLive h new s
-      → Answered b (anew told h survivors before s)
-  no_room b told survivors before full none text_is stands =
-      answered b (anew told h survivors before s) none
-      (subst (λ o. IsStep h new text (anew_as told h before s o)) (sym (ap (λ (z : Limits). made_anew z z.parts survivors (start z)) limits_are ∙ full)) (text_is, stands))
+  no_room : (b : Bool) (told : List Renamed → List ℕ) (survivors : List Survivor) (before : List Holding) (left : SessionState) → made_anew l l.parts survivors (start l) ≡ None → b ≡ false → text ≡ line (roll_refused_text faults.Full) → StandsLive h new left
+      → Answered b left (anew told h survivors before left s)
+  no_room b told survivors before left full none text_is stands =
+      answered b left (anew told h survivors before left s) none
+      (subst (λ o. IsStep h new text (anew_as told h before left s o)) (sym (ap (λ (z : Limits). made_anew z z.parts survivors (start z)) limits_are ∙ full)) (text_is, stands))
 
   unfit : WouldNotFit l (passes_in scene) l.parts (start l) → made_anew l l.parts (alive_of s.report.manager) (start l) ≡ None
   unfit w =
@@ -244,46 +245,49 @@ module _ (head : Head) (old new : Live) (text : List ℕ) (s : SessionState) (is
       let alive : w.survivors ≡ alive_of s.report.manager = described_so l w.keeper.seen w.survivors w.together.legal w.found ∙ ap alive_of same in
       subst (λ ss. made_anew l l.parts ss (start l) ≡ None) alive w.full
 
-  unrolled_for : (why : RollFault) → IsUnrolledFor l (own_passes scene) (passes_in scene) why → text ≡ line (roll_refused_text why) → StandsLive h new s → Answered (has_desk_open s) (rolled_over h s)
-  unrolled_for faults.NoMemory due text_is stands = failed (has_desk_open s) (rolled_over h s) faults.NoMemory tt (none_at_own due) text_is stands
+  unrolled_for : (why : RollFault) → IsUnrolledFor l (own_passes scene) (passes_in scene) why → text ≡ line (roll_refused_text why) → StandsLive h new s → Answered (has_desk_open s) s (rolled_over h s)
+  unrolled_for faults.NoMemory due text_is stands = failed (has_desk_open s) s (rolled_over h s) faults.NoMemory tt (none_at_own due) text_is stands
   unrolled_for faults.BadLimits due text_is stands = absurd due
   unrolled_for faults.NoPass due text_is stands = absurd due
-  unrolled_for faults.Busy due text_is stands = busy (has_desk_open s) (has_desk_open s) (own_passes scene) (rolled_over h s) refl due own_none text_is stands
-  unrolled_for faults.Full due text_is stands = no_room (has_desk_open s) rolled_text (alive_of s.report.manager) s.works (unfit due.1) (none_at_own due.0) text_is stands
-  unrolled_for faults.Unequal due text_is stands = failed (has_desk_open s) (rolled_over h s) faults.Unequal tt (none_at_own due) text_is stands
+  unrolled_for faults.Busy due text_is stands = busy (has_desk_open s) (has_desk_open s) (own_passes scene) s (rolled_over h s) refl due own_none text_is stands
+  unrolled_for faults.Full due text_is stands = no_room (has_desk_open s) rolled_text (alive_of s.report.manager) s.works s (unfit due.1) (none_at_own due.0) text_is stands
+  unrolled_for faults.Unequal due text_is stands = failed (has_desk_open s) s (rolled_over h s) faults.Unequal tt (none_at_own due) text_is stands
 
-  unrestored_for : (why : RollFault) → IsUnrestoredFor l (survivors_of h) (passes_in scene) why → text ≡ line (roll_refused_text why) → StandsLive h new s → Answered (is_open s) (restored h s)
-  unrestored_for faults.NoMemory due text_is stands = failed (is_open s) (restored h s) faults.NoMemory tt (none_open due) text_is stands
+  unrestored_for : (why : RollFault) → IsUnrestoredFor l (survivors_of h) (passes_in scene) why → text ≡ line (roll_refused_text why) → StandsLive h new (unrestored s) → Answered (is_open s) (unrestored s) (restored h s)
+  unrestored_for faults.NoMemory due text_is stands = failed (is_open s) (unrestored s) (restored h s) faults.NoMemory tt (none_open due) text_is stands
   unrestored_for faults.BadLimits due text_is stands = absurd due
   unrestored_for faults.NoPass due text_is stands = absurd due
-  unrestored_for faults.Busy due text_is stands = busy (is_open s) (is_open s) (passes_in scene) (restored h s) refl due open_none text_is stands
-  unrestored_for faults.Full due text_is stands = no_room (is_open s) restored_text (survivors_of h) (lost_works h.lost 0 s.works) due.1 (none_open due.0) text_is stands
-  unrestored_for faults.Unequal due text_is stands = failed (is_open s) (restored h s) faults.Unequal tt (none_open due) text_is stands
+  unrestored_for faults.Busy due text_is stands = busy (is_open s) (is_open s) (passes_in scene) (unrestored s) (restored h s) refl due open_none text_is stands
+  unrestored_for faults.Full due text_is stands = no_room (is_open s) restored_text (survivors_of h) (lost_works h.lost 0 s.works) (unrestored s) due.1 (none_open due.0) text_is stands
+  unrestored_for faults.Unequal due text_is stands = failed (is_open s) (unrestored s) (restored h s) faults.Unequal tt (none_open due) text_is stands
 
-  unsurveyed_for : (b : Bool) (done : List ℕ × SessionState) (why : RollFault) → IsUnsurveyed why → b ≡ false → text ≡ line (roll_refused_text why) → StandsLive h new s → Answered b done
-  unsurveyed_for b done faults.NoMemory due none text_is stands = failed b done faults.NoMemory tt none text_is stands
+  unsurveyed_for : (b : Bool) (done : List ℕ × SessionState) (why : RollFault) → IsUnsurveyed why → b ≡ false → text ≡ line (roll_refused_text why) → StandsLive h new s → Answered b s done
+  unsurveyed_for b done faults.NoMemory due none text_is stands = failed b s done faults.NoMemory tt none text_is stands
   unsurveyed_for b done faults.BadLimits due none text_is stands = absurd due
   unsurveyed_for b done faults.NoPass due none text_is stands = absurd due
   unsurveyed_for b done faults.Busy due none text_is stands = absurd due
   unsurveyed_for b done faults.Full due none text_is stands = absurd due
-  unsurveyed_for b done faults.Unequal due none text_is stands = failed b done faults.Unequal tt none text_is stands
+  unsurveyed_for b done faults.Unequal due none text_is stands = failed b s done faults.Unequal tt none text_is stands
 
-  stands_on : (is_due : Scene → RollFault → Type 0) → new.works ≡ old.works → RollRefused is_due old.stand text new.stand → StandsLive h new s
-  stands_on is_due works r =
-      let between : Live = record { stand = record { manager = old.stand.manager; keeper = r.keeper; scene = r.between }; works = old.works } in
-      let gathers : LiveGathers between new = record { manager = r.manager; gathered = r.gathered; works = works } in
-      leaves head old s is new text between gathers refl r.looked.passes r.looked.places refl
+  -- all is as it was, but that this is noted
+  stands_on : (is_due : Scene → RollFault → Type 0) (n : NotesView) → new.works ≡ old.works → n ≡ new.notes → RollRefused is_due old.stand text new.stand → StandsLive h new (record s { notes = n })
+  stands_on is_due n works noted r =
+      let between : Live = record { stand = record { manager = old.stand.manager; keeper = r.keeper; scene = r.between }; works = old.works; notes = old.notes } in
+      let same : Live = record new { notes = old.notes } in
+      let gathers : LiveGathers between same = record { manager = r.manager; gathered = r.gathered; works = works; notes = refl } in
+      let stays = leaves head old s is same text between gathers refl r.looked.passes r.looked.places refl refl in
+      record { stands = stays.stands; works = stays.works; notes = noted }
 
   -- ---- what is made anew
 
-  abbrev with_manager : State → List Holding → SessionState
-  with_manager m works = record { report = record s.report { manager = m }; works = works }
+  abbrev with_manager : State → List Holding → NotesView → SessionState
+  with_manager m works notes = record { report = record s.report { manager = m }; works = works; notes = notes }
 
   abbrev m_new : State
   m_new = thread_of new.stand.manager.limits (passes_in next) new.stand.keeper.seen
 
   stands_anew : (m : State) → m ≡ m_new → AreTogether new.stand.manager.limits new.stand.keeper (passes_in next) new.stand.keeper.seen
-      → AreFree (own_passes next) → AllZip BeginsAgain scene.places next.places → StandsLive h new (with_manager m new.works)
+      → AreFree (own_passes next) → AllZip BeginsAgain scene.places next.places → StandsLive h new (with_manager m new.works new.notes)
   stands_anew m same together free again = record {
     stands = record {
       together = together;
@@ -292,6 +296,7 @@ module _ (head : Head) (old new : Live) (text : List ℕ) (s : SessionState) (is
       served = again_served scene.places next.places h.servers again is.stands.served;
     };
     works = refl;
+    notes = refl;
   }
 
   -- what the workers have in hand is computed
@@ -316,16 +321,17 @@ module _ (head : Head) (old new : Live) (text : List ℕ) (s : SessionState) (is
       sym (length-map old.works unit_of)
       ∙ (ap (λ (us : List (Option ℕ)). length us) (sym holds.workers) ∙ length-map scene.racers (λ (p : PassShown). p.open_unit))
 
-  abbrev done_with : (List Renamed → List ℕ) → List Moved → State → List Holding → List ℕ × SessionState
-  done_with told moved m works = (line (told (map renamed moved) <> units_text h.workers works), with_manager m works)
+  abbrev done_with : (List Renamed → List ℕ) → List Moved → State → List Holding → NotesView → List ℕ × SessionState
+  done_with told moved m works notes = (line (told (map renamed moved) <> units_text h.workers works), with_manager m works notes)
 
-  made_so : (told : List Renamed → List ℕ) (survivors : List Survivor) (before : List Holding) (moved : List Moved) (m : State) → made_anew l l.parts survivors (start l) ≡ Some (moved, m) → works_in s moved m before ≡ new.works
-      → text ≡ line (told (map renamed moved) <> units_text h.workers new.works) → StandsLive h new (with_manager m new.works) → IsStep h new text (anew told h survivors before s)
-  made_so told survivors before moved m made works text_is stands =
-      subst (λ o. IsStep h new text (anew_as told h before s o)) (sym (ap (λ (z : Limits). made_anew z z.parts survivors (start z)) limits_are ∙ made))
-      (subst (λ ws. IsStep h new text (done_with told moved m ws)) (sym works) (text_is, stands))
+  made_so : (told : List Renamed → List ℕ) (survivors : List Survivor) (before : List Holding) (left : SessionState) (moved : List Moved) (m : State) → made_anew l l.parts survivors (start l) ≡ Some (moved, m) → works_in s moved m before ≡ new.works → new.notes ≡ notes_in moved old.notes
+      → text ≡ line (told (map renamed moved) <> units_text h.workers new.works) → StandsLive h new (with_manager m new.works new.notes) → IsStep h new text (anew told h survivors before left s)
+  made_so told survivors before left moved m made works notes text_is stands =
+      subst (λ o. IsStep h new text (anew_as told h before left s o)) (sym (ap (λ (z : Limits). made_anew z z.parts survivors (start z)) limits_are ∙ made))
+      (subst (λ ws. IsStep h new text (done_with told moved m ws (notes_in moved s.notes))) (sym works)
+      (subst (λ n. IsStep h new text (done_with told moved m new.works n)) (notes ∙ ap (notes_in moved) (sym is.notes)) (text_is, stands)))
 
-  rolled : RolledLive h old text new → Answered (has_desk_open s) (rolled_over h s)
+  rolled : RolledLive h old text new → Answered (has_desk_open s) s (rolled_over h s)
   rolled t =
       let r = t.rolled in
       let c = r.carries in
@@ -336,29 +342,29 @@ module _ (head : Head) (old new : Live) (text : List ℕ) (s : SessionState) (is
       let stands = stands_anew m m_is r.rolls.new_together r.free r.places in
       let long : length next.racers ≡ length s.works = r.racers ∙ (sym works_long ∙ ap (λ (ws : List Holding). length ws) (sym is.works)) in
       let works = works_so m t.moved s.works m_is r.places long (t.works ∙ ap (lives.works_in new.stand t.moved) (sym is.works)) in
-      answered (has_desk_open s) (rolled_over h s) (none_at_own r.idle)
-      (subst (λ ss. IsStep h new text (anew rolled_text h ss s.works s)) alive (made_so rolled_text c.survivors s.works t.moved m c.made works t.text_is stands))
+      answered (has_desk_open s) s (rolled_over h s) (none_at_own r.idle)
+      (subst (λ ss. IsStep h new text (anew rolled_text h ss s.works s s)) alive (made_so rolled_text c.survivors s.works s t.moved m c.made works t.notes t.text_is stands))
 
-  pub by_rollover : RolloverTold h old text new → Answered (has_desk_open s) (rolled_over h s)
+  pub by_rollover : RolloverTold h old text new → Answered (has_desk_open s) s (rolled_over h s)
   by_rollover t = elim t.told [
     | inl r ↦ rolled r
-    | inr r ↦ unrolled_for r.refused.why r.refused.due r.refused.text_is (stands_on (IsUnrolled l) r.works r.refused)
+    | inr r ↦ unrolled_for r.refused.why r.refused.due r.refused.text_is (stands_on (IsUnrolled l) s.notes r.works (is.notes ∙ sym r.noted) r.refused)
   ]
 
-  again : RestoredLive h old text new → Answered (is_open s) (restored h s)
+  again : RestoredLive h old text new → Answered (is_open s) (unrestored s) (restored h s)
   again t =
       let r = t.restored in
       let made = subst (λ (z : Limits). made_anew z z.parts (survivors_of h) (start z) ≡ Some (t.moved, m_new)) r.limits r.anew in
       let before : List Holding = lost_works h.lost 0 s.works in
       let long : length next.racers ≡ length before = r.racers ∙ (sym works_long ∙ (ap (λ (ws : List Holding). length ws) (sym is.works) ∙ sym (lost_long h.lost 0 s.works))) in
       let works = works_so m_new t.moved before refl r.places long (t.works ∙ ap (λ ws. lives.works_in new.stand t.moved (lost_works h.lost 0 ws)) (sym is.works)) in
-      answered (is_open s) (restored h s) (none_open r.idle)
-      (made_so restored_text (survivors_of h) before t.moved m_new made works t.text_is (stands_anew m_new refl r.restores.together r.free r.places))
+      answered (is_open s) (unrestored s) (restored h s) (none_open r.idle)
+      (made_so restored_text (survivors_of h) before (unrestored s) t.moved m_new made works t.notes t.text_is (stands_anew m_new refl r.restores.together r.free r.places))
 
-  pub by_restore : RestoreTold h old text new → Answered (is_open s) (restored h s)
+  pub by_restore : RestoreTold h old text new → Answered (is_open s) (unrestored s) (restored h s)
   by_restore t = elim t.told [
     | inl r ↦ again r
-    | inr r ↦ unrestored_for r.refused.why r.refused.due r.refused.text_is (stands_on (IsUnrestoredIn l (survivors_of h)) r.works r.refused)
+    | inr r ↦ unrestored_for r.refused.why r.refused.due r.refused.text_is (stands_on (IsUnrestoredIn l (survivors_of h)) (notes_in [] s.notes) r.works (ap (notes_in []) is.notes ∙ sym r.noted) r.refused)
   ]
 
   -- ---- a dump
@@ -366,12 +372,12 @@ module _ (head : Head) (old new : Live) (text : List ℕ) (s : SessionState) (is
   abbrev lines_told : List ℕ × SessionState
   lines_told = (dump_text (dump_of h s), s)
 
-  dumped : (b : Bool) → has_desk_open s ≡ b → DumpComputed b h s text → StandsLive h new s → Answered (has_desk_open s) lines_told
-  dumped true same told stands = (None, tt, with_open (has_desk_open s) true None lines_told same (told, stands))
+  dumped : (b : Bool) → has_desk_open s ≡ b → DumpComputed b h s text → StandsLive h new s → Answered (has_desk_open s) s lines_told
+  dumped true same told stands = (None, tt, with_open (has_desk_open s) true None s lines_told same (told, stands))
   dumped false same told stands = elim told [
-    | inl lines ↦ answered (has_desk_open s) lines_told same (lines, stands)
+    | inl lines ↦ answered (has_desk_open s) s lines_told same (lines, stands)
     | inr why ↦ unsurveyed_for (has_desk_open s) lines_told why.why why.due same why.text_is stands
   ]
 
-  pub by_dump : DumpTold h old text new → Answered (has_desk_open s) lines_told
+  pub by_dump : DumpTold h old text new → Answered (has_desk_open s) s lines_told
   by_dump t = let d = exact_dump head old new text s is t in dumped (has_desk_open s) refl d.0 d.1

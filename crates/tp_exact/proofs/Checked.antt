@@ -1,5 +1,5 @@
 -- Each server of a head that was read has a recipe without a fault.
-use Rattle.std.proofs.Common.{◌≡◌, ℕ, zero, suc, ◌-◌, ◌^◌, Bool, true, false, List, [], ◌∷◌, ◌++◌, All, length, Option, Some, None, Result, Ok, Err, nat_lt, refl, ap, subst}
+use Rattle.std.proofs.Common.{◌≡◌, ℕ, zero, suc, ◌-◌, ◌^◌, Bool, true, false, cond, not, List, [], ◌∷◌, ◌++◌, All, length, Option, Some, None, Result, Ok, Err, nat_lt, refl, ap, subst}
 use Rattle.std.specs.Prelude.{is_ok, replicate, slice_get, slice_set}
 use Rattle.std.proofs.lemmas.List.Elements.{All-append, All-cons, All-head, All-nil, All-set, All-tail}
 use Rattle.tp_server.specs.declared.recipe.BadRecipe.{BadRecipe}
@@ -17,12 +17,17 @@ use Rattle.tp_script.specs.declared.script.TheConstants.{MAX_SERVERS}
 use Rattle.tp_model.specs.declared.types.TheConstants.{MAX_ATTEMPTS, MAX_BLOCKS, MAX_PART_ROWS, MAX_UNITS}
 use Rattle.tp_script.specs.Alive.{AliveWords, alive_at}
 use Rattle.tp_script.specs.Commands.{stage_at}
-use Rattle.tp_script.specs.Grammar.{account_at, act_at, alive_line, dump_at, ends_head, head_keyword, head_words, held_line, in_head, limit_line, lost_line, restore_at, rows_line, setting_at, spare_line, units_line, unless_alive, with_alive, with_lost, worker_line}
+use Rattle.tp_script.specs.Grammar.{account_at, act_at, alive_line, dump_at, ends_head, head_keyword, head_words, held_line, in_head, limit_line, lost_line, restore_at, rows_line, setting_at, spare_line, units_line, unless_waiting, waits_for_restore, with_alive, with_lost, worker_line}
+use Rattle.tp_script.specs.Clients.{ClientWords, client_line, client_words, has_request, known_client, note_of, noted_at, nothing_noted, register_line, request_line, with_client, with_registered, with_request}
+use Rattle.tp_script.specs.Ends.{EndWords, end_of, ended_line, ended_words, unended_worker, with_end}
+use Rattle.tp_script.specs.Notes.{NameView}
+use Rattle.tp_script.specs.declared.notes.ClientNote.{ClientNote}
+use Rattle.tp_script.specs.declared.notes.TheConstants.{MAX_CLIENTS}
 use Rattle.tp_script.specs.Hands.{free_worker, held_of, held_words}
 use Rattle.tp_script.specs.Keyword.{keyword}
 use Rattle.tp_script.specs.LineWords.{◌>>=◌, is_name, known, number_at, one, require, three, two}
 use Rattle.tp_script.specs.Script.{HeadView, ServerView}
-use Rattle.tp_script.specs.ServerLines.{Shape, begin_at, begun, new_name, recipe_at, registers_for, server_at, server_line, shape_at, start_line, with_server}
+use Rattle.tp_script.specs.ServerLines.{Shape, begin_at, begun, free_name, has_client, new_name, recipe_at, registers_for, server_at, server_line, shape_at, start_line, with_server}
 use Rattle.tp_exact.specs.Programs.{IsChecked}
 
 abbrev pub Good : HeadView → Type 0
@@ -87,16 +92,16 @@ checked_for recipe registers is =
     ok_is (check_of recipe) (required (is_ok (check_of recipe)) fault.BadRecipe a.0 a.1)
 
 module _ (ws : List (List ℕ)) (s : HeadView) where
-  abbrev made : Shape → List ℕ → Recipe → List ℕ → ServerView
-  made shape name recipe registers = record { name = name; kind = shape.kind; recipe = recipe; registers = registers }
+  abbrev made : Shape → NameView → Recipe → List ℕ → ServerView
+  made shape name recipe registers = record { name = name.letters; kind = shape.kind; recipe = recipe; registers = registers }
 
-  abbrev of_recipe : Shape → List ℕ → Recipe → Result HeadView LineFault
+  abbrev of_recipe : Shape → NameView → Recipe → Result HeadView LineFault
   of_recipe shape name recipe = registers_for recipe >>= λ registers. Ok (with_server (made shape name recipe registers) s)
 
-  abbrev in_room : Shape → List ℕ → Recipe → Result HeadView LineFault
+  abbrev in_room : Shape → NameView → Recipe → Result HeadView LineFault
   in_room shape name recipe = require (nat_lt (length s.servers) MAX_SERVERS) fault.BadLimits >>= λ u. of_recipe shape name recipe
 
-  abbrev of_name : Shape → List ℕ → Result HeadView LineFault
+  abbrev of_name : Shape → NameView → Result HeadView LineFault
   of_name shape name = recipe_at shape >>= λ recipe. in_room shape name recipe
 
   abbrev of_shape : Shape → Result HeadView LineFault
@@ -158,13 +163,13 @@ module _ (name k v : List ℕ) (s : HeadView) where
 -- ---- workers, and what is alive
 
 module _ (name stage : List ℕ) (h : HeadView) where
-  abbrev with_worker : List ℕ → ℕ → HeadView
-  with_worker fresh place = record h { workers = h.workers ++ record { name = fresh; stage = place } ∷ [] }
+  abbrev with_worker : NameView → ℕ → HeadView
+  with_worker fresh place = record h { workers = h.workers ++ record { name = fresh.letters; stage = place } ∷ [] }
 
-  abbrev worker_room : List ℕ → ℕ → Result HeadView LineFault
+  abbrev worker_room : NameView → ℕ → Result HeadView LineFault
   worker_room fresh place = require (nat_lt (length h.workers) MAX_WORKERS) fault.BadLimits >>= λ u. Ok (with_worker fresh place)
 
-  abbrev of_stage : List ℕ → Result HeadView LineFault
+  abbrev of_stage : NameView → Result HeadView LineFault
   of_stage fresh = stage_at stage >>= λ place. worker_room fresh place
 
   worker_good : (t : HeadView) → worker_line (name, stage) h ≡ Ok t → Good h → Good t
@@ -211,6 +216,68 @@ lost_good name id h t is good =
     of_worker : ℕ → Result HeadView LineFault
     of_worker worker = number_at (2 ^ 32 - 1) id >>= λ element. Ok (with_lost (record { worker = worker; element = element }) h)
 
+-- ---- clients, requests and ends
+
+with_client_good : (note : ClientNote) (h t : HeadView) → with_client note h ≡ Ok t → Good h → Good t
+with_client_good note h t is good =
+    let room = went (require (nat_lt (length h.clients) MAX_CLIENTS) fault.BadLimits) (λ u. Ok with_note) t is in
+    subst Good (went_to with_note t room.2) good
+  where
+    with_note : HeadView
+    with_note = record h { clients = h.clients ++ note ∷ [] }
+
+client_good : (ws : List (List ℕ)) (h t : HeadView) → client_line ws h ≡ Ok t → Good h → Good t
+unfolding client_line
+client_good ws h t is good =
+    let w = went (client_words ws) of_words t is in
+    let name = went (new_name w.0.name h) (of_name w.0) t w.2 in
+    let note = went (note_of name.0 w.0) (λ note. with_client note h) t name.2 in
+    with_client_good note.0 h t note.2 good
+  where
+    of_name : ClientWords → NameView → Result HeadView LineFault
+    of_name w name = note_of name w >>= λ note. with_client note h
+
+    of_words : ClientWords → Result HeadView LineFault
+    of_words w = new_name w.name h >>= λ name. of_name w name
+
+registered_good : (b : Bool) (note : ClientNote) (h t : HeadView) → cond b (Ok h) (with_client note h) ≡ Ok t → Good h → Good t
+registered_good true note h t is good = subst Good (went_to h t is) good
+registered_good false note h t is good = with_client_good note h t is good
+
+register_good : (name : List ℕ) (h t : HeadView) → register_line name h ≡ Ok t → Good h → Good t
+unfolding register_line
+register_good name h t is good =
+    let free = went (free_name name h) (λ free. with_registered free h) t is in
+    registered_good (has_client free.0.letters h) (nothing_noted free.0) h t free.2 good
+
+request_good : (name root : List ℕ) (h t : HeadView) → request_line (name, root) h ≡ Ok t → Good h → Good t
+unfolding request_line
+request_good name root h t is good =
+    let client = went (known_client name h) of_client t is in
+    let number = went (number_at (2 ^ 32 - 1) root) (of_root client.0) t client.2 in
+    let fresh = went (require (not (has_request number.0 h)) fault.BadNumber) (λ u. Ok (with_request (record { root = number.0; client = client.0 }) h)) t number.2 in
+    subst Good (went_to (with_request (record { root = number.0; client = client.0 }) h) t fresh.2) good
+  where
+    of_root : NameView → ℕ → Result HeadView LineFault
+    of_root client number = require (not (has_request number h)) fault.BadNumber >>= λ u. Ok (with_request (record { root = number; client = client }) h)
+
+    of_client : NameView → Result HeadView LineFault
+    of_client client = number_at (2 ^ 32 - 1) root >>= λ number. of_root client number
+
+ended_good : (ws : List (List ℕ)) (h t : HeadView) → ended_line ws h ≡ Ok t → Good h → Good t
+unfolding ended_line
+ended_good ws h t is good =
+    let w = went (ended_words ws) of_words t is in
+    let worker = went (unended_worker w.0.0 h) (of_worker w.0) t w.2 in
+    let how = went (end_of w.0.1) (λ how. Ok (with_end (record { worker = worker.0; end = how }) h)) t worker.2 in
+    subst Good (went_to (with_end (record { worker = worker.0; end = how.0 }) h) t how.2) good
+  where
+    of_worker : List ℕ × EndWords → ℕ → Result HeadView LineFault
+    of_worker w worker = end_of w.1 >>= λ how. Ok (with_end (record { worker = worker; end = how }) h)
+
+    of_words : List ℕ × EndWords → Result HeadView LineFault
+    of_words w = unended_worker w.0 h >>= λ worker. of_worker w worker
+
 -- ---- a line of the head
 
 abbrev Read : Type 0
@@ -238,9 +305,14 @@ keyword_good driver first.Worker ws h t is good = in_good (two ws >>= λ w. work
 keyword_good driver first.Alive ws h t is good = in_good (alive_line ws h) h t is (λ s so. alive_good ws h s so good)
 keyword_good driver first.Held ws h t is good = in_good (held_line ws h) h t is (λ s so. held_good ws h s so good)
 keyword_good driver first.Lost ws h t is good = in_good (two ws >>= λ w. lost_line w h) h t is (λ s so. let a = went (two ws) (λ w. lost_line w h) s so in lost_good a.0.0 a.0.1 h s a.2 good)
-keyword_good driver (first.Do v) ws h t is good = ends_good (unless_alive h.alive h.lost (act_at driver v ws h)) h t is good
-keyword_good driver first.Dump ws h t is good = ends_good (unless_alive h.alive h.lost (dump_at ws)) h t is good
-keyword_good driver first.Account ws h t is good = ends_good (unless_alive h.alive h.lost (account_at ws)) h t is good
+keyword_good driver (first.Do v) ws h t is good = ends_good (unless_waiting (waits_for_restore h) (act_at driver v ws h)) h t is good
+keyword_good driver first.Dump ws h t is good = ends_good (unless_waiting (waits_for_restore h) (dump_at ws)) h t is good
+keyword_good driver first.Account ws h t is good = ends_good (unless_waiting (waits_for_restore h) (account_at ws)) h t is good
+keyword_good driver first.Client ws h t is good = in_good (client_line ws h) h t is (λ s so. client_good ws h s so good)
+keyword_good driver first.Request ws h t is good = in_good (two ws >>= λ w. request_line w h) h t is (λ s so. let a = went (two ws) (λ w. request_line w h) s so in request_good a.0.0 a.0.1 h s a.2 good)
+keyword_good driver first.Ended ws h t is good = in_good (ended_line ws h) h t is (λ s so. ended_good ws h s so good)
+keyword_good driver first.Register ws h t is good = in_good (one ws >>= λ w. register_line w h) h t is (λ s so. let a = went (one ws) (λ w. register_line w h) s so in register_good a.0 h s a.2 good)
+keyword_good driver (first.Noted v) ws h t is good = ends_good (unless_waiting (waits_for_restore h) (noted_at v ws h)) h t is good
 keyword_good driver first.Restore ws h t is good = ends_good (restore_at ws) h t is good
 
 pub words_good : (driver : Driver) (ws : List (List ℕ)) (h : HeadView) (t : HeadView × Option Act) → head_words driver ws h ≡ Ok t → Good h → Good t.0

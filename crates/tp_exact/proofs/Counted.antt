@@ -22,7 +22,7 @@ use Rattle.tp_exact.proofs.Parts.{Went, first_part, idle, last_part, middle, old
 
 -- one read
 module _ (l : Limits) (keeper keeper' : KeeperShown) (olds news : List PassShown) (h h' : List Event) (old new : PassShown) (a : Acts l keeper keeper' olds news h h' client old new) (id : ℕ) where
-  by_read : (r : Result Look Refusal) → Called l (read_steps l) old new → ReadAnswers id l old new r → (r ≡ read_of (thread_of l olds h) id) × (thread_of l news h' ≡ thread_of l olds h)
+  pub by_read : (r : Result Look Refusal) → Called l (read_steps l) old new → ReadAnswers id l old new r → (r ≡ read_of (thread_of l olds h) id) × (thread_of l news h' ≡ thread_of l olds h)
   by_read r f says =
       let law = alone_read id l keeper keeper' olds news h h' (read_steps l) client old new r (whole l keeper keeper' olds news h h' client (read_steps l) old new a f) f.turn says in
       (ap (λ p. p.0) law, ap (λ p. p.1) law)

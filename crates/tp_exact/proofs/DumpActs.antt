@@ -60,8 +60,8 @@ module _ (head : Head) (old : Live) (s : SessionState) (is : StandsLive (head_vi
     same : thread_of l (passes_in new.stand.scene) new.stand.keeper.seen ≡ s.report.manager
     same = (alone_idle l old.stand.keeper new.stand.keeper (passes_in old.stand.scene) (passes_in new.stand.scene) old.stand.keeper.seen new.stand.keeper.seen is.stands.together stay after).1 ∙ sym is.stands.manager
 
-    pub still : AllZip OnlyPass old.stand.scene.places new.stand.scene.places → new.works ≡ old.works → StandsLive h new s
-    still places works =
+    pub still : AllZip OnlyPass old.stand.scene.places new.stand.scene.places → new.works ≡ old.works → new.notes ≡ old.notes → StandsLive h new s
+    still places works notes =
         let apart = looks_apart old.stand.scene.places new.stand.scene.places old.stand.scene.racers new.stand.scene.racers places stay.1 in
         record {
           stands = subst (λ (m : ManagerShown). Stands h.servers m.limits new.stand.keeper new.stand.keeper.seen new.stand.scene s.report) (sym manager) (record {
@@ -71,6 +71,7 @@ module _ (head : Head) (old : Live) (s : SessionState) (is : StandsLive (head_vi
             served = served_all old.stand.scene.places new.stand.scene.places h.servers apart.0 is.stands.served;
           });
           works = is.works ∙ sym works;
+          notes = is.notes ∙ sym notes;
         }
 
   -- all that is alive is computed
@@ -87,19 +88,20 @@ module _ (head : Head) (old : Live) (s : SessionState) (is : StandsLive (head_vi
 
   lines_so : (survivors : List Survivor) → survivors ≡ alive_of s.report.manager → lines_of h old survivors ≡ dump_of h s
   lines_so survivors alive =
-      ap (λ rs. dump_lines h rs (map (λ p. p.is_dropped) old.stand.scene.places) old.works survivors) (registers_are old.stand.scene.places s.report.desks is.stands.desks)
-      ∙ (ap (λ ds. dump_lines h registers_now ds old.works survivors) (dropped_are old.stand.scene.places s.report.desks is.stands.desks)
-      ∙ (ap (λ (ws : List Holding). dump_lines h registers_now dropped_now ws survivors) (sym is.works)
-      ∙ ap (dump_lines h registers_now dropped_now s.works) alive))
+      ap (λ rs. dump_lines h rs (map (λ p. p.is_dropped) old.stand.scene.places) old.works old.notes survivors) (registers_are old.stand.scene.places s.report.desks is.stands.desks)
+      ∙ (ap (λ ds. dump_lines h registers_now ds old.works old.notes survivors) (dropped_are old.stand.scene.places s.report.desks is.stands.desks)
+      ∙ (ap (λ (ws : List Holding). dump_lines h registers_now dropped_now ws old.notes survivors) (sym is.works)
+      ∙ (ap (λ n. dump_lines h registers_now dropped_now s.works n survivors) (sym is.notes)
+      ∙ ap (dump_lines h registers_now dropped_now s.works s.notes) alive)))
 
   module _ (new : Live) (text : List ℕ) (done : Live) (gathers : LiveGathers done new) where
     -- the passes have looked, and then all have gathered
-    pub leaves : done.stand.manager ≡ old.stand.manager → AllZip Stays (passes_in old.stand.scene) (passes_in done.stand.scene) → AllZip OnlyPass old.stand.scene.places done.stand.scene.places → done.works ≡ old.works → StandsLive h new s
-    leaves manager stay places works =
+    pub leaves : done.stand.manager ≡ old.stand.manager → AllZip Stays (passes_in old.stand.scene) (passes_in done.stand.scene) → AllZip OnlyPass old.stand.scene.places done.stand.scene.places → done.works ≡ old.works → done.notes ≡ old.notes → StandsLive h new s
+    leaves manager stay places works notes =
         let g : Gathered done.stand.manager done.stand.keeper new.stand.keeper done.stand.scene new.stand.scene = gathers.gathered in
         let after = subst (λ (m : ManagerShown). AreTogether m.limits new.stand.keeper (passes_in new.stand.scene) new.stand.keeper.seen) manager (together done.stand.manager done.stand.keeper new.stand.keeper done.stand.scene new.stand.scene g) in
         let stays = zip_trans Stays stays_trans (passes_in old.stand.scene) (passes_in done.stand.scene) (passes_in new.stand.scene) stay (each_stays done.stand.manager done.stand.keeper new.stand.keeper done.stand.scene new.stand.scene g) in
-        still new (gathers.manager ∙ manager) after stays (zip_trans OnlyPass only_trans old.stand.scene.places done.stand.scene.places new.stand.scene.places places g.places) (gathers.works ∙ works)
+        still new (gathers.manager ∙ manager) after stays (zip_trans OnlyPass only_trans old.stand.scene.places done.stand.scene.places new.stand.scene.places places g.places) (gathers.works ∙ works) (gathers.notes ∙ notes)
 
     tells_so : (b : Bool) → TellsDump h b old text done → DumpComputed b h s text × StandsLive h new s
     tells_so true t = (t.0, subst (λ (d : Live). LiveGathers d new → StandsLive h new s) (sym t.1) (λ g. at_once g) gathers)
@@ -107,13 +109,13 @@ module _ (head : Head) (old : Live) (s : SessionState) (is : StandsLive (head_vi
         at_once : LiveGathers old new → StandsLive h new s
         at_once g =
             still new g.manager (together old.stand.manager old.stand.keeper new.stand.keeper old.stand.scene new.stand.scene g.gathered)
-            (each_stays old.stand.manager old.stand.keeper new.stand.keeper old.stand.scene new.stand.scene g.gathered) g.gathered.places g.works
+            (each_stays old.stand.manager old.stand.keeper new.stand.keeper old.stand.scene new.stand.scene g.gathered) g.gathered.places g.works g.notes
     tells_so false t = (
       elim t.1 [
         | inl found ↦ inl (found.2 ∙ ap dump_text (lines_so found.0 (alive_so done found.0 t.0 found.1)))
         | inr why ↦ inr why
       ],
-      leaves t.0.manager t.0.looked.passes t.0.looked.places t.0.works,
+      leaves t.0.manager t.0.looked.passes t.0.looked.places t.0.works t.0.notes,
     )
 
 pub exact_dump : ExactDump

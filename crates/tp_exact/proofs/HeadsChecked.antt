@@ -1,6 +1,6 @@
 -- Each server of a session's or a script's head has a recipe without a fault, and no command of a session asks
 -- for a race.
-use Rattle.std.proofs.Common.{◌≡◌, ℕ, ◌+◌, ◌==◌, Bool, true, false, List, [], ◌∷◌, ◌++◌, length, Option, Some, None, Result, Ok, Err, nat_le, nat_lt, refl, sym, ◌∙◌, ap, subst}
+use Rattle.std.proofs.Common.{◌≡◌, ℕ, ◌+◌, ◌-◌, ◌^◌, ◌==◌, Bool, true, false, List, [], ◌∷◌, ◌++◌, length, Option, Some, None, Result, Ok, Err, nat_le, nat_lt, refl, sym, ◌∙◌, ap, subst}
 use Rattle.std.specs.Prelude.{if◌then◌else◌}
 use Rattle.std.proofs.lemmas.List.Elements.{All-nil}
 use Rattle.tp_model.specs.declared.types.TheConstants.{MAX_PASSES}
@@ -17,13 +17,21 @@ use Rattle.tp_script.specs.declared.script.Command.{Command}
 use Rattle.tp_script.specs.declared.source.TheConstants.{MAX_SCRIPT_BYTES}
 use Rattle.tp_script.specs.Alive.{alive_words}
 use Rattle.tp_script.specs.Hands.{held_words}
-use Rattle.tp_script.specs.Commands.{command_at}
+use Rattle.tp_script.specs.Clients.{client_words, forget_at, last_at, last_by, noted_at, receive_at, receive_least, receive_of, register_at, send_of, send_words}
+use Rattle.tp_script.specs.Commands.{SubmitWords, command_at, submit_body}
+use Rattle.tp_script.specs.Ends.{ended_words}
+use Rattle.tp_script.specs.Notes.{NameView}
+use Rattle.tp_script.specs.declared.keyword.NotedVerb.{NotedVerb}
+use Rattle.tp_script.specs.declared.keyword.NotedVerb.TheVariants as verbs
+use Rattle.tp_script.specs.declared.notes.NotedAct.{NotedAct}
+use Rattle.tp_script.specs.declared.notes.NotedAct.TheVariants as asks
 use Rattle.tp_script.specs.Grammar.{act_at, act_by, body_at, body_keyword, body_words, given_by, head_at, head_words, line_words, out_of_order, worker_act, worker_of}
+use Rattle.tp_script.specs.ServerLines.{worker_at}
 use Rattle.tp_script.specs.Keyword.{keyword}
-use Rattle.tp_script.specs.LineWords.{◌>>=◌, known, none, one, require, three, two}
+use Rattle.tp_script.specs.LineWords.{◌>>=◌, known, none, number_at, one, ordinal_at, require, three, two}
 use Rattle.tp_script.specs.Passes.{is_race, racers_of}
 use Rattle.tp_script.specs.Script.{HeadView, ScriptView, passes}
-use Rattle.tp_script.specs.ServerLines.{shape_at}
+use Rattle.tp_script.specs.ServerLines.{free_name, shape_at}
 use Rattle.tp_script.specs.Text.{lines}
 use Rattle.tp_script.specs.Whole.{at_line, behind_account, in_body_words, in_head_words, line_at, lines_from, no_lines, script, with_act, with_said, words_line}
 use Rattle.tp_session.specs.Conversed.{IsCommand}
@@ -69,6 +77,8 @@ module _ (s : ScriptView) (good : Good s.head) where
   said_kept (Some (acts.Worker worker act)) t is = act_kept (acts.Worker worker act) t is
   said_kept (Some acts.Dump) t is = act_kept acts.Dump t is
   said_kept (Some acts.Restore) t is = act_kept acts.Restore t is
+  said_kept (Some (acts.Noted name act)) t is = act_kept (acts.Noted name act) t is
+  said_kept (Some (acts.Last worker)) t is = act_kept (acts.Last worker) t is
 
   behind_kept : (said : Result (Option Act) LineFault) (t : ScriptView) → behind_account said s ≡ Ok t → Kept t
   behind_kept (Ok None) t is = subst Kept (went_to s t is) good
@@ -162,6 +172,76 @@ act_raceless : (v : Verb) (ws : List (List ℕ)) (h : HeadView) (c : Command) �
 unfolding act_at
 act_raceless v ws h c is = by_raceless (worker_of v ws h) v ws h c is
 
+-- ---- what clients of whom notes are kept ask for is no command
+
+abbrev NoCommand : Result Act LineFault → Type 0
+NoCommand r = (c : Command) → r ≡ Ok (acts.Command c) → ⊥
+
+none_then : {X : Type 0} (r : Result X LineFault) (k : X → Result Act LineFault) → ((x : X) → NoCommand (k x)) → NoCommand (r >>= k)
+none_then (Ok x) k so = so x
+none_then (Err e) k so = λ c is. absurd cc
+
+is_noted : (name : NameView) (act : NotedAct) → NoCommand (Ok (acts.Noted name act))
+is_noted name act c is = absurd (other (went_to (acts.Noted name act) (acts.Command c) is))
+  where
+    other : acts.Noted name act ≡ acts.Command c → ⊥
+    other e = cc
+
+is_last : (worker : ℕ) → NoCommand (Ok (acts.Last worker))
+is_last worker c is = absurd (other (went_to (acts.Last worker) (acts.Command c) is))
+  where
+    other : acts.Last worker ≡ acts.Command c → ⊥
+    other e = cc
+
+register_none : (ws : List (List ℕ)) (h : HeadView) → NoCommand (register_at ws h)
+unfolding register_at
+register_none ws h = none_then (one ws) _ (λ w. none_then (free_name w h) _ (λ name. is_noted name asks.Register))
+
+send_none : (w : List ℕ × List ℕ × SubmitWords) (h : HeadView) → NoCommand (send_of w h)
+unfolding send_of
+send_none (name, number, w) h =
+    none_then (free_name name h) _ (λ called. none_then (ordinal_at number) _ (λ n. none_then (number_at 255 w.stage) _ (λ stage. none_then (submit_body w) _ (λ body. is_noted called (asks.Send n stage body)))))
+
+least_none : (w : List ℕ × List ℕ) (h : HeadView) → NoCommand (receive_least w h)
+unfolding receive_least
+least_none (name, number) h = none_then (free_name name h) _ (λ called. none_then (ordinal_at number) _ (λ n. is_noted called (asks.Receive n None)))
+
+of_none : (w : List ℕ × List ℕ × List ℕ) (h : HeadView) → NoCommand (receive_of w h)
+unfolding receive_of
+of_none (name, number, root) h =
+    none_then (free_name name h) _ (λ called. none_then (ordinal_at number) _ (λ n. none_then (number_at (2 ^ 32 - 1) root) _ (λ r. is_noted called (asks.Receive n (Some r)))))
+
+no_syntax : NoCommand (Err fault.Syntax)
+no_syntax c is = absurd cc
+
+receive_none : (ws : List (List ℕ)) (h : HeadView) → NoCommand (receive_at ws h)
+receive_none [] h = no_syntax
+receive_none (name ∷ []) h = no_syntax
+receive_none (name ∷ number ∷ []) h = least_none (name, number) h
+receive_none (name ∷ number ∷ root ∷ []) h = of_none (name, number, root) h
+receive_none (name ∷ number ∷ root ∷ other ∷ ws) h = no_syntax
+
+last_by_none : (o : Option ℕ) (name : List ℕ) (h : HeadView) → NoCommand (last_by o name h)
+last_by_none (Some worker) name h = is_last worker
+last_by_none None name h = none_then (free_name name h) _ (λ free. is_noted free asks.Last)
+
+last_none : (ws : List (List ℕ)) (h : HeadView) → NoCommand (last_at ws h)
+unfolding last_at
+last_none ws h = none_then (one ws) _ (λ name. last_by_none (worker_at name h) name h)
+
+forget_none : (ws : List (List ℕ)) (h : HeadView) → NoCommand (forget_at ws h)
+unfolding forget_at
+forget_none ws h = none_then (one ws) _ (λ w. none_then (free_name w h) _ (λ name. is_noted name asks.Forget))
+
+noted_none : (v : NotedVerb) (ws : List (List ℕ)) (h : HeadView) → NoCommand (noted_at v ws h)
+unfolding noted_at
+noted_none verbs.Send ws h = none_then (send_words ws) _ (λ w. send_none w h)
+noted_none verbs.Receive ws h = receive_none ws h
+noted_none verbs.Last ws h = last_none ws h
+noted_none verbs.Forget ws h = forget_none ws h
+
+-- ---- what any line asks for
+
 keyword_raceless : (k : Keyword) (ws : List (List ℕ)) (h : HeadView) (c : Command) → body_keyword drivers.Session k ws h ≡ Ok (acts.Command c) → is_race c ≡ false
 unfolding body_keyword
 keyword_raceless first.Rows ws h c is = absurd (never_in_order (one ws) (acts.Command c) is)
@@ -174,6 +254,11 @@ keyword_raceless first.Worker ws h c is = absurd (never_in_order (two ws) (acts.
 keyword_raceless first.Alive ws h c is = absurd (never_in_order (alive_words ws) (acts.Command c) is)
 keyword_raceless first.Held ws h c is = absurd (never_in_order (held_words ws) (acts.Command c) is)
 keyword_raceless first.Lost ws h c is = absurd (never_in_order (two ws) (acts.Command c) is)
+keyword_raceless first.Client ws h c is = absurd (never_in_order (client_words ws) (acts.Command c) is)
+keyword_raceless first.Request ws h c is = absurd (never_in_order (two ws) (acts.Command c) is)
+keyword_raceless first.Ended ws h c is = absurd (never_in_order (ended_words ws) (acts.Command c) is)
+keyword_raceless first.Register ws h c is = absurd (register_none ws h c is)
+keyword_raceless (first.Noted v) ws h c is = absurd (noted_none v ws h c is)
 keyword_raceless first.Restore ws h c is = absurd (never_in_order (none ws) (acts.Command c) is)
 keyword_raceless (first.Do v) ws h c is = act_raceless v ws h c is
 keyword_raceless first.Account ws h c is =

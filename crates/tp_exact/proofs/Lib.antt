@@ -24,7 +24,12 @@ pub mod Begins
 pub mod Checked
 pub mod WorkerActs
 pub mod SessionHeads
+pub mod Receives
+pub mod NotedActs
 pub mod SessionLines
+pub mod NotedLines
+pub mod NoteKeeps
+pub mod Repeats
 pub mod Anews
 pub mod SessionActs
 pub mod Sessions

@@ -54,6 +54,8 @@ module _ (h : HeadView) (account : Bool) where
   acts_same (acts.Account ∷ others) s none = absurd cc
   acts_same (acts.Dump ∷ others) s none = absurd cc
   acts_same (acts.Restore ∷ others) s none = absurd cc
+  acts_same (acts.Noted name a ∷ others) s none = absurd cc
+  acts_same (acts.Last at ∷ others) s none = absurd cc
 
   account_same : (asked : Bool) (s : SessionState) → plain.account_line asked (length h.servers) s.report ≡ account_line asked (desks_closed (length h.servers) s)
   account_same true s = refl

@@ -55,6 +55,8 @@ asked_so (acts.Worker worker act) raceless = refl
 asked_so acts.Account raceless = refl
 asked_so acts.Dump raceless = refl
 asked_so acts.Restore raceless = refl
+asked_so (acts.Noted name a) raceless = refl
+asked_so (acts.Last at) raceless = refl
 
 acts_are : (head : Head) (raced : ℕ) (all : List Act) (old last : Live) (text : List ℕ) (s : SessionState) → has_race all ≡ false → StandsLive (head_view head) old s → ActsTold head raced all old text last
     → AreSteps (head_view head) last text (λ refusals. acts_step (head_view head) refusals all s)
@@ -99,6 +101,7 @@ module _ (head : Head) where
         stands = subst (λ (m : ManagerShown). Stands h.servers m.limits new.stand.keeper new.stand.keeper.seen new.stand.scene (with_state s.report (ended_below s.report.manager (length h.servers)))) (sym t.manager)
             (subst (λ n. Stands h.servers l.limits new.stand.keeper new.stand.keeper.seen new.stand.scene (with_state s.report (ended_below s.report.manager n))) (sym long) all);
         works = is.works ∙ sym t.works;
+        notes = is.notes ∙ sym t.notes;
       }
 
   worker_so : (at : ℕ) (old new : Live) (s : SessionState) → StandsLive h old s → WorkerCloses head.workers.items at old new → StandsLive h new (act_step h None (acts.Worker at Abort) s).1
@@ -122,7 +125,7 @@ module _ (head : Head) where
       let steps : ℕ = account_steps m.limits (length (passes_in old.stand.scene)) in
       let after = together_in steps m old.stand.keeper new.stand.keeper old.stand.scene new.stand.scene t.gathered in
       let stay = gathers_in steps m old.stand.keeper new.stand.keeper old.stand.scene new.stand.scene t.gathered in
-      let stands = still head old s is new t.manager after stay t.gathered.places t.works in
+      let stands = still head old s is new t.manager after stay t.gathered.places t.works t.notes in
       let total = exact_account m.limits new.stand.keeper (passes_in new.stand.scene) new.stand.keeper.seen after in
       let same = subst (λ (x : ManagerShown). s.report.manager ≡ thread_of x.limits (passes_in new.stand.scene) new.stand.keeper.seen) t.manager stands.stands.manager in
       (stands, ap (λ (a : Account). a.total) t.account_is ∙ (total ∙ ap counts_of (sym same)))

@@ -10,6 +10,7 @@ use Rattle.tp_session.specs.Live.{Live, TellsBy}
 use Rattle.tp_exact.specs.PlainSession.{SessionState, command_by}
 use Rattle.tp_exact.specs.Sessions.{ExactLine, IsStep, IsUnforeseen, StandsLive}
 use Rattle.tp_exact.proofs.Anews.{by_dump, by_restore, by_rollover}
+use Rattle.tp_exact.proofs.NotedLines.{by_last, by_noted}
 use Rattle.tp_exact.proofs.SessionLines.{by_account, by_command, by_worker}
 
 -- a command, by whether it is a rollover
@@ -25,4 +26,6 @@ exact_line head n (Ok (Some (acts.Worker at act))) old new text s raceless is t 
 exact_line head n (Ok (Some acts.Account)) old new text s raceless is t = (None, tt, by_account head old new text s is t)
 exact_line head n (Ok (Some acts.Dump)) old new text s raceless is t = by_dump head old new text s is t.holds t
 exact_line head n (Ok (Some acts.Restore)) old new text s raceless is t = by_restore head old new text s is t.holds t
+exact_line head n (Ok (Some (acts.Noted name act))) old new text s raceless is t = (None, tt, by_noted head old new text s is name act t)
+exact_line head n (Ok (Some (acts.Last at))) old new text s raceless is t = (None, tt, by_last head old new text s is at t)
 exact_line head n (Ok (Some (acts.Command c))) old new text s raceless is t = command_so head c (is_rollover c) old new text s raceless is t

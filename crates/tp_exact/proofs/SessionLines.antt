@@ -26,6 +26,7 @@ use Rattle.tp_session.specs.Answers.{worker_line}
 use Rattle.tp_session.specs.Live as lives
 use Rattle.tp_session.specs.Hands.{Hand, has_unit}
 use Rattle.tp_session.specs.Live.{AccountTold, CommandTold, Live, TellsAccount, WorkerTold}
+use Rattle.tp_session.specs.Notes.{with_end}
 use Rattle.tp_session.specs.declared.hand.Holding.{Holding}
 use Rattle.tp_session.specs.declared.hand.Holding.TheVariants.{Nothing}
 use Rattle.tp_exact.specs.Acts.{Acts}
@@ -45,12 +46,12 @@ pub either_false : (a b : Bool) → a || b ≡ false → (a ≡ false) × (b ≡
 either_false true b is = absurd cc
 either_false false b is = (refl, is)
 
-got_map : {A B : Type 0} (f : A → B) (xs : List A) (i : ℕ) (x : A) → slice_get xs i ≡ Some x → slice_get (map f xs) i ≡ Some (f x)
+pub got_map : {A B : Type 0} (f : A → B) (xs : List A) (i : ℕ) (x : A) → slice_get xs i ≡ Some x → slice_get (map f xs) i ≡ Some (f x)
 got_map f [] i x is = absurd cc
 got_map f (y ∷ xs) zero x is = let same : y ≡ x = cc in ap (λ z. Some (f z)) same
 got_map f (y ∷ xs) (suc i) x is = got_map f xs i x is
 
-got_or : {A : Type 0} (xs : List A) (i : ℕ) (x d : A) → slice_get xs i ≡ Some x → slice_index_or xs i d ≡ x
+pub got_or : {A : Type 0} (xs : List A) (i : ℕ) (x d : A) → slice_get xs i ≡ Some x → slice_index_or xs i d ≡ x
 got_or [] i x d is = absurd cc
 got_or (y ∷ xs) zero x d is = cc
 got_or (y ∷ xs) (suc i) x d is = got_or xs i x d is
@@ -109,19 +110,20 @@ module _ (head : Head) (old new : Live) (text : List ℕ) (s : SessionState) (is
         record {
           stands = subst (λ (m : ManagerShown). Stands h.servers m.limits new.stand.keeper new.stand.keeper.seen new.stand.scene (command_step h.servers c s.report).1) (sym t.manager) one.1;
           works = is.works ∙ sym t.works;
+          notes = is.notes ∙ sym t.notes;
         },
       )
 
   -- ---- all passes gather behind what a worker or the client did
 
   module _ (middle : Scene) (keeper' : KeeperShown) (next : Scene) (places : middle.places ≡ scene.places) (g : Gathered old.stand.manager old.stand.keeper keeper' middle next) where
-    now_together : AreTogether l keeper' (passes_in next) keeper'.seen
+    pub now_together : AreTogether l keeper' (passes_in next) keeper'.seen
     now_together = together old.stand.manager old.stand.keeper keeper' middle next g
 
-    only : OnlyLooks middle next
+    pub only : OnlyLooks middle next
     only = looks old.stand.manager old.stand.keeper keeper' middle next g
 
-    stands_so : (m : State) → m ≡ thread_of l (passes_in next) keeper'.seen → Stands h.servers l keeper' keeper'.seen next (record s.report { manager = m })
+    pub stands_so : (m : State) → m ≡ thread_of l (passes_in next) keeper'.seen → Stands h.servers l keeper' keeper'.seen next (record s.report { manager = m })
     stands_so m same = record {
       together = now_together;
       manager = same;
@@ -209,6 +211,7 @@ module _ (head : Head) (old new : Live) (text : List ℕ) (s : SessionState) (is
             stands = subst (λ (m : ManagerShown). Stands h.servers m.limits new.stand.keeper new.stand.keeper.seen new.stand.scene (record s.report { manager = done.manager })) (sym manager_same)
                 (stands_so middle new.stand.keeper new.stand.scene refl gathered done.manager (sym so.1));
             works = ap (λ ws. slice_set ws at done.work) is.works ∙ (ap (λ w. slice_set old.works at w) (sym so.2) ∙ sym (t.gathers.works ∙ t.did.works));
+            notes = ap (λ w. with_end w done.answer at s.notes) hand_is ∙ (ap (λ a. with_end before.work a at s.notes) (sym so.0) ∙ (ap (with_end before.work t.answer at) is.notes ∙ sym (t.gathers.notes ∙ t.did.notes)));
           },
         )
 
@@ -247,6 +250,7 @@ module _ (head : Head) (old new : Live) (text : List ℕ) (s : SessionState) (is
       stands = subst (λ (m : ManagerShown). Stands h.servers m.limits new.stand.keeper new.stand.keeper.seen new.stand.scene s.report) (sym (t.gathers.manager ∙ ap (λ (x : Stand). x.manager) t.counts.stand))
           (stands_so counted new.stand.keeper new.stand.scene refl all_gathered s.report.manager (is.stands.manager ∙ sym same));
       works = is.works ∙ sym (t.gathers.works ∙ t.counts.works);
+      notes = is.notes ∙ sym (t.gathers.notes ∙ t.counts.notes);
     }
 
     go : (b : Bool) → is_open s ≡ b → TellsAccount old.stand.manager b scene.client text t.counts.client → Leads (account_line s, s)

@@ -29,6 +29,9 @@ use Rattle.tp_report.specs.Written.{AppendsFront}
 use Rattle.tp_session.specs.Conversed.{CommandLines, IsCommand, LiveBegins, LiveEnds, Session, SessionPart, finals_of, limits_of}
 use Rattle.tp_session.specs.Heard.{HearsFront, heard}
 use Rattle.tp_session.specs.Live.{Live}
+use Rattle.tp_script.specs.declared.notes.UnitEnd.{UnitEnd}
+use Rattle.tp_session.proofs.NoteLists.{ends_alike}
+use Rattle.tp_session.specs.Notes.{NotesView}
 use Rattle.tp_session.specs.declared.hand.Holding.{Holding}
 use Rattle.tp_session.specs.declared.hand.Holding.TheVariants.{Nothing}
 use Rattle.tp_session.specs.Told.{BodyLines, HeadLines, HeadTold, LinesFrom}
@@ -53,6 +56,8 @@ no_race (Ok (Some (acts.Worker worker act))) raceless = refl
 no_race (Ok (Some acts.Account)) raceless = refl
 no_race (Ok (Some acts.Dump)) raceless = refl
 no_race (Ok (Some acts.Restore)) raceless = refl
+no_race (Ok (Some (acts.Noted name a))) raceless = refl
+no_race (Ok (Some (acts.Last at))) raceless = refl
 no_race (Ok (Some (acts.Command c))) raceless = raceless c refl
 
 act_same : (x y : Act) → ◌≡◌ {A = Result (Option Act) LineFault} (Ok (Some x)) (Ok (Some y)) → x ≡ y
@@ -153,6 +158,9 @@ module _ (head : Head) (racers : ℕ) (none : racers ≡ 0) (first : Live) (begi
   together_first : AreTogether l first.stand.keeper (passes_in scene) first.stand.keeper.seen
   together_first = subst (AreTogether l first.stand.keeper (passes_in scene)) (sym begins.new.seen) together_none
 
+  abbrev noted_with : List (Option UnitEnd) → NotesView
+  noted_with es = record { clients = h.clients; requests = h.requests; ends = es }
+
   pub begins_live : StandsLive h first (begin h)
   begins_live = record {
     stands = record {
@@ -162,6 +170,7 @@ module _ (head : Head) (racers : ℕ) (none : racers ≡ 0) (first : Live) (begi
       served = served_first scene.places h.servers begins.recipes checked;
     };
     works = no_works first.works h.workers (omega (arith, begins.each_worker, none)) begins.idle;
+    notes = ap (λ (es : List (Option UnitEnd)). noted_with es) (ends_alike h.ends 0 h.workers first.works (omega (arith, begins.each_worker, none))) ∙ sym begins.notes;
   }
 
 -- ---- the end
@@ -285,6 +294,8 @@ act_unasked h why (acts.Worker at act) s none = refl
 act_unasked h why acts.Account s none = refl
 act_unasked h why acts.Dump s none = absurd cc
 act_unasked h why acts.Restore s none = absurd cc
+act_unasked h why (acts.Noted name a) s none = refl
+act_unasked h why (acts.Last at) s none = refl
 act_unasked h why (acts.Command c) s none = ap (λ b. command_by b h why c s) none ∙ sym (ap (λ b. command_by b h None c s) none)
 
 line_unasked : (h : HeadView) (n : ℕ) (why : Option RollFault) (said : Result (Option Act) LineFault) (s : SessionState) → asks_refusable said ≡ false → line_step h n why said s ≡ line_step h n None said s

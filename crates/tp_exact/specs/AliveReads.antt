@@ -1,5 +1,6 @@
 -- What is read of the `alive`, `held` and `lost` lines that a dump tells.
-use Rattle.std.specs.Prelude.{◌≡◌, ◌<◌, ◌≤◌, ◌+◌, ◌-◌, ◌^◌, IfSome, ℕ, true, false, List, [], ◌∷◌, ◌++◌, None, Some, Ok}
+use Rattle.std.specs.Prelude.{◌≡◌, ◌<◌, ◌≤◌, ◌+◌, ◌-◌, ◌^◌, IfSome, ℕ, true, false, List, [], ◌∷◌, ◌++◌}
+use Rattle.std.specs.Prelude.{None, Some, Ok}
 use Rattle.std.specs.Prelude.{length, map, slice_get}
 use Rattle.tp_model.specs.History.{In}
 use Rattle.tp_model.specs.Steps.{AreLimits}

@@ -1,6 +1,7 @@
 -- What a dump of a live session tells where nobody else acts: the computed lines. And what a restore of these
 -- lines is.
-use Rattle.std.specs.Prelude.{◌≡◌, ◌≤◌, ◌⊎◌, ◌+◌, ◌-◌, ◌++◌, IfSome, ℕ, zero, suc, Bool, true, false, Option, None}
+use Rattle.std.specs.Prelude.{◌≡◌, ◌≤◌, ◌⊎◌, ◌+◌, ◌-◌, ◌++◌, IfSome, ℕ, zero, suc, Bool, true, false}
+use Rattle.std.specs.Prelude.{Option, None}
 use Rattle.std.specs.Prelude.{Some, List, [], ◌∷◌, length, map, slice_get}
 use Rattle.std.specs.Option.{option_map}
 use Rattle.tp_model.specs.History.{In}
@@ -19,7 +20,8 @@ use Rattle.tp_perform.specs.Restore.{Restored}
 use Rattle.tp_perform.specs.Scenes.{Stand}
 use Rattle.tp_session.specs.Dump.{attempts_of, dump_text, holds_one, lost_element}
 use Rattle.tp_session.specs.Live as lives
-use Rattle.tp_session.specs.Live.{DumpTold, FoundAlive, HoldsUnits, Live, RestoredLive, Unsurveyed, survivors_of}
+use Rattle.tp_session.specs.Live.{DumpTold, FoundAlive, HoldsUnits, Live, RestoredLive, Unsurveyed}
+use Rattle.tp_session.specs.Live.{survivors_of}
 use Rattle.tp_session.specs.Live.{works_in}
 use Rattle.tp_session.specs.declared.hand.Holding.{Holding}
 use Rattle.tp_exact.specs.PlainSession.{SessionState, dump_of, has_desk_open}

@@ -5,8 +5,10 @@ pub mod Commands
 pub mod Finals
 pub mod Desks
 pub mod PlainWorkers
+pub mod PlainNotes
 pub mod Alive
 pub mod PlainSession
+pub mod Repeats
 pub mod Sessions
 pub mod PlainScript
 pub mod Programs

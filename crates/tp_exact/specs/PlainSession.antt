@@ -30,16 +30,21 @@ use Rattle.tp_session.specs.Conversed.{limits_of}
 use Rattle.tp_session.specs.Dump.{dump_lines, dump_text}
 use Rattle.tp_session.specs.Hands.{has_unit}
 use Rattle.tp_session.specs.Heard.{heard}
+use Rattle.tp_session.specs.Lasts.{end_at}
 use Rattle.tp_session.specs.Live.{survivors_of}
+use Rattle.tp_session.specs.Notes.{NotesView, notes_in, notes_of, with_end}
+use Rattle.tp_session.specs.NoteTexts.{last_hand}
 use Rattle.tp_session.specs.declared.hand.Holding.{Holding}
 use Rattle.tp_session.specs.declared.hand.Holding.TheVariants.{Nothing}
 use Rattle.tp_exact.specs.Alive.{alive_of}
+use Rattle.tp_exact.specs.PlainNotes.{NotedAnswered, hand_of, noted_does}
 use Rattle.tp_exact.specs.PlainWorkers.{worker_does}
 
--- the manager and the desks, as in a script's run, and what each worker has in hand
+-- the manager and the desks, as in a script's run, what each worker has in hand, and what is noted
 pub record SessionState : Type 0 where
   pub report : ReportState
   pub works : List Holding
+  pub notes : NotesView
 
 -- ---- workers and accounts
 
@@ -52,6 +57,7 @@ worker_step (Some it) act at c s =
       record {
         report = record s.report { manager = done.manager };
         works = slice_set s.works at done.work;
+        notes = with_end (slice_index_or s.works at Nothing) done.answer at s.notes;
       },
     )
 
@@ -85,13 +91,13 @@ abbrev pub other_refusals : Refusals → Refusals
 other_refusals [] = []
 other_refusals (why ∷ others) = others
 
--- With such a unit of work open the answer is that it is, and else the refusal, if it was one: nothing has
--- changed then. Else this is done.
+-- With such a unit of work open the answer is that it is, and else the refusal, if it was one: then this state
+-- is left. Else this is done.
 abbrev pub unless_refused : Bool → Option RollFault → SessionState → List ℕ × SessionState
     → List ℕ × SessionState
-unless_refused true why s done = (line (answer_text answer.Busy), s)
-unless_refused false (Some why) s done = (line (roll_refused_text why), s)
-unless_refused false None s done = done
+unless_refused true why left done = (line (answer_text answer.Busy), left)
+unless_refused false (Some why) left done = (line (roll_refused_text why), left)
+unless_refused false None left done = done
 
 -- What the workers have in hand in this manager, where this was carried over and they had that: each the unit
 -- that its pass has open there.
@@ -101,34 +107,55 @@ works_in s moved manager works = let first = 1 + length s.report.desks in
 
 -- Another manager takes the place of this one, and the line tells what each element is called there and each
 -- unit that a worker has open. The desks keep their registers and have nothing in hand, and the workers had
--- these works in hand before. Where that manager would be full, nothing has changed.
-abbrev pub anew_as : (List Renamed → List ℕ) → HeadView → List Holding → SessionState
+-- these works in hand before. Where that manager would be full, this is left.
+abbrev pub anew_as : (List Renamed → List ℕ) → HeadView → List Holding → SessionState → SessionState
     → Option (List Moved × State) → List ℕ × SessionState
-anew_as told h before s (Some (moved, manager)) =
+anew_as told h before left s (Some (moved, manager)) =
     let works = works_in s moved manager before in (
       line (told (map renamed moved) <> units_text h.workers works),
-      record { report = record s.report { manager = manager }; works = works },
+      record {
+        report = record s.report { manager = manager };
+        works = works;
+        notes = notes_in moved s.notes;
+      },
     )
-anew_as told h before s None = (line (roll_refused_text faults.Full), s)
+anew_as told h before left s None = (line (roll_refused_text faults.Full), left)
 
 -- these elements are made anew in a manager with the same limits
-abbrev pub anew : (List Renamed → List ℕ) → HeadView → List Survivor → List Holding → SessionState
+abbrev pub anew : (List Renamed → List ℕ) → HeadView → List Survivor → List Holding → SessionState → SessionState
     → List ℕ × SessionState
-anew told h survivors before s = let l = s.report.manager.limits in
-    anew_as told h before s (made_anew l l.parts survivors (start l))
+anew told h survivors before left s = let l = s.report.manager.limits in
+    anew_as told h before left s (made_anew l l.parts survivors (start l))
 
 -- a rollover: what the workers have in hand goes on
 abbrev pub rolled_over : HeadView → SessionState → List ℕ × SessionState
-rolled_over h s = anew rolled_text h (alive_of s.report.manager) s.works s
+rolled_over h s = anew rolled_text h (alive_of s.report.manager) s.works s s
+
+-- where a restore is refused no id goes on that the head has noted
+abbrev pub unrestored : SessionState → SessionState
+unrestored s = record s { notes = notes_in [] s.notes }
 
 -- a restore of what the head says is alive, is in hand, or was lost
 abbrev pub restored : HeadView → SessionState → List ℕ × SessionState
-restored h s = anew restored_text h (survivors_of h) (lost_works h.lost 0 s.works) s
+restored h s = anew restored_text h (survivors_of h) (lost_works h.lost 0 s.works) (unrestored s) s
 
 -- the lines that lead to this state
 abbrev pub dump_of : HeadView → SessionState → List (List ℕ)
 dump_of h s = dump_lines h (map (λ d. d.registers) s.report.desks) (map (λ d. d.is_dropped) s.report.desks)
-    s.works (alive_of s.report.manager)
+    s.works s.notes (alive_of s.report.manager)
+
+-- ---- clients of whom notes are kept, and what workers are told of theirs
+
+-- what was done, and what it left
+abbrev pub noted_step : NotedAnswered → SessionState → List ℕ × SessionState
+noted_step done s =
+    (done.text, record s { report = record s.report { manager = done.manager }; notes = done.notes })
+
+-- `last` of the worker at a place
+abbrev pub last_step : Option WorkerView → ℕ → SessionState → List ℕ
+last_step None at s = []
+last_step (Some it) at s =
+    line (last_hand it.name (hand_of (slice_index_or s.works at Nothing) s.report.manager) (end_at s.notes.ends at))
 
 -- ---- each line
 
@@ -145,7 +172,9 @@ act_step h why (acts.Worker at act) s =
     worker_step (slice_get h.workers at) act at (1 + length h.servers + at) s
 act_step h why acts.Account s = (account_line s, s)
 act_step h why acts.Dump s = unless_refused (has_desk_open s) why s (dump_text (dump_of h s), s)
-act_step h why acts.Restore s = unless_refused (is_open s) why s (restored h s)
+act_step h why acts.Restore s = unless_refused (is_open s) why (unrestored s) (restored h s)
+act_step h why (acts.Noted name act) s = noted_step (noted_does name act s.notes s.report.manager) s
+act_step h why (acts.Last at) s = (last_step (slice_get h.workers at) at s, s)
 
 -- a line after the head, which is the n-th of all lines
 abbrev pub line_step : HeadView → ℕ → Option RollFault → Result (Option Act) LineFault → SessionState
@@ -204,6 +233,7 @@ abbrev pub begin : HeadView → SessionState
 begin h = record {
   report = record { manager = start (limits_of h 0); desks = map new_desk h.servers };
   works = map (λ _. Nothing) h.workers;
+  notes = notes_of h h.workers;
 }
 
 -- of what was read of the head: what it was told, the answers to the first command and to the lines after it,

@@ -38,11 +38,13 @@ ExactWorker =
     → let done = worker_does act stage c (thread_of l olds h) old.work in
     (answer ≡ done.answer) × (thread_of l news h' ≡ done.manager) × (new.work ≡ done.work)
 
--- what is there stands for a computed state: its scene does, as a script's, and the workers have the same in hand
+-- what is there stands for a computed state: its scene does, as a script's, the workers have the same in hand, and
+-- the same is noted
 pub record StandsLive (h : HeadView) (live : Live) (s : SessionState) : Type 0 where
   pub stands : Stands h.servers live.stand.manager.limits live.stand.keeper live.stand.keeper.seen
       live.stand.scene s.report
   pub works : s.works ≡ live.works
+  pub notes : s.notes ≡ live.notes
 
 -- A line may be refused so where the lines alone don't say it: `None`, it wasn't; else there was no memory, or
 -- what stood there wasn't what was described.

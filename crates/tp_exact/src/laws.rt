@@ -8,6 +8,7 @@ ghost use Rattle.tp_exact.specs.AliveReads.{LostLinesRead};
 ghost use Rattle.tp_exact.specs.Dumps.{ExactDump, HeldByWorkers, RestoredDump, RestoredHands};
 ghost use Rattle.tp_exact.specs.Finals.{ExactAccount, ExactFinals};
 ghost use Rattle.tp_exact.specs.Programs.{ComputedOfScript, ExactProgram, SamePlain};
+ghost use Rattle.tp_exact.specs.Repeats.{DoneForGood, ReceivesAgain, ReceivesOnce, SendsAgain, SendsOnce};
 ghost use Rattle.tp_exact.specs.Sessions.{ComputedOfBytes, ExactLine, ExactSession, ExactSessionFront};
 ghost use Rattle.tp_exact.specs.Sessions.{ExactWorker};
 
@@ -93,4 +94,15 @@ pub fn exact_program()
     ensures whole { ExactProgram }
     ensures unasked { ComputedOfScript }
     ensures plain { SamePlain }
+{}
+
+/// What a client of whom notes are kept has sent or received stays so, over any lines that don't forget it,
+/// rollovers and restores. A number that was sent submits nothing more, and one that was received takes no other
+/// reply. The last of each, made again, has the same answer.
+pub fn numbered_once()
+    ensures kept { DoneForGood }
+    ensures sends { SendsOnce }
+    ensures receives { ReceivesOnce }
+    ensures sent_again { SendsAgain }
+    ensures received_again { ReceivesAgain }
 {}

@@ -8,7 +8,8 @@ use Rattle.std.specs.Option.{option_map}
 use Rattle.tp_journal.specs.Event.{Event}
 use Rattle.tp_model.specs.declared.types.Refusal.TheVariants as refusals
 use Rattle.tp_report.specs.Answer.{line, refusal_text}
-use Rattle.tp_kept.specs.declared.events.TheConstants.{APPENDED, ASKED, BEGUN, HANDED, MUTED, NUMBERED, RESUMED, ROLLED, SHORTENED, SHOWN, TAKEN, TRIED}
+use Rattle.tp_kept.specs.declared.events.TheConstants.{APPENDED, ASKED, BEGUN, HANDED, MUTED, NUMBERED}
+use Rattle.tp_kept.specs.declared.events.TheConstants.{RESUMED, ROLLED, SHORTENED, SHOWN, TAKEN, TRIED}
 use Rattle.tp_kept.specs.Lines.{begins, opens, own_dump}
 use Rattle.tp_kept.specs.Short.{is_dumped, is_rolled, is_short}
 

@@ -8,4 +8,5 @@ use Rattle.tp_kept.specs.Short.{unquoted}
 -- Of what a dump of these lines is told, these lines are left, each with its end.
 abbrev pub UnquotesDumps : Type 0
 UnquotesDumps =
-    (lines : List (List ℕ)) → length lines < 2 ^ 64 → All IsInLine lines → unquoted (dump_text lines) ≡ flat_map line lines
+    (lines : List (List ℕ)) → length lines < 2 ^ 64 → All IsInLine lines
+    → unquoted (dump_text lines) ≡ flat_map line lines

@@ -1,5 +1,6 @@
 -- Lines as they are put down in a journal, and as they are taken out of it.
-use Rattle.std.specs.Prelude.{◌≡◌, ◌⊎◌, ℕ, Bool, true, false, All, List, [], ◌∷◌, ◌++◌, if◌then◌else◌, ◌==◌, ◌&&◌, nat_lt, length, codes}
+use Rattle.std.specs.Prelude.{◌≡◌, ◌⊎◌, ℕ, Bool, true, false, All, List, [], ◌∷◌, ◌++◌, if◌then◌else◌}
+use Rattle.std.specs.Prelude.{◌==◌, ◌&&◌, nat_lt, length, codes}
 use Rattle.std.specs.List.{list_any, starts_with}
 use Rattle.tp_journal.specs.Text.{IsPlain, is_reserved}
 use Rattle.tp_session.specs.declared.reading.TheConstants.{MAX_KEPT}

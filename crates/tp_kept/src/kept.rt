@@ -4,7 +4,8 @@ ghost use Rattle.std.specs.Prelude.{drop, false, nat_lt, true, vec_len};
 ghost use Rattle.tp_journal.specs.declared.append.TheConstants.{MAX_LEN};
 ghost use Rattle.tp_kept.specs.declared.cause.Cause.TheVariants as Cause;
 ghost use Rattle.tp_kept.specs.Events.{begun, handed, has_appended, has_gone_on, written};
-ghost use Rattle.tp_kept.specs.Events.{has_own, is_due, is_late, is_prompt, is_quiet, is_right, is_sure, taken};
+ghost use Rattle.tp_kept.specs.Events.{has_own, is_due, is_late, is_prompt, is_quiet, is_right, is_sure};
+ghost use Rattle.tp_kept.specs.Events.{taken};
 ghost use Rattle.tp_kept.specs.declared.stage.Stage.TheVariants as Stage;
 ghost use Rattle.tp_session.specs.declared.reading.TheConstants.{MAX_KEPT};
 

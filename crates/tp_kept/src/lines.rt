@@ -1,5 +1,6 @@
 //! Lines as they are put down in a journal, and as they are taken out of it.
-ghost use Rattle.std.specs.Prelude.{◌≡◌, ◌==◌, ◌≤◌, ◌∷◌, ◌++◌, [], All, OnOk, IfOk, position, vec_len, codes, length, nat_lt, ◌&&◌};
+ghost use Rattle.std.specs.Prelude.{◌≡◌, ◌==◌, ◌≤◌, ◌∷◌, ◌++◌, [], All, OnOk, IfOk, position, vec_len};
+ghost use Rattle.std.specs.Prelude.{codes, length, nat_lt, ◌&&◌};
 ghost use Rattle.tp_journal.specs.Text.{IsPlain};
 ghost use Rattle.tp_kept.specs.Lines.{Puts, given_in, is_own, opens, plain_line, put_down, shut};
 ghost use Rattle.tp_session.specs.declared.reading.TheConstants.{MAX_KEPT};

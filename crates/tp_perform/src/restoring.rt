@@ -1,5 +1,6 @@
 //! The act `restore`: what was described stands again in a new manager, and the desks begin anew in it.
-ghost use Rattle.std.specs.Prelude.{◌≡◌, ◌+◌, ◌≤◌, All, IfErr, IfOk, IfSome, OnErr, OnOk, Some, false, length};
+ghost use Rattle.std.specs.Prelude.{◌≡◌, ◌+◌, ◌≤◌, All, IfErr, IfOk, IfSome, OnErr, OnOk, Some, false};
+ghost use Rattle.std.specs.Prelude.{length};
 ghost use Rattle.std.specs.Prelude.{take};
 ghost use Rattle.tp_plain.specs.OneThread.{start};
 ghost use Rattle.tp_alone.specs.Thread.{thread_of};
@@ -75,8 +76,8 @@ fn take_up(
 /// desks begin anew with the same registers. Answers what each element is there, in the order of the
 /// descriptions. It is refused with `Busy` where a unit of work is open, `Full` where the limits have not the
 /// rows or the units, `Unequal` where the descriptions contradict each other or the limits, or the client or a
-/// desk is to hold one, and `NoMemory`. Nothing has changed then, and all passes gather. The passes are the client's, then one for each server, then
-/// others.
+/// desk is to hold one, and `NoMemory`. Nothing has changed then, and all passes gather. The passes are the
+/// client's, then one for each server, then others.
 pub fn restore(
     alloc: Global,
     managed: &mut Managed,

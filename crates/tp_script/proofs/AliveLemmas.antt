@@ -24,7 +24,7 @@ pushed P false before more after is one none = subst P (sym is) none
 -- ---- at most one line of any worker
 
 -- none that passes the test is counted
-none_counted : {A : Type 0} (p : A → Bool) (xs : List A) → list_any p xs ≡ false → count_by p xs ≡ 0
+pub none_counted : {A : Type 0} (p : A → Bool) (xs : List A) → list_any p xs ≡ false → count_by p xs ≡ 0
 none_counted p [] none = refl
 none_counted p (x ∷ xs) none = grind (arith, none_counted p xs)
 

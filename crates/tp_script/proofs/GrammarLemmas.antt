@@ -14,6 +14,9 @@ use Rattle.tp_server.specs.declared.recipe.Output.{Output}
 use Rattle.tp_script.specs.declared.script.ScriptServer.{ScriptServer}
 use Rattle.tp_script.specs.declared.head.AliveLine.{AliveLine}
 use Rattle.tp_script.specs.declared.head.LostLine.{LostLine}
+use Rattle.tp_script.specs.declared.notes.ClientNote.{ClientNote}
+use Rattle.tp_script.specs.declared.notes.EndLine.{EndLine}
+use Rattle.tp_script.specs.declared.notes.RequestNote.{RequestNote}
 use Rattle.std.proofs.Common.{set}
 use Rattle.std.specs.Prelude.{slice_get, option_map}
 use Rattle.std.proofs.lemmas.List.{map-set, set-get_or}
@@ -79,15 +82,15 @@ text_is_ok w (Err e) h text = absurd (h text)
 
 -- ---- a register that begins with a value
 
-pub begins_at : (settings : SettingsView) (items : List ScriptServer) (workers : List WorkerView) (alive : List AliveLine) (lost : List LostLine) (place k v : ℕ) (old new : ScriptServer) (r : Result (Unit {0}) LineError) → place < length items → old ≡ get_or items place old
+pub begins_at : (settings : SettingsView) (items : List ScriptServer) (workers : List WorkerView) (alive : List AliveLine) (lost : List LostLine) (clients : List ClientNote) (requests : List RequestNote) (ends : List EndLine) (place k v : ℕ) (old new : ScriptServer) (r : Result (Unit {0}) LineError) → place < length items → old ≡ get_or items place old
     → Gives (λ _. server_view new) r (begun k v (server_view old))
-    → Gives {X = Unit {0}} {Y = HeadView} (λ _. record { settings = settings; servers = map server_view (set items place new); workers = workers; alive = alive; lost = lost }) r (begin_at place k v (record { settings = settings; servers = map server_view items; workers = workers; alive = alive; lost = lost }))
+    → Gives {X = Unit {0}} {Y = HeadView} (λ _. record { settings = settings; servers = map server_view (set items place new); workers = workers; alive = alive; lost = lost; clients = clients; requests = requests; ends = ends }) r (begin_at place k v (record { settings = settings; servers = map server_view items; workers = workers; alive = alive; lost = lost; clients = clients; requests = requests; ends = ends }))
 unfolding begin_at
-begins_at settings items workers alive lost place k v old new (Ok u) lt at given =
+begins_at settings items workers alive lost clients requests ends place k v old new (Ok u) lt at given =
     let look : slice_get (map server_view items) place ≡ Some (server_view old) = slice_get-map server_view items place ∙ ap (λ (o : Option ScriptServer). option_map server_view o) (slice_get_read items (length items) place old refl lt at) in
     rw (look, given, map-set) refl
-begins_at settings items workers alive lost place k v old new (Err errors.NoMemory) lt at given = tt
-begins_at settings items workers alive lost place k v old new (Err (errors.Fault f)) lt at given =
+begins_at settings items workers alive lost clients requests ends place k v old new (Err errors.NoMemory) lt at given = tt
+begins_at settings items workers alive lost clients requests ends place k v old new (Err (errors.Fault f)) lt at given =
     let look : slice_get (map server_view items) place ≡ Some (server_view old) = slice_get-map server_view items place ∙ ap (λ (o : Option ScriptServer). option_map server_view o) (slice_get_read items (length items) place old refl lt at) in
     rw (look, given) refl
 
@@ -95,8 +98,8 @@ begins_at settings items workers alive lost place k v old new (Err (errors.Fault
 pub servers_kept : (items : List ScriptServer) (place : ℕ) (old new : ScriptServer) → old ≡ get_or items place old → server_view new ≡ server_view old → map server_view (set items place new) ≡ map server_view items
 servers_kept items place old new at same = map-set server_view items place new ∙ ap (λ v. set (map server_view items) place v) same ∙ sym (map-set server_view items place old) ∙ ap (λ (o : ScriptServer). map server_view (set items place o)) at ∙ ap (map server_view) (set-get_or items place old)
 
-pub begins_kept : (settings : SettingsView) (items : List ScriptServer) (workers : List WorkerView) (alive : List AliveLine) (lost : List LostLine) (place : ℕ) (old new : ScriptServer) (r : Result (Unit {0}) LineError) → old ≡ get_or items place old
+pub begins_kept : (settings : SettingsView) (items : List ScriptServer) (workers : List WorkerView) (alive : List AliveLine) (lost : List LostLine) (clients : List ClientNote) (requests : List RequestNote) (ends : List EndLine) (place : ℕ) (old new : ScriptServer) (r : Result (Unit {0}) LineError) → old ≡ get_or items place old
     → OnErr r (server_view new ≡ server_view old)
-    → OnErr r (◌≡◌ {A = HeadView} (record { settings = settings; servers = map server_view (set items place new); workers = workers; alive = alive; lost = lost }) (record { settings = settings; servers = map server_view items; workers = workers; alive = alive; lost = lost }))
-begins_kept settings items workers alive lost place old new (Ok u) at kept = tt
-begins_kept settings items workers alive lost place old new (Err e) at kept = ap (λ (servers : List ServerView). record { settings = settings; servers = servers; workers = workers; alive = alive; lost = lost }) (servers_kept items place old new at kept)
+    → OnErr r (◌≡◌ {A = HeadView} (record { settings = settings; servers = map server_view (set items place new); workers = workers; alive = alive; lost = lost; clients = clients; requests = requests; ends = ends }) (record { settings = settings; servers = map server_view items; workers = workers; alive = alive; lost = lost; clients = clients; requests = requests; ends = ends }))
+begins_kept settings items workers alive lost clients requests ends place old new (Ok u) at kept = tt
+begins_kept settings items workers alive lost clients requests ends place old new (Err e) at kept = ap (λ (servers : List ServerView). record { settings = settings; servers = servers; workers = workers; alive = alive; lost = lost; clients = clients; requests = requests; ends = ends }) (servers_kept items place old new at kept)

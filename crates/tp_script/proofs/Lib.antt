@@ -6,3 +6,4 @@ pub mod LinesLemmas
 pub mod FirstWords
 pub mod DraftLemmas
 pub mod AliveLemmas
+pub mod OnceLemmas

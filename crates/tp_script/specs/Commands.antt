@@ -14,7 +14,7 @@ use Rattle.tp_script.specs.declared.script.DeskAct.TheVariants as desk
 use Rattle.tp_model.specs.declared.types.TheConstants.{MAX_PART_ROWS, MAX_PASSES, MAX_STAGE}
 use Rattle.tp_script.specs.Script.{HeadView}
 use Rattle.tp_script.specs.ServerLines.{server_at}
-use Rattle.tp_script.specs.LineWords.{◌>>=◌, require, none, one, two, number_at, is_name}
+use Rattle.tp_script.specs.LineWords.{◌>>=◌, require, none, one, two, number_at, body_of, is_name}
 
 -- the server of this name
 unfoldable pub named : List ℕ → HeadView → Result ℕ LineFault
@@ -48,15 +48,16 @@ submit_words (stage ∷ key ∷ amount ∷ word_two ∷ word_three ∷ []) =
     Ok (record { stage = stage; key = key; amount = amount; word_two = word_two; word_three = word_three })
 submit_words ws = Err Syntax
 
+-- the body that they say
+abbrev pub submit_body : SubmitWords → Result (List ℕ) LineFault
+submit_body w = body_of (w.key, w.amount, w.word_two, w.word_three)
+
 -- `submit STAGE KEY AMOUNT W2 W3`
 unfoldable pub submit_at : SubmitWords → Result Command LineFault
 submit_at w = do
   stage ← number_at 255 w.stage
-  key ← number_at (2 ^ 64 - 1) w.key
-  amount ← number_at (2 ^ 64 - 1) w.amount
-  word_two ← number_at (2 ^ 64 - 1) w.word_two
-  word_three ← number_at (2 ^ 64 - 1) w.word_three
-  Ok (Client (client.Submit stage (key ∷ amount ∷ word_two ∷ word_three ∷ [])))
+  body ← submit_body w
+  Ok (Client (client.Submit stage body))
 
 -- `take NAME ID`
 unfoldable pub take_at : List ℕ × List ℕ → HeadView → Result Command LineFault

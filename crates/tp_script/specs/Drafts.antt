@@ -1,12 +1,12 @@
 -- The outputs of a worker's commit, as its line says them; what an `alive` line says that an element is, too.
-use Rattle.std.specs.Prelude.{ℕ, ◌-◌, ◌^◌, List, [], ◌∷◌, length, Bool, ◌&&◌, Result, Ok, Err, nat_le}
+use Rattle.std.specs.Prelude.{ℕ, List, [], ◌∷◌, length, Bool, ◌&&◌, Result, Ok, Err, nat_le}
 use Rattle.std.specs.Prelude.{count_by, ◌==◌}
 use Rattle.std.specs.List.{slice_split, list_all}
 use Rattle.tp_model.specs.Drafts.{DraftView}
 use Rattle.tp_model.specs.declared.types.TheConstants.{MAX_OUTPUTS, REPLY_STAGE}
 use Rattle.tp_script.specs.declared.fault.LineFault.{LineFault}
 use Rattle.tp_script.specs.declared.fault.LineFault.TheVariants.{Syntax, BadNumber}
-use Rattle.tp_script.specs.Commands.{SubmitWords, submit_words}
+use Rattle.tp_script.specs.Commands.{SubmitWords, submit_body, submit_words}
 use Rattle.tp_script.specs.LineWords.{◌>>=◌, require, number_at}
 
 -- a draft has two to four colons
@@ -27,11 +27,8 @@ output_stage w = do
 unfoldable pub draft_of : SubmitWords → Result DraftView LineFault
 draft_of w = do
   stage ← output_stage w.stage
-  key ← number_at (2 ^ 64 - 1) w.key
-  amount ← number_at (2 ^ 64 - 1) w.amount
-  word_two ← number_at (2 ^ 64 - 1) w.word_two
-  word_three ← number_at (2 ^ 64 - 1) w.word_three
-  Ok (record { stage = stage; body = key ∷ amount ∷ word_two ∷ word_three ∷ [] })
+  body ← submit_body w
+  Ok (record { stage = stage; body = body })
 
 -- STAGE:W0:W1, with words 2 and 3 of the body after; missing ones are 0
 unfoldable pub draft_at : List ℕ → Result DraftView LineFault

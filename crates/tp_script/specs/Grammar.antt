@@ -1,7 +1,8 @@
 -- What a line says: in the head, and behind it. Scripts and live sessions have the same lines, but for races.
-use Rattle.std.specs.Prelude.{ℕ, ◌-◌, ◌^◌, List, [], ◌∷◌, ◌++◌, length, Bool, true, false, ◌&&◌, Option, Some}
-use Rattle.std.specs.Prelude.{None, Result, Ok, Err, nat_lt, nat_le, ◌==◌, if◌then◌else◌}
-use Rattle.std.specs.List.{list_all}
+use Rattle.std.specs.Prelude.{ℕ, ◌-◌, ◌^◌, List, [], ◌∷◌, ◌++◌, length, Bool, true, false, not, ◌&&◌}
+use Rattle.std.specs.Prelude.{Option, Some}
+use Rattle.std.specs.Prelude.{None, Result, Ok, Err, nat_lt, nat_le, ◌==◌, ◌||◌, is_some, if◌then◌else◌}
+use Rattle.std.specs.List.{list_all, list_any}
 use Rattle.tp_model.specs.declared.types.TheConstants.{MAX_ATTEMPTS, MAX_BLOCKS, MAX_PART_ROWS, MAX_UNITS}
 use Rattle.tp_script.specs.declared.fault.LineFault.{LineFault}
 use Rattle.tp_script.specs.declared.fault.LineFault.TheVariants.{Syntax, BadLimits, BadName, TooLong, Order}
@@ -18,11 +19,15 @@ use Rattle.tp_script.specs.declared.keyword.Keyword.{Keyword}
 use Rattle.tp_script.specs.declared.keyword.Keyword.TheVariants as first
 use Rattle.tp_script.specs.declared.keyword.Verb.{Verb}
 use Rattle.tp_script.specs.declared.keyword.Verb.TheVariants as verb
+use Rattle.tp_script.specs.declared.notes.ClientNote.{ClientNote}
 use Rattle.tp_script.specs.declared.script.Command.{Command}
 use Rattle.tp_script.specs.declared.script.DeskAct.TheVariants as desk
 use Rattle.tp_script.specs.Alive.{alive_at, alive_words}
+use Rattle.tp_script.specs.Clients.{client_line, client_words, noted_at, register_at, register_line}
+use Rattle.tp_script.specs.Clients.{request_line}
 use Rattle.tp_script.specs.Commands.{stage_at, command_at}
 use Rattle.tp_script.specs.Drafts.{draft_words, drafts_at}
+use Rattle.tp_script.specs.Ends.{ended_line, ended_words}
 use Rattle.tp_script.specs.Hands.{free_worker, held_of, held_words}
 use Rattle.tp_script.specs.Keyword.{keyword}
 use Rattle.tp_script.specs.Passes.{is_race}
@@ -87,7 +92,7 @@ worker_line (name, stage) h = do
   fresh ← new_name name h
   place ← stage_at stage
   _ ← require (nat_lt (length h.workers) MAX_WORKERS) BadLimits
-  Ok (record h { workers = h.workers ++ record { name = fresh; stage = place } ∷ [] })
+  Ok (record h { workers = h.workers ++ record { name = fresh.letters; stage = place } ∷ [] })
 
 -- the head with one element more that is alive
 abbrev pub with_alive : AliveLine → HeadView → Result HeadView LineFault
@@ -189,12 +194,23 @@ in_head read = read >>= λ h. Ok (h, None)
 abbrev pub ends_head : HeadView → Result Act LineFault → Result (HeadView × Option Act) LineFault
 ends_head h said = said >>= λ a. Ok (h, Some a)
 
--- Where the head says what is alive or was lost, `restore` alone may be the first command. Another is out of
--- order then, unless it says nothing that a command could.
-abbrev pub unless_alive : List AliveLine → List LostLine → Result Act LineFault → Result Act LineFault
-unless_alive [] [] said = said
-unless_alive alive lost (Err Syntax) = Err Syntax
-unless_alive alive lost said = Err Order
+-- whether a client's note names an element
+abbrev pub names_an_id : ClientNote → Bool
+names_an_id note = is_some note.element || is_some note.reply || is_some note.root
+
+-- whether the head says what `restore` alone brings back: what is alive or was lost, clients' requests and the
+-- elements that their notes name, and how workers' last units ended
+abbrev pub waits_for_restore : HeadView → Bool
+waits_for_restore h =
+    not (length h.alive == 0) || not (length h.lost == 0) || not (length h.requests == 0)
+    || not (length h.ends == 0) || list_any names_an_id h.clients
+
+-- Then `restore` alone may be the first command. Another is out of order, unless it says nothing that a command
+-- could.
+abbrev pub unless_waiting : Bool → Result Act LineFault → Result Act LineFault
+unless_waiting false said = said
+unless_waiting true (Err Syntax) = Err Syntax
+unless_waiting true said = Err Order
 
 -- a line of the head of this first word: what the head is then, and the command that ends it, if it is one
 unfoldable pub head_keyword : Driver → Keyword → List (List ℕ) → HeadView
@@ -209,9 +225,14 @@ head_keyword driver first.Worker ws h = in_head (two ws >>= λ w. worker_line w 
 head_keyword driver first.Alive ws h = in_head (alive_line ws h)
 head_keyword driver first.Held ws h = in_head (held_line ws h)
 head_keyword driver first.Lost ws h = in_head (two ws >>= λ w. lost_line w h)
-head_keyword driver (first.Do v) ws h = ends_head h (unless_alive h.alive h.lost (act_at driver v ws h))
-head_keyword driver first.Dump ws h = ends_head h (unless_alive h.alive h.lost (dump_at ws))
-head_keyword driver first.Account ws h = ends_head h (unless_alive h.alive h.lost (account_at ws))
+head_keyword driver first.Client ws h = in_head (client_line ws h)
+head_keyword driver first.Request ws h = in_head (two ws >>= λ w. request_line w h)
+head_keyword driver first.Ended ws h = in_head (ended_line ws h)
+head_keyword driver first.Register ws h = in_head (one ws >>= λ w. register_line w h)
+head_keyword driver (first.Noted v) ws h = ends_head h (unless_waiting (waits_for_restore h) (noted_at v ws h))
+head_keyword driver (first.Do v) ws h = ends_head h (unless_waiting (waits_for_restore h) (act_at driver v ws h))
+head_keyword driver first.Dump ws h = ends_head h (unless_waiting (waits_for_restore h) (dump_at ws))
+head_keyword driver first.Account ws h = ends_head h (unless_waiting (waits_for_restore h) (account_at ws))
 head_keyword driver first.Restore ws h = ends_head h (restore_at ws)
 
 -- the words of a line of the head
@@ -242,6 +263,11 @@ body_keyword driver first.Worker ws h = out_of_order (two ws)
 body_keyword driver first.Alive ws h = out_of_order (alive_words ws)
 body_keyword driver first.Held ws h = out_of_order (held_words ws)
 body_keyword driver first.Lost ws h = out_of_order (two ws)
+body_keyword driver first.Client ws h = out_of_order (client_words ws)
+body_keyword driver first.Request ws h = out_of_order (two ws)
+body_keyword driver first.Ended ws h = out_of_order (ended_words ws)
+body_keyword driver first.Register ws h = register_at ws h
+body_keyword driver (first.Noted v) ws h = noted_at v ws h
 body_keyword driver first.Restore ws h = out_of_order (none ws)
 body_keyword driver first.Dump ws h = dump_at ws
 body_keyword driver first.Account ws h = account_at ws

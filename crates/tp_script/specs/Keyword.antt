@@ -4,7 +4,9 @@ use Rattle.std.specs.Str.{bytes_eq}
 use Rattle.tp_script.specs.declared.keyword.Keyword.{Keyword}
 use Rattle.tp_script.specs.declared.keyword.Keyword.TheVariants.{Rows, Units, Limit, Spare, Server, Start, Do}
 use Rattle.tp_script.specs.declared.keyword.Keyword.TheVariants.{Worker, Alive, Held, Lost, Restore, Dump}
-use Rattle.tp_script.specs.declared.keyword.Keyword.TheVariants.{Account}
+use Rattle.tp_script.specs.declared.keyword.Keyword.TheVariants.{Account, Client, Request, Ended}
+use Rattle.tp_script.specs.declared.keyword.Keyword.TheVariants.{Register, Noted}
+use Rattle.tp_script.specs.declared.keyword.NotedVerb.TheVariants as noted
 use Rattle.tp_script.specs.declared.keyword.Verb.TheVariants as verb
 use Rattle.tp_script.specs.declared.script.DeskAct.TheVariants as desk
 
@@ -21,6 +23,14 @@ first_words =
     ∷ (codes "alive", Alive)
     ∷ (codes "held", Held)
     ∷ (codes "lost", Lost)
+    ∷ (codes "client", Client)
+    ∷ (codes "request", Request)
+    ∷ (codes "ended", Ended)
+    ∷ (codes "register", Register)
+    ∷ (codes "send", Noted noted.Send)
+    ∷ (codes "receive", Noted noted.Receive)
+    ∷ (codes "last", Noted noted.Last)
+    ∷ (codes "forget", Noted noted.Forget)
     ∷ (codes "submit", Do verb.Submit)
     ∷ (codes "turn", Do (verb.Desk desk.Turn))
     ∷ (codes "reply", Do verb.Reply)

@@ -6,13 +6,17 @@ pub mod Passes
 pub mod Ranges
 pub mod Rounds
 pub mod Holders
+pub mod Once
 pub mod Script
 pub mod LineWords
+pub mod Notes
 pub mod ServerLines
 pub mod Commands
 pub mod Drafts
 pub mod Alive
 pub mod Hands
+pub mod Clients
+pub mod Ends
 pub mod Grammar
 pub mod Whole
 pub mod Reading

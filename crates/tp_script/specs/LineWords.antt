@@ -52,9 +52,40 @@ abbrev pub three : List (List ℕ) → Result (List ℕ × List ℕ × List ℕ)
 three (a ∷ b ∷ c ∷ []) = Ok (a, b, c)
 three ws = Err Syntax
 
+-- the four words after the first
+abbrev pub four : List (List ℕ) → Result (List ℕ × List ℕ × List ℕ × List ℕ) LineFault
+four (a ∷ b ∷ c ∷ d ∷ []) = Ok (a, b, c, d)
+four ws = Err Syntax
+
 -- a number word, up to a bound
 abbrev pub number_at : ℕ → List ℕ → Result ℕ LineFault
 number_at most w = known (number most w) BadNumber
+
+-- a number word that counts from 1
+unfoldable pub ordinal_at : List ℕ → Result ℕ LineFault
+ordinal_at w = do
+  n ← number_at (2 ^ 64 - 1) w
+  _ ← require (nat_le 1 n) BadNumber
+  Ok n
+
+-- an id, or `gone`
+unfoldable pub id_or_gone : List ℕ → Result (Option ℕ) LineFault
+id_or_gone w = if bytes_eq w (codes "gone") then Ok None else do
+  id ← number_at (2 ^ 32 - 1) w
+  Ok (Some id)
+
+-- the four words of a body
+unfoldable pub body_of : List ℕ × List ℕ × List ℕ × List ℕ → Result (List ℕ) LineFault
+body_of (key, amount, word_two, word_three) = do
+  key ← number_at (2 ^ 64 - 1) key
+  amount ← number_at (2 ^ 64 - 1) amount
+  word_two ← number_at (2 ^ 64 - 1) word_two
+  word_three ← number_at (2 ^ 64 - 1) word_three
+  Ok (key ∷ amount ∷ word_two ∷ word_three ∷ [])
+
+-- W0:W1:W2:W3
+unfoldable pub body_at : List ℕ → Result (List ℕ) LineFault
+body_at w = four (slice_split (λ b. b == 58) w) >>= λ ws. body_of ws
 
 -- a name is 1 to 8 small letters
 abbrev pub is_name : List ℕ → Bool

@@ -6,6 +6,9 @@ use Rattle.tp_script.specs.declared.head.AliveLine.{AliveLine}
 use Rattle.tp_script.specs.declared.head.Head.{Head}
 use Rattle.tp_script.specs.declared.head.LostLine.{LostLine}
 use Rattle.tp_script.specs.declared.head.WorkerLine.{WorkerLine}
+use Rattle.tp_script.specs.declared.notes.ClientNote.{ClientNote}
+use Rattle.tp_script.specs.declared.notes.EndLine.{EndLine}
+use Rattle.tp_script.specs.declared.notes.RequestNote.{RequestNote}
 use Rattle.tp_script.specs.declared.script.Kind.{Kind}
 use Rattle.tp_script.specs.declared.script.Settings.{Settings}
 use Rattle.tp_script.specs.declared.script.ScriptServer.{ScriptServer}
@@ -31,13 +34,17 @@ pub record WorkerView : Type 0 where
   pub name : List ℕ
   pub stage : ℕ
 
--- the lines before the first command: settings, servers, workers, what is alive, and what was lost
+-- the lines before the first command: settings, servers, workers, what is alive, what was lost, and what is
+-- noted of clients and workers
 pub record HeadView : Type 0 where
   pub settings : SettingsView
   pub servers : List ServerView
   pub workers : List WorkerView
   pub alive : List AliveLine
   pub lost : List LostLine
+  pub clients : List ClientNote
+  pub requests : List RequestNote
+  pub ends : List EndLine
 
 -- a whole script: its head, what its commands ask for, and whether it asks for the closing account
 pub record ScriptView : Type 0 where
@@ -53,6 +60,9 @@ no_head = record {
   workers = [];
   alive = [];
   lost = [];
+  clients = [];
+  requests = [];
+  ends = [];
 }
 
 -- how many passes a script needs: the client's, one for each server and each worker, and those of its races
@@ -84,6 +94,9 @@ head_view h = record {
   workers = map worker_view h.workers.items;
   alive = h.alive.items;
   lost = h.lost.items;
+  clients = h.clients.items;
+  requests = h.requests.items;
+  ends = h.ends.items;
 }
 
 -- what a script shows

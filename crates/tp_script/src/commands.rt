@@ -1,8 +1,9 @@
 //! The command lines.
 ghost use Rattle.std.specs.Prelude.{◌<◌, ◌≤◌, ℕ, map, vec_len, IfOk};
 ghost use Rattle.tp_model.specs.declared.types.TheConstants.{MAX_STAGE};
-ghost use Rattle.tp_script.specs.Commands.{named, one_server, one_id, submit_words, submit_at, take_at};
-ghost use Rattle.tp_script.specs.Commands.{balance_at, race_words, stage_at, race_at, drain_at, command_at};
+ghost use Rattle.tp_script.specs.Commands.{named, one_server, one_id, submit_at, submit_body, submit_words};
+ghost use Rattle.tp_script.specs.Commands.{balance_at, command_at, drain_at, race_at, race_words};
+ghost use Rattle.tp_script.specs.Commands.{stage_at, take_at};
 ghost use Rattle.tp_script.specs.Ranges.{IsInRange};
 ghost use Rattle.tp_script.specs.Reading.{Gives, submit_view, race_view};
 ghost use Rattle.tp_script.specs.Script.{head_view};
@@ -10,9 +11,9 @@ ghost use Rattle.tp_script.specs.Script.{head_view};
 use crate::fault::{LineError, LineFault};
 use crate::head::Head;
 use crate::keyword::Verb;
-use crate::line_words::{is, is_name, none, number_at, one, two};
+use crate::line_words::{body_of, is, is_name, none, number_at, one, two};
 use crate::script::{ClientAct, Command, DeskAct, Race};
-use tp_model::types::{MAX_PART_ROWS, MAX_PASSES, MAX_STAGE};
+use tp_model::types::{Body, MAX_PART_ROWS, MAX_PASSES, MAX_STAGE};
 
 // The one word, an id.
 #[tactic(auto, unfolding(crate::specs::Commands::one_id))]
@@ -52,6 +53,15 @@ pub(crate) fn submit_words<'a>(words: &[&'a [u8]]) -> Result<SubmitWords<'a>, Li
     })
 }
 
+impl SubmitWords<'_> {
+    /// The body that they say.
+    pub(crate) fn body(self) -> Result<Body, LineError>
+        ensures { Gives (λ body. body) result (submit_body (submit_view self.entry)) }
+    {
+        body_of((self.key, self.amount, self.word_two, self.word_three))
+    }
+}
+
 // `submit STAGE KEY AMOUNT W2 W3`
 #[tactic(auto, unfolding(crate::specs::Commands::submit_at))]
 fn submit_at(words: SubmitWords<'_>) -> Result<Command, LineError>
@@ -59,12 +69,7 @@ fn submit_at(words: SubmitWords<'_>) -> Result<Command, LineError>
     ensures in_range { IfOk result (λ c. (servers : ℕ) → IsInRange servers c) }
 {
     let stage = number_at(words.stage, 255)? as u8;
-    let body = [
-        number_at(words.key, u64::MAX)?,
-        number_at(words.amount, u64::MAX)?,
-        number_at(words.word_two, u64::MAX)?,
-        number_at(words.word_three, u64::MAX)?,
-    ];
+    let body = words.body()?;
     Ok(Command::Client(ClientAct::Submit { stage, body }))
 }
 

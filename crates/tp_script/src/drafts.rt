@@ -14,8 +14,8 @@ use arrayvec::ArrayVec;
 use std::alloc::Global;
 use tp_model::types::{Draft, MAX_OUTPUTS, REPLY_STAGE};
 
-// How many colons a word has.
-fn colons(word: &[u8]) -> usize
+/// How many colons a word has.
+pub(crate) fn colons(word: &[u8]) -> usize
     ensures { result ≡ colons word.now }
 {
     word.iter().filter(|byte| **byte == b':').count()
@@ -69,12 +69,7 @@ fn draft_of(words: SubmitWords<'_>) -> Result<Draft, LineError>
     ensures { Gives (λ d. d) result (draft_of (submit_view words.entry)) }
 {
     let stage = output_stage(words.stage)?;
-    let body = [
-        number_at(words.key, u64::MAX)?,
-        number_at(words.amount, u64::MAX)?,
-        number_at(words.word_two, u64::MAX)?,
-        number_at(words.word_three, u64::MAX)?,
-    ];
+    let body = words.body()?;
     match Draft::new(stage, body) {
         Some(draft) => Ok(draft),
         None => unreachable!(),

@@ -24,23 +24,25 @@ pub enum ReadFault {
 /// What is wrong with a line. Of several faults the first in this order counts: 6, 1, 7, 5, 2, 3, 4.
 #[derive(Clone, Copy, Debug, PartialEq, Eq)]
 pub enum LineFault {
-    /// 1: an unknown first word, kind or act, a wrong number of words, a byte that isn't allowed, an output
-    /// without exactly two colons, or a draft without two to four.
+    /// 1: an unknown first word, kind, act or ending, a wrong number of words, a byte that isn't allowed, an
+    /// output without exactly two colons, a draft without two to four, or a body without three.
     Syntax,
-    /// 2: a number word that isn't 1 to 20 digits, or outside its bounds.
+    /// 2: a number word that isn't 1 to 20 digits, or outside its bounds, or a second `request` line of one
+    /// root.
     BadNumber,
-    /// 3: a setting outside its range, too many servers, workers or elements that are alive, or a race with
-    /// which too many passes are needed.
+    /// 3: a setting outside its range, too many servers, workers, clients or elements that are alive, or a
+    /// race with which too many passes are needed.
     BadLimits,
     /// 4: a recipe that is refused, or a `start` of a register that the server doesn't have.
     BadRecipe,
-    /// 5: a name that isn't 1 to 8 small letters, that another server or worker has, or that none has, a
-    /// command that workers don't have, or a second `held` or `lost` line of one worker.
+    /// 5: a name that isn't 1 to 8 small letters, that another server, worker or client has, or that none
+    /// has, a command that workers don't have, or a second line of one client, or of what one worker has in
+    /// hand, or of how its last unit ended.
     BadName,
     /// 6: a line above 208 bytes, or a script above 65,536 bytes.
     TooLong,
     /// 7: a setting after a server, a line of the head or `restore` after a command, another first command
-    /// than `restore` after an `alive`, `held` or `lost` line, or in a script that is no session a line of
+    /// than `restore` where the head says what that brings back, or in a script that is no session a line of
     /// any kind after `account`.
     Order,
 }

@@ -1,14 +1,14 @@
 //! What a line says: in the head, and behind it. Scripts and live sessions have the same lines, but for races.
 ghost use Rattle.std.specs.Prelude.{◌≡◌, ◌≤◌, ◌&&◌, None, Result, Some, map, nat_le, vec_len, ℕ, IfOk, IfSome};
 ghost use Rattle.std.specs.Prelude.{OnErr};
-ghost use Rattle.std.specs.List.{list_all};
+ghost use Rattle.std.specs.List.{list_all, list_any};
 ghost use Rattle.tp_script.specs.declared.fault.LineFault.{LineFault};
 ghost use Rattle.tp_script.specs.declared.fault.LineFault.TheVariants.{Syntax};
 ghost use Rattle.tp_script.specs.declared.head.Act.{Act};
 ghost use Rattle.tp_script.specs.Grammar.{account_at, act_at, body_at, body_keyword, body_words, dump_at, given_by};
 ghost use Rattle.tp_script.specs.Grammar.{head_at, head_keyword, head_words, is_comment, limit_line, line_words};
 ghost use Rattle.tp_script.specs.Grammar.{out_of_order, restore_at, rows_line, setting_at, spare_line, units_line};
-ghost use Rattle.tp_script.specs.Grammar.{unless_alive};
+ghost use Rattle.tp_script.specs.Grammar.{names_an_id, unless_waiting, waits_for_restore};
 ghost use Rattle.tp_script.specs.Keyword.{keyword};
 ghost use Rattle.tp_script.specs.LineWords.{known, one};
 ghost use Rattle.tp_script.specs.Ranges.{IsActInRange, IsActOf, IsInRange};
@@ -16,6 +16,8 @@ ghost use Rattle.tp_script.specs.Reading.{Gives, GivesHead};
 ghost use Rattle.tp_script.specs.Script.{head_view};
 
 use crate::alive::alive_words;
+use crate::clients::client_words;
+use crate::ends::ended_words;
 use crate::fault::{LineError, LineFault};
 use crate::hands::held_words;
 use crate::head::{Act, Driver, Head};
@@ -213,17 +215,34 @@ impl Head {
         }
     }
 
-    // The first command, unless it is `restore`: out of order where the head says what is alive or was lost.
+    // Whether a client's note names an element.
+    fn has_id(&self) -> bool
+        ensures { result ≡ list_any names_an_id self.now.clients.items }
+    {
+        self.clients.iter().any(|note| note.names_an_id())
+    }
+
+    // Whether the head says what `restore` alone brings back.
+    fn waits_for_restore(&self) -> bool
+        ensures { result ≡ waits_for_restore (head_view self.now) }
+    {
+        !self.alive.is_empty()
+            || !self.lost.is_empty()
+            || !self.requests.is_empty()
+            || !self.ends.is_empty()
+            || self.has_id()
+    }
+
+    // The first command, unless it is `restore`: out of order where the head waits for that.
     fn first_command(&self, driver: Driver, read: Result<Act, LineError>) -> Result<Act, LineError>
         ensures gives { (said : Result Act LineFault) → Gives (λ a. a) read said
-            → Gives (λ a. a) result
-            (unless_alive (head_view self.now).alive (head_view self.now).lost said) }
+            → Gives (λ a. a) result (unless_waiting (waits_for_restore (head_view self.now)) said) }
         ensures in_range { IfOk read (λ a.
             IsActOf driver (vec_len self.now.servers) (vec_len self.now.workers) a)
             → IfOk result (λ a.
             IsActOf driver (vec_len self.now.servers) (vec_len self.now.workers) a) }
     {
-        if self.alive.is_empty() && self.lost.is_empty() {
+        if !self.waits_for_restore() {
             return read;
         }
         match read {
@@ -261,6 +280,14 @@ impl Head {
             Keyword::Alive => self.alive_line(alloc, words)?,
             Keyword::Held => self.held_line(alloc, words)?,
             Keyword::Lost => self.lost_line(two(words)?)?,
+            Keyword::Client => self.client_line(alloc, words)?,
+            Keyword::Request => self.request_line(two(words)?)?,
+            Keyword::Ended => self.ended_line(words)?,
+            Keyword::Register => self.register_line(one(words)?)?,
+            Keyword::Noted(verb) => {
+                let act = self.first_command(driver, self.noted_at(verb, words))?;
+                return Ok(Some(act));
+            }
             Keyword::Do(verb) => {
                 let act = self.first_command(driver, self.act_at(alloc, driver, verb, words))?;
                 return Ok(Some(act));
@@ -362,6 +389,20 @@ impl Head {
                 two(words)?;
                 Err(LineFault::Order.into())
             }
+            Keyword::Client => {
+                client_words(words)?;
+                Err(LineFault::Order.into())
+            }
+            Keyword::Request => {
+                two(words)?;
+                Err(LineFault::Order.into())
+            }
+            Keyword::Ended => {
+                ended_words(words)?;
+                Err(LineFault::Order.into())
+            }
+            Keyword::Register => self.register_at(words),
+            Keyword::Noted(verb) => self.noted_at(verb, words),
             Keyword::Restore => {
                 none(words)?;
                 Err(LineFault::Order.into())

@@ -1,11 +1,14 @@
 //! The head of a script or a session, and what the lines behind it ask for.
-ghost use Rattle.std.specs.Prelude.{◌≡◌, ◌≤◌, vec_len};
+ghost use Rattle.std.specs.Prelude.{◌≡◌, ◌<◌, ◌≤◌, vec_len};
 ghost use Rattle.std.specs.List.{All};
 ghost use Rattle.tp_script.specs.Holders.{IsHeldBy, IsLostBy, IsOneEach};
+ghost use Rattle.tp_script.specs.Once.{IsOfOne, IsOnce, is_end_of, is_note_of, is_request_of};
 ghost use Rattle.tp_script.specs.Rounds.{IsAliveInRange};
 ghost use Rattle.tp_script.specs.declared.head.TheConstants.{MAX_ALIVE, MAX_WORKERS};
+ghost use Rattle.tp_script.specs.declared.notes.TheConstants.{MAX_CLIENTS};
 ghost use Rattle.tp_script.specs.declared.script.TheConstants.{MAX_SERVERS};
 
+use crate::notes::{ClientNote, EndLine, MAX_CLIENTS, Name, NotedAct, RequestNote};
 use crate::script::{Command, MAX_SERVERS, ScriptServer, Settings};
 use arrayvec::ArrayVec;
 use std::alloc::Global;
@@ -96,6 +99,10 @@ pub enum Act {
     Dump,
     /// What the head says is alive again, in hand again, or lost still. It is the first command.
     Restore,
+    /// The client of this name does this, and it is noted.
+    Noted { name: Name, act: NotedAct },
+    /// What a worker has in hand is reported, and how its last unit of work ended.
+    Last { worker: usize },
 }
 
 impl Act {
@@ -122,7 +129,8 @@ impl Act {
     }
 }
 
-/// The lines before the first command: settings, servers, workers, what is alive, and what was lost.
+/// The lines before the first command: settings, servers, workers, what is alive, what was lost, and what is
+/// noted of clients and workers.
 #[derive(Drop)]
 pub struct Head {
     /// The limits that they set.
@@ -136,9 +144,21 @@ pub struct Head {
     pub alive: Vec<AliveLine>,
     /// What was lost, in the order of the lines. None of these workers has anything in hand.
     pub lost: Vec<LostLine>,
+    /// The clients of whom notes are kept, in the order of their lines, each once.
+    pub clients: Vec<ClientNote>,
+    /// Their requests, in the order of the lines. No two have the same root.
+    pub requests: Vec<RequestNote>,
+    /// How workers' last units of work ended, in the order of the lines, each worker's once.
+    pub ends: Vec<EndLine>,
     ghost few_servers: { vec_len servers ≤ MAX_SERVERS },
     ghost few: { vec_len workers ≤ MAX_WORKERS },
     ghost few_alive: { vec_len alive ≤ MAX_ALIVE },
+    ghost few_clients: { vec_len clients ≤ MAX_CLIENTS },
+    ghost one_note: { IsOnce is_note_of clients.items },
+    ghost one_request: { IsOnce is_request_of requests.items },
+    ghost of_clients: { All (IsOfOne clients.items) requests.items },
+    ghost ended_by: { All (λ line. line.worker < vec_len workers) ends.items },
+    ghost one_end: { IsOnce is_end_of ends.items },
     ghost alive_in_range: { All IsAliveInRange alive.items },
     ghost held_by: { All (IsHeldBy (vec_len workers)) alive.items },
     ghost lost_by: { All (IsLostBy (vec_len workers)) lost.items },
@@ -163,6 +183,9 @@ impl Head {
             workers: Vec::new(alloc),
             alive: Vec::new(alloc),
             lost: Vec::new(alloc),
+            clients: Vec::new(alloc),
+            requests: Vec::new(alloc),
+            ends: Vec::new(alloc),
         }
     }
 }

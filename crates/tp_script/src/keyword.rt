@@ -21,6 +21,16 @@ pub enum Keyword {
     Held,
     /// The line says that a worker's unit of work was lost.
     Lost,
+    /// The line says what is noted of a client.
+    Client,
+    /// The line says that a root is a client's request.
+    Request,
+    /// The line says how a worker's last unit of work ended.
+    Ended,
+    /// The line asks that notes be kept of a client, in the head and behind it.
+    Register,
+    /// The line is a command of a client of whom notes are kept.
+    Noted(NotedVerb),
     /// The line is a command.
     Do(Verb),
     /// The line asks that what the head says be alive again.
@@ -55,8 +65,17 @@ pub enum Verb {
     Rollover,
 }
 
+/// What a command of a client of whom notes are kept is, by its first word.
+#[derive(Clone, Copy)]
+pub enum NotedVerb {
+    Send,
+    Receive,
+    Last,
+    Forget,
+}
+
 /// The first words that lines may have: how each is written, and what the line is.
-const FIRST_WORDS: [(&str, Keyword); 37] = [
+const FIRST_WORDS: [(&str, Keyword); 45] = [
     ("rows", Keyword::Rows),
     ("units", Keyword::Units),
     ("limit", Keyword::Limit),
@@ -67,6 +86,14 @@ const FIRST_WORDS: [(&str, Keyword); 37] = [
     ("alive", Keyword::Alive),
     ("held", Keyword::Held),
     ("lost", Keyword::Lost),
+    ("client", Keyword::Client),
+    ("request", Keyword::Request),
+    ("ended", Keyword::Ended),
+    ("register", Keyword::Register),
+    ("send", Keyword::Noted(NotedVerb::Send)),
+    ("receive", Keyword::Noted(NotedVerb::Receive)),
+    ("last", Keyword::Noted(NotedVerb::Last)),
+    ("forget", Keyword::Noted(NotedVerb::Forget)),
     ("submit", Keyword::Do(Verb::Submit)),
     ("turn", Keyword::Do(Verb::Desk(DeskAct::Turn))),
     ("reply", Keyword::Do(Verb::Reply)),

@@ -2,14 +2,18 @@
 #![tactic(auto)]
 
 mod alive;
+mod clients;
 mod commands;
 mod drafts;
+mod ends;
 mod fault;
 mod grammar;
 mod hands;
 mod head;
 mod keyword;
 mod line_words;
+mod noted;
+mod notes;
 mod parse;
 mod script;
 mod servers;
@@ -22,6 +26,7 @@ pub use fault::{LineError, LineFault, ReadFault, Refused};
 pub use head::{
     Act, AliveLine, Driver, Head, LostLine, MAX_ALIVE, MAX_WORKERS, WorkerAct, WorkerLine,
 };
+pub use notes::{ClientNote, EndLine, MAX_CLIENTS, Name, NotedAct, RequestNote, UnitEnd};
 pub use parse::read_script;
 pub use script::{ClientAct, Command, DeskAct, Kind, MAX_SERVERS, Race, ScriptServer, Settings};
 pub use source::{BytesSource, Failed, MAX_READS, MAX_SCRIPT_BYTES, Source, StdSource, read_all};

@@ -6,13 +6,15 @@ ghost use Rattle.std.specs.Str.{bytes_eq};
 ghost use Rattle.tp_script.specs.Reading.{Gives};
 ghost use Rattle.tp_script.specs.LineWords.{none, one, two, three, number_at, is_name, kind_at, act_named};
 ghost use Rattle.tp_script.specs.LineWords.{place_at, act_words, act_at, key_at, amount_at, is_output};
-ghost use Rattle.tp_script.specs.LineWords.{output_at, outputs_at};
+ghost use Rattle.tp_script.specs.LineWords.{body_at, body_of, four, id_or_gone, ordinal_at, output_at};
+ghost use Rattle.tp_script.specs.LineWords.{outputs_at};
 
 use crate::fault::{LineError, LineFault};
 use crate::script::Kind;
 use crate::text::{number, parts};
 use arrayvec::ArrayVec;
 use std::alloc::Global;
+use tp_model::types::Body;
 use tp_server::{Act, AmountFrom, KeyFrom, Output};
 
 /// No word of a line after the first.
@@ -55,6 +57,16 @@ pub(crate) fn three<'a>(words: &[&'a [u8]]) -> Result<(&'a [u8], &'a [u8], &'a [
     }
 }
 
+// The four words of a line after the first.
+fn four<'a>(words: &[&'a [u8]]) -> Result<(&'a [u8], &'a [u8], &'a [u8], &'a [u8]), LineError>
+    ensures { Gives (λ x. (x.0.now, x.1.now, x.2.now, x.3.now)) result (four (map (λ x. x.now) words.now)) }
+{
+    match words {
+        [a, b, c, d] => Ok((*a, *b, *c, *d)),
+        _ => Err(LineFault::Syntax.into()),
+    }
+}
+
 /// The number of a word, up to a bound.
 pub(crate) fn number_at(word: &[u8], most: u64) -> Result<u64, LineError>
     ensures gives { Gives (λ n. n) result (number_at most word.now) }
@@ -64,6 +76,53 @@ pub(crate) fn number_at(word: &[u8], most: u64) -> Result<u64, LineError>
         Some(n) => Ok(n),
         None => Err(LineFault::BadNumber.into()),
     }
+}
+
+/// The number of a word, which counts from 1.
+#[tactic(auto, unfolding(crate::specs::LineWords::ordinal_at))]
+pub(crate) fn ordinal_at(word: &[u8]) -> Result<u64, LineError>
+    ensures { Gives (λ n. n) result (ordinal_at word.now) }
+{
+    let n = number_at(word, u64::MAX)?;
+    if n < 1 {
+        return Err(LineFault::BadNumber.into());
+    }
+    Ok(n)
+}
+
+/// An id, or `gone`.
+#[tactic(auto, unfolding(crate::specs::LineWords::id_or_gone))]
+pub(crate) fn id_or_gone(word: &[u8]) -> Result<Option<u32>, LineError>
+    ensures { Gives (λ id. id) result (id_or_gone word.now) }
+{
+    if is(word, "gone") {
+        Ok(None)
+    } else {
+        Ok(Some(number_at(word, u64::from(u32::MAX))? as u32))
+    }
+}
+
+/// The four words of a body.
+#[tactic(auto, unfolding(crate::specs::LineWords::body_of))]
+pub(crate) fn body_of(words: (&[u8], &[u8], &[u8], &[u8])) -> Result<Body, LineError>
+    ensures { Gives (λ body. body) result (body_of
+        (words.entry.0.now, words.entry.1.now, words.entry.2.now, words.entry.3.now)) }
+{
+    Ok([
+        number_at(words.0, u64::MAX)?,
+        number_at(words.1, u64::MAX)?,
+        number_at(words.2, u64::MAX)?,
+        number_at(words.3, u64::MAX)?,
+    ])
+}
+
+/// `W0:W1:W2:W3`, a whole body.
+#[tactic(auto, unfolding(crate::specs::LineWords::body_at))]
+pub(crate) fn body_at(alloc: Global, word: &[u8]) -> Result<Body, LineError>
+    ensures { Gives (λ body. body) result (body_at word.now) }
+{
+    let parts = parts(alloc, word, b':')?;
+    body_of(four(parts.as_slice())?)
 }
 
 /// A name as text.

@@ -1,17 +1,19 @@
 //! The lines that make servers.
 ghost use Rattle.tp_model.specs.declared.types.TheConstants.{MAX_OUTPUTS};
 ghost use Rattle.std.specs.Prelude.{◌≡◌, ◌≤◌, ◌<◌, map, length, IfOk, IfSome, OnErr, OnOk, position, vec_len};
-ghost use Rattle.std.specs.Prelude.{string_bytes, replicate, Ok, is_ok};
+ghost use Rattle.std.specs.Prelude.{string_bytes, replicate, false, Ok, is_ok};
 ghost use Rattle.std.specs.Str.{bytes_eq};
 ghost use Rattle.tp_server.specs.Check.{check_of};
 ghost use Rattle.tp_script.specs.Reading.{Gives, GivesHead, shape_view};
 ghost use Rattle.tp_script.specs.Script.{head_view, server_view};
-ghost use Rattle.tp_script.specs.ServerLines.{server_at, shape_at, new_name, recipe_at, registers_for};
+ghost use Rattle.tp_script.specs.ServerLines.{free_name, has_client, new_name, server_at, shape_at};
+ghost use Rattle.tp_script.specs.ServerLines.{recipe_at, registers_for};
 ghost use Rattle.tp_script.specs.ServerLines.{server_line, begun, begin_at, start_line};
 
 use crate::fault::{LineError, LineFault};
 use crate::head::Head;
-use crate::line_words::{act_at, all_outputs, is_name, kind_at, name_text, number_at, outputs_at};
+use crate::line_words::{act_at, all_outputs, is_name, kind_at, number_at, outputs_at};
+use crate::notes::Name;
 use crate::script::{Kind, MAX_SERVERS, ScriptServer};
 use std::alloc::Global;
 use std::string::String;
@@ -123,10 +125,11 @@ impl Head {
         }
     }
 
-    /// A name that no server and no worker has yet.
-    #[tactic(auto, unfolding(crate::specs::ServerLines::new_name))]
-    pub(crate) fn new_name(&self, alloc: Global, name: &[u8]) -> Result<String, LineError>
-        ensures { Gives (λ x. string_bytes x) result (new_name name.now (head_view self.now)) }
+    /// A name that no server and no worker has.
+    #[tactic(auto, unfolding(crate::specs::ServerLines::free_name))]
+    pub(crate) fn free_name(&self, name: &[u8]) -> Result<Name, LineError>
+        ensures gives { Gives (λ x. x) result (free_name name.now (head_view self.now)) }
+        ensures same { IfOk result (λ x. x.letters ≡ name.now) }
     {
         if !is_name(name) || self.place(name).is_some() {
             return Err(LineFault::BadName.into());
@@ -134,7 +137,20 @@ impl Head {
         if self.worker_at(name).is_some() {
             return Err(LineFault::BadName.into());
         }
-        Ok(String::from_str(alloc, name_text(name))?)
+        Ok(Name::of(name))
+    }
+
+    /// A name that no client has either.
+    #[tactic(auto, unfolding(crate::specs::ServerLines::new_name))]
+    pub(crate) fn new_name(&self, name: &[u8]) -> Result<Name, LineError>
+        ensures gives { Gives (λ x. x) result (new_name name.now (head_view self.now)) }
+        ensures fresh { IfOk result (λ x. has_client x.letters (head_view self.now) ≡ false) }
+    {
+        let free = self.free_name(name)?;
+        if self.has_client(name) {
+            return Err(LineFault::BadName.into());
+        }
+        Ok(free)
     }
 
     /// `server NAME KIND STAGE REGISTERS ACT OUT..`
@@ -145,7 +161,8 @@ impl Head {
         ensures kept { OnErr result (head_view self.new ≡ head_view self.old) }
     {
         let shape = shape_at(alloc, words)?;
-        let name = self.new_name(alloc, shape.name)?;
+        let name = self.new_name(shape.name)?;
+        let name = String::from_str(alloc, name.as_str())?;
         let recipe = recipe_at(alloc, &shape)?;
         if self.servers.len() >= MAX_SERVERS {
             return Err(LineFault::BadLimits.into());

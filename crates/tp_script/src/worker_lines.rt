@@ -126,7 +126,8 @@ impl Head {
             (worker_line (words.entry.0.now, words.entry.1.now) (head_view self.old)) }
         ensures kept { OnErr result (head_view self.new ≡ head_view self.old) }
     {
-        let name = self.new_name(alloc, words.0)?;
+        let name = self.new_name(words.0)?;
+        let name = String::from_str(alloc, name.as_str())?;
         let stage = stage_at(words.1)?;
         if self.workers.len() >= MAX_WORKERS {
             return Err(LineFault::BadLimits.into());

@@ -1,5 +1,5 @@
 -- What an act leaves: what holds of what is held, and what is there.
-use Rattle.std.proofs.Common.{◌≡◌, ◌∙◌, ℕ, ◌+◌, ◌≤◌, ◌<◌, ◌||◌, Bool, List, All, Option, Some, None, refl, sym, ap, subst, arith, length, map, is_some, slice_set, slice_get, get_or, take, drop, ◌++◌}
+use Rattle.std.proofs.Common.{◌≡◌, ◌∙◌, ℕ, ◌+◌, ◌≤◌, ◌<◌, ◌||◌, Bool, List, All, Option, Some, refl, sym, ap, subst, arith, length, map, is_some, slice_set, slice_get, get_or, take, drop, ◌++◌}
 use Rattle.std.specs.List.{list_any}
 use Rattle.std.specs.declared.alloc.Global.{Global}
 use Rattle.std.specs.declared.dyn_box.DynBox.{DynBox}
@@ -25,11 +25,19 @@ use Rattle.tp_perform.proofs.Gatherings.{gathered, held_gathered, ready_gathered
 use Rattle.tp_session.specs.declared.hand.Holding.{Holding}
 use Rattle.tp_session.specs.declared.hand.Holding.TheVariants.{Nothing}
 use Rattle.tp_session.specs.Hands.{IsHand, WorkerDoes, hand, unit_of, has_unit}
-use Rattle.tp_session.specs.Live.{ClientCounts, CommandTold, IsHeld, Leads, LiveGathers, RolloverTold, TellsAccount, WorkerDid, is_open}
+use Rattle.tp_report.specs.Answer.{line}
+use Rattle.tp_script.specs.Notes.{NameView}
+use Rattle.tp_script.specs.declared.notes.NotedAct.{NotedAct}
+use Rattle.tp_session.specs.Clients.{NotedDoes, noting}
+use Rattle.tp_session.specs.Lasts.{HandRead, end_at}
+use Rattle.tp_session.specs.NoteTexts.{last_hand}
+use Rattle.std.specs.Prelude.{string_bytes}
+use Rattle.tp_session.specs.Live.{ClientCounts, CommandTold, IsHeld, IsLive, LastDid, Leads, LiveGathers, NotedDid, TellsAccount, WorkerDid, is_open}
 use Rattle.tp_session.specs.declared.hand.WorkerAnswer.{WorkerAnswer}
+use Rattle.tp_session.specs.Notes.{NotesView, notes_view, with_end}
 use Rattle.tp_session.specs.declared.held.Held.{Held}
 use Rattle.tp_session.proofs.LiveLemmas.{is_live, live_of, live_there}
-use Rattle.tp_session.proofs.OpenLemmas.{live_open, live_units}
+use Rattle.tp_session.proofs.OpenLemmas.{live_open}
 use Rattle.tp_session.proofs.PassLemmas.{client_first, held_first, held_set, racers_are, ready_first, ready_set, numbered_set, scene_first, scene_set, worker_there}
 
 -- what is written back as a slice is what was lent
@@ -85,14 +93,14 @@ module _ {X : Type 0} {F : X → Type 0} (behaviour : DynBox X Global F → Beha
 
   -- ---- a command
 
-  pub command_leads : (head : Head) (c : Command) (raced : ℕ) (old new : Held X F) (text : List ℕ) → new.managed.manager ≡ old.managed.manager → new.works.items ≡ old.works.items
+  pub command_leads : (head : Head) (c : Command) (raced : ℕ) (old new : Held X F) (text : List ℕ) → new.managed.manager ≡ old.managed.manager → new.works.items ≡ old.works.items → new.notes ≡ old.notes
       → (a : Scene) × (b : Scene) × IsAt old a × PerformsAll old.managed.manager (head_view head) c raced old.managed.keeper a text new.managed.keeper b × IsAt new b
       → Leads behaviour registers pending (λ x y. CommandTold (head_view head) c raced x text y) old new
-  command_leads head c raced old new text same works t = record {
+  command_leads head c raced old new text same works notes t = record {
     before = live_of behaviour registers pending old t.0;
     after = live_of behaviour registers pending new t.1;
     was = is_live behaviour registers pending old t.0 t.2;
-    leads = record { performs = t.3; manager = same; works = works };
+    leads = record { performs = t.3; manager = same; works = works; notes = ap notes_view notes };
     is = is_live behaviour registers pending new t.1 t.4;
   }
 
@@ -107,9 +115,9 @@ module _ {X : Type 0} {F : X → Type 0} (behaviour : DynBox X Global F → Beha
     pub gather_in_hand : units_held (length old.servers.items) qs ≡ map unit_of old.works.items
     gather_in_hand = held_gathered behaviour registers pending old.managed.manager old.managed.keeper keeper' old.managed.passes.items qs old.servers.items old.places.items held.ready gathers all given own (length old.servers.items) ∙ held.in_hand
 
-    pub gather_leads : (new : Held X F) → new.managed.manager ≡ old.managed.manager → new.managed.keeper ≡ keeper' → new.managed.passes.items ≡ qs → new.servers.items ≡ old.servers.items → new.places.items ≡ old.places.items → new.works.items ≡ old.works.items
+    pub gather_leads : (new : Held X F) → new.managed.manager ≡ old.managed.manager → new.managed.keeper ≡ keeper' → new.managed.passes.items ≡ qs → new.servers.items ≡ old.servers.items → new.places.items ≡ old.places.items → new.works.items ≡ old.works.items → new.notes ≡ old.notes
         → Leads behaviour registers pending LiveGathers old new
-    gather_leads new manager keeper passes servers places works =
+    gather_leads new manager keeper passes servers places works notes =
         let l = live_there behaviour registers pending head old held in
         let b = gathered behaviour registers pending old.managed.manager old.managed.keeper keeper' old.managed.passes.items qs old.servers.items old.places.items held.ready gathers all given own l.0.stand.scene l.1.scene in
         let at : IsAt new b.0 = subst (λ ps. IsScene behaviour registers pending ps new.servers.items new.places.items b.0) (sym passes)
@@ -122,6 +130,7 @@ module _ {X : Type 0} {F : X → Type 0} (behaviour : DynBox X Global F → Beha
             manager = manager ∙ sym l.1.manager;
             gathered = rw (l.1.manager, l.1.keeper, keeper) b.1;
             works = works ∙ sym l.1.works;
+            notes = ap notes_view notes ∙ sym l.1.notes;
           };
           is = is_live behaviour registers pending new b.0 at;
         }
@@ -157,16 +166,16 @@ module _ {X : Type 0} {F : X → Type 0} (behaviour : DynBox X Global F → Beha
         (ap (λ ss. units_held (length ss) new.managed.passes.items) servers ∙ (ap (units_held (length old.servers.items)) passes
         ∙ (held_set behaviour registers pending (length old.servers.items) w at p work old.managed.passes.items old.works.items at_is some is.held held.in_hand ∙ ap (map unit_of) (sym works))))
 
-    pub worker_leads : (it : WorkerLine) (act : WorkerAct) (answer : WorkerAnswer) (d : PassShown) (e : Holding) → d ≡ get_or old.managed.passes.items at d → e ≡ get_or old.works.items w e
+    pub worker_leads : (answer : WorkerAnswer) (e : Holding) → notes_view new.notes ≡ with_end e answer w (notes_view old.notes) → (it : WorkerLine) (act : WorkerAct) (d : PassShown) → d ≡ get_or old.managed.passes.items at d → e ≡ get_or old.works.items w e
         → WorkerDoes old.managed.manager.limits it.stage act (hand d e) answer (hand p work)
         → Leads behaviour registers pending (λ a b. WorkerDid it act w a answer b) old new
-    worker_leads it act answer d e d_is e_is does =
+    worker_leads answer e notes it act d d_is e_is does =
         let l = live_there behaviour registers pending head old held in
         let s = l.0.stand.scene in
         let racers = racers_are behaviour registers pending old.managed.passes.items old.servers.items old.places.items s l.1.scene in
         record {
           before = l.0;
-          after = record { stand = record l.0.stand { scene = record s { racers = slice_set s.racers w p } }; works = slice_set l.0.works w work };
+          after = record { stand = record l.0.stand { scene = record s { racers = slice_set s.racers w p } }; works = slice_set l.0.works w work; notes = with_end e answer w l.0.notes };
           was = l.1;
           leads = record {
             before = hand d e;
@@ -176,6 +185,7 @@ module _ {X : Type 0} {F : X → Type 0} (behaviour : DynBox X Global F → Beha
             does = subst (λ (m : ManagerShown). WorkerDoes m.limits it.stage act (hand d e) answer (hand p work)) (sym l.1.manager) does;
             stand = refl;
             works = refl;
+            notes = refl;
           };
           is = record {
             manager = l.1.manager ∙ sym manager;
@@ -185,6 +195,7 @@ module _ {X : Type 0} {F : X → Type 0} (behaviour : DynBox X Global F → Beha
                 (subst (λ os. IsScene behaviour registers pending (slice_set old.managed.passes.items at p) old.servers.items os (record s { racers = slice_set s.racers w p })) (sym places)
                 (scene_set behaviour registers pending old.managed.manager w p old.servers.items old.places.items at old.managed.passes.items s at_is l.1.scene)));
             works = ap (λ ws. slice_set ws w work) l.1.works ∙ sym works;
+            notes = ap (with_end e answer w) l.1.notes ∙ sym notes;
           };
         }
 
@@ -208,16 +219,16 @@ module _ {X : Type 0} {F : X → Type 0} (behaviour : DynBox X Global F → Beha
         (ap (λ ss. units_held (length ss) new.managed.passes.items) servers ∙ (ap (units_held (length old.servers.items)) passes
         ∙ (held_first behaviour registers pending (length old.servers.items) p old.managed.passes.items ∙ (held.in_hand ∙ ap (map unit_of) (sym works)))))
 
-    pub client_leads : (text : List ℕ) (b : Bool) (d : PassShown) → b ≡ (list_any has_unit old.works.items || list_any (λ o. is_some (work_in o.aside)) old.places.items) → d ≡ get_or old.managed.passes.items 0 d → TellsAccount old.managed.manager b d text p
+    pub client_leads : new.notes ≡ old.notes → (text : List ℕ) (b : Bool) (d : PassShown) → b ≡ (list_any has_unit old.works.items || list_any (λ o. is_some (work_in o.aside)) old.places.items) → d ≡ get_or old.managed.passes.items 0 d → TellsAccount old.managed.manager b d text p
         → Leads behaviour registers pending (λ a b. ClientCounts a text b) old new
-    client_leads text b d b_is d_is tells =
+    client_leads notes text b d b_is d_is tells =
         let l = live_there behaviour registers pending head old held in
         let s = l.0.stand.scene in
         let first = client_first behaviour registers pending old.managed.passes.items old.servers.items old.places.items s l.1.scene d in
         let counted = live_open behaviour registers pending head old l.0 held l.1 in
         record {
           before = l.0;
-          after = record { stand = record l.0.stand { scene = record s { client = p } }; works = l.0.works };
+          after = record { stand = record l.0.stand { scene = record s { client = p } }; works = l.0.works; notes = l.0.notes };
           was = l.1;
           leads = record {
             client = p;
@@ -225,6 +236,7 @@ module _ {X : Type 0} {F : X → Type 0} (behaviour : DynBox X Global F → Beha
                 (subst (λ x. TellsAccount old.managed.manager x s.client text p) (b_is ∙ counted) (subst (λ x. TellsAccount old.managed.manager b x text p) (d_is ∙ first) tells));
             stand = refl;
             works = refl;
+            notes = refl;
           };
           is = record {
             manager = l.1.manager ∙ sym manager;
@@ -234,5 +246,68 @@ module _ {X : Type 0} {F : X → Type 0} (behaviour : DynBox X Global F → Beha
                 (subst (λ os. IsScene behaviour registers pending (slice_set old.managed.passes.items 0 p) old.servers.items os (record s { client = p })) (sym places)
                 (scene_first behaviour registers pending old.managed.manager p old.servers.items old.places.items old.managed.passes.items s l.1.scene)));
             works = l.1.works ∙ sym works;
+            notes = l.1.notes ∙ sym (ap notes_view notes);
           };
+        }
+
+    -- what is there after, of this scene and what is noted
+    client_there : (n : NotesView) (s : Scene) → notes_view new.notes ≡ n → IsScene behaviour registers pending old.managed.passes.items old.servers.items old.places.items s
+        → IsLive behaviour registers pending new (record { stand = record { manager = old.managed.manager; keeper = old.managed.keeper; scene = record s { client = p } }; works = old.works.items; notes = n })
+    client_there n s noted is = record {
+      manager = sym manager;
+      keeper = sym keeper;
+      scene = subst (λ ps. IsScene behaviour registers pending ps new.servers.items new.places.items (record s { client = p })) (sym passes)
+          (subst (λ ss. IsScene behaviour registers pending (slice_set old.managed.passes.items 0 p) ss new.places.items (record s { client = p })) (sym servers)
+          (subst (λ os. IsScene behaviour registers pending (slice_set old.managed.passes.items 0 p) old.servers.items os (record s { client = p })) (sym places)
+          (scene_first behaviour registers pending old.managed.manager p old.servers.items old.places.items old.managed.passes.items s is)));
+      works = sym works;
+      notes = sym noted;
+    }
+
+    scene_now : (s : Scene) × IsScene behaviour registers pending old.managed.passes.items old.servers.items old.places.items s
+    scene_now = let l = live_there behaviour registers pending head old held in (l.0.stand.scene, l.1.scene)
+
+    -- the pass did that for a client of whom notes are kept
+    pub client_noted : (name : NameView) (act : NotedAct) (text : List ℕ) (d : PassShown) → d ≡ get_or old.managed.passes.items 0 d
+        → NotedDoes old.managed.manager.limits name act (noting d (notes_view old.notes)) text (noting p (notes_view new.notes))
+        → Leads behaviour registers pending (λ a b. NotedDid name act a text b) old new
+    client_noted name act text d d_is does =
+        let s = scene_now in
+        record {
+          before = live_of behaviour registers pending old s.0;
+          after = record { stand = record { manager = old.managed.manager; keeper = old.managed.keeper; scene = record s.0 { client = p } }; works = old.works.items; notes = notes_view new.notes };
+          was = is_live behaviour registers pending old s.0 s.1;
+          leads = record {
+            client = p;
+            does = subst (λ x. NotedDoes old.managed.manager.limits name act (noting x (notes_view old.notes)) text (noting p (notes_view new.notes))) (d_is ∙ client_first behaviour registers pending old.managed.passes.items old.servers.items old.places.items s.0 s.1 d) does;
+            stand = refl;
+            works = refl;
+          };
+          is = client_there (notes_view new.notes) s.0 refl s.1;
+        }
+
+    -- it read how an element stands that a worker has in hand
+    pub client_last : new.notes ≡ old.notes → (workers : List WorkerLine) (it : WorkerLine) (w : ℕ) → slice_get workers w ≡ Some it → (work : Holding) (hand text : List ℕ) (d : PassShown) → d ≡ get_or old.managed.passes.items 0 d → slice_get old.works.items w ≡ Some work
+        → HandRead old.managed.manager.limits work d hand p → text ≡ line (last_hand (string_bytes it.name) hand (end_at old.notes.ends.items w))
+        → Leads behaviour registers pending (λ a b. LastDid workers w a text b) old new
+    client_last notes workers it w named work hand text d d_is work_is reads text_is =
+        let s = scene_now in
+        record {
+          before = live_of behaviour registers pending old s.0;
+          after = record { stand = record { manager = old.managed.manager; keeper = old.managed.keeper; scene = record s.0 { client = p } }; works = old.works.items; notes = notes_view old.notes };
+          was = is_live behaviour registers pending old s.0 s.1;
+          leads = record {
+            it = it;
+            named = named;
+            work = work;
+            work_is = work_is;
+            hand = hand;
+            client = p;
+            reads = subst (λ x. HandRead old.managed.manager.limits work x hand p) (d_is ∙ client_first behaviour registers pending old.managed.passes.items old.servers.items old.places.items s.0 s.1 d) reads;
+            stand = refl;
+            works = refl;
+            notes = refl;
+            text_is = text_is;
+          };
+          is = client_there (notes_view old.notes) s.0 (ap notes_view notes) s.1;
         }

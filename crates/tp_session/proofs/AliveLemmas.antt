@@ -1,5 +1,5 @@
 -- What restores and dumps leave: what holds of what is held, and what is there.
-use Rattle.std.proofs.Common.{◌≡◌, ◌∙◌, ◌⊎◌, ℕ, ◌||◌, Bool, List, [], ◌∷◌, All, Option, Result, Ok, Err, IfOk, OnOk, inl, refl, sym, ap, subst, arith, length, map, is_some, ◌≤◌, ◌+◌, drop}
+use Rattle.std.proofs.Common.{◌≡◌, ◌∙◌, ◌⊎◌, ℕ, Bool, List, [], ◌∷◌, All, Option, Result, Ok, Err, IfOk, OnOk, inl, refl, sym, ap, subst, arith, length, map, is_some, drop}
 use Rattle.std.specs.List.{AllZip, list_any}
 use Rattle.std.specs.declared.alloc.Global.{Global}
 use Rattle.std.specs.declared.dyn_box.DynBox.{DynBox}
@@ -12,7 +12,6 @@ use Rattle.tp_rollover.specs.Answers.{IsHistoryOf}
 use Rattle.tp_rollover.specs.Managed.{IsManaged, StaysManaged}
 use Rattle.tp_rollover.specs.Survivors.{AreInHand, AreSurvivors}
 use Rattle.tp_rollover.specs.declared.managed.Managed.{Managed}
-use Rattle.tp_rollover.specs.declared.moved.RollFault.{RollFault}
 use Rattle.tp_rollover.specs.declared.survivors.Survivor.{Survivor}
 use Rattle.tp_script.specs.Script.{HeadView}
 use Rattle.tp_script.specs.declared.head.Head.{Head}
@@ -27,6 +26,7 @@ use Rattle.tp_perform.proofs.Rollovers.{own_of, stayed}
 use Rattle.tp_perform.proofs.Slices.{scene_there}
 use Rattle.tp_session.specs.Dump.{dump_lines, dump_text}
 use Rattle.tp_session.specs.Live.{FoundAlive, HoldsUnits, IsHeld, IsLive, Leads, Live, LiveLooks, Surveyed, TellsDump, Unsurveyed, has_desk_open, lines_of}
+use Rattle.tp_session.specs.Notes.{notes_view}
 use Rattle.tp_session.specs.declared.held.Held.{Held}
 use Rattle.tp_session.proofs.LiveLemmas.{is_live, live_of}
 use Rattle.tp_session.specs.Hands.{unit_of}
@@ -46,15 +46,15 @@ all_ok (Err e) P Q S p q s = tt
 module _ {X : Type 0} {F : X → Type 0} (behaviour : DynBox X Global F → Behaviour) (registers : DynBox X Global F → List ℕ) (pending : DynBox X Global F → Option Pending) where
   -- ---- what was done to what stands
 
-  pub works_leads : (head : Head) (R : Stand → Stand → List Holding → List Holding → Type 0) (old new : Held X F) → IsHeld behaviour registers pending head old
+  pub works_leads : (head : Head) (R : Stand → Stand → List Holding → List Holding → Type 0) (old new : Held X F) → IsHeld behaviour registers pending head old → new.notes ≡ old.notes
       → (a : Scene) × (b : Scene) × IsScene behaviour registers pending old.managed.passes.items old.servers.items old.places.items a × R (stand old.managed a) (stand new.managed b) old.works.items new.works.items
       × IsScene behaviour registers pending new.managed.passes.items new.servers.items new.places.items b
-      → Leads behaviour registers pending (λ x y. HoldsUnits x × R x.stand y.stand x.works y.works) old new
-  works_leads head R old new held t = record {
+      → Leads behaviour registers pending (λ x y. HoldsUnits x × R x.stand y.stand x.works y.works × (y.notes ≡ x.notes)) old new
+  works_leads head R old new held notes t = record {
     before = live_of behaviour registers pending old t.0;
     after = live_of behaviour registers pending new t.1;
     was = is_live behaviour registers pending old t.0 t.2;
-    leads = (live_units behaviour registers pending head old (live_of behaviour registers pending old t.0) held (is_live behaviour registers pending old t.0 t.2), t.3);
+    leads = (live_units behaviour registers pending head old (live_of behaviour registers pending old t.0) held (is_live behaviour registers pending old t.0 t.2), t.3, ap notes_view notes);
     is = is_live behaviour registers pending new t.1 t.4;
   }
 
@@ -84,7 +84,7 @@ module _ {X : Type 0} {F : X → Type 0} (behaviour : DynBox X Global F → Beha
   -- ---- a look for what is alive
 
   abbrev pub with_managed : Held X F → Managed → Held X F
-  with_managed h m = record { managed = m; servers = h.servers; places = h.places; works = h.works }
+  with_managed h m = record { managed = m; servers = h.servers; places = h.places; works = h.works; notes = h.notes }
 
   module _ (head : Head) (old : Held X F) (m : Managed) (held : IsHeld behaviour registers pending head old) (is : IsManaged m) (stays : StaysManaged old.managed m) where
     looks : AllZip Looks old.managed.passes.items m.passes.items
@@ -130,6 +130,7 @@ module _ {X : Type 0} {F : X → Type 0} (behaviour : DynBox X Global F → Beha
                     (only_passes behaviour registers pending (workers n old.managed.passes.items) (workers n m.passes.items) old.servers.items old.places.items (zip_take Looks n _ _ (zip_drop Looks 1 old.managed.passes.items m.passes.items looks))));
               };
               works = refl;
+              notes = refl;
             },
             so a.0 b.0 olds news,
           );
@@ -170,16 +171,17 @@ module _ {X : Type 0} {F : X → Type 0} (behaviour : DynBox X Global F → Beha
   shown_dropped (p ∷ ps) (s ∷ ss) (o ∷ os) all = ap (λ ds. o.is_dropped ∷ ds) (shown_dropped ps ss os all.1)
 
   lines_told : (head : Head) (h : HeadView) (old : Held X F) (l : Live) (survivors : List Survivor) → IsHeld behaviour registers pending head old → IsLive behaviour registers pending old l
-      → dump_lines h (map registers old.servers.items) (map (λ (o : Place X F). o.is_dropped) old.places.items) old.works.items survivors ≡ lines_of h l survivors
+      → dump_lines h (map registers old.servers.items) (map (λ (o : Place X F). o.is_dropped) old.places.items) old.works.items (notes_view old.notes) survivors ≡ lines_of h l survivors
   lines_told head h old l survivors held is =
       let rs : map (λ p. p.desk.registers) l.stand.scene.places ≡ map registers old.servers.items = ap (map (λ p. p.desk.registers)) is.scene.1 ∙ shown_registers _ old.servers.items old.places.items held.ready.lie in
       let ds : map (λ p. p.is_dropped) l.stand.scene.places ≡ map (λ (o : Place X F). o.is_dropped) old.places.items = ap (map (λ p. p.is_dropped)) is.scene.1 ∙ shown_dropped _ old.servers.items old.places.items held.ready.lie in
-      ap (λ zs. dump_lines h zs (map (λ (o : Place X F). o.is_dropped) old.places.items) old.works.items survivors) (sym rs)
-      ∙ (ap (λ zs. dump_lines h (map (λ p. p.desk.registers) l.stand.scene.places) zs old.works.items survivors) (sym ds)
-      ∙ ap (λ ws. dump_lines h (map (λ p. p.desk.registers) l.stand.scene.places) (map (λ p. p.is_dropped) l.stand.scene.places) ws survivors) (sym is.works))
+      ap (λ zs. dump_lines h zs (map (λ (o : Place X F). o.is_dropped) old.places.items) old.works.items (notes_view old.notes) survivors) (sym rs)
+      ∙ (ap (λ zs. dump_lines h (map (λ p. p.desk.registers) l.stand.scene.places) zs old.works.items (notes_view old.notes) survivors) (sym ds)
+      ∙ (ap (λ ws. dump_lines h (map (λ p. p.desk.registers) l.stand.scene.places) (map (λ p. p.is_dropped) l.stand.scene.places) ws (notes_view old.notes) survivors) (sym is.works)
+      ∙ ap (λ n. dump_lines h (map (λ p. p.desk.registers) l.stand.scene.places) (map (λ p. p.is_dropped) l.stand.scene.places) l.works n survivors) (sym is.notes)))
 
   module _ (head : Head) (h : HeadView) (old new : Held X F) (held : IsHeld behaviour registers pending head old) (text : List ℕ) where
-    pub surveyed_leads : (survivors : List Survivor) → text ≡ dump_text (dump_lines h (map registers old.servers.items) (map (λ (o : Place X F). o.is_dropped) old.places.items) old.works.items survivors)
+    pub surveyed_leads : (survivors : List Survivor) → text ≡ dump_text (dump_lines h (map registers old.servers.items) (map (λ (o : Place X F). o.is_dropped) old.places.items) old.works.items (notes_view old.notes) survivors)
         → Leads behaviour registers pending (λ x y. LiveLooks x y × FoundAlive x survivors y) old new → Leads behaviour registers pending (λ x y. LiveLooks x y × (Surveyed h x text y ⊎ Unsurveyed text)) old new
     surveyed_leads survivors is p = record {
       before = p.before;

@@ -26,6 +26,7 @@ use Rattle.tp_session.specs.declared.hand.Holding.{Holding}
 use Rattle.tp_session.specs.declared.hand.Holding.TheVariants.{Nothing}
 use Rattle.tp_session.specs.Conversed.{IsNewManaged, LiveBegins, limits_of}
 use Rattle.tp_session.specs.Live.{IsHeld, IsLive, Live}
+use Rattle.tp_session.specs.Notes.{notes_of, notes_view}
 use Rattle.tp_session.specs.declared.held.Held.{Held}
 use Rattle.tp_session.proofs.HandLemmas.{none_in_hand}
 
@@ -45,7 +46,8 @@ module _ {X : Type 0} {F : X → Type 0} (behaviour : DynBox X Global F → Beha
     (recipes : map behaviour h.servers.items ≡ map (λ (x : ScriptServer). behaviour_of x.recipe) head.servers.items) (begun : map registers h.servers.items ≡ map (λ (x : ScriptServer). x.registers) head.servers.items)
     (lie : AllLie behaviour registers pending (workers (length h.servers.items) h.managed.passes.items) h.servers.items h.places.items)
     (shown : places_shown behaviour registers pending (workers (length h.servers.items) h.managed.passes.items) h.servers.items h.places.items ≡ new_places behaviour registers pending (workers (length h.servers.items) h.managed.passes.items) h.servers.items)
-    (many : length h.works.items ≡ length head.workers.items + racers) (idle : All (λ (w : Holding). w ≡ Nothing) h.works.items) where
+    (many : length h.works.items ≡ length head.workers.items + racers) (idle : All (λ (w : Holding). w ≡ Nothing) h.works.items)
+    (noted : notes_view h.notes ≡ notes_of (head_view head) h.works.items) where
   abbrev ps : List PassShown
   ps = h.managed.passes.items
 
@@ -105,4 +107,5 @@ module _ {X : Type 0} {F : X → Type 0} (behaviour : DynBox X Global F → Beha
         registers = ap (map (λ p. p.desk.registers)) places ∙ (new_registers behaviour registers pending (workers n ps) h.servers.items long ∙ (begun ∙ registers_shown head.servers.items));
         each_worker = ap length is.works ∙ (many ∙ ap (λ k. k + racers) (sym (length-map head.workers.items worker_view)));
         idle = subst (All (λ (w : Holding). w ≡ Nothing)) (sym is.works) idle;
+        notes = is.notes ∙ (noted ∙ ap (notes_of (head_view head)) (sym is.works));
       }

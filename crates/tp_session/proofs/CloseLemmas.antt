@@ -18,6 +18,7 @@ use Rattle.tp_perform.proofs.Gatherings.{all_in, gathered_in, held_looked, ready
 use Rattle.tp_session.specs.Hands.{unit_of}
 use Rattle.tp_session.specs.Live.{IsHeld, Leads, Live}
 use Rattle.tp_session.specs.Performed.{DesksClose, LiveCounts, WorkerCloses, WorkersBelow}
+use Rattle.tp_session.specs.Notes.{notes_view}
 use Rattle.tp_session.specs.declared.held.Held.{Held}
 use Rattle.tp_session.proofs.LiveLemmas.{is_live, live_of, live_there}
 
@@ -37,14 +38,14 @@ module _ {X : Type 0} {F : X → Type 0} (behaviour : DynBox X Global F → Beha
   abbrev IsAt : Held X F → Scene → Type 0
   IsAt h s = IsScene behaviour registers pending h.managed.passes.items h.servers.items h.places.items s
 
-  pub desks_lead : (old new : Held X F) → new.managed.manager ≡ old.managed.manager → new.works.items ≡ old.works.items
+  pub desks_lead : (old new : Held X F) → new.managed.manager ≡ old.managed.manager → new.works.items ≡ old.works.items → new.notes ≡ old.notes
       → (a : Scene) × (b : Scene) × IsAt old a × GiveUpAll old.managed.manager old.managed.keeper a new.managed.keeper b × IsAt new b
       → Leads behaviour registers pending DesksClose old new
-  desks_lead old new same works t = record {
+  desks_lead old new same works notes t = record {
     before = live_of behaviour registers pending old t.0;
     after = live_of behaviour registers pending new t.1;
     was = is_live behaviour registers pending old t.0 t.2;
-    leads = record { manager = same; gives_up = t.3; works = works };
+    leads = record { manager = same; gives_up = t.3; works = works; notes = ap notes_view notes };
     is = is_live behaviour registers pending new t.1 t.4;
   }
 
@@ -60,9 +61,9 @@ module _ {X : Type 0} {F : X → Type 0} (behaviour : DynBox X Global F → Beha
     pub counted_in_hand : units_held (length old.servers.items) qs ≡ map unit_of old.works.items
     counted_in_hand = held_looked behaviour registers pending old.managed.manager old.managed.keeper keeper' old.managed.passes.items qs old.servers.items old.places.items held.ready steps counts.gathers all given own (length old.servers.items) ∙ held.in_hand
 
-    pub counted_leads : (new : Held X F) → new.managed.manager ≡ old.managed.manager → new.managed.keeper ≡ keeper' → new.managed.passes.items ≡ qs → new.servers.items ≡ old.servers.items → new.places.items ≡ old.places.items → new.works.items ≡ old.works.items
+    pub counted_leads : (new : Held X F) → new.managed.manager ≡ old.managed.manager → new.managed.keeper ≡ keeper' → new.managed.passes.items ≡ qs → new.servers.items ≡ old.servers.items → new.places.items ≡ old.places.items → new.works.items ≡ old.works.items → new.notes ≡ old.notes
         → Leads behaviour registers pending (λ x y. LiveCounts x account y) old new
-    counted_leads new manager keeper passes servers places works =
+    counted_leads new manager keeper passes servers places works notes =
         let l = live_there behaviour registers pending head old held in
         let olds : passes_in l.0.stand.scene ≡ old.managed.passes.items = all_in behaviour registers pending old.managed.manager old.managed.passes.items old.servers.items old.places.items l.0.stand.scene held.ready l.1.scene in
         let b = gathered_in behaviour registers pending old.managed.manager old.managed.keeper keeper' old.managed.passes.items qs old.servers.items old.places.items held.ready steps counts.gathers all given own l.0.stand.scene l.1.scene in
@@ -79,6 +80,7 @@ module _ {X : Type 0} {F : X → Type 0} (behaviour : DynBox X Global F → Beha
             gathered = rw (l.1.manager, l.1.keeper, keeper) so;
             account_is = counts.account_is ∙ (ap (λ (m : ManagerShown). account_of m.limits.attempts keeper'.seen) (sym l.1.manager) ∙ ap (λ (k : KeeperShown). account_of l.0.stand.manager.limits.attempts k.seen) (sym keeper));
             works = works ∙ sym l.1.works;
+            notes = ap notes_view notes ∙ sym l.1.notes;
           };
           is = is_live behaviour registers pending new b.0 at;
         }

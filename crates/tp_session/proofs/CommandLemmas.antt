@@ -1,7 +1,9 @@
 -- The first command of a session leaves its head as it is, and says the same behind it.
 use Rattle.std.proofs.Common.{◌≡◌, ℕ, Bool, true, false, List, [], ◌∷◌, Option, Some, None, Result, Ok, Err, ◌∙◌, sym, ap}
 use Rattle.std.proofs.lemmas.Option.{none-some}
-use Rattle.tp_script.specs.Grammar.{account_at, act_at, alive_line, body_at, body_keyword, body_words, dump_at, ends_head, head_at, head_keyword, head_words, held_line, in_head, limit_line, line_words, lost_line, restore_at, rows_line, spare_line, units_line, unless_alive, worker_line}
+use Rattle.tp_script.specs.Grammar.{account_at, act_at, alive_line, body_at, body_keyword, body_words, dump_at, ends_head, head_at, head_keyword, head_words, held_line, in_head, limit_line, line_words, lost_line, restore_at, rows_line, spare_line, units_line, unless_waiting, waits_for_restore, worker_line}
+use Rattle.tp_script.specs.Clients.{client_line, noted_at, register_line, request_line}
+use Rattle.tp_script.specs.Ends.{ended_line}
 use Rattle.tp_script.specs.Keyword.{keyword}
 use Rattle.tp_script.specs.LineWords.{◌>>=◌, known, one, three, two}
 use Rattle.tp_script.specs.Script.{HeadView}
@@ -11,8 +13,6 @@ use Rattle.tp_script.specs.declared.fault.LineFault.TheVariants.{Syntax}
 use Rattle.tp_script.specs.declared.fault.LineFault.TheVariants as faults
 use Rattle.tp_script.specs.declared.head.Act.{Act}
 use Rattle.tp_script.specs.declared.head.Act.TheVariants as act
-use Rattle.tp_script.specs.declared.head.AliveLine.{AliveLine}
-use Rattle.tp_script.specs.declared.head.LostLine.{LostLine}
 use Rattle.tp_script.specs.declared.head.Driver.TheVariants as drivers
 use Rattle.tp_script.specs.declared.keyword.Keyword.{Keyword}
 use Rattle.tp_script.specs.declared.keyword.Keyword.TheVariants as first
@@ -65,9 +65,14 @@ keywords h first.Worker ws = in_it h (two ws >>= λ w. worker_line w h)
 keywords h first.Alive ws = in_it h (alive_line ws h)
 keywords h first.Held ws = in_it h (held_line ws h)
 keywords h first.Lost ws = in_it h (two ws >>= λ w. lost_line w h)
-keywords h (first.Do v) ws = ended h (unless_alive h.alive h.lost (act_at drivers.Session v ws h))
-keywords h first.Dump ws = ended h (unless_alive h.alive h.lost (dump_at ws))
-keywords h first.Account ws = ended h (unless_alive h.alive h.lost (account_at ws))
+keywords h (first.Do v) ws = ended h (unless_waiting (waits_for_restore h) (act_at drivers.Session v ws h))
+keywords h first.Dump ws = ended h (unless_waiting (waits_for_restore h) (dump_at ws))
+keywords h first.Account ws = ended h (unless_waiting (waits_for_restore h) (account_at ws))
+keywords h first.Client ws = in_it h (client_line ws h)
+keywords h first.Request ws = in_it h (two ws >>= λ w. request_line w h)
+keywords h first.Ended ws = in_it h (ended_line ws h)
+keywords h first.Register ws = in_it h (one ws >>= λ w. register_line w h)
+keywords h (first.Noted v) ws = ended h (unless_waiting (waits_for_restore h) (noted_at v ws h))
 keywords h first.Restore ws = ended h (restore_at ws)
 
 of_words : (h : HeadView) (ws : List (List ℕ)) → Commands h (head_words drivers.Session ws h)
@@ -88,6 +93,8 @@ is_restore (act.Command c) = false
 is_restore (act.Worker worker a) = false
 is_restore act.Account = false
 is_restore act.Dump = false
+is_restore (act.Noted name a) = false
+is_restore (act.Last worker) = false
 
 -- what is a command here, and no restore, is that command there
 abbrev Meets : Said → Result (Option Act) LineFault → Type 0
@@ -111,25 +118,17 @@ never : {X : Type 0} (r : Result X LineFault) (k : X → Said) (behind : Result 
 never (Ok x) k behind so = so x
 never (Err f) k behind so = no_answer f behind
 
--- where something is alive only `restore` is a command
-first_meets : (h : HeadView) (alive : List AliveLine) (lost : List LostLine) (said : Result Act LineFault) → Meets (unless_alive alive lost said >>= λ a. Ok (h, Some a)) (said >>= λ a. Ok (Some a))
-first_meets h [] [] said = both said (λ a. Ok (h, Some a)) (λ a. Ok (Some a)) (λ a. alike h a)
-first_meets h (line ∷ others) lost (Ok a) = no_answer faults.Order (Ok (Some a))
-first_meets h (line ∷ others) lost (Err faults.Syntax) = no_answer faults.Syntax (Err faults.Syntax)
-first_meets h (line ∷ others) lost (Err faults.TooLong) = no_answer faults.Order (Err faults.TooLong)
-first_meets h (line ∷ others) lost (Err faults.BadNumber) = no_answer faults.Order (Err faults.BadNumber)
-first_meets h (line ∷ others) lost (Err faults.BadRecipe) = no_answer faults.Order (Err faults.BadRecipe)
-first_meets h (line ∷ others) lost (Err faults.BadName) = no_answer faults.Order (Err faults.BadName)
-first_meets h (line ∷ others) lost (Err faults.BadLimits) = no_answer faults.Order (Err faults.BadLimits)
-first_meets h (line ∷ others) lost (Err faults.Order) = no_answer faults.Order (Err faults.Order)
-first_meets h [] (line ∷ others) (Ok a) = no_answer faults.Order (Ok (Some a))
-first_meets h [] (line ∷ others) (Err faults.Syntax) = no_answer faults.Syntax (Err faults.Syntax)
-first_meets h [] (line ∷ others) (Err faults.TooLong) = no_answer faults.Order (Err faults.TooLong)
-first_meets h [] (line ∷ others) (Err faults.BadNumber) = no_answer faults.Order (Err faults.BadNumber)
-first_meets h [] (line ∷ others) (Err faults.BadRecipe) = no_answer faults.Order (Err faults.BadRecipe)
-first_meets h [] (line ∷ others) (Err faults.BadName) = no_answer faults.Order (Err faults.BadName)
-first_meets h [] (line ∷ others) (Err faults.BadLimits) = no_answer faults.Order (Err faults.BadLimits)
-first_meets h [] (line ∷ others) (Err faults.Order) = no_answer faults.Order (Err faults.Order)
+-- where the head waits for `restore` only that is a command
+first_meets : (h : HeadView) (waits : Bool) (said : Result Act LineFault) → Meets (unless_waiting waits said >>= λ a. Ok (h, Some a)) (said >>= λ a. Ok (Some a))
+first_meets h false said = both said (λ a. Ok (h, Some a)) (λ a. Ok (Some a)) (λ a. alike h a)
+first_meets h true (Ok a) = no_answer faults.Order (Ok (Some a))
+first_meets h true (Err faults.Syntax) = no_answer faults.Syntax (Err faults.Syntax)
+first_meets h true (Err faults.TooLong) = no_answer faults.Order (Err faults.TooLong)
+first_meets h true (Err faults.BadNumber) = no_answer faults.Order (Err faults.BadNumber)
+first_meets h true (Err faults.BadRecipe) = no_answer faults.Order (Err faults.BadRecipe)
+first_meets h true (Err faults.BadName) = no_answer faults.Order (Err faults.BadName)
+first_meets h true (Err faults.BadLimits) = no_answer faults.Order (Err faults.BadLimits)
+first_meets h true (Err faults.Order) = no_answer faults.Order (Err faults.Order)
 
 -- a line of the head is none
 in_meets : (h : HeadView) (r : Result HeadView LineFault) (behind : Result (Option Act) LineFault) → Meets (in_head r) behind
@@ -160,9 +159,14 @@ keyword_meets h first.Worker ws = in_meets h (two ws >>= λ w. worker_line w h) 
 keyword_meets h first.Alive ws = in_meets h (alive_line ws h) (said_behind h first.Alive ws)
 keyword_meets h first.Held ws = in_meets h (held_line ws h) (said_behind h first.Held ws)
 keyword_meets h first.Lost ws = in_meets h (two ws >>= λ w. lost_line w h) (said_behind h first.Lost ws)
-keyword_meets h (first.Do v) ws = first_meets h h.alive h.lost (act_at drivers.Session v ws h)
-keyword_meets h first.Dump ws = first_meets h h.alive h.lost (dump_at ws)
-keyword_meets h first.Account ws = first_meets h h.alive h.lost (account_at ws)
+keyword_meets h (first.Do v) ws = first_meets h (waits_for_restore h) (act_at drivers.Session v ws h)
+keyword_meets h first.Dump ws = first_meets h (waits_for_restore h) (dump_at ws)
+keyword_meets h first.Account ws = first_meets h (waits_for_restore h) (account_at ws)
+keyword_meets h first.Client ws = in_meets h (client_line ws h) (said_behind h first.Client ws)
+keyword_meets h first.Request ws = in_meets h (two ws >>= λ w. request_line w h) (said_behind h first.Request ws)
+keyword_meets h first.Ended ws = in_meets h (ended_line ws h) (said_behind h first.Ended ws)
+keyword_meets h first.Register ws = in_meets h (one ws >>= λ w. register_line w h) (said_behind h first.Register ws)
+keyword_meets h (first.Noted v) ws = first_meets h (waits_for_restore h) (noted_at v ws h)
 keyword_meets h first.Restore ws = restore_meets h ws (said_behind h first.Restore ws)
 
 words_meet : (h : HeadView) (ws : List (List ℕ)) → Meets (head_words drivers.Session ws h) (body_words drivers.Session ws h)

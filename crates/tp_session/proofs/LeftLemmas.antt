@@ -9,19 +9,17 @@ use Rattle.tp_script.specs.declared.head.Act.{Act}
 use Rattle.tp_script.specs.declared.head.Head.{Head}
 use Rattle.tp_commands.specs.declared.place.Place.{Place}
 use Rattle.tp_commands.specs.Places.{firsts}
-use Rattle.tp_perform.specs.Scenes.{Scene}
-use Rattle.tp_perform.specs.Told.{AreReady, IsScene, began_of}
+use Rattle.tp_perform.specs.Told.{began_of}
 use Rattle.tp_perform.proofs.Began.{began_same, scene_began}
 use Rattle.tp_session.specs.Heard.{HearsFront, Next, Tells}
 use Rattle.tp_session.specs.Left.{Acted, BodyDone, LineDone, OrSame, Reaches, began_at, began_in}
-use Rattle.tp_session.specs.Live.{IsHeld, IsLive, Leads, Live, RolloverTold, TellsAct}
+use Rattle.tp_session.specs.Live.{IsHeld, IsLive, Leads, Live, TellsAct}
 use Rattle.tp_session.specs.Told.{BodyTold, LineTold}
 use Rattle.tp_session.specs.declared.first.First.{First}
 use Rattle.tp_session.specs.declared.held.Held.{Held}
 use Rattle.tp_session.proofs.AttendLemmas.{BodySoFar, body_begun, body_next}
 use Rattle.tp_session.proofs.HeardLemmas.{Hears-none, hears_some}
-use Rattle.tp_session.proofs.LiveLemmas.{is_live, live_of, live_there, one_live}
-use Rattle.tp_session.proofs.OpenLemmas.{live_units}
+use Rattle.tp_session.proofs.LiveLemmas.{live_there, one_live}
 
 module _ {X : Type 0} {F : X → Type 0} (behaviour : DynBox X Global F → Behaviour) (registers : DynBox X Global F → List ℕ) (pending : DynBox X Global F → Option Pending) where
   abbrev Box : Type 0

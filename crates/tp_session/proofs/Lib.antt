@@ -12,6 +12,9 @@ pub mod HeardLemmas
 pub mod LeftLemmas
 pub mod LineLemmas
 pub mod LiveLemmas
+pub mod NotesLemmas
+pub mod NoteLists
+pub mod ClientLemmas
 pub mod OpenLemmas
 pub mod PassLemmas
 pub mod PerformLemmas

@@ -9,6 +9,7 @@ use Rattle.tp_perform.specs.Scenes.{Scene}
 use Rattle.tp_perform.specs.Told.{IsScene}
 use Rattle.tp_perform.proofs.Slices.{one_scene, scene_there}
 use Rattle.tp_session.specs.Live.{Begins, IsHeld, IsLive, Leads, Live}
+use Rattle.tp_session.specs.Notes.{notes_view}
 use Rattle.tp_session.specs.declared.held.Held.{Held}
 
 module _ {X : Type 0} {F : X → Type 0} (behaviour : DynBox X Global F → Behaviour) (registers : DynBox X Global F → List ℕ) (pending : DynBox X Global F → Option Pending) where
@@ -17,10 +18,10 @@ module _ {X : Type 0} {F : X → Type 0} (behaviour : DynBox X Global F → Beha
 
   -- what is there of a scene
   abbrev pub live_of : Held X F → Scene → Live
-  live_of h s = record { stand = record { manager = h.managed.manager; keeper = h.managed.keeper; scene = s }; works = h.works.items }
+  live_of h s = record { stand = record { manager = h.managed.manager; keeper = h.managed.keeper; scene = s }; works = h.works.items; notes = notes_view h.notes }
 
   pub is_live : (h : Held X F) (s : Scene) → IsScene behaviour registers pending h.managed.passes.items h.servers.items h.places.items s → Is h (live_of h s)
-  is_live h s is = record { manager = refl; keeper = refl; scene = is; works = refl }
+  is_live h s is = record { manager = refl; keeper = refl; scene = is; works = refl; notes = refl }
 
   -- there is one
   pub live_there : (head : Head) (h : Held X F) → IsHeld behaviour registers pending head h → (l : Live) × Is h l
@@ -34,7 +35,8 @@ module _ {X : Type 0} {F : X → Type 0} (behaviour : DynBox X Global F → Beha
       let k = x.keeper ∙ sym y.keeper in
       let s = one_scene behaviour registers pending h.managed.passes.items h.servers.items h.places.items a.stand.scene b.stand.scene x.scene y.scene in
       let w = x.works ∙ sym y.works in
-      λ i. record { stand = record { manager = m i; keeper = k i; scene = s i }; works = w i }
+      let n = x.notes ∙ sym y.notes in
+      λ i. record { stand = record { manager = m i; keeper = k i; scene = s i }; works = w i; notes = n i }
 
   -- ---- one after another
 

@@ -60,7 +60,7 @@ acts_done s i raced d old mid new text within is so_far (inr one) = record {
 -- ---- as much is in hand as can be
 
 by_rollover : (h : HeadView) (c : Command) (b : Bool) (old new : Live) (text : List ℕ) → TellsBy b h c old text new → length new.works ≡ length old.works
-by_rollover h c true old new text t = ⊎_elim (λ (r : RolledLive h old text new). ap length r.works ∙ works_long r.moved _ _ old.works) (λ (r : RefusedLive _ old text new). ap length r.works) t.told
+by_rollover h c true old new text t = ⊎_elim (λ (r : RolledLive h old text new). ap length r.works ∙ works_long r.moved _ _ old.works) (λ (r : RefusedLive _ _ old text new). ap length r.works) t.told
 by_rollover h c false old new text t = ap length t.works
 
 by_race : (head : Head) (raced : ℕ) (c : Command) (b : Bool) (old new : Live) (text : List ℕ) → TellsRaced b head raced (act.Command c) old text new → length new.works ≡ length old.works
@@ -68,7 +68,7 @@ by_race head raced c true old new text t = ap length t.works
 by_race head raced c false old new text t = by_rollover (head_view head) c (is_rollover c) old new text t
 
 by_restore : (h : HeadView) (old new : Live) (text : List ℕ) → RestoreTold h old text new → length new.works ≡ length old.works
-by_restore h old new text t = ⊎_elim (λ (r : RestoredLive h old text new). ap length r.works ∙ (works_long r.moved _ _ (lost_works h.lost 0 old.works) ∙ lost_long h.lost 0 old.works)) (λ (r : RefusedLive _ old text new). ap length r.works) t.told
+by_restore h old new text t = ⊎_elim (λ (r : RestoredLive h old text new). ap length r.works ∙ (works_long r.moved _ _ (lost_works h.lost 0 old.works) ∙ lost_long h.lost 0 old.works)) (λ (r : RefusedLive _ _ old text new). ap length r.works) t.told
 
 by_dump : (h : HeadView) (b : Bool) (old new : Live) (text : List ℕ) → TellsDump h b old text new → new.works ≡ old.works
 by_dump h true old new text t = ap (λ (l : Live). l.works) t.1
@@ -80,6 +80,8 @@ works_same head raced (act.Worker at act) old new text t = ap length (t.gathers.
 works_same head raced act.Account old new text t = ap length (t.gathers.works ∙ t.counts.works)
 works_same head raced act.Dump old new text t = ap length (t.gathers.works ∙ by_dump (head_view head) (has_desk_open old) old t.done text t.tells)
 works_same head raced act.Restore old new text t = by_restore (head_view head) old new text t
+works_same head raced (act.Noted name a) old new text t = ap length (t.gathers.works ∙ t.did.works)
+works_same head raced (act.Last at) old new text t = ap length (t.gathers.works ∙ t.did.works)
 
 -- ---- the whole run
 

@@ -1,6 +1,5 @@
 -- Races of a script: the passes that they take are free.
-use Rattle.std.proofs.Common.{◌≡◌, ℕ, zero, suc, ◌+◌, false, List, [], ◌∷◌, All, Option, None, ◌∙◌, ap, arith, map, drop}
-use Rattle.std.specs.Option.{option_map}
+use Rattle.std.proofs.Common.{◌≡◌, ℕ, zero, suc, ◌+◌, false, List, [], ◌∷◌, All, Option, ◌∙◌, ap, arith, map, drop}
 use Rattle.std.proofs.lemmas.List.Elements.{All-cons, All-drop, All-head, All-nil, All-tail, All-take}
 use Rattle.tp_manager.specs.Shown.{IsOf, ManagerShown, PassShown}
 use Rattle.tp_script.specs.Passes.{races}
@@ -20,6 +19,8 @@ session_act servers workers (act.Worker worker a) other is = is
 session_act servers workers act.Account other is = is
 session_act servers workers act.Dump other is = is
 session_act servers workers act.Restore other is = is
+session_act servers workers (act.Noted name a) other is = is
+session_act servers workers (act.Last worker) other is = is
 
 heads_tails : (a b : Option ℕ) (xs ys : List (Option ℕ)) → a ∷ xs ≡ b ∷ ys → (a ≡ b) × (xs ≡ ys)
 heads_tails a b xs ys e = (cc, cc)

@@ -28,6 +28,7 @@ use Rattle.tp_session.specs.declared.hand.Holding.TheVariants.{Nothing}
 use Rattle.tp_session.specs.Hands.{GivesUp, hands}
 use Rattle.tp_session.specs.Heard.{Hears, HearsFront, IsAllOf, IsSilent, heard}
 use Rattle.tp_session.specs.Live.{Live}
+use Rattle.tp_session.specs.Notes.{notes_of}
 use Rattle.tp_session.specs.Told.{BodyTold, HeadLine, HeadLines, HeadTold, LinesFrom}
 use Rattle.tp_session.specs.declared.first.First.{First}
 
@@ -92,6 +93,7 @@ pub record LiveBegins (h : HeadView) (racers : ℕ) (first : Live) : Type 0 wher
       map (λ p. p.desk.registers) first.stand.scene.places ≡ map (λ x. x.registers) h.servers
   pub each_worker : length first.works ≡ length h.workers + racers
   pub idle : All (λ work. work ≡ Nothing) first.works
+  pub notes : first.notes ≡ notes_of h first.works
 
 -- ---- the end
 

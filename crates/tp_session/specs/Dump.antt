@@ -1,5 +1,6 @@
 -- The lines of a session that a dump tells: sent to a new session they lead to this state.
-use Rattle.std.specs.Prelude.{◌==◌, ◌+◌, ◌-◌, ℕ, zero, suc, Bool, true, false, if◌then◌else◌, List, [], ◌∷◌, ◌++◌, map}
+use Rattle.std.specs.Prelude.{◌==◌, ◌+◌, ◌-◌, ℕ, zero, suc, Bool, true, false, if◌then◌else◌, List, []}
+use Rattle.std.specs.Prelude.{◌∷◌, ◌++◌, map}
 use Rattle.std.specs.Prelude.{Option, Some, None, codes, decimal, length, slice_get}
 use Rattle.std.specs.List.{flat_map, list_any}
 use Rattle.tp_model.specs.declared.types.Status.{Status}
@@ -21,6 +22,8 @@ use Rattle.tp_script.specs.Script.{HeadView, WorkerView}
 use Rattle.tp_script.specs.declared.script.Kind.{Kind}
 use Rattle.tp_script.specs.declared.script.Kind.TheVariants as kind
 use Rattle.tp_session.specs.Answers.{body_text}
+use Rattle.tp_session.specs.NoteTexts.{note_lines}
+use Rattle.tp_session.specs.Notes.{NotesView}
 use Rattle.tp_session.specs.declared.hand.Holding.{Holding}
 use Rattle.tp_session.specs.declared.hand.Holding.TheVariants.{Open, Lost}
 
@@ -189,14 +192,16 @@ drop_lines servers dropped (suc n) =
 -- ---- all of them
 
 -- The lines of a session whose servers have these registers now, whose desks were dropped or not, whose workers
--- have this in hand, and in which this is alive. Behind `restore` stand the commands.
-abbrev pub dump_lines : HeadView → List (List ℕ) → List Bool → List Holding → List Survivor → List (List ℕ)
-dump_lines h registers dropped works survivors =
+-- have this in hand, in which this is noted, and this is alive. Behind `restore` stand the commands.
+abbrev pub dump_lines : HeadView → List (List ℕ) → List Bool → List Holding → NotesView → List Survivor
+    → List (List ℕ)
+dump_lines h registers dropped works notes survivors =
     let servers = h.servers in
     let first = 1 + length servers in
     settings_lines h.settings ++ map server_line servers
     ++ all_starts servers registers (length servers) ++ map worker_text h.workers
     ++ map (life_text h.workers first) survivors ++ lost_lines h.workers first works survivors (length h.workers)
+    ++ note_lines h.workers notes survivors
     ++ (codes "restore" ∷ drop_lines servers dropped (length servers))
 
 -- a line of a session in an answer

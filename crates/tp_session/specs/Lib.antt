@@ -1,6 +1,10 @@
 pub mod Hands
 pub mod Carried
+pub mod Notes
 pub mod Answers
+pub mod NoteTexts
+pub mod Clients
+pub mod Lasts
 pub mod Dump
 pub mod Live
 pub mod Left

@@ -1,5 +1,6 @@
 -- What lines are told.
-use Rattle.std.specs.Prelude.{◌≡◌, ◌+◌, ◌-◌, ◌≤◌, ◌||◌, ◌==◌, ◌⊎◌, if◌then◌else◌, ℕ, Bool, true, false, List, All}
+use Rattle.std.specs.Prelude.{◌≡◌, ◌+◌, ◌-◌, ◌≤◌, ◌||◌, ◌==◌, ◌⊎◌, if◌then◌else◌, ℕ, Bool, true, false}
+use Rattle.std.specs.Prelude.{List, [], All}
 use Rattle.std.specs.Prelude.{Option, None, Some, drop, is_some, length, map}
 use Rattle.std.specs.Prelude.{slice_get, slice_set, string_bytes}
 use Rattle.std.specs.List.{list_any}
@@ -30,26 +31,38 @@ use Rattle.tp_script.specs.declared.head.Act.TheVariants as acts
 use Rattle.tp_script.specs.declared.head.Head.{Head}
 use Rattle.tp_script.specs.declared.head.WorkerAct.{WorkerAct}
 use Rattle.tp_script.specs.declared.head.WorkerLine.{WorkerLine}
+use Rattle.tp_script.specs.Notes.{NameView}
+use Rattle.tp_script.specs.declared.notes.NotedAct.{NotedAct}
 use Rattle.tp_script.specs.declared.script.Command.{Command}
 use Rattle.tp_commands.specs.Asked.{FoundLine, TellsCount}
 use Rattle.tp_perform.specs.Restore.{IsUnrestoredIn, Restored}
-use Rattle.tp_perform.specs.Rollover.{IsUnrolled, OnlyLooked, RollRefused, RolledOver, renamed, roll_refused_text}
+use Rattle.tp_perform.specs.Rollover.{IsUnrolled, OnlyLooked, RollRefused, RolledOver, renamed}
+use Rattle.tp_perform.specs.Rollover.{roll_refused_text}
 use Rattle.tp_perform.specs.Scenes.{Gathered, Scene, Stand, passes_in}
 use Rattle.tp_perform.specs.Told.{AreReady, IsScene, PerformsAll, units_held}
 use Rattle.tp_session.specs.Answers.{restored_text, units_text, worker_line}
 use Rattle.tp_session.specs.Carried.{lost_works, works_after}
+use Rattle.tp_session.specs.Clients.{NotedDoes, noting}
 use Rattle.tp_session.specs.Dump.{dump_lines, dump_text}
 use Rattle.tp_session.specs.Hands.{Hand, WorkerDoes, has_unit, unit_of}
+use Rattle.tp_session.specs.Lasts.{HandRead, end_at}
+use Rattle.tp_session.specs.NoteTexts.{last_hand}
+use Rattle.tp_session.specs.Notes.{NotesView, notes_in, notes_view, with_end}
 use Rattle.tp_session.specs.declared.hand.Holding.{Holding}
 use Rattle.tp_session.specs.declared.hand.Holding.TheVariants.{Nothing}
 use Rattle.tp_session.specs.declared.hand.WorkerAnswer.{WorkerAnswer}
 use Rattle.tp_session.specs.declared.held.Held.{Held}
 
 -- what is there between two lines: the manager with its keeper and all passes, of which those of the workers and
--- then those of races come last, and what each of these has in hand
+-- then those of races come last, what each of these has in hand, and what is noted of clients and workers
 pub record Live : Type 0 where
   pub stand : Stand
   pub works : List Holding
+  pub notes : NotesView
+
+-- the same, where this is noted
+abbrev pub with_notes : NotesView → Live → Live
+with_notes notes l = record l { notes = notes }
 
 -- whether a desk has a unit of work open
 abbrev pub has_desk_open : Live → Bool
@@ -69,6 +82,7 @@ pub record LiveGathers (old new : Live) : Type 0 where
   pub manager : new.stand.manager ≡ old.stand.manager
   pub gathered : Gathered old.stand.manager old.stand.keeper new.stand.keeper old.stand.scene new.stand.scene
   pub works : new.works ≡ old.works
+  pub notes : new.notes ≡ old.notes
 
 -- the line is that of the command, and the workers have what they had; a race takes passes behind so many others
 pub record CommandTold (h : HeadView) (c : Command) (raced : ℕ) (old : Live) (text : List ℕ) (new : Live)
@@ -77,6 +91,7 @@ pub record CommandTold (h : HeadView) (c : Command) (raced : ℕ) (old : Live) (
       new.stand.keeper new.stand.scene
   pub manager : new.stand.manager ≡ old.stand.manager
   pub works : new.works ≡ old.works
+  pub notes : new.notes ≡ old.notes
 
 -- ---- rollovers
 
@@ -95,18 +110,21 @@ pub record RolledLive (h : HeadView) (old : Live) (text : List ℕ) (new : Live)
   pub moved : List Moved
   pub rolled : RolledOver old.stand moved new.stand
   pub works : new.works ≡ works_in new.stand moved old.works
+  pub notes : new.notes ≡ notes_in moved old.notes
   pub text_is : text ≡ line (rolled_text (map renamed moved) <> units_text h.workers new.works)
 
--- it was refused, and nothing has changed
-pub record RefusedLive (is_due : Scene → RollFault → Type 0) (old : Live) (text : List ℕ) (new : Live)
-    : Type 0 where
+-- it was refused, and nothing has changed, but that this is noted
+pub record RefusedLive (is_due : Scene → RollFault → Type 0) (notes : NotesView) (old : Live) (text : List ℕ)
+    (new : Live) : Type 0 where
   pub refused : RollRefused is_due old.stand text new.stand
   pub works : new.works ≡ old.works
+  pub noted : new.notes ≡ notes
 
 -- one or the other
 pub record RolloverTold (h : HeadView) (old : Live) (text : List ℕ) (new : Live) : Type 0 where
   pub holds : HoldsUnits old
-  pub told : RolledLive h old text new ⊎ RefusedLive (IsUnrolled old.stand.manager.limits) old text new
+  pub told : RolledLive h old text new
+      ⊎ RefusedLive (IsUnrolled old.stand.manager.limits) old.notes old text new
 
 abbrev pub TellsBy : Bool → HeadView → Command → Live → List ℕ → Live → Type 0
 TellsBy true h c = RolloverTold h
@@ -125,6 +143,7 @@ pub record WorkerDid (it : WorkerLine) (act : WorkerAct) (at : ℕ) (old : Live)
         record old.stand.scene { racers = slice_set old.stand.scene.racers at after.pass };
   }
   pub works : new.works ≡ slice_set old.works at after.work
+  pub notes : new.notes ≡ with_end before.work answer at old.notes
 
 -- the line tells, with the worker's name, what it was answered
 pub record WorkerTold (workers : List WorkerLine) (act : WorkerAct) (at : ℕ) (old : Live) (text : List ℕ)
@@ -150,6 +169,7 @@ pub record ClientCounts (old : Live) (text : List ℕ) (new : Live) : Type 0 whe
   pub tells : TellsAccount old.stand.manager (is_open old) old.stand.scene.client text client
   pub stand : new.stand ≡ record old.stand { scene = record old.stand.scene { client = client } }
   pub works : new.works ≡ old.works
+  pub notes : new.notes ≡ old.notes
 
 pub record AccountTold (old : Live) (text : List ℕ) (new : Live) : Type 0 where
   pub done : Live
@@ -192,13 +212,15 @@ pub record RestoredLive (h : HeadView) (old : Live) (text : List ℕ) (new : Liv
   pub moved : List Moved
   pub restored : Restored (survivors_of h) old.stand moved new.stand
   pub works : new.works ≡ works_in new.stand moved (lost_works h.lost 0 old.works)
+  pub notes : new.notes ≡ notes_in moved old.notes
   pub text_is : text ≡ line (restored_text (map renamed moved) <> units_text h.workers new.works)
 
--- or it was refused, and nothing has changed
+-- or it was refused, and nothing has changed, but that no id goes on that the head has noted
 pub record RestoreTold (h : HeadView) (old : Live) (text : List ℕ) (new : Live) : Type 0 where
   pub holds : HoldsUnits old
   pub told : RestoredLive h old text new
-      ⊎ RefusedLive (IsUnrestoredIn old.stand.manager.limits (survivors_of h)) old text new
+      ⊎ RefusedLive (IsUnrestoredIn old.stand.manager.limits (survivors_of h)) (notes_in [] old.notes)
+      old text new
 
 -- ---- dumps
 
@@ -208,11 +230,12 @@ pub record LiveLooks (old new : Live) : Type 0 where
   pub given : new.stand.keeper.given ≡ old.stand.keeper.given
   pub looked : OnlyLooked old.stand.scene new.stand.scene
   pub works : new.works ≡ old.works
+  pub notes : new.notes ≡ old.notes
 
 -- the lines that lead to this state, where this is alive
 abbrev pub lines_of : HeadView → Live → List Survivor → List (List ℕ)
 lines_of h l survivors = let places = l.stand.scene.places in
-    dump_lines h (map (λ p. p.desk.registers) places) (map (λ p. p.is_dropped) places) l.works survivors
+    dump_lines h (map (λ p. p.desk.registers) places) (map (λ p. p.is_dropped) places) l.works l.notes survivors
 
 -- All that is alive was found, each element once, and a pass that holds one has a unit open: so it is after all
 -- that the passes had done, which all of them have seen.
@@ -246,6 +269,40 @@ pub record DumpTold (h : HeadView) (old : Live) (text : List ℕ) (new : Live) :
   pub tells : TellsDump h (has_desk_open old) old text done
   pub gathers : LiveGathers done new
 
+-- ---- clients of whom notes are kept, and what workers are told of theirs
+
+-- the client of this name did that, by the session's own pass, and all else is as it was
+pub record NotedDid (name : NameView) (act : NotedAct) (old : Live) (text : List ℕ) (new : Live) : Type 0 where
+  pub client : PassShown
+  pub does : NotedDoes old.stand.manager.limits name act (noting old.stand.scene.client old.notes) text
+      (noting client new.notes)
+  pub stand : new.stand ≡ record old.stand { scene = record old.stand.scene { client = client } }
+  pub works : new.works ≡ old.works
+
+pub record NotedTold (name : NameView) (act : NotedAct) (old : Live) (text : List ℕ) (new : Live) : Type 0 where
+  pub done : Live
+  pub did : NotedDid name act old text done
+  pub gathers : LiveGathers done new
+
+-- the line says what the worker at a place has in hand, and how its last unit ended; nothing has changed
+pub record LastDid (workers : List WorkerLine) (at : ℕ) (old : Live) (text : List ℕ) (new : Live) : Type 0 where
+  pub it : WorkerLine
+  pub named : slice_get workers at ≡ Some it
+  pub work : Holding
+  pub work_is : slice_get old.works at ≡ Some work
+  pub hand : List ℕ
+  pub client : PassShown
+  pub reads : HandRead old.stand.manager.limits work old.stand.scene.client hand client
+  pub stand : new.stand ≡ record old.stand { scene = record old.stand.scene { client = client } }
+  pub works : new.works ≡ old.works
+  pub notes : new.notes ≡ old.notes
+  pub text_is : text ≡ line (last_hand (string_bytes it.name) hand (end_at old.notes.ends at))
+
+pub record LastTold (workers : List WorkerLine) (at : ℕ) (old : Live) (text : List ℕ) (new : Live) : Type 0 where
+  pub done : Live
+  pub did : LastDid workers at old text done
+  pub gathers : LiveGathers done new
+
 -- ---- all acts
 
 -- the line of what is asked for
@@ -255,6 +312,8 @@ TellsAct head (acts.Worker at act) old text new = WorkerTold head.workers.items 
 TellsAct head acts.Account old text new = AccountTold old text new
 TellsAct head acts.Dump old text new = DumpTold (head_view head) old text new
 TellsAct head acts.Restore old text new = RestoreTold (head_view head) old text new
+TellsAct head (acts.Noted name act) old text new = NotedTold name act old text new
+TellsAct head (acts.Last at) old text new = LastTold head.workers.items at old text new
 
 -- a race, by the passes behind those of the workers and of the races before it, which took so many
 abbrev pub RaceTold : Head → ℕ → Act → Live → List ℕ → Live → Type 0
@@ -293,6 +352,7 @@ module _ {X : Type 0} {F : X → Type 0} (behaviour : DynBox X Global F → Beha
     pub scene : IsScene behaviour registers pending h.managed.passes.items h.servers.items h.places.items
         l.stand.scene
     pub works : l.works ≡ h.works.items
+    pub notes : l.notes ≡ notes_view h.notes
 
   -- what is there before and after
   pub record Leads (R : Live → Live → Type 0) (old new : Held X F) : Type 0 where

@@ -51,6 +51,7 @@ pub record DesksClose (old new : Live) : Type 0 where
   pub manager : new.stand.manager ≡ old.stand.manager
   pub gives_up : GiveUpAll old.stand.manager old.stand.keeper old.stand.scene new.stand.keeper new.stand.scene
   pub works : new.works ≡ old.works
+  pub notes : new.notes ≡ old.notes
 
 -- so did the worker at a place
 pub record WorkerCloses (workers : List WorkerLine) (at : ℕ) (old new : Live) : Type 0 where
@@ -80,6 +81,7 @@ pub record LiveCounts (old : Live) (account : Account) (new : Live) : Type 0 whe
       old.stand.manager old.stand.keeper new.stand.keeper old.stand.scene new.stand.scene
   pub account_is : account ≡ account_of old.stand.manager.limits.attempts new.stand.keeper.seen
   pub works : new.works ≡ old.works
+  pub notes : new.notes ≡ old.notes
 
 -- so it was where the account is asked for, and else nothing was done
 abbrev pub Counts : Bool → Live → Option Account → Live → Type 0

@@ -17,6 +17,7 @@ use crate::answers::worker_line;
 use crate::dump::dump_told;
 use crate::hand::{Holding, WorkerAnswer, worker_act};
 use crate::held::Held;
+use crate::noted_acts::{last_told, noted_told};
 use crate::restoring::restore_told;
 use crate::rolling::rollover_told;
 use std::alloc::{AllocError, Global};
@@ -109,14 +110,17 @@ pub(crate) fn worker_does(
 {
     let stage = head.workers[worker].stage;
     let at = 1 + held.servers.len() + worker;
+    let work = held.works[worker];
     let pass = &mut held.managed.passes[at];
-    worker_act(
+    let answer = worker_act(
         &held.managed.manager,
         stage,
         pass,
         &mut held.works[worker],
         act,
-    )
+    );
+    held.notes.note_end(worker, work, answer);
+    answer
 }
 
 /// The same, after which all gather. Answers the worker's line.
@@ -248,5 +252,7 @@ pub fn act_line(
         Act::Account => account_told(alloc, head, held),
         Act::Dump => dump_told(alloc, head, held),
         Act::Restore => restore_told(alloc, head, held),
+        Act::Noted { name, act } => noted_told(alloc, head, held, name, *act),
+        Act::Last { worker } => last_told(alloc, head, held, *worker),
     }
 }

@@ -135,7 +135,7 @@ fn units_text(
 }
 
 /// A line of this text.
-fn as_line(alloc: Global, text: &str) -> Result<String, AllocError>
+pub(crate) fn as_line(alloc: Global, text: &str) -> Result<String, AllocError>
     ensures { IfOk result (λ s. string_bytes s ≡ line text.now) }
 {
     format!(in alloc; "{text}\n")

@@ -3,7 +3,8 @@ ghost use Rattle.std.specs.Prelude.{◌≡◌, ◌==◌, ◌+◌, ◌≤◌, len
 ghost use Rattle.std.specs.List.{find};
 ghost use Rattle.tp_model.specs.declared.types.TheConstants.{MAX_PASSES};
 ghost use Rattle.tp_script.specs.Holders.{is_holder};
-ghost use Rattle.tp_session.specs.Carried.{hand_after, held_in, lost_at, lost_works, not_carried, works_after};
+ghost use Rattle.tp_session.specs.Carried.{hand_after, held_in, lost_at, lost_works, not_carried};
+ghost use Rattle.tp_session.specs.Carried.{works_after};
 
 use crate::hand::Holding;
 use tp_manager::Pass;

@@ -3,6 +3,7 @@ ghost use Rattle.std.specs.Prelude.{◌≡◌, ◌⊎◌, ◌≤◌, IfErr, IfOk
 ghost use Rattle.tp_rollover.specs.Managed.{IsUnsurveyed};
 ghost use Rattle.tp_script.specs.Script.{head_view};
 ghost use Rattle.tp_session.specs.Dump.{dump_lines, dump_text};
+ghost use Rattle.tp_session.specs.Notes.{notes_view};
 ghost use Rattle.tp_session.specs.Left.{began_in};
 ghost use Rattle.tp_session.specs.Live.{DumpTold, FoundAlive, IsHeld, Leads, LiveLooks, Surveyed, TellsDump};
 ghost use Rattle.tp_session.specs.Live.{Unsurveyed, has_desk_open};
@@ -12,9 +13,11 @@ use crate::dump_lines::{
     add_alive, add_drops, add_settings, add_starts, add_text, add_workers, told,
 };
 use crate::dump_lost::add_all_lost;
+use crate::dump_notes::add_notes;
 use crate::dump_servers::add_servers;
 use crate::hand::Holding;
 use crate::held::Held;
+use crate::notes::Notes;
 use std::alloc::{AllocError, Global};
 use std::string::String;
 use tp_commands::Place;
@@ -32,6 +35,7 @@ fn dump_text(
     servers: &[Box<dyn Server + Send>],
     places: &[Place],
     works: &[Holding],
+    notes: &Notes,
     survivors: &[Survivor],
 ) -> Result<String, AllocError>
     requires each_server { length servers.now ≡ length head.now.servers.items }
@@ -39,7 +43,7 @@ fn dump_text(
     requires each_worker { length head.now.workers.items ≤ length works.now }
     ensures { IfOk result (λ text. string_bytes text ≡ dump_text (dump_lines (head_view head.now)
         (map (λ server. registers server) servers.now) (map (λ place. place.is_dropped) places.now)
-        works.now survivors.now)) }
+        works.now (notes_view notes.now) survivors.now)) }
 {
     let mut lines = Vec::new(alloc);
     add_settings(alloc, &head.settings, &mut lines)?;
@@ -49,6 +53,7 @@ fn dump_text(
     let first = 1 + servers.len();
     add_alive(alloc, head.workers.as_slice(), first, survivors, &mut lines)?;
     add_all_lost(alloc, head, works, survivors, &mut lines)?;
+    add_notes(alloc, head, notes, survivors, &mut lines)?;
     add_text(alloc, "restore", &mut lines)?;
     add_drops(alloc, head, places, &mut lines)?;
     told(alloc, lines.as_slice())
@@ -61,6 +66,7 @@ fn survey_held(alloc: Global, head: &Head, held: &mut Held) -> Result<Vec<Surviv
     ensures servers { held.new.servers ≡ held.old.servers }
     ensures places { held.new.places ≡ held.old.places }
     ensures works { held.new.works ≡ held.old.works }
+    ensures notes { held.new.notes ≡ held.old.notes }
     ensures found { IfOk result (λ survivors. Leads behaviour registers pending (λ old done.
         LiveLooks old done × FoundAlive old survivors.items done) held.old held.new) }
     ensures refused { IfErr result (λ why. IsUnsurveyed why
@@ -86,6 +92,7 @@ fn look_for_alive(alloc: Global, head: &Head, held: &mut Held) -> Result<String,
             held.servers.as_slice(),
             held.places.as_slice(),
             held.works.as_slice(),
+            &held.notes,
             survivors.as_slice(),
         ),
         Err(why) => refused_line(alloc, why),

@@ -1,6 +1,7 @@
 //! What a session holds between two lines.
 
 use crate::hand::Holding;
+use crate::notes::Notes;
 use arrayvec::ArrayVec;
 use tp_commands::Place;
 use tp_rollover::Managed;
@@ -18,4 +19,6 @@ pub struct Held {
     pub places: ArrayVec<Place, MAX_SERVERS>,
     /// What each worker has in hand, in the order of their lines.
     pub works: Vec<Holding>,
+    /// What is noted of clients, and of how workers' last units ended.
+    pub notes: Notes,
 }

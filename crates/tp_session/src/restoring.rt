@@ -16,13 +16,15 @@ ghost use Rattle.tp_session.specs.Carried.{lost_works};
 ghost use Rattle.tp_session.specs.Hands.{unit_of};
 ghost use Rattle.tp_session.specs.declared.hand.Holding.TheVariants.{Nothing};
 ghost use Rattle.tp_session.specs.Left.{OrSame, Reaches};
-ghost use Rattle.tp_session.specs.Live.{HoldsUnits, IsHeld, Leads, RestoreTold, status_at, status_in, survivor_of};
+ghost use Rattle.tp_session.specs.Live.{HoldsUnits, IsHeld, Leads, RestoreTold, status_at, status_in};
+ghost use Rattle.tp_session.specs.Live.{survivor_of};
 ghost use Rattle.tp_session.specs.Live.{survivors_of, works_in};
 
 use crate::answers::restored_line;
 use crate::carried::{go_on_all, lose_all};
 use crate::hand::Holding;
 use crate::held::Held;
+use crate::noted::notes_go_on;
 use std::alloc::{AllocError, Global};
 use std::string::String;
 use tp_commands::Place;
@@ -166,11 +168,12 @@ fn restore_held(
     ensures held { IsHeld behaviour registers pending head.now held.new }
     ensures restored { IfOk result (λ moved. Leads behaviour registers pending (λ old new.
         HoldsUnits old × (Restored survivors.now old.stand moved.items new.stand
-        × (new.works ≡ works_in new.stand moved.items (lost_works head.now.lost.items 0 old.works))))
-        held.old held.new) }
+        × (new.works ≡ works_in new.stand moved.items (lost_works head.now.lost.items 0 old.works)))
+        × (new.notes ≡ old.notes)) held.old held.new) }
     ensures refused { IfErr result (λ why. Leads behaviour registers pending (λ old new.
         HoldsUnits old × (RollRefused (IsUnrestoredIn old.stand.manager.limits survivors.now)
-        old.stand (line (roll_refused_text why)) new.stand × (new.works ≡ old.works))) held.old held.new) }
+        old.stand (line (roll_refused_text why)) new.stand × (new.works ≡ old.works))
+        × (new.notes ≡ old.notes)) held.old held.new) }
 {
     restore_works(
         alloc,
@@ -199,19 +202,26 @@ fn stand_again(
         RestoreTold (head_view head.now) old (string_bytes text) new) held.old held.new) }
 {
     match restore_held(alloc, head, held, survivors) {
-        Ok(moved) => restored_line(
-            alloc,
-            moved.as_slice(),
-            head.workers.as_slice(),
-            held.works.as_slice(),
-        ),
-        Err(why) => refused_line(alloc, why),
+        Ok(moved) => {
+            notes_go_on(head, held, moved.as_slice());
+            restored_line(
+                alloc,
+                moved.as_slice(),
+                head.workers.as_slice(),
+                held.works.as_slice(),
+            )
+        }
+        Err(why) => {
+            notes_go_on(head, held, &[]);
+            refused_line(alloc, why)
+        }
     }
 }
 
 /// What the head says is alive stands again in a new manager of the same limits, each element once, and the
 /// desks begin anew there. Workers have in hand what the head says. Answers `restored N OLD:NEW ..`, and where
-/// workers have units open ` units NAME:ID ..` behind it; or why it was refused: then nothing has changed.
+/// workers have units open ` units NAME:ID ..` behind it; or why it was refused: then nothing has changed, but
+/// that no id goes on that the head has noted.
 pub(crate) fn restore_told(
     alloc: Global,
     head: &Head,

@@ -15,6 +15,7 @@ use crate::answers::rolled_line;
 use crate::carried::go_on_all;
 use crate::hand::Holding;
 use crate::held::Held;
+use crate::noted::notes_go_on;
 use std::alloc::{AllocError, Global};
 use std::string::String;
 use tp_commands::Place;
@@ -76,10 +77,12 @@ fn roll_over_held(alloc: Global, head: &Head, held: &mut Held) -> Result<Vec<Mov
     ensures held { IsHeld behaviour registers pending head.now held.new }
     ensures rolled { IfOk result (λ moved. Leads behaviour registers pending (λ old new.
         HoldsUnits old × (RolledOver old.stand moved.items new.stand
-        × (new.works ≡ works_in new.stand moved.items old.works))) held.old held.new) }
+        × (new.works ≡ works_in new.stand moved.items old.works)) × (new.notes ≡ old.notes))
+        held.old held.new) }
     ensures refused { IfErr result (λ why. Leads behaviour registers pending (λ old new.
         HoldsUnits old × (RollRefused (IsUnrolled old.stand.manager.limits) old.stand
-        (line (roll_refused_text why)) new.stand × (new.works ≡ old.works))) held.old held.new) }
+        (line (roll_refused_text why)) new.stand × (new.works ≡ old.works)) × (new.notes ≡ old.notes))
+        held.old held.new) }
 {
     roll_over_works(
         alloc,
@@ -105,12 +108,15 @@ pub(crate) fn rollover_told(
         RolloverTold (head_view head.now) old (string_bytes text) new) held.old held.new) }
 {
     match roll_over_held(alloc, head, held) {
-        Ok(moved) => rolled_line(
-            alloc,
-            moved.as_slice(),
-            head.workers.as_slice(),
-            held.works.as_slice(),
-        ),
+        Ok(moved) => {
+            notes_go_on(head, held, moved.as_slice());
+            rolled_line(
+                alloc,
+                moved.as_slice(),
+                head.workers.as_slice(),
+                held.works.as_slice(),
+            )
+        }
         Err(why) => refused_line(alloc, why),
     }
 }

@@ -17,6 +17,7 @@ ghost use Rattle.tp_session.specs.Performed.{Ran, Report, ReportFront, closing_t
 use crate::ending::tell_finals;
 use crate::held::Held;
 use crate::making::{first_places, no_works};
+use crate::noted::first_notes;
 use crate::performing::perform;
 use crate::reading::Lines;
 use crate::session::limits_of;
@@ -155,12 +156,14 @@ fn serve_with<T: Threads + Sync, W: Sink>(
         alloc,
         script.head.workers.len() + usize::from(script.racers()),
     )?;
+    let notes = first_notes(alloc, &script.head, works.as_slice())?;
     let places = first_places(managed.passes.as_slice(), servers.as_slice());
     let mut held = Held {
         managed,
         servers,
         places,
         works,
+        notes,
     };
     let account = perform(rt, alloc, script, &mut held, writer)?;
     write_end(alloc, script, held.servers.as_slice(), account, writer)

@@ -29,6 +29,7 @@ use crate::first::First;
 use crate::heading::read_head;
 use crate::held::Held;
 use crate::making::{first_places, no_works};
+use crate::noted::first_notes;
 use crate::reading::{Lines, MAX_ASKED};
 use crate::wire::Wire;
 use std::alloc::Global;
@@ -214,12 +215,14 @@ fn with_servers<W: Wire>(
         → IsTrue (W.read_failed wire.new) ⊎ IsLong lines.old (W.rest wire.old) }
 {
     let works = no_works(alloc, head.workers.len())?;
+    let notes = first_notes(alloc, head, works.as_slice())?;
     let places = first_places(managed.passes.as_slice(), servers.as_slice());
     let mut held = Held {
         managed,
         servers,
         places,
         works,
+        notes,
     };
     answer_to_end(alloc, head, &mut held, first, lines, wire)?;
     finals(alloc, head, held.servers.as_slice(), lines, wire)

@@ -24,3 +24,15 @@ returns-in-Restore-clause-tells g c = rw c.in-Restore.is c.restore_told.ensures.
 
 pub returns-in-Restore-clause-went : goal.returns-in-Restore-clause-went
 returns-in-Restore-clause-went g c = rw c.in-Restore.is c.restore_told.ensures.went
+
+pub returns-in-Noted-clause-tells : goal.returns-in-Noted-clause-tells
+returns-in-Noted-clause-tells g c = rw c.in-Noted.is c.noted_told.ensures.tells
+
+pub returns-in-Noted-clause-went : goal.returns-in-Noted-clause-went
+returns-in-Noted-clause-went g c = reach_same (λ b. (goal.Server-dyn g (b.vtable, b.value)).behaviour b.value) (λ b. (goal.Server-dyn g (b.vtable, b.value)).registers b.value) (λ b. (goal.Server-dyn g (b.vtable, b.value)).pending b.value) c.args.head.now c.args.held.now c.noted_told.new.held _ c.requires.held c.noted_told.ensures.began
+
+pub returns-in-Last-clause-tells : goal.returns-in-Last-clause-tells
+returns-in-Last-clause-tells g c = rw c.in-Last.is c.last_told.ensures.tells
+
+pub returns-in-Last-clause-went : goal.returns-in-Last-clause-went
+returns-in-Last-clause-went g c = reach_same (λ b. (goal.Server-dyn g (b.vtable, b.value)).behaviour b.value) (λ b. (goal.Server-dyn g (b.vtable, b.value)).registers b.value) (λ b. (goal.Server-dyn g (b.vtable, b.value)).pending b.value) c.args.head.now c.args.held.now c.last_told.new.held _ c.requires.held c.last_told.ensures.began

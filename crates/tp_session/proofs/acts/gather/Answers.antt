@@ -8,7 +8,7 @@ returns-clause-held g c =
     let e = c.gather.ensures in
     let gathers = rw c.as_mut_slice.ensures.value at e.gathers in
     let long = c.gather.auto.passes ∙ ap length c.as_mut_slice.ensures.value in
-    held_of (λ b. (goal.Server-dyn g (b.vtable, b.value)).behaviour b.value) (λ b. (goal.Server-dyn g (b.vtable, b.value)).registers b.value) (λ b. (goal.Server-dyn g (b.vtable, b.value)).pending b.value) c.args.head.now c.args.held.now (record { managed = record { manager = c.args.held.now.managed.manager; keeper = c.gather.new.self; passes = with_items c.args.held.now.managed.passes c.gather.new.passes }; servers = c.args.held.now.servers; places = c.args.held.now.places; works = c.args.held.now.works }) c.gather.new.passes c.args.held.now.servers.items c.args.held.now.places.items c.requires.held refl (refilled _ _ _ c.args.held.now.managed.passes.ok.0 long) refl refl e.keeper.0 e.all
+    held_of (λ b. (goal.Server-dyn g (b.vtable, b.value)).behaviour b.value) (λ b. (goal.Server-dyn g (b.vtable, b.value)).registers b.value) (λ b. (goal.Server-dyn g (b.vtable, b.value)).pending b.value) c.args.head.now c.args.held.now (record { managed = record { manager = c.args.held.now.managed.manager; keeper = c.gather.new.self; passes = with_items c.args.held.now.managed.passes c.gather.new.passes }; servers = c.args.held.now.servers; places = c.args.held.now.places; works = c.args.held.now.works; notes = c.args.held.now.notes }) c.gather.new.passes c.args.held.now.servers.items c.args.held.now.places.items c.requires.held refl (refilled _ _ _ c.args.held.now.managed.passes.ok.0 long) refl refl e.keeper.0 e.all
     (gather_ready (λ b. (goal.Server-dyn g (b.vtable, b.value)).behaviour b.value) (λ b. (goal.Server-dyn g (b.vtable, b.value)).registers b.value) (λ b. (goal.Server-dyn g (b.vtable, b.value)).pending b.value) c.args.head.now c.args.held.now c.gather.new.self c.gather.new.passes c.requires.held gathers e.all e.keeper.1 e.own)
     long refl refl
     (gather_in_hand (λ b. (goal.Server-dyn g (b.vtable, b.value)).behaviour b.value) (λ b. (goal.Server-dyn g (b.vtable, b.value)).registers b.value) (λ b. (goal.Server-dyn g (b.vtable, b.value)).pending b.value) c.args.head.now c.args.held.now c.gather.new.self c.gather.new.passes c.requires.held gathers e.all e.keeper.1 e.own)
@@ -18,4 +18,4 @@ returns-clause-gathers g c =
     let e = c.gather.ensures in
     let gathers = rw c.as_mut_slice.ensures.value at e.gathers in
     let long = c.gather.auto.passes ∙ ap length c.as_mut_slice.ensures.value in
-    gather_leads (λ b. (goal.Server-dyn g (b.vtable, b.value)).behaviour b.value) (λ b. (goal.Server-dyn g (b.vtable, b.value)).registers b.value) (λ b. (goal.Server-dyn g (b.vtable, b.value)).pending b.value) c.args.head.now c.args.held.now c.gather.new.self c.gather.new.passes c.requires.held gathers e.all e.keeper.1 e.own (record { managed = record { manager = c.args.held.now.managed.manager; keeper = c.gather.new.self; passes = with_items c.args.held.now.managed.passes c.gather.new.passes }; servers = c.args.held.now.servers; places = c.args.held.now.places; works = c.args.held.now.works }) refl refl (refilled _ _ _ c.args.held.now.managed.passes.ok.0 long) refl refl refl
+    gather_leads (λ b. (goal.Server-dyn g (b.vtable, b.value)).behaviour b.value) (λ b. (goal.Server-dyn g (b.vtable, b.value)).registers b.value) (λ b. (goal.Server-dyn g (b.vtable, b.value)).pending b.value) c.args.head.now c.args.held.now c.gather.new.self c.gather.new.passes c.requires.held gathers e.all e.keeper.1 e.own (record { managed = record { manager = c.args.held.now.managed.manager; keeper = c.gather.new.self; passes = with_items c.args.held.now.managed.passes c.gather.new.passes }; servers = c.args.held.now.servers; places = c.args.held.now.places; works = c.args.held.now.works; notes = c.args.held.now.notes }) refl refl (refilled _ _ _ c.args.held.now.managed.passes.ok.0 long) refl refl refl refl

@@ -14,7 +14,7 @@ returns-clause-held g c =
     let ps = c.give_up_all.auto.passes ∙ ap length c.as_mut_slice.ensures.value in
     let ss = c.give_up_all.auto.servers ∙ ap length c.as_mut_slice-2.ensures.value in
     let os = c.give_up_all.auto.places ∙ ap length c.as_mut_slice-3.ensures.value in
-    held_of (λ b. (goal.Server-dyn g (b.vtable, b.value)).behaviour b.value) (λ b. (goal.Server-dyn g (b.vtable, b.value)).registers b.value) (λ b. (goal.Server-dyn g (b.vtable, b.value)).pending b.value) c.args.head.now c.args.held.now (record { managed = record { manager = c.args.held.now.managed.manager; keeper = c.give_up_all.new.keeper; passes = with_items c.args.held.now.managed.passes c.give_up_all.new.passes }; servers = with_items c.args.held.now.servers c.give_up_all.new.servers; places = record { items = refill (length c.args.held.now.places.items) c.args.held.now.places.items c.give_up_all.new.places }; works = c.args.held.now.works }) n.passes n.servers n.places c.requires.held refl (refilled _ _ _ c.args.held.now.managed.passes.ok.0 ps) (refilled _ _ _ c.args.held.now.servers.ok.0 ss) (refilled _ _ _ refl os) e.keeper e.all e.ready
+    held_of (λ b. (goal.Server-dyn g (b.vtable, b.value)).behaviour b.value) (λ b. (goal.Server-dyn g (b.vtable, b.value)).registers b.value) (λ b. (goal.Server-dyn g (b.vtable, b.value)).pending b.value) c.args.head.now c.args.held.now (record { managed = record { manager = c.args.held.now.managed.manager; keeper = c.give_up_all.new.keeper; passes = with_items c.args.held.now.managed.passes c.give_up_all.new.passes }; servers = with_items c.args.held.now.servers c.give_up_all.new.servers; places = record { items = refill (length c.args.held.now.places.items) c.args.held.now.places.items c.give_up_all.new.places }; works = c.args.held.now.works; notes = c.args.held.now.notes }) n.passes n.servers n.places c.requires.held refl (refilled _ _ _ c.args.held.now.managed.passes.ok.0 ps) (refilled _ _ _ c.args.held.now.servers.ok.0 ss) (refilled _ _ _ refl os) e.keeper e.all e.ready
     ps ss refl (ap (λ k. units_held k n.passes) ss ∙ ((rw (c.as_mut_slice.ensures.value, c.as_mut_slice-2.ensures.value) at e.held) ∙ c.requires.held.in_hand))
 
 pub returns-clause-began : goal.returns-clause-began
@@ -29,10 +29,10 @@ returns-clause-closes g c =
     let ss = c.give_up_all.auto.servers ∙ ap length c.as_mut_slice-2.ensures.value in
     let os = c.give_up_all.auto.places ∙ ap length c.as_mut_slice-3.ensures.value in
     let t = c.give_up_all.ensures.gives_up in
-    desks_lead (λ b. (goal.Server-dyn g (b.vtable, b.value)).behaviour b.value) (λ b. (goal.Server-dyn g (b.vtable, b.value)).registers b.value) (λ b. (goal.Server-dyn g (b.vtable, b.value)).pending b.value) c.args.held.now (record { managed = record { manager = c.args.held.now.managed.manager; keeper = c.give_up_all.new.keeper; passes = with_items c.args.held.now.managed.passes c.give_up_all.new.passes }; servers = with_items c.args.held.now.servers c.give_up_all.new.servers; places = record { items = refill (length c.args.held.now.places.items) c.args.held.now.places.items c.give_up_all.new.places }; works = c.args.held.now.works }) refl refl (
+    desks_lead (λ b. (goal.Server-dyn g (b.vtable, b.value)).behaviour b.value) (λ b. (goal.Server-dyn g (b.vtable, b.value)).registers b.value) (λ b. (goal.Server-dyn g (b.vtable, b.value)).pending b.value) c.args.held.now (record { managed = record { manager = c.args.held.now.managed.manager; keeper = c.give_up_all.new.keeper; passes = with_items c.args.held.now.managed.passes c.give_up_all.new.passes }; servers = with_items c.args.held.now.servers c.give_up_all.new.servers; places = record { items = refill (length c.args.held.now.places.items) c.args.held.now.places.items c.give_up_all.new.places }; works = c.args.held.now.works; notes = c.args.held.now.notes }) refl refl refl (
       t.0,
       t.1,
       (rw (c.as_mut_slice.ensures.value, c.as_mut_slice-2.ensures.value, c.as_mut_slice-3.ensures.value) at t.2),
       t.3,
-      at_of (λ b. (goal.Server-dyn g (b.vtable, b.value)).behaviour b.value) (λ b. (goal.Server-dyn g (b.vtable, b.value)).registers b.value) (λ b. (goal.Server-dyn g (b.vtable, b.value)).pending b.value) (record { managed = record { manager = c.args.held.now.managed.manager; keeper = c.give_up_all.new.keeper; passes = with_items c.args.held.now.managed.passes c.give_up_all.new.passes }; servers = with_items c.args.held.now.servers c.give_up_all.new.servers; places = record { items = refill (length c.args.held.now.places.items) c.args.held.now.places.items c.give_up_all.new.places }; works = c.args.held.now.works }) n.passes n.servers n.places t.1 (refilled _ _ _ c.args.held.now.managed.passes.ok.0 ps) (refilled _ _ _ c.args.held.now.servers.ok.0 ss) (refilled _ _ _ refl os) t.4,
+      at_of (λ b. (goal.Server-dyn g (b.vtable, b.value)).behaviour b.value) (λ b. (goal.Server-dyn g (b.vtable, b.value)).registers b.value) (λ b. (goal.Server-dyn g (b.vtable, b.value)).pending b.value) (record { managed = record { manager = c.args.held.now.managed.manager; keeper = c.give_up_all.new.keeper; passes = with_items c.args.held.now.managed.passes c.give_up_all.new.passes }; servers = with_items c.args.held.now.servers c.give_up_all.new.servers; places = record { items = refill (length c.args.held.now.places.items) c.args.held.now.places.items c.give_up_all.new.places }; works = c.args.held.now.works; notes = c.args.held.now.notes }) n.passes n.servers n.places t.1 (refilled _ _ _ c.args.held.now.managed.passes.ok.0 ps) (refilled _ _ _ c.args.held.now.servers.ok.0 ss) (refilled _ _ _ refl os) t.4,
     )

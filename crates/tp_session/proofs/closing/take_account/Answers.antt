@@ -15,7 +15,7 @@ returns-clause-held g c =
     let e = c.account.ensures in
     let counts = rw c.as_mut_slice.ensures.value at e.account in
     let long = c.account.auto.passes ∙ ap length c.as_mut_slice.ensures.value in
-    held_of (λ b. (goal.Server-dyn g (b.vtable, b.value)).behaviour b.value) (λ b. (goal.Server-dyn g (b.vtable, b.value)).registers b.value) (λ b. (goal.Server-dyn g (b.vtable, b.value)).pending b.value) c.args.head.now c.args.held.now (record { managed = record { manager = c.args.held.now.managed.manager; keeper = c.account.new.self; passes = with_items c.args.held.now.managed.passes c.account.new.passes }; servers = c.args.held.now.servers; places = c.args.held.now.places; works = c.args.held.now.works }) c.account.new.passes c.args.held.now.servers.items c.args.held.now.places.items c.requires.held refl (refilled _ _ _ c.args.held.now.managed.passes.ok.0 long) refl refl e.keeper.0 e.all
+    held_of (λ b. (goal.Server-dyn g (b.vtable, b.value)).behaviour b.value) (λ b. (goal.Server-dyn g (b.vtable, b.value)).registers b.value) (λ b. (goal.Server-dyn g (b.vtable, b.value)).pending b.value) c.args.head.now c.args.held.now (record { managed = record { manager = c.args.held.now.managed.manager; keeper = c.account.new.self; passes = with_items c.args.held.now.managed.passes c.account.new.passes }; servers = c.args.held.now.servers; places = c.args.held.now.places; works = c.args.held.now.works; notes = c.args.held.now.notes }) c.account.new.passes c.args.held.now.servers.items c.args.held.now.places.items c.requires.held refl (refilled _ _ _ c.args.held.now.managed.passes.ok.0 long) refl refl e.keeper.0 e.all
     (counted_ready (λ b. (goal.Server-dyn g (b.vtable, b.value)).behaviour b.value) (λ b. (goal.Server-dyn g (b.vtable, b.value)).registers b.value) (λ b. (goal.Server-dyn g (b.vtable, b.value)).pending b.value) c.args.head.now c.args.held.now c.account.new.self c.account.new.passes c.account.result c.requires.held counts e.all e.keeper.1 e.own)
     long refl refl
     (counted_in_hand (λ b. (goal.Server-dyn g (b.vtable, b.value)).behaviour b.value) (λ b. (goal.Server-dyn g (b.vtable, b.value)).registers b.value) (λ b. (goal.Server-dyn g (b.vtable, b.value)).pending b.value) c.args.head.now c.args.held.now c.account.new.self c.account.new.passes c.account.result c.requires.held counts e.all e.keeper.1 e.own)
@@ -25,5 +25,5 @@ returns-clause-counts g c =
     let e = c.account.ensures in
     let counts = rw c.as_mut_slice.ensures.value at e.account in
     let long = c.account.auto.passes ∙ ap length c.as_mut_slice.ensures.value in
-    leads_so (λ b. (goal.Server-dyn g (b.vtable, b.value)).behaviour b.value) (λ b. (goal.Server-dyn g (b.vtable, b.value)).registers b.value) (λ b. (goal.Server-dyn g (b.vtable, b.value)).pending b.value) _ _ c.args.held.now (record { managed = record { manager = c.args.held.now.managed.manager; keeper = c.account.new.self; passes = with_items c.args.held.now.managed.passes c.account.new.passes }; servers = c.args.held.now.servers; places = c.args.held.now.places; works = c.args.held.now.works }) (λ a b counted. subst (λ z. Counts z a (Some c.account.result) b) (sym c.if-not-is_asked.false) counted)
-    (counted_leads (λ b. (goal.Server-dyn g (b.vtable, b.value)).behaviour b.value) (λ b. (goal.Server-dyn g (b.vtable, b.value)).registers b.value) (λ b. (goal.Server-dyn g (b.vtable, b.value)).pending b.value) c.args.head.now c.args.held.now c.account.new.self c.account.new.passes c.account.result c.requires.held counts e.all e.keeper.1 e.own (record { managed = record { manager = c.args.held.now.managed.manager; keeper = c.account.new.self; passes = with_items c.args.held.now.managed.passes c.account.new.passes }; servers = c.args.held.now.servers; places = c.args.held.now.places; works = c.args.held.now.works }) refl refl (refilled _ _ _ c.args.held.now.managed.passes.ok.0 long) refl refl refl)
+    leads_so (λ b. (goal.Server-dyn g (b.vtable, b.value)).behaviour b.value) (λ b. (goal.Server-dyn g (b.vtable, b.value)).registers b.value) (λ b. (goal.Server-dyn g (b.vtable, b.value)).pending b.value) _ _ c.args.held.now (record { managed = record { manager = c.args.held.now.managed.manager; keeper = c.account.new.self; passes = with_items c.args.held.now.managed.passes c.account.new.passes }; servers = c.args.held.now.servers; places = c.args.held.now.places; works = c.args.held.now.works; notes = c.args.held.now.notes }) (λ a b counted. subst (λ z. Counts z a (Some c.account.result) b) (sym c.if-not-is_asked.false) counted)
+    (counted_leads (λ b. (goal.Server-dyn g (b.vtable, b.value)).behaviour b.value) (λ b. (goal.Server-dyn g (b.vtable, b.value)).registers b.value) (λ b. (goal.Server-dyn g (b.vtable, b.value)).pending b.value) c.args.head.now c.args.held.now c.account.new.self c.account.new.passes c.account.result c.requires.held counts e.all e.keeper.1 e.own (record { managed = record { manager = c.args.held.now.managed.manager; keeper = c.account.new.self; passes = with_items c.args.held.now.managed.passes c.account.new.passes }; servers = c.args.held.now.servers; places = c.args.held.now.places; works = c.args.held.now.works; notes = c.args.held.now.notes }) refl refl (refilled _ _ _ c.args.held.now.managed.passes.ok.0 long) refl refl refl refl)

@@ -10,7 +10,7 @@ use Rattle.tp_session.proofs.dump.look_for_alive.Goals as goal
 pub returns-in-Ok-clause-looks : goal.returns-in-Ok-clause-looks
 returns-in-Ok-clause-looks g c =
     IfOk-weaker c.dump_text.result _ _ (λ text is. surveyed_leads (λ b. (goal.Server-dyn g (b.vtable, b.value)).behaviour b.value) (λ b. (goal.Server-dyn g (b.vtable, b.value)).registers b.value) (λ b. (goal.Server-dyn g (b.vtable, b.value)).pending b.value) c.args.head.now (head_view c.args.head.now) c.args.held.now c.survey_held.new.held c.requires.held (string_bytes text) c.in-Ok.survivors.items is c.in-Ok.ensures.found)
-    (rw (c.as_slice.ensures.value, c.as_slice-in-Ok.ensures.value, c.as_slice-in-Ok-2.ensures.value, c.as_slice-in-Ok-3.ensures.value, c.in-Ok.ensures.servers, c.in-Ok.ensures.places, c.in-Ok.ensures.works) at c.dump_text.ensures)
+    (rw (c.as_slice.ensures.value, c.as_slice-in-Ok.ensures.value, c.as_slice-in-Ok-2.ensures.value, c.as_slice-in-Ok-3.ensures.value, c.in-Ok.ensures.servers, c.in-Ok.ensures.places, c.in-Ok.ensures.works, c.in-Ok.ensures.notes) at c.dump_text.ensures)
 
 pub returns-in-Err-clause-looks : goal.returns-in-Err-clause-looks
 returns-in-Err-clause-looks g c =

@@ -1,5 +1,4 @@
-use Rattle.std.proofs.Common.{◌≡◌, None, All, length}
-use Rattle.tp_session.specs.declared.hand.Holding.{Holding}
+use Rattle.std.proofs.Common.{◌≡◌, All, length}
 use Rattle.tp_session.specs.declared.hand.Holding.TheVariants.{Nothing}
 use Rattle.tp_session.proofs.making.no_works.Given as goal
 

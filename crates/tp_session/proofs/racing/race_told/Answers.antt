@@ -31,7 +31,7 @@ returns-clause-held g c =
     let ps = c.race_next.auto.passes ∙ ap length c.as_mut_slice.ensures.value in
     let ss = c.race_next.auto.servers ∙ ap length c.as_mut_slice-2.ensures.value in
     let os = c.race_next.auto.places ∙ ap length c.as_mut_slice-3.ensures.value in
-    held_of (λ b. (goal.Server-dyn g (b.vtable, b.value)).behaviour b.value) (λ b. (goal.Server-dyn g (b.vtable, b.value)).registers b.value) (λ b. (goal.Server-dyn g (b.vtable, b.value)).pending b.value) c.args.head.now c.args.held.now (record { managed = record { manager = c.args.held.now.managed.manager; keeper = c.race_next.new.keeper; passes = with_items c.args.held.now.managed.passes c.race_next.new.passes }; servers = with_items c.args.held.now.servers c.race_next.new.servers; places = record { items = refill (length c.args.held.now.places.items) c.args.held.now.places.items c.race_next.new.places }; works = c.args.held.now.works }) n.passes n.servers n.places c.requires.held refl (refilled _ _ _ c.args.held.now.managed.passes.ok.0 ps) (refilled _ _ _ c.args.held.now.servers.ok.0 ss) (refilled _ _ _ refl os) e.keeper e.all e.ready
+    held_of (λ b. (goal.Server-dyn g (b.vtable, b.value)).behaviour b.value) (λ b. (goal.Server-dyn g (b.vtable, b.value)).registers b.value) (λ b. (goal.Server-dyn g (b.vtable, b.value)).pending b.value) c.args.head.now c.args.held.now (record { managed = record { manager = c.args.held.now.managed.manager; keeper = c.race_next.new.keeper; passes = with_items c.args.held.now.managed.passes c.race_next.new.passes }; servers = with_items c.args.held.now.servers c.race_next.new.servers; places = record { items = refill (length c.args.held.now.places.items) c.args.held.now.places.items c.race_next.new.places }; works = c.args.held.now.works; notes = c.args.held.now.notes }) n.passes n.servers n.places c.requires.held refl (refilled _ _ _ c.args.held.now.managed.passes.ok.0 ps) (refilled _ _ _ c.args.held.now.servers.ok.0 ss) (refilled _ _ _ refl os) e.keeper e.all e.ready
     ps ss refl (ap (λ k. units_held k n.passes) ss ∙ ((rw (c.as_mut_slice.ensures.value, c.as_mut_slice-2.ensures.value) at e.held) ∙ c.requires.held.in_hand))
 
 pub returns-clause-tells : goal.returns-clause-tells
@@ -41,14 +41,14 @@ returns-clause-tells g c =
     let ss = c.race_next.auto.servers ∙ ap length c.as_mut_slice-2.ensures.value in
     let os = c.race_next.auto.places ∙ ap length c.as_mut_slice-3.ensures.value in
     let k : (c.len.result + c.args.raced) ≡ length c.args.head.now.workers.items + c.args.raced = omega (arith, c.len.ensures, c.args.head.now.workers.ok.0) in
-    let told = IfOk-weaker c.race_next.result _ _ (λ text t. command_leads (λ b. (goal.Server-dyn g (b.vtable, b.value)).behaviour b.value) (λ b. (goal.Server-dyn g (b.vtable, b.value)).registers b.value) (λ b. (goal.Server-dyn g (b.vtable, b.value)).pending b.value) c.args.head.now c.args.command (c.len.result + c.args.raced) c.args.held.now (record { managed = record { manager = c.args.held.now.managed.manager; keeper = c.race_next.new.keeper; passes = with_items c.args.held.now.managed.passes c.race_next.new.passes }; servers = with_items c.args.held.now.servers c.race_next.new.servers; places = record { items = refill (length c.args.held.now.places.items) c.args.held.now.places.items c.race_next.new.places }; works = c.args.held.now.works }) (string_bytes text) refl refl (
+    let told = IfOk-weaker c.race_next.result _ _ (λ text t. command_leads (λ b. (goal.Server-dyn g (b.vtable, b.value)).behaviour b.value) (λ b. (goal.Server-dyn g (b.vtable, b.value)).registers b.value) (λ b. (goal.Server-dyn g (b.vtable, b.value)).pending b.value) c.args.head.now c.args.command (c.len.result + c.args.raced) c.args.held.now (record { managed = record { manager = c.args.held.now.managed.manager; keeper = c.race_next.new.keeper; passes = with_items c.args.held.now.managed.passes c.race_next.new.passes }; servers = with_items c.args.held.now.servers c.race_next.new.servers; places = record { items = refill (length c.args.held.now.places.items) c.args.held.now.places.items c.race_next.new.places }; works = c.args.held.now.works; notes = c.args.held.now.notes }) (string_bytes text) refl refl refl (
       t.0,
       t.1,
       (rw (c.as_mut_slice.ensures.value, c.as_mut_slice-2.ensures.value, c.as_mut_slice-3.ensures.value) at t.2),
       t.3,
-      at_of (λ b. (goal.Server-dyn g (b.vtable, b.value)).behaviour b.value) (λ b. (goal.Server-dyn g (b.vtable, b.value)).registers b.value) (λ b. (goal.Server-dyn g (b.vtable, b.value)).pending b.value) (record { managed = record { manager = c.args.held.now.managed.manager; keeper = c.race_next.new.keeper; passes = with_items c.args.held.now.managed.passes c.race_next.new.passes }; servers = with_items c.args.held.now.servers c.race_next.new.servers; places = record { items = refill (length c.args.held.now.places.items) c.args.held.now.places.items c.race_next.new.places }; works = c.args.held.now.works }) n.passes n.servers n.places t.1 (refilled _ _ _ c.args.held.now.managed.passes.ok.0 ps) (refilled _ _ _ c.args.held.now.servers.ok.0 ss) (refilled _ _ _ refl os) t.4,
+      at_of (λ b. (goal.Server-dyn g (b.vtable, b.value)).behaviour b.value) (λ b. (goal.Server-dyn g (b.vtable, b.value)).registers b.value) (λ b. (goal.Server-dyn g (b.vtable, b.value)).pending b.value) (record { managed = record { manager = c.args.held.now.managed.manager; keeper = c.race_next.new.keeper; passes = with_items c.args.held.now.managed.passes c.race_next.new.passes }; servers = with_items c.args.held.now.servers c.race_next.new.servers; places = record { items = refill (length c.args.held.now.places.items) c.args.held.now.places.items c.race_next.new.places }; works = c.args.held.now.works; notes = c.args.held.now.notes }) n.passes n.servers n.places t.1 (refilled _ _ _ c.args.held.now.managed.passes.ok.0 ps) (refilled _ _ _ c.args.held.now.servers.ok.0 ss) (refilled _ _ _ refl os) t.4,
     )) c.race_next.ensures.tells in
-    subst (λ r. IfOk c.race_next.result (λ text. Leads (λ b. (goal.Server-dyn g (b.vtable, b.value)).behaviour b.value) (λ b. (goal.Server-dyn g (b.vtable, b.value)).registers b.value) (λ b. (goal.Server-dyn g (b.vtable, b.value)).pending b.value) (λ old new. CommandTold (head_view c.args.head.now) c.args.command r old (string_bytes text) new) c.args.held.now (record { managed = record { manager = c.args.held.now.managed.manager; keeper = c.race_next.new.keeper; passes = with_items c.args.held.now.managed.passes c.race_next.new.passes }; servers = with_items c.args.held.now.servers c.race_next.new.servers; places = record { items = refill (length c.args.held.now.places.items) c.args.held.now.places.items c.race_next.new.places }; works = c.args.held.now.works }))) k told
+    subst (λ r. IfOk c.race_next.result (λ text. Leads (λ b. (goal.Server-dyn g (b.vtable, b.value)).behaviour b.value) (λ b. (goal.Server-dyn g (b.vtable, b.value)).registers b.value) (λ b. (goal.Server-dyn g (b.vtable, b.value)).pending b.value) (λ old new. CommandTold (head_view c.args.head.now) c.args.command r old (string_bytes text) new) c.args.held.now (record { managed = record { manager = c.args.held.now.managed.manager; keeper = c.race_next.new.keeper; passes = with_items c.args.held.now.managed.passes c.race_next.new.passes }; servers = with_items c.args.held.now.servers c.race_next.new.servers; places = record { items = refill (length c.args.held.now.places.items) c.args.held.now.places.items c.race_next.new.places }; works = c.args.held.now.works; notes = c.args.held.now.notes }))) k told
 
 pub returns-clause-began : goal.returns-clause-began
 returns-clause-began g c =

@@ -1,6 +1,5 @@
 use Rattle.std.proofs.Common.{◌∙◌, ◌++◌, ap, map, subst}
 use Rattle.std.specs.Io.KnownBytes.{Appends}
-use Rattle.tp_report.specs.Written.{AppendsFront}
 use Rattle.tp_report.proofs.Devices.{always_err, front_none}
 use Rattle.tp_session.specs.Performed.{closing_text, finals_text}
 use Rattle.tp_session.proofs.scripts.write_end.Goals as goal

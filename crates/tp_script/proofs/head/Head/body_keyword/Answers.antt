@@ -1,0 +1,8 @@
+use Rattle.std.proofs.Common.{vec_len}
+use Rattle.tp_script.proofs.head.Head.body_keyword.Goals as goal
+
+pub returns-in-Register-clause-in_range : goal.returns-in-Register-clause-in_range
+returns-in-Register-clause-in_range c = c.register_at.ensures.in_range c.args.driver (vec_len c.args.self.now.servers)
+
+pub returns-in-Noted-clause-in_range : goal.returns-in-Noted-clause-in_range
+returns-in-Noted-clause-in_range c = c.noted_at.ensures.in_range c.args.driver (vec_len c.args.self.now.servers)

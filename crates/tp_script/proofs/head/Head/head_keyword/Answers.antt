@@ -1,0 +1,5 @@
+use Rattle.std.proofs.Common.{vec_len}
+use Rattle.tp_script.proofs.head.Head.head_keyword.Goals as goal
+
+pub returns-in-Noted-clause-in_range : goal.returns-in-Noted-clause-in_range
+returns-in-Noted-clause-in_range c = c.in_ok-act-in-Noted.ensures.in_range (c.noted_at.ensures.in_range c.args.driver (vec_len c.args.self.now.servers))
