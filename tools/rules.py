@@ -94,6 +94,8 @@ class Worker:
     item: int = 0
     # the element, by the id that it had then, that it lost before a rollover and hasn't heard of yet
     lost: object = None
+    # where its next claim in turn begins: after what it took last by one
+    place: int = 0
 
     def is_free(self):
         return self.unit is None and self.lost is None
@@ -177,11 +179,13 @@ class Run:
         found = self.waiting(server.stage)
         if not found:
             return "idle"
-        number = found[0]
-        if in_turn:
-            number = min(found, key=lambda i: (i < server.place, i))
-            server.place = number + 1
-        return self.held_by(server, at + 1, number)
+        return self.held_by(server, at + 1, self.in_turn(server, found) if in_turn else found[0])
+
+    def in_turn(self, who, found):
+        """Which of these ids comes next for a server or worker."""
+        number = min(found, key=lambda i: (i < who.place, i))
+        who.place = number + 1
+        return number
 
     def take(self, at, number):
         server, element = self.servers[at], self.elements.get(number)
@@ -276,8 +280,8 @@ class Run:
     def at_worker(self, verb, at, *words):
         """What a worker's line is answered. The words of a commit are its drafts."""
         worker, by = self.workers[at], 1 + len(self.servers) + at
-        if verb == "claim" or verb == "take":
-            return self.taken(worker, by, *words) if worker.is_free() else "busy"
+        if verb in ("claim", "next", "take"):
+            return self.taken(verb, worker, by, *words) if worker.is_free() else "busy"
         was_before = worker.lost is not None
         answer = self.ended_at(worker, by, verb, words)
         self.notes.heard(worker.name, answer, was_before)
@@ -294,14 +298,15 @@ class Run:
             return self.ended(worker, by, words)
         return f"{'aborted' if self.abort(worker) else 'already'} {worker.item}"
 
-    def taken(self, worker, by, *words):
+    def taken(self, verb, worker, by, *words):
         """A worker claims from its stage, or takes the element with this id, of any stage but that of replies."""
         if self.passes[by].begun == self.units:
             return "nounit"
         found = words or self.waiting(worker.stage)
         if not found:
             return "idle"
-        number, element = found[0], self.elements.get(found[0])
+        number = self.in_turn(worker, found) if verb == "next" else found[0]
+        element = self.elements.get(number)
         if element is None:
             return f"refused {number} NotThere"
         if element.stage == 15:
@@ -384,6 +389,18 @@ class Run:
             self.kill(number)
         return self.told_of("collected", root, found)
 
+    def depth(self):
+        told = ["depth"]
+        for stage in range(1, 16):
+            here = [it.status for it in self.elements.values() if it.stage == stage]
+            numbers = [here.count(it) for it in ("waiting", "held", "parked")]
+            if any(numbers):
+                told.append(":".join(map(str, [stage, *numbers])))
+        return " ".join(told)
+
+    def list(self, stage, start=0):
+        return " ".join(map(str, ["list", stage, *[it for it in self.waiting(stage) if it >= start][:200]]))
+
     def count(self):
         return " ".join(f"{state} {sum(it.status == state for it in self.elements.values())}" for state in STATES)
 
@@ -404,6 +421,7 @@ class Run:
             return " ".join(["errors", *(str(i) for i, it in sorted(self.elements.items()) if it.status == "parked")])
         call = {
             "submit": self.submit, "kill": self.killed, "cancel": self.cancel, "requeue": self.requeue, "release": self.release,
-            "read": self.read, "reply": self.reply, "collect": self.collect, "family": self.family,
+            "read": self.read, "reply": self.reply, "collect": self.collect, "family": self.family, "depth": self.depth, "list": self.list,
+            "count": self.count, "drain": self.drain,
         }
-        return {"count": self.count, "drain": self.drain}[verb](*numbers) if verb in ("count", "drain") else call[verb](*numbers)
+        return call[verb](*numbers)

@@ -3,6 +3,7 @@ pub mod Lies
 pub mod Lefts
 pub mod Receivings
 pub mod Listings
+pub mod StageLemmas
 pub mod Collections
 pub mod Finds
 pub mod Shows

@@ -8,6 +8,7 @@ mod giving_up;
 mod lines;
 mod place;
 mod receiving;
+mod stages;
 
 pub use client::{client_line, count, read, submit};
 pub use desks::{desk_line, turn_in};

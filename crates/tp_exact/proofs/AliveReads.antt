@@ -12,8 +12,8 @@ use Rattle.tp_model.proofs.Bridges.{append_nil}
 use Rattle.tp_rollover.specs.declared.survivors.Survivor.{Survivor}
 use Rattle.tp_script.specs.Alive.{AliveWords, alive_at, alive_of, alive_places, alive_words}
 use Rattle.tp_script.specs.Commands.{SubmitWords, submit_body, submit_words}
-use Rattle.tp_script.specs.Drafts.{draft_at, draft_of, is_draft, output_stage}
-use Rattle.tp_script.specs.LineWords.{◌>>=◌, body_of, known, number_at, require}
+use Rattle.tp_script.specs.Drafts.{draft_at, draft_of, is_draft}
+use Rattle.tp_script.specs.LineWords.{◌>>=◌, any_stage_at, body_of, known, number_at, require}
 use Rattle.tp_script.specs.Grammar.{alive_line, head_at, head_keyword, head_words, held_line, line_words, with_alive}
 use Rattle.tp_script.specs.Hands.{free_worker, has_in_hand, held_of, held_words}
 use Rattle.tp_script.specs.Script.{HeadView}
@@ -93,8 +93,8 @@ module _ (stage a b c d : ℕ) (low : 1 ≤ stage) (high : stage ≤ REPLY_STAGE
   is_one : is_draft text ≡ true
   is_one = ap (λ n. nat_le 2 n && nat_le n 4) colons_are
 
-  stage_ok : output_stage (decimal stage) ≡ Ok stage
-  unfolding output_stage
+  stage_ok : any_stage_at (decimal stage) ≡ Ok stage
+  unfolding any_stage_at
   stage_ok =
       bind_ok (number_at REPLY_STAGE (decimal stage)) stage _ (number_ok REPLY_STAGE stage fs high)
       ∙ bind_ok (require (nat_le 1 stage) BadNumber) tt _ (ap (λ t. require t BadNumber) (le_true 1 stage low))
@@ -112,9 +112,7 @@ module _ (stage a b c d : ℕ) (low : 1 ≤ stage) (high : stage ≤ REPLY_STAGE
 
   numbers : draft_of submitted ≡ Ok (record { stage = stage; body = body })
   unfolding draft_of
-  numbers =
-      bind_ok (output_stage (decimal stage)) stage _ stage_ok
-      ∙ bind_ok (submit_body submitted) body _ body_ok
+  numbers = bind_ok (any_stage_at (decimal stage)) stage _ stage_ok ∙ bind_ok (submit_body submitted) body _ body_ok
 
   reads : draft_at text ≡ Ok (record { stage = stage; body = body })
   unfolding draft_at

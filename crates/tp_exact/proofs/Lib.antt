@@ -5,6 +5,7 @@ pub mod Errors
 pub mod Replies
 pub mod Families
 pub mod Counted
+pub mod Staged
 pub mod Collects
 pub mod Clients
 pub mod Commands

@@ -10,9 +10,9 @@ use Rattle.tp_model.specs.declared.types.Refusal.{Refusal}
 use Rattle.tp_model.specs.declared.types.Refusal.TheVariants as refusals
 use Rattle.tp_model.specs.declared.types.Work.{Work}
 use Rattle.tp_model.specs.declared.event.Event.{Event}
-use Rattle.tp_plain.specs.Computed.{abort_of, claim_id_of, claim_of_stage, commit_of}
+use Rattle.tp_plain.specs.Computed.{abort_of, claim_id_of, claim_next_of_stage, claim_of_stage, commit_of}
 use Rattle.tp_plain.specs.OneThread.{State}
-use Rattle.tp_manager.specs.Bounds.{abort_steps, claim_id_steps, claim_steps, commit_steps}
+use Rattle.tp_manager.specs.Bounds.{abort_steps, claim_id_steps, claim_next_steps, claim_steps, commit_steps}
 use Rattle.tp_manager.specs.Calls.{Claims}
 use Rattle.tp_manager.specs.Shown.{KeeperShown, PassShown}
 use Rattle.tp_desk.specs.declared.turned.Turned.TheVariants as turneds
@@ -20,13 +20,13 @@ use Rattle.tp_report.specs.declared.answer.ServerAnswer.TheVariants as told
 use Rattle.tp_script.specs.declared.head.WorkerAct.{WorkerAct}
 use Rattle.tp_script.specs.declared.head.WorkerAct.TheVariants as acts
 use Rattle.tp_alone.specs.Laws.{ClaimIdAnswers}
-use Rattle.tp_alone.specs.Thread.{thread_of}
+use Rattle.tp_alone.specs.Thread.{Alone, thread_of}
 use Rattle.tp_alone.proofs.Aborts.{alone_abort}
-use Rattle.tp_alone.proofs.Claims.{alone_claim}
+use Rattle.tp_alone.proofs.Claims.{alone_claim, alone_claim_next}
 use Rattle.tp_alone.proofs.Commits.{alone_commit}
 use Rattle.tp_alone.proofs.Given.{alone_claim_id}
 use Rattle.tp_commands.specs.Asked.{Called}
-use Rattle.tp_session.specs.Hands.{AbortsHand, Hand, HearsLost, TellsAbort, TellsClaim, TellsCommit, TellsTake, is_busy}
+use Rattle.tp_session.specs.Hands.{AbortsHand, Hand, HearsLost, NextAnswered, TellsAbort, TellsClaim, TellsCommit, TellsNext, TellsTake, is_busy}
 use Rattle.tp_session.specs.declared.hand.Holding.{Holding}
 use Rattle.tp_session.specs.declared.hand.Holding.TheVariants.{Nothing, Open, Lost}
 use Rattle.tp_session.specs.declared.hand.WorkerAnswer.{WorkerAnswer}
@@ -86,6 +86,21 @@ module _ (l : Limits) (stage : ℕ) (keeper keeper' : KeeperShown) (olds news : 
       with_hand acts.Claim Nothing (Told (told.Turned turneds.NoUnit)) f.idle (subst (λ r. So (Told (told.Turned turneds.NoUnit)) (claimed_as r)) (claim_law claimeds.NoUnit f.called f.answer) (refl, refl, f.held))
   claims (Told told.Busy) f = busy acts.Claim (λ u e. refl) (λ e. refl) old.work refl f.0 f.1
   claims (Told other) f = absurd f
+
+  -- ---- a claim in turn
+
+  in_turn : (answer : WorkerAnswer) (claimed : Claimed) (held : Holding) (f : NextAnswered l stage claimed held old new) → So answer (claimed_as (claimed, is)) → So answer (worker_does acts.Next stage c was old.work)
+  in_turn answer claimed held f so =
+      let alone : Alone l keeper keeper' olds news h h' (claim_next_steps l) c old.pass new.pass = record { before = a.before; front = a.front; back = a.back; olds_are = a.olds_are; place = a.place; limits = f.limits; follows = f.follows; others = a.others; after = a.after } in
+      let law : (claimed, is) ≡ claim_next_of_stage was c stage = alone_claim_next stage l keeper keeper' olds news h h' (claim_next_steps l) c old.pass new.pass claimed alone f.of_servers f.answer in
+      with_hand acts.Next Nothing answer f.idle (subst (λ r. So answer (claimed_as r)) law so)
+
+  pub nexts : (answer : WorkerAnswer) → TellsNext l stage old answer new → So answer (worker_does acts.Next stage c was old.work)
+  nexts (Took work) f = in_turn (Took work) (claimeds.Work work) (Open work.unit work.element.id) f (refl, refl, f.held_is)
+  nexts (Told (told.Turned turneds.Idle)) f = in_turn (Told (told.Turned turneds.Idle)) claimeds.Idle Nothing f (refl, refl, f.held_is)
+  nexts (Told (told.Turned turneds.NoUnit)) f = in_turn (Told (told.Turned turneds.NoUnit)) claimeds.NoUnit Nothing f (refl, refl, f.held_is)
+  nexts (Told told.Busy) f = busy acts.Next (λ u e. refl) (λ e. refl) old.work refl f.0 f.1
+  nexts (Told other) f = absurd f
 
   -- ---- a claim of a given element
 
@@ -181,6 +196,7 @@ module _ (l : Limits) (stage : ℕ) (keeper keeper' : KeeperShown) (olds news : 
 
 pub exact_worker : ExactWorker
 exact_worker acts.Claim l stage keeper keeper' olds news h h' c old new answer a f = claims l stage keeper keeper' olds news h h' c old new a answer f
+exact_worker acts.Next l stage keeper keeper' olds news h h' c old new answer a f = nexts l stage keeper keeper' olds news h h' c old new a answer f
 exact_worker (acts.Take id) l stage keeper keeper' olds news h h' c old new answer a f = takes l stage keeper keeper' olds news h h' c old new a id answer f
 exact_worker (acts.Commit drafts) l stage keeper keeper' olds news h h' c old new answer a f = commits l stage keeper keeper' olds news h h' c old new a drafts.items answer f
 exact_worker acts.Abort l stage keeper keeper' olds news h h' c old new answer a f = aborts l stage keeper keeper' olds news h h' c old new a answer f

@@ -9,7 +9,7 @@ use Rattle.tp_model.specs.declared.types.Outcome.{Outcome}
 use Rattle.tp_model.specs.declared.types.Refusal.{Refusal}
 use Rattle.tp_model.specs.declared.types.Refusal.TheVariants as refusals
 use Rattle.tp_model.specs.declared.types.Work.{Work}
-use Rattle.tp_plain.specs.Computed.{abort_of, claim_id_of, claim_of_stage, commit_of}
+use Rattle.tp_plain.specs.Computed.{abort_of, claim_id_of, claim_next_of_stage, claim_of_stage, commit_of}
 use Rattle.tp_plain.specs.OneThread as thread
 use Rattle.tp_desk.specs.Turns.{settled_as}
 use Rattle.tp_desk.specs.declared.turned.Turned.TheVariants as turned
@@ -57,6 +57,7 @@ aborted_as element (ended.AlreadyAborted, m) = told_as (told.AlreadyAborted elem
 -- what a worker of a stage is asked, whose pass is c, and which has nothing in hand
 abbrev pub does_idle : WorkerAct → ℕ → ℕ → thread.State → WorkerAnswered
 does_idle acts.Claim stage c m = claimed_as (claim_of_stage m c stage)
+does_idle acts.Next stage c m = claimed_as (claim_next_of_stage m c stage)
 does_idle (acts.Take id) stage c m = taken_as id (claim_id_of m c id)
 does_idle other stage c m = told_as told.NoneOpen m Nothing
 

@@ -11,5 +11,6 @@ mod plain;
 mod plain_desk;
 mod plain_report;
 mod plain_run;
+mod stages;
 
 pub use plain::{PlainExit, run_plain};

@@ -1,3 +1,5 @@
+pub mod Looks
+pub mod Depths
 pub mod Answer
 pub mod Written
 pub mod Lines

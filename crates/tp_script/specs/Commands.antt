@@ -14,7 +14,7 @@ use Rattle.tp_script.specs.declared.script.DeskAct.TheVariants as desk
 use Rattle.tp_model.specs.declared.types.TheConstants.{MAX_PART_ROWS, MAX_PASSES, MAX_STAGE}
 use Rattle.tp_script.specs.Script.{HeadView}
 use Rattle.tp_script.specs.ServerLines.{server_at}
-use Rattle.tp_script.specs.LineWords.{◌>>=◌, require, none, one, two, number_at, body_of, is_name}
+use Rattle.tp_script.specs.LineWords.{◌>>=◌, require, none, one, two, number_at, any_stage_at, body_of, is_name}
 
 -- the server of this name
 unfoldable pub named : List ℕ → HeadView → Result ℕ LineFault
@@ -58,6 +58,19 @@ submit_at w = do
   stage ← number_at 255 w.stage
   body ← submit_body w
   Ok (Client (client.Submit stage body))
+
+-- STAGE, and FROM after it; it is 0 where it is missing
+abbrev pub list_words : List (List ℕ) → Result (List ℕ × List ℕ) LineFault
+list_words (stage ∷ []) = Ok (stage, codes "0")
+list_words (stage ∷ from ∷ []) = Ok (stage, from)
+list_words ws = Err Syntax
+
+-- `list STAGE FROM`
+unfoldable pub list_at : List ℕ × List ℕ → Result Command LineFault
+list_at (stage, from) = do
+  stage ← any_stage_at stage
+  from ← number_at (2 ^ 32 - 1) from
+  Ok (Client (client.List stage from))
 
 -- `take NAME ID`
 unfoldable pub take_at : List ℕ × List ℕ → HeadView → Result Command LineFault
@@ -143,6 +156,8 @@ command_at verb.Collect ws s = one_id ws >>= λ root. Ok (Client (client.Collect
 command_at verb.Family ws s = one_id ws >>= λ root. Ok (Client (client.Family root))
 command_at verb.Errors ws s = none ws >>= λ _. Ok (Client client.Errors)
 command_at verb.Count ws s = none ws >>= λ _. Ok (Client client.Count)
+command_at verb.Depth ws s = none ws >>= λ _. Ok (Client client.Depth)
+command_at verb.List ws s = list_words ws >>= λ w. list_at w
 command_at (verb.Desk act) ws s = one_server ws s >>= λ server. Ok (Desk server act)
 command_at verb.Take ws s = two ws >>= λ w. take_at w s
 command_at verb.Balance ws s = two ws >>= λ w. balance_at w s

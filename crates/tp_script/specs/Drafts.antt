@@ -3,11 +3,11 @@ use Rattle.std.specs.Prelude.{ℕ, List, [], ◌∷◌, length, Bool, ◌&&◌, 
 use Rattle.std.specs.Prelude.{count_by, ◌==◌}
 use Rattle.std.specs.List.{slice_split, list_all}
 use Rattle.tp_model.specs.Drafts.{DraftView}
-use Rattle.tp_model.specs.declared.types.TheConstants.{MAX_OUTPUTS, REPLY_STAGE}
+use Rattle.tp_model.specs.declared.types.TheConstants.{MAX_OUTPUTS}
 use Rattle.tp_script.specs.declared.fault.LineFault.{LineFault}
-use Rattle.tp_script.specs.declared.fault.LineFault.TheVariants.{Syntax, BadNumber}
+use Rattle.tp_script.specs.declared.fault.LineFault.TheVariants.{Syntax}
 use Rattle.tp_script.specs.Commands.{SubmitWords, submit_body, submit_words}
-use Rattle.tp_script.specs.LineWords.{◌>>=◌, require, number_at}
+use Rattle.tp_script.specs.LineWords.{◌>>=◌, require, any_stage_at}
 
 -- a draft has two to four colons
 abbrev pub colons : List ℕ → ℕ
@@ -16,17 +16,10 @@ colons w = count_by (λ b. b == 58) w
 abbrev pub is_draft : List ℕ → Bool
 is_draft w = nat_le 2 (colons w) && nat_le (colons w) 4
 
--- a stage that an output may go to
-unfoldable pub output_stage : List ℕ → Result ℕ LineFault
-output_stage w = do
-  stage ← number_at REPLY_STAGE w
-  _ ← require (nat_le 1 stage) BadNumber
-  Ok stage
-
 -- the numbers of a draft
 unfoldable pub draft_of : SubmitWords → Result DraftView LineFault
 draft_of w = do
-  stage ← output_stage w.stage
+  stage ← any_stage_at w.stage
   body ← submit_body w
   Ok (record { stage = stage; body = body })
 

@@ -140,6 +140,7 @@ worker_commit ws = do
 -- what a worker is asked by a line of this first word; its name is the first of the words after
 unfoldable pub worker_act : Verb → List (List ℕ) → Result WorkerAct LineFault
 worker_act (verb.Desk desk.Claim) ws = one ws >>= λ _. Ok does.Claim
+worker_act (verb.Desk desk.Next) ws = one ws >>= λ _. Ok does.Next
 worker_act (verb.Desk desk.Commit) ws = worker_commit ws
 worker_act (verb.Desk desk.Abort) ws = one ws >>= λ _. Ok does.Abort
 worker_act (verb.Desk other) ws = one ws >>= λ _. Err BadName

@@ -52,6 +52,8 @@ first_words =
     ∷ (codes "balance", Do verb.Balance)
     ∷ (codes "sum", Do verb.Sum)
     ∷ (codes "count", Do verb.Count)
+    ∷ (codes "depth", Do verb.Depth)
+    ∷ (codes "list", Do verb.List)
     ∷ (codes "race", Do verb.Race)
     ∷ (codes "drain", Do verb.Drain)
     ∷ (codes "rollover", Do verb.Rollover)

@@ -2,8 +2,8 @@
 ghost use Rattle.std.specs.Prelude.{◌<◌, ◌≤◌, ℕ, map, vec_len, IfOk};
 ghost use Rattle.tp_model.specs.declared.types.TheConstants.{MAX_STAGE};
 ghost use Rattle.tp_script.specs.Commands.{named, one_server, one_id, submit_at, submit_body, submit_words};
-ghost use Rattle.tp_script.specs.Commands.{balance_at, command_at, drain_at, race_at, race_words};
-ghost use Rattle.tp_script.specs.Commands.{stage_at, take_at};
+ghost use Rattle.tp_script.specs.Commands.{balance_at, command_at, drain_at, list_at, list_words, race_at};
+ghost use Rattle.tp_script.specs.Commands.{race_words, stage_at, take_at};
 ghost use Rattle.tp_script.specs.Ranges.{IsInRange};
 ghost use Rattle.tp_script.specs.Reading.{Gives, submit_view, race_view};
 ghost use Rattle.tp_script.specs.Script.{head_view};
@@ -11,7 +11,7 @@ ghost use Rattle.tp_script.specs.Script.{head_view};
 use crate::fault::{LineError, LineFault};
 use crate::head::Head;
 use crate::keyword::Verb;
-use crate::line_words::{body_of, is, is_name, none, number_at, one, two};
+use crate::line_words::{any_stage_at, body_of, is, is_name, none, number_at, one, two};
 use crate::script::{ClientAct, Command, DeskAct, Race};
 use tp_model::types::{Body, MAX_PART_ROWS, MAX_PASSES, MAX_STAGE};
 
@@ -71,6 +71,28 @@ fn submit_at(words: SubmitWords<'_>) -> Result<Command, LineError>
     let stage = number_at(words.stage, 255)? as u8;
     let body = words.body()?;
     Ok(Command::Client(ClientAct::Submit { stage, body }))
+}
+
+// STAGE, and FROM after it; it is 0 where it is missing.
+fn list_words<'a>(words: &[&'a [u8]]) -> Result<(&'a [u8], &'a [u8]), LineError>
+    ensures { Gives (λ w. (w.0.now, w.1.now)) result (list_words (map (λ x. x.now) words.now)) }
+{
+    match words {
+        [stage] => Ok((*stage, b"0".as_slice())),
+        [stage, from] => Ok((*stage, *from)),
+        _ => Err(LineFault::Syntax.into()),
+    }
+}
+
+// `list STAGE FROM`
+#[tactic(auto, unfolding(crate::specs::Commands::list_at))]
+fn list_at(words: (&[u8], &[u8])) -> Result<Command, LineError>
+    ensures gives { Gives (λ c. c) result (list_at (words.entry.0.now, words.entry.1.now)) }
+    ensures in_range { IfOk result (λ c. (servers : ℕ) → IsInRange servers c) }
+{
+    let stage = any_stage_at(words.0)?;
+    let from = number_at(words.1, u64::from(u32::MAX))? as u32;
+    Ok(Command::Client(ClientAct::List { stage, from }))
 }
 
 // The words of a race line, each in its place.
@@ -239,6 +261,11 @@ impl Head {
                 none(words)?;
                 Ok(Command::Client(ClientAct::Count))
             }
+            Verb::Depth => {
+                none(words)?;
+                Ok(Command::Client(ClientAct::Depth))
+            }
+            Verb::List => list_at(list_words(words)?),
             Verb::Desk(act) => Ok(Command::Desk {
                 server: self.one_server(words)?,
                 act,

@@ -1,18 +1,17 @@
 //! The outputs of a worker's commit, as its line says them.
-ghost use Rattle.tp_model.specs.declared.types.TheConstants.{MAX_OUTPUTS, REPLY_STAGE};
+ghost use Rattle.tp_model.specs.declared.types.TheConstants.{MAX_OUTPUTS};
 ghost use Rattle.std.specs.Prelude.{◌≡◌, ◌≤◌, ◌&&◌, map, length, IfOk, nat_le};
 ghost use Rattle.std.specs.List.{list_all};
 ghost use Rattle.tp_script.specs.Reading.{Gives, submit_view};
 ghost use Rattle.tp_script.specs.Drafts.{colons, draft_at, draft_of, draft_words, drafts_at, is_draft};
-ghost use Rattle.tp_script.specs.Drafts.{output_stage};
 
 use crate::commands::{SubmitWords, submit_words};
 use crate::fault::{LineError, LineFault};
-use crate::line_words::number_at;
+use crate::line_words::any_stage_at;
 use crate::text::parts;
 use arrayvec::ArrayVec;
 use std::alloc::Global;
-use tp_model::types::{Draft, MAX_OUTPUTS, REPLY_STAGE};
+use tp_model::types::{Draft, MAX_OUTPUTS};
 
 /// How many colons a word has.
 pub(crate) fn colons(word: &[u8]) -> usize
@@ -50,25 +49,12 @@ pub(crate) fn draft_words<'a>(words: &'a [&'a [u8]]) -> Result<&'a [&'a [u8]], L
     Ok(drafts)
 }
 
-// A stage that an output may go to.
-#[tactic(auto, unfolding(crate::specs::Drafts::output_stage))]
-fn output_stage(word: &[u8]) -> Result<u8, LineError>
-    ensures gives { Gives (λ n. n) result (output_stage word.now) }
-    ensures bounds { IfOk result (λ n. (1 ≤ n) × (n ≤ REPLY_STAGE)) }
-{
-    let stage = number_at(word, u64::from(REPLY_STAGE))?;
-    if stage < 1 {
-        return Err(LineFault::BadNumber.into());
-    }
-    Ok(stage as u8)
-}
-
 // The numbers of a draft.
 #[tactic(auto, unfolding(crate::specs::Drafts::draft_of))]
 fn draft_of(words: SubmitWords<'_>) -> Result<Draft, LineError>
     ensures { Gives (λ d. d) result (draft_of (submit_view words.entry)) }
 {
-    let stage = output_stage(words.stage)?;
+    let stage = any_stage_at(words.stage)?;
     let body = words.body()?;
     match Draft::new(stage, body) {
         Some(draft) => Ok(draft),

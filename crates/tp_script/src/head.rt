@@ -78,6 +78,8 @@ pub struct LostLine {
 pub enum WorkerAct {
     /// It takes the element with the least id.
     Claim,
+    /// It takes the element whose turn it is.
+    Next,
     /// It takes the element with this id.
     Take { id: u32 },
     /// It commits its unit of work, with these outputs.

@@ -55,6 +55,8 @@ pub enum Verb {
     Family,
     Errors,
     Count,
+    Depth,
+    List,
     /// A server's desk does this.
     Desk(DeskAct),
     Take,
@@ -75,7 +77,7 @@ pub enum NotedVerb {
 }
 
 /// The first words that lines may have: how each is written, and what the line is.
-const FIRST_WORDS: [(&str, Keyword); 45] = [
+const FIRST_WORDS: [(&str, Keyword); 47] = [
     ("rows", Keyword::Rows),
     ("units", Keyword::Units),
     ("limit", Keyword::Limit),
@@ -115,6 +117,8 @@ const FIRST_WORDS: [(&str, Keyword); 45] = [
     ("balance", Keyword::Do(Verb::Balance)),
     ("sum", Keyword::Do(Verb::Sum)),
     ("count", Keyword::Do(Verb::Count)),
+    ("depth", Keyword::Do(Verb::Depth)),
+    ("list", Keyword::Do(Verb::List)),
     ("race", Keyword::Do(Verb::Race)),
     ("drain", Keyword::Do(Verb::Drain)),
     ("rollover", Keyword::Do(Verb::Rollover)),

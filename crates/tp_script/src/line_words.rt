@@ -1,20 +1,20 @@
 //! What the words of a line say.
-ghost use Rattle.tp_model.specs.declared.types.TheConstants.{MAX_OUTPUTS};
+ghost use Rattle.tp_model.specs.declared.types.TheConstants.{MAX_OUTPUTS, REPLY_STAGE};
 ghost use Rattle.std.specs.Prelude.{◌≡◌, ◌≤◌, ◌-◌, ◌^◌, ◌&&◌, map, length, IfOk, IsTrue, nat_le};
 ghost use Rattle.std.specs.List.{list_all};
 ghost use Rattle.std.specs.Str.{bytes_eq};
 ghost use Rattle.tp_script.specs.Reading.{Gives};
 ghost use Rattle.tp_script.specs.LineWords.{none, one, two, three, number_at, is_name, kind_at, act_named};
 ghost use Rattle.tp_script.specs.LineWords.{place_at, act_words, act_at, key_at, amount_at, is_output};
-ghost use Rattle.tp_script.specs.LineWords.{body_at, body_of, four, id_or_gone, ordinal_at, output_at};
-ghost use Rattle.tp_script.specs.LineWords.{outputs_at};
+ghost use Rattle.tp_script.specs.LineWords.{any_stage_at, body_at, body_of, four, id_or_gone, ordinal_at};
+ghost use Rattle.tp_script.specs.LineWords.{output_at, outputs_at};
 
 use crate::fault::{LineError, LineFault};
 use crate::script::Kind;
 use crate::text::{number, parts};
 use arrayvec::ArrayVec;
 use std::alloc::Global;
-use tp_model::types::Body;
+use tp_model::types::{Body, REPLY_STAGE};
 use tp_server::{Act, AmountFrom, KeyFrom, Output};
 
 /// No word of a line after the first.
@@ -88,6 +88,19 @@ pub(crate) fn ordinal_at(word: &[u8]) -> Result<u64, LineError>
         return Err(LineFault::BadNumber.into());
     }
     Ok(n)
+}
+
+/// A stage, that of replies too.
+#[tactic(auto, unfolding(crate::specs::LineWords::any_stage_at))]
+pub(crate) fn any_stage_at(word: &[u8]) -> Result<u8, LineError>
+    ensures gives { Gives (λ n. n) result (any_stage_at word.now) }
+    ensures bounds { IfOk result (λ n. (1 ≤ n) × (n ≤ REPLY_STAGE)) }
+{
+    let stage = number_at(word, u64::from(REPLY_STAGE))?;
+    if stage < 1 {
+        return Err(LineFault::BadNumber.into());
+    }
+    Ok(stage as u8)
 }
 
 /// An id, or `gone`.

@@ -76,6 +76,10 @@ pub enum ClientAct {
     Errors,
     /// It counts the elements by status.
     Count,
+    /// It counts what waits, is held and is parked in each stage.
+    Depth,
+    /// It lists the elements that wait in a stage, from an id on.
+    List { stage: u8, from: u32 },
 }
 
 /// What a server's desk does.

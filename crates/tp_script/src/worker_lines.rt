@@ -50,7 +50,7 @@ fn worker_desk(alloc: Global, act: DeskAct, words: &[&[u8]]) -> Result<WorkerAct
         DeskAct::Claim => Ok(WorkerAct::Claim),
         DeskAct::Abort => Ok(WorkerAct::Abort),
         DeskAct::Turn => Err(LineFault::BadName.into()),
-        DeskAct::Next => Err(LineFault::BadName.into()),
+        DeskAct::Next => Ok(WorkerAct::Next),
         DeskAct::Take { .. } => Err(LineFault::BadName.into()),
         DeskAct::Prepare => Err(LineFault::BadName.into()),
         DeskAct::Commit => Err(LineFault::BadName.into()),

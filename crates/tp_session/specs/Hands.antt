@@ -3,6 +3,7 @@
 use Rattle.std.specs.Prelude.{◌≡◌, ◌⊎◌, ℕ, Bool, true, false, List, [], ◌∷◌, Option, Some, None, is_some}
 use Rattle.std.specs.Prelude.{length}
 use Rattle.tp_model.specs.Drafts.{DraftView}
+use Rattle.tp_model.specs.declared.types.Claimed.{Claimed}
 use Rattle.tp_model.specs.declared.types.Claimed.TheVariants as claimeds
 use Rattle.tp_model.specs.declared.types.Ended.{Ended}
 use Rattle.tp_model.specs.declared.types.Ended.TheVariants as endeds
@@ -10,9 +11,10 @@ use Rattle.tp_model.specs.declared.types.Limits.{Limits}
 use Rattle.tp_model.specs.declared.types.Outcome.{Outcome}
 use Rattle.tp_model.specs.declared.types.Refusal.TheVariants as refusals
 use Rattle.tp_model.specs.declared.types.Work.{Work}
+use Rattle.tp_model.specs.Steps.{IsServerStage}
 use Rattle.tp_commands.specs.Asked.{Called}
-use Rattle.tp_manager.specs.Bounds.{abort_steps, claim_id_steps, claim_steps, commit_steps}
-use Rattle.tp_manager.specs.Calls.{AnswersAbort, Claims, Settles}
+use Rattle.tp_manager.specs.Bounds.{abort_steps, claim_id_steps, claim_next_steps, claim_steps, commit_steps}
+use Rattle.tp_manager.specs.Calls.{AnswersAbort, Claims, ClaimsNext, Follows, Settles}
 use Rattle.tp_manager.specs.Given.{ClaimIdFails, TakesId}
 use Rattle.tp_manager.specs.Shown.{IsOf, ManagerShown, PassShown}
 use Rattle.tp_desk.specs.Turns.{EndsOpen, settled_as}
@@ -96,6 +98,23 @@ TellsClaim l stage old (Told (told.Turned turneds.NoUnit)) new =
 TellsClaim l stage old (Told told.Busy) new = IsBusy old new
 TellsClaim l stage old other new = ⊥
 
+-- a claim in turn from the worker's stage that was answered so, and what is in hand then
+pub record NextAnswered (l : Limits) (stage : ℕ) (claimed : Claimed) (held : Holding) (old new : Hand) : Type 0 where
+  pub idle : old.work ≡ Nothing
+  pub of_servers : IsServerStage stage
+  pub follows : Follows (claim_next_steps l) old.pass new.pass
+  pub limits : new.pass.limits ≡ l
+  pub answer : ClaimsNext l stage old.pass new.pass claimed
+  pub held_is : new.work ≡ held
+
+abbrev pub TellsNext : Limits → ℕ → Hand → WorkerAnswer → Hand → Type 0
+TellsNext l stage old (Took work) new =
+    NextAnswered l stage (claimeds.Work work) (Open work.unit work.element.id) old new
+TellsNext l stage old (Told (told.Turned turneds.Idle)) new = NextAnswered l stage claimeds.Idle Nothing old new
+TellsNext l stage old (Told (told.Turned turneds.NoUnit)) new = NextAnswered l stage claimeds.NoUnit Nothing old new
+TellsNext l stage old (Told told.Busy) new = IsBusy old new
+TellsNext l stage old other new = ⊥
+
 -- a claim of the element with this id that took it
 pub record TakeTook (l : Limits) (id : ℕ) (work : Work) (old new : Hand) : Type 0 where
   pub idle : old.work ≡ Nothing
@@ -160,6 +179,7 @@ TellsAbort l old other new = ⊥
 -- what a worker of a stage was asked
 abbrev pub WorkerDoes : Limits → ℕ → WorkerAct → Hand → WorkerAnswer → Hand → Type 0
 WorkerDoes l stage acts.Claim old a new = TellsClaim l stage old a new
+WorkerDoes l stage acts.Next old a new = TellsNext l stage old a new
 WorkerDoes l stage (acts.Take id) old a new = TellsTake l id old a new
 WorkerDoes l stage (acts.Commit drafts) old a new = TellsCommit l drafts.items old a new
 WorkerDoes l stage acts.Abort old a new = TellsAbort l old a new

@@ -2,7 +2,7 @@
 ghost use Rattle.std.specs.Prelude.{◌≡◌, ◌≤◌, length};
 ghost use Rattle.tp_model.specs.Steps.{IsServerStage};
 ghost use Rattle.tp_session.specs.Hands.{GivesUp, IsHand, WorkerDoes, hand};
-ghost use Rattle.tp_session.specs.Hands.{TellsAbort, TellsClaim, TellsCommit, TellsTake};
+ghost use Rattle.tp_session.specs.Hands.{TellsAbort, TellsClaim, TellsCommit, TellsNext, TellsTake};
 
 use tp_desk::Turned;
 use tp_manager::{Manager, Pass};
@@ -87,6 +87,7 @@ pub fn worker_act(
 {
     match act {
         WorkerAct::Claim => claim(manager, stage, pass, work),
+        WorkerAct::Next => next(manager, stage, pass, work),
         WorkerAct::Take { id } => take(manager, pass, work, *id),
         WorkerAct::Commit { drafts } => commit(manager, pass, work, drafts.as_slice()),
         WorkerAct::Abort => abort(manager, pass, work),
@@ -106,6 +107,28 @@ fn claim(manager: &Manager, stage: u8, pass: &mut Pass, work: &mut Holding) -> W
         return WorkerAnswer::Told(ServerAnswer::Busy);
     }
     match manager.claim(pass, stage) {
+        Claimed::Work(taken) => {
+            *work = Holding::of(&taken);
+            WorkerAnswer::Took(taken)
+        }
+        Claimed::Idle => WorkerAnswer::Told(ServerAnswer::Turned(Turned::Idle)),
+        Claimed::NoUnit => WorkerAnswer::Told(ServerAnswer::Turned(Turned::NoUnit)),
+    }
+}
+
+/// `next NAME`
+fn next(manager: &Manager, stage: u8, pass: &mut Pass, work: &mut Holding) -> WorkerAnswer
+    requires holds { IsHand manager.now (hand pass.old work.old) }
+    requires stage { IsServerStage stage }
+    ensures holds { IsHand manager.now (hand pass.new work.new) }
+    ensures number { pass.new.number ≡ pass.old.number }
+    ensures tells { TellsNext manager.now.limits stage
+        (hand pass.old work.old) result (hand pass.new work.new) }
+{
+    if work.is_busy() {
+        return WorkerAnswer::Told(ServerAnswer::Busy);
+    }
+    match manager.claim_next(pass, stage) {
         Claimed::Work(taken) => {
             *work = Holding::of(&taken);
             WorkerAnswer::Took(taken)
