@@ -45,6 +45,9 @@ pub mod AliveReads
 pub mod HoldsOnce
 pub mod FoundLines
 pub mod LostReads
+pub mod WordLines
+pub mod ClientReads
+pub mod NoteReads
 pub mod DumpReads
 pub mod Scripts
 pub mod Plains

@@ -29,15 +29,15 @@ use Rattle.tp_exact.proofs.SessionLines.{either_false}
 
 -- ---- lines that a head takes
 
-abbrev AreTaken : List (List ℕ) → HeadView → HeadView → Type 0
+abbrev pub AreTaken : List (List ℕ) → HeadView → HeadView → Type 0
 AreTaken [] h t = t ≡ h
 AreTaken (line ∷ lines) h t = (m : HeadView) × (head_at line h ≡ Ok (m, None)) × AreTaken lines m t
 
-taken_more : (xs ys : List (List ℕ)) (h m t : HeadView) → AreTaken xs h m → AreTaken ys m t → AreTaken (xs ++ ys) h t
+pub taken_more : (xs ys : List (List ℕ)) (h m t : HeadView) → AreTaken xs h m → AreTaken ys m t → AreTaken (xs ++ ys) h t
 taken_more [] ys h m t first then_so = subst (λ z. AreTaken ys z t) first then_so
 taken_more (x ∷ xs) ys h m t first then_so = (first.0, first.1, taken_more xs ys first.0 m t first.2 then_so)
 
-taken_told : (lines : List (List ℕ)) (past : ℕ) (h t : HeadView) → AreTaken lines h t → HeadLines past lines h [] t
+pub taken_told : (lines : List (List ℕ)) (past : ℕ) (h t : HeadView) → AreTaken lines h t → HeadLines past lines h [] t
 taken_told [] past h t taken = (refl, taken)
 taken_told (line ∷ lines) past h t (m, read, rest) =
     ([], [], m, subst (λ r. HeadLine (past + 1) r h [] m) (sym read) (refl, refl), taken_told lines (past + 1) m t rest, refl)
@@ -99,7 +99,7 @@ module _ (name : List ℕ) (small : Bytes 97 122 name) (letters : 0 < length nam
 
 -- ---- all of them
 
-any_parts : {A : Type 0} (f : A → Bool) (xs ys : List A) → list_any f xs ≡ false → list_any f ys ≡ false → list_any f (xs ++ ys) ≡ false
+pub any_parts : {A : Type 0} (f : A → Bool) (xs ys : List A) → list_any f xs ≡ false → list_any f ys ≡ false → list_any f (xs ++ ys) ≡ false
 any_parts f [] ys first second = second
 any_parts f (x ∷ xs) ys first second =
     let parts = either_false (f x) (list_any f xs) first in

@@ -14,3 +14,4 @@ pub mod PlainScript
 pub mod Programs
 pub mod Dumps
 pub mod AliveReads
+pub mod NoteReads

@@ -7,6 +7,7 @@ ghost use Rattle.tp_exact.specs.AliveReads.{AliveLineReads, DumpLinesRead, Found
 ghost use Rattle.tp_exact.specs.AliveReads.{LostLinesRead};
 ghost use Rattle.tp_exact.specs.Dumps.{ExactDump, HeldByWorkers, RestoredDump, RestoredHands};
 ghost use Rattle.tp_exact.specs.Finals.{ExactAccount, ExactFinals};
+ghost use Rattle.tp_exact.specs.NoteReads.{NoteLinesRead};
 ghost use Rattle.tp_exact.specs.Programs.{ComputedOfScript, ExactProgram, SamePlain};
 ghost use Rattle.tp_exact.specs.Repeats.{DoneForGood, ReceivesAgain, ReceivesOnce, SendsAgain, SendsOnce};
 ghost use Rattle.tp_exact.specs.Sessions.{ComputedOfBytes, ExactLine, ExactSession, ExactSessionFront};
@@ -70,11 +71,13 @@ pub fn alive_line_reads()
 
 /// All `alive` and `held` lines of a dump, read one after another, add to a head just what the dump has found
 /// alive. All its `lost` lines add just what workers lost. So a head that reads all these says just what
-/// `restored_dump` asks for.
+/// `restored_dump` asks for. And all its lines of clients, their requests and workers' last units add just these
+/// notes.
 pub fn found_lines_read()
     ensures found { FoundLinesRead }
     ensures lost { LostLinesRead }
     ensures whole { DumpLinesRead }
+    ensures notes { NoteLinesRead }
 {}
 
 /// The answers to a whole live session: they are the computed ones, and after a fault a prefix of them. They
