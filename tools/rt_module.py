@@ -16,3 +16,29 @@ def toolchain():
     made.rtlib.Crate = made.Crate
     made.rtlib.guarded()
     return made
+
+
+def stamp_of(rt, crate):
+    """Returns a sum of the kit, and of the sources of the crate and of those below it."""
+    # (kits before 13f have that sum with the crate)
+    return rt.stamp_of(crate, {}) if hasattr(rt, "stamp_of") else crate.stamp()
+
+
+def is_from_gate(rt, crate):
+    """Whether what ./test has built of this crate is there, and its sources are those that were proved."""
+    try:
+        with open(mark_of(crate), encoding="utf-8") as it:
+            return it.read() == repr(stamp_of(rt, crate))
+    except OSError:
+        return False
+
+
+def mark_from_gate(rt, crate):
+    """Notes that what is built of this crate is ./test's. (Where another command builds it anew, the note goes.)"""
+    if os.path.isdir(f"{crate.folder}/out/rlib"):
+        with open(mark_of(crate), "w", encoding="utf-8") as it:
+            it.write(repr(stamp_of(rt, crate)))
+
+
+def mark_of(crate):
+    return f"{crate.folder}/out/rlib/from_gate"
