@@ -1,15 +1,13 @@
 -- The `client`, `request` and `ended` lines of a dump, each read by itself.
-use Rattle.std.proofs.Common.{◌≡◌, ℕ, suc, ◌+◌, ◌-◌, ◌^◌, ◌<◌, ◌≤◌, ◌==◌, ◌&&◌, Bool, true, false, not, Option, None, Some, Result, Ok, List, [], ◌∷◌, ◌++◌, length, nat_lt, refl, sym, ◌∙◌, ap, subst, arith}
+use Rattle.std.proofs.Common.{◌≡◌, ℕ, suc, ◌-◌, ◌^◌, ◌<◌, ◌≤◌, ◌==◌, ◌&&◌, true, false, not, Option, None, Some, Result, Ok, List, [], ◌∷◌, ◌++◌, length, nat_lt, refl, sym, ◌∙◌, ap, subst, arith}
 use Rattle.std.specs.Prelude.{codes, decimal, is_none, position}
-use Rattle.std.specs.List.{list_any}
 use Rattle.std.specs.Str.{bytes_eq}
 use Rattle.tp_model.specs.declared.types.TheConstants.{MAX_OUTPUTS}
-use Rattle.tp_script.specs.Clients.{ClientWords, client_line, client_places, client_words, has_request, known_client, note_of, request_line, with_client, with_request}
+use Rattle.tp_script.specs.Clients.{ClientWords, client_line, client_words, has_request, known_client, note_of, request_line, with_client, with_request}
 use Rattle.tp_script.specs.Drafts.{colons}
-use Rattle.tp_script.specs.Ends.{EndWords, done_at, done_words, end_of, ended_line, ended_words, has_ended, undone_at, undone_words, unended_worker, unit_end, with_end}
+use Rattle.tp_script.specs.Ends.{done_at, done_words, end_of, ended_line, has_ended, undone_at, undone_words, unended_worker, with_end}
 use Rattle.tp_script.specs.Grammar.{head_at, head_keyword, head_words, line_words}
 use Rattle.tp_script.specs.LineWords.{◌>>=◌, body_at, id_or_gone, is_name, known, number_at, require}
-use Rattle.tp_script.specs.Notes.{NameView}
 use Rattle.tp_script.specs.Script.{HeadView}
 use Rattle.tp_script.specs.ServerLines.{free_name, has_client, new_name, worker_at}
 use Rattle.tp_script.specs.Text.{words}
@@ -17,7 +15,6 @@ use Rattle.tp_script.specs.declared.fault.LineFault.{LineFault}
 use Rattle.tp_script.specs.declared.fault.LineFault.TheVariants.{BadLimits, BadName, BadNumber, Syntax}
 use Rattle.tp_script.specs.declared.head.Driver.TheVariants as drivers
 use Rattle.tp_script.specs.declared.notes.ClientNote.{ClientNote}
-use Rattle.tp_script.specs.declared.notes.EndLine.{EndLine}
 use Rattle.tp_script.specs.declared.notes.RequestNote.{RequestNote}
 use Rattle.tp_script.specs.declared.notes.TheConstants.{MAX_CLIENTS}
 use Rattle.tp_script.specs.declared.notes.UnitEnd.{UnitEnd}

@@ -1,5 +1,5 @@
 -- What changes among the notes of clients leaves what each has done.
-use Rattle.std.proofs.Common.{◌≡◌, ◌≤◌, ◌<◌, ℕ, zero, suc, Bool, true, false, not, cond, List, [], ◌∷◌, ◌++◌, map, filter, find, position, Option, Some, None, refl, sym, ◌∙◌, ap, arith, subst, length, slice_get, slice_set, nat_lt}
+use Rattle.std.proofs.Common.{◌≡◌, ◌≤◌, ◌<◌, ℕ, zero, suc, Bool, true, false, cond, List, [], ◌∷◌, ◌++◌, map, filter, find, position, Option, Some, None, refl, sym, ◌∙◌, ap, arith, subst, length, slice_get, slice_set, nat_lt}
 use Rattle.std.specs.List.{position_or_len}
 use Rattle.std.specs.Option.{option_or}
 use Rattle.std.proofs.lemmas.List.Folds.{find-append, find-set, find_at}

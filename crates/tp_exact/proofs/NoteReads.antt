@@ -1,6 +1,6 @@
 -- The lines that a dump tells of clients, their requests and workers' last units, read one after another.
-use Rattle.std.proofs.Common.{◌≡◌, ◌≢◌, ℕ, suc, ◌+◌, ◌-◌, ◌^◌, ◌<◌, ◌≤◌, ◌==◌, ◌||◌, Bool, true, false, cond, not, Option, None, Some, Ok, List, [], ◌∷◌, ◌++◌, length, map, refl, sym, ◌∙◌, ap, subst, append_assoc, inl, inr, arith}
-use Rattle.std.specs.Prelude.{codes, count_by, decimal, filter, slice_get}
+use Rattle.std.proofs.Common.{◌≡◌, ◌≢◌, ℕ, suc, ◌+◌, ◌^◌, ◌<◌, ◌≤◌, ◌==◌, ◌||◌, Bool, true, false, cond, Option, None, Some, List, [], ◌∷◌, ◌++◌, length, map, refl, sym, ◌∙◌, ap, subst, append_assoc, inl, inr, arith}
+use Rattle.std.specs.Prelude.{count_by, filter, slice_get}
 use Rattle.std.specs.List.{find, list_any}
 use Rattle.std.specs.Option.{option_map}
 use Rattle.std.specs.Str.{bytes_eq}
@@ -10,9 +10,8 @@ use Rattle.std.proofs.lemmas.List.Sums.{sum_by-cons}
 use Rattle.std.proofs.lemmas.Slice.Eq.{bytes_eq-Decides}
 use Rattle.tp_model.specs.History.{In, here, there}
 use Rattle.tp_model.proofs.Bridges.{append_nil, in_cons, in_here}
-use Rattle.tp_script.specs.Grammar.{head_at}
 use Rattle.tp_script.specs.LineWords.{is_name}
-use Rattle.tp_script.specs.Once.{IsOfOne, IsOnce, is_end_of, is_note_of, is_request_of}
+use Rattle.tp_script.specs.Once.{is_end_of, is_note_of, is_request_of}
 use Rattle.tp_script.specs.Script.{HeadView, WorkerView}
 use Rattle.tp_script.specs.ServerLines.{worker_at}
 use Rattle.tp_script.specs.declared.notes.ClientNote.{ClientNote}
@@ -275,10 +274,10 @@ module _ (h : HeadView) (n : NotesView) (survivors : List Survivor) (are : AreNo
       subst (λ z. AreTaken (ended_lines h.workers n.ends) (record behind_requests { ends = z }) behind_notes) (sym no_ends)
       (ends_taken behind_requests 0 [] h.workers n.ends are.each_worker (λ k low. refl) (λ i w is. let it = named i w is in (it.0, it.1 ∙ ap Some (omega arith))) are.ends)
 
-  notes_taken : AreTaken (map client_text n.clients ++ (request_lines survivors n.requests ++ ended_lines h.workers n.ends)) h behind_notes
+  notes_taken : AreTaken (note_lines h.workers n survivors) h behind_notes
   notes_taken =
-      taken_more (map client_text n.clients) (request_lines survivors n.requests ++ ended_lines h.workers n.ends) h behind_clients behind_notes first_taken
-      (taken_more (request_lines survivors n.requests) (ended_lines h.workers n.ends) behind_clients behind_requests behind_notes then_taken last_taken)
+      taken_more (map client_text n.clients ++ request_lines survivors n.requests) (ended_lines h.workers n.ends) h behind_requests behind_notes
+      (taken_more (map client_text n.clients) (request_lines survivors n.requests) h behind_clients behind_requests first_taken then_taken) last_taken
 
   begun : ends_at (told_ends 0 n.ends) 0 h.workers ≡ n.ends
   begun = ends_are 0 [] h.workers n.ends are.each_worker (λ k low. refl)

@@ -3,18 +3,17 @@ use Rattle.std.proofs.Common.{◌≡◌, ℕ, List, [], Option, None, Some, refl
 use Rattle.std.specs.Prelude.{slice_get, slice_index_or, string_bytes}
 use Rattle.tp_model.specs.declared.types.Limits.{Limits}
 use Rattle.tp_model.specs.declared.event.Event.{Event}
-use Rattle.tp_plain.specs.Computed.{read_of}
 use Rattle.tp_plain.specs.OneThread.{State}
 use Rattle.tp_manager.specs.Shown.{KeeperShown, ManagerShown, PassShown}
 use Rattle.tp_report.specs.Answer.{line}
 use Rattle.tp_script.specs.Notes.{NameView}
-use Rattle.tp_script.specs.Script.{HeadView, WorkerView, head_view, worker_view}
+use Rattle.tp_script.specs.Script.{HeadView, head_view, worker_view}
 use Rattle.tp_script.specs.declared.head.Act.TheVariants as acts
 use Rattle.tp_script.specs.declared.head.Head.{Head}
 use Rattle.tp_script.specs.declared.notes.NotedAct.{NotedAct}
 use Rattle.tp_script.specs.declared.notes.UnitEnd.{UnitEnd}
 use Rattle.tp_perform.specs.Scenes.{Gathered, Scene, Stand, passes_in}
-use Rattle.tp_reference.specs.PlainClient.{client, read_as}
+use Rattle.tp_reference.specs.PlainClient.{client}
 use Rattle.tp_alone.specs.Thread.{thread_of}
 use Rattle.tp_session.specs.Lasts.{HandRead, end_at, open_text}
 use Rattle.tp_session.specs.Live.{LastTold, Live, LiveGathers, NotedTold}
@@ -24,7 +23,7 @@ use Rattle.tp_session.specs.declared.hand.Holding.{Holding}
 use Rattle.tp_session.specs.declared.hand.Holding.TheVariants.{Nothing, Open, Lost}
 use Rattle.tp_exact.specs.Acts.{Acts}
 use Rattle.tp_exact.specs.PlainNotes.{NotedAnswered, hand_of, noted_does}
-use Rattle.tp_exact.specs.PlainSession.{SessionState, act_step, last_step, noted_step}
+use Rattle.tp_exact.specs.PlainSession.{SessionState, act_step, last_step}
 use Rattle.tp_exact.specs.Sessions.{IsStep, StandsLive}
 use Rattle.tp_exact.specs.Stands.{Stands}
 use Rattle.tp_exact.proofs.Commands.{scene_passes}

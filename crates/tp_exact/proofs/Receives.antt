@@ -1,8 +1,7 @@
 -- The least reply that a client asks for, read and taken where nobody else acts.
-use Rattle.std.proofs.Common.{◌≡◌, ℕ, zero, suc, ◌+◌, ◌-◌, ◌<◌, ◌≤◌, Bool, true, false, if◌then◌else◌, List, Option, Some, None, Result, Ok, Err, inl, inr, refl, sym, ◌∙◌, ap, subst, arith, ⊎_elim}
+use Rattle.std.proofs.Common.{◌≡◌, ℕ, zero, suc, ◌+◌, ◌-◌, ◌<◌, ◌≤◌, Bool, List, Option, Some, None, Result, Ok, Err, refl, sym, ◌∙◌, ap, subst, arith, ⊎_elim}
 use Rattle.std.specs.Option.{option_or}
 use Rattle.std.specs.Result.{result_ok}
-use mathlib.Core.List.{IsPrefix}
 use Rattle.tp_model.specs.declared.types.Element.{Element}
 use Rattle.tp_model.specs.declared.types.Limits.{Limits}
 use Rattle.tp_model.specs.declared.types.Look.{Look}
@@ -16,7 +15,7 @@ use Rattle.tp_model.proofs.Later.{births_inside}
 use Rattle.tp_plain.specs.Computed.{collect_of, read_of}
 use Rattle.tp_plain.specs.OneThread.{State}
 use Rattle.tp_manager.specs.Bounds.{collect_steps, read_steps}
-use Rattle.tp_manager.specs.Releases.{CollectFails, Collects}
+use Rattle.tp_manager.specs.Releases.{CollectFails}
 use Rattle.tp_manager.specs.Shown.{KeeperShown, PassShown}
 use Rattle.tp_report.specs.declared.answer.Answer.{Answer}
 use Rattle.tp_report.specs.declared.answer.Answer.TheVariants as answer
@@ -24,7 +23,7 @@ use Rattle.tp_alone.specs.Laws.{CollectAnswers}
 use Rattle.tp_alone.specs.Thread.{HasSeen, thread_of}
 use Rattle.tp_alone.proofs.Releases.{alone_collect}
 use Rattle.tp_commands.specs.Asked.{Called, TellsRead}
-use Rattle.tp_commands.specs.Received.{FindsFirst, MissesReply, PassesOver, Receives, ReceivesNone, TakesReply, TellsReceived, reply_in}
+use Rattle.tp_commands.specs.Received.{FindsFirst, MissesReply, PassesOver, TellsReceived, reply_in}
 use Rattle.tp_reference.specs.PlainClient.{client, read_as}
 use Rattle.tp_exact.specs.Acts.{Acts}
 use Rattle.tp_exact.specs.PlainNotes.{first_below, taken_of}

@@ -1,5 +1,5 @@
 -- What sends and receives that are made again do.
-use Rattle.std.proofs.Common.{◌≡◌, ◌≤◌, ◌<◌, ◌==◌, ◌+◌, ◌-◌, ℕ, zero, suc, Bool, true, false, not, if◌then◌else◌, cond, List, [], ◌∷◌, ◌++◌, All, map, filter, find, position, Option, Some, None, Result, Ok, Err, refl, sym, ◌∙◌, ap, arith, subst, length, slice_get, slice_set, nat_lt, codes}
+use Rattle.std.proofs.Common.{◌≡◌, ◌≤◌, ◌==◌, ◌+◌, ◌-◌, ℕ, Bool, true, false, not, if◌then◌else◌, List, [], ◌∷◌, All, find, position, Option, Some, None, Result, Ok, Err, refl, sym, ◌∙◌, ap, arith, subst, length, slice_get, slice_set, nat_lt}
 use Rattle.std.proofs.lemmas.List.Elements.{All-tail}
 use Rattle.std.proofs.lemmas.Slice.Eq.{bytes_eq-Decides}
 use Rattle.std.specs.Str.{bytes_eq}
@@ -12,8 +12,7 @@ use Rattle.tp_commands.specs.Received.{asks_for}
 use Rattle.tp_rollover.specs.Anew.{made_anew}
 use Rattle.tp_rollover.specs.declared.moved.Moved.{Moved}
 use Rattle.tp_rollover.specs.declared.moved.RollFault.{RollFault}
-use Rattle.tp_rollover.specs.declared.survivors.Survivor.{Survivor}
-use Rattle.tp_reference.specs.PlainClient.{client, submitted_as}
+use Rattle.tp_reference.specs.PlainClient.{client}
 use Rattle.tp_report.specs.declared.answer.Renamed.{Renamed}
 use Rattle.tp_script.specs.Grammar.{body_at}
 use Rattle.tp_script.specs.Notes.{NameView}
@@ -33,15 +32,15 @@ use Rattle.tp_session.specs.Clients.{is_its_own}
 use Rattle.tp_session.specs.Dump.{dump_text}
 use Rattle.tp_session.specs.Live.{survivors_of}
 use Rattle.tp_session.specs.NoteTexts.{id_text, received_text, reply_text, sent_text}
-use Rattle.tp_session.specs.Notes.{NotesView, client_in, is_named, new_client, notes_in, place_of, standing, with_client, without_client}
+use Rattle.tp_session.specs.Notes.{NotesView, client_in, is_named, new_client, place_of, standing}
 use Rattle.tp_session.specs.declared.hand.Holding.{Holding}
 use Rattle.tp_session.specs.declared.notes.Standing.{Standing}
 use Rattle.tp_session.specs.declared.notes.Standing.TheVariants.{Next, Again, Earlier, Later}
 use Rattle.tp_exact.specs.Alive.{alive_of}
 use Rattle.tp_exact.specs.PlainNotes.{NotedAnswered, by_note, first_below, next_receive, noted_does, of_client, receive_by, receives, register_by, send_by, sends, taken_of}
 use Rattle.tp_exact.specs.PlainSession.{Refusals, SessionState, act_step, anew_as, command_by, dump_of, first_refusal, has_desk_open, is_open, line_step, lines_step, noted_step, other_refusals, restored, rolled_over, unless_refused, unrestored, worker_step}
-use Rattle.tp_exact.specs.Repeats.{DoneForGood, HasDone, LeavesNote, ReceivesAgain, ReceivesOnce, SendsAgain, SendsOnce, note_of}
-use Rattle.tp_exact.proofs.NoteKeeps.{Found, Has, filter_has, map_has, more_has, passes, placed, set_has}
+use Rattle.tp_exact.specs.Repeats.{DoneForGood, LeavesNote, ReceivesAgain, ReceivesOnce, SendsAgain, SendsOnce, note_of}
+use Rattle.tp_exact.proofs.NoteKeeps.{Has, filter_has, map_has, more_has, passes, placed, set_has}
 
 -- ---- how a number stands to a count
 

@@ -1,5 +1,5 @@
 -- Lines of words between single spaces: what their words are, and that they aren't too long.
-use Rattle.std.proofs.Common.{◌≡◌, ◌≢◌, ℕ, ◌+◌, ◌<◌, ◌≤◌, ◌^◌, ◌==◌, ◌&&◌, Bool, true, false, not, Option, None, Some, Ok, IfSome, List, [], ◌∷◌, ◌++◌, length, nat_le, if◌then◌else◌, Result, ◌-◌, refl, sym, ◌∙◌, ap, subst, arith}
+use Rattle.std.proofs.Common.{◌≡◌, ◌≢◌, ℕ, ◌+◌, ◌<◌, ◌≤◌, ◌^◌, ◌==◌, ◌&&◌, Bool, true, false, not, Option, None, Some, Ok, List, [], ◌∷◌, ◌++◌, length, nat_le, if◌then◌else◌, Result, ◌-◌, refl, ◌∙◌, ap, subst, arith}
 use Rattle.std.specs.Prelude.{codes, decimal}
 use Rattle.std.specs.List.{list_all, slice_split}
 use Rattle.std.specs.Str.{bytes_eq}

@@ -1,7 +1,7 @@
 -- What clients of whom notes are kept are told where nobody else acts, and workers of their last units:
 -- computed.
-use Rattle.std.specs.Prelude.{◌==◌, ℕ, zero, suc, Bool, true, false, if◌then◌else◌, List, Option, Some, None}
-use Rattle.std.specs.Prelude.{Result, Ok, Err, codes, length, nat_lt, slice_get}
+use Rattle.std.specs.Prelude.{ℕ, zero, suc, Bool, true, false, List, Option, Some, None}
+use Rattle.std.specs.Prelude.{Result, codes, length, nat_lt, slice_get}
 use Rattle.std.specs.Option.{option_or}
 use Rattle.std.specs.Result.{result_ok}
 use Rattle.tp_model.specs.declared.types.Element.{Element}

@@ -1,10 +1,9 @@
 -- What sends and receives that are made again do, whatever lines are between.
-use Rattle.std.specs.Prelude.{◌≡◌, ◌≤◌, ◌+◌, ℕ, Bool, false, List, All, Option, Some, Ok}
+use Rattle.std.specs.Prelude.{◌≡◌, ◌≤◌, ◌+◌, ℕ, false, List, All, Option, Some, Ok}
 use Rattle.std.specs.List.{find}
 use Rattle.tp_script.specs.Grammar.{body_at}
 use Rattle.tp_script.specs.Notes.{NameView}
 use Rattle.tp_script.specs.Script.{HeadView}
-use Rattle.tp_script.specs.declared.head.Act.{Act}
 use Rattle.tp_script.specs.declared.head.Act.TheVariants as acts
 use Rattle.tp_script.specs.declared.notes.ClientNote.{ClientNote}
 use Rattle.tp_script.specs.declared.notes.NotedAct.TheVariants as asks
