@@ -46,9 +46,9 @@ class Ids:
         return element if lasting >> 32 == self.past and element not in self.lasting else None
 
     def place(self, lasting: int) -> int:
-        """Returns the id of the manager from which a list goes on from this lasting id, which may be none of
-        an element: behind the next lesser one that is alive of those born after as many rollovers. These keep
-        what is alive in its order, so nothing is left out that stood behind it.
+        """Returns the manager's id from which a list goes on from this lasting one, which need be no
+        element's: behind the next lesser one of those that were born after as many rollovers, and were alive
+        at the last. Rollovers keep the order of what is alive, so nothing that stood behind it is left out.
         """
         if lasting >> 64:
             # (no line may have it: the program refuses it)

@@ -135,14 +135,14 @@ class ServeCalls(unittest.TestCase):
             wanted |= {f'refusals_total{{why="{why}"}}': 1 for why in refused}
             wanted |= {'elements{status="held"}': 1, "connections": 1, "connections_total": 1}
             wanted["lines_in_flight"] = 0
-            stages = {(1, "held"): 1, (12, "waiting"): 2, (12, "parked"): 0, (15, "waiting"): 0}
-            for (stage, state), many in stages.items():
+            for stage, state, many in (1, "held", 1), (12, "waiting", 2), (12, "parked", 0):
                 wanted[f'stage_elements{{stage="{stage}",state="{state}"}}'] = many
             self.assertEqual({name: server.counted(name) for name in wanted}, wanted)
             self.assertGreater(server.counted("answer_seconds_sum"), 0)
             head, text = server.scraped()
             self.assertRegex(head, "^HTTP/1.0 200 OK\r\n")
             self.assertIn(f"Content-Length: {len(text)}", head)
+            self.assertIn('covetrivet_stage_elements{stage="15",state="waiting"} 0\n', text)
             form = r"# TYPE \w+ (counter|gauge|summary)|\w+(\{\w+=\"\w+\"(,\w+=\"\w+\")*\})? [\d.]+"
             self.assertEqual([it for it in text.splitlines() if not re.fullmatch(form, it)], [])
             self.assertGreater(server.counted('unit_open_seconds{worker="packer"}'), 0)
