@@ -33,15 +33,16 @@ alone.
 """
 from covetrivet import refusals
 from covetrivet.answers import (
-    Account, Cancelled, Counts, Done, Draft, Dumped, Heard, Killed, Last, LastWork, Look, Member,
-    NotUnderstood, Received, Released, Reply, Requeued, RolledOver, Sent, Submitted, UnitEnd, Work,
+    Account, Cancelled, Counts, Depth, Done, Draft, Dumped, Heard, Killed, Last, LastWork, Look,
+    Member, NotUnderstood, Received, Released, Reply, Requeued, RolledOver, Sent, Submitted, UnitEnd,
+    Work,
 )  # fmt: skip
 from covetrivet.batch import Batch, Later
 from covetrivet.client import Client
 from covetrivet.commands import (
-    Command, abort, account, balance, cancel, claim, claim_next, collect, commit, count, drain,
-    drain_next, drop, dump, errors, family, forget, kill, last, last_work, prepare, read, receive,
-    register, release, reply, requeue, rollover, send, submit, take, total, turn,
+    Command, abort, account, balance, cancel, claim, claim_next, collect, commit, count, depth,
+    drain, drain_next, drop, dump, errors, family, forget, kill, last, last_work, prepare, read,
+    receive, register, release, reply, requeue, rollover, send, submit, take, total, turn, waiting,
 )  # fmt: skip
 from covetrivet.faults import (
     Disconnected, JournalFault, LogFault, NoProgram, SessionBroken, SessionClosed, SessionEnded,
@@ -52,14 +53,14 @@ from covetrivet.remote import connect
 from covetrivet.session import Session
 
 __all__ = [
-    "Account", "Batch", "Cancelled", "Client", "Command", "Counts", "Disconnected", "Done", "Draft",
-    "Dumped", "Heard", "JournalFault", "Killed", "Last", "LastWork", "Later", "LogFault", "Look",
+    "Account", "Batch", "Cancelled", "Client", "Command", "Counts", "Depth", "Disconnected", "Done",
+    "Draft", "Dumped", "Heard", "JournalFault", "Killed", "Last", "LastWork", "Later", "LogFault", "Look",
     "Member", "NoProgram", "NotUnderstood", "Received", "Released", "Reply", "Requeued", "RolledOver",
     "Sent", "Session", "SessionBroken", "SessionClosed", "SessionEnded", "SessionFault", "Submitted",
     "UnitEnd", "Unknown", "Work", "abort", "account", "balance", "cancel", "claim", "claim_next",
-    "collect", "commit", "connect", "count", "drain", "drain_next", "drop", "dump", "errors", "family",
-    "forget", "kill", "last", "last_work", "prepare", "read", "receive", "refusals", "register",
-    "release", "reply", "requeue", "rollover", "send", "submit", "take", "total", "turn",
+    "collect", "commit", "connect", "count", "depth", "drain", "drain_next", "drop", "dump", "errors",
+    "family", "forget", "kill", "last", "last_work", "prepare", "read", "receive", "refusals", "register",
+    "release", "reply", "requeue", "rollover", "send", "submit", "take", "total", "turn", "waiting",
 ]  # fmt: skip
 
 __version__ = version()

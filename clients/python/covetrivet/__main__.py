@@ -20,11 +20,11 @@ Head     rows N  units N  limit N  spare N   (to 256, 1024, 7, 256; these first)
 Client   submit STAGE W0 W1 [W2 [W3]]                   submitted ID
          kill ID  cancel ROOT  requeue ID  release ID   killed ID aborted N ..
          reply ROOT  collect ROOT  family ROOT          replies ROOT ID:W0:W1 ..
-         read ID  errors  count  account                one line each
+         read ID  errors  list STAGE [FROM]  depth  count  account   one line
          send NAME N STAGE W0 W1 ..  receive NAME N [ROOT]   N counts from 1
          register NAME  last NAME  forget NAME          last also of a worker
 Worker   claim NAME         NAME work ID unit U attempt N root R body W0:..:W3
-         take NAME ID       the same of this element; NAME refused ID WHY
+         next NAME, take NAME ID    the same, in turn; of this element
          commit NAME OUT .. NAME done ID unit U outputs FIRST COUNT (4 OUT)
          abort NAME         NAME aborted ID
 Server   turn NAME   claim, next, take, prepare, commit, abort, drop NAME
@@ -32,7 +32,7 @@ Server   turn NAME   claim, next, take, prepare, commit, abort, drop NAME
 All      rollover           rolled over N OLD:NEW ..  used rows are free again
          dump, restore      dumped N, and N lines (alive ..) to go on from
 Refused  refused [line L:] K WHY [U]
-         NAME idle, busy, none, nounit, lost, full or ended
+         NAME idle, busy, none, nounit, lost, full, ended or refused ID WHY
 One answer each, in order. More: docs/LIVE.md, DURABLE.md, SERVICE.md
 """
 

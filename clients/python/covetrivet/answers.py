@@ -185,6 +185,16 @@ class Counts:
 
 
 @dataclass(frozen=True)
+class Depth:
+    """How many elements of a stage wait, are held and are parked."""
+
+    stage: int
+    waiting: int
+    held: int
+    parked: int
+
+
+@dataclass(frozen=True)
 class Account:
     """How many elements were born, and how many have each status."""
 

@@ -83,7 +83,9 @@ def claim(name: str) -> Command[answers.Work | None]:
 
 
 def claim_next(name: str) -> Command[answers.Work | None]:
-    """The server takes an element in turn (`next`, which is a word of Python). Workers can't."""
+    """The worker or server takes in turn what waits in its stage (`next`, which is a word of Python): the
+    first behind what it took last so, and behind the last id the first. None where nothing waits.
+    """
     return Command("next", name, read=work(name))
 
 
@@ -297,6 +299,23 @@ def count() -> Command[answers.Counts]:
     """The elements are counted by status."""
     form = "waiting N held N consumed N parked N killed N"
     return Command("count", read=lambda it: answers.Counts(*it.numbers(form)))
+
+
+def depth() -> Command[tuple[answers.Depth, ...]]:
+    """Of each stage that has any, how many elements wait, are held and are parked."""
+
+    def read(heard: Heard) -> tuple[answers.Depth, ...]:
+        numbers = (Heard(it, heard.command).numbers("N:N:N:N") for it in heard.listed("depth"))
+        return tuple(answers.Depth(*it) for it in numbers)
+
+    return Command("depth", read=read)
+
+
+def waiting(stage: int, start: int = 0) -> Command[tuple[int, ...]]:
+    """What waits in a stage, 1 to 15, is listed from an id on (`list`, which is a word of Python), at most
+    200 ids. The next list starts at the last one plus 1.
+    """
+    return Command("list", number(stage), element=start, read=lambda it: it.elements(it.listed("list N")))
 
 
 def balance(name: str, register: int) -> Command[int | None]:

@@ -10,19 +10,23 @@ import re
 from collections.abc import Callable, Iterable, Mapping
 from dataclasses import dataclass, field
 
+from covetrivet.lines import NOBODY
+
 LOW = 0xFFFFFFFF
 
 
 @dataclass(frozen=True)
 class Ids:
     """The ids of one manager: how many rollovers were before it, and by its id now the lasting id of each
-    element that was carried over into it, and of each root of such a one. All others were born in it. `lost`
-    has, by the worker's name, the lasting id of what was lost before, until the worker hears of it.
+    element that was carried over into it, and of each root of such a one: `copies` are the roots that weren't
+    alive. All others were born in it. `lost` has, by the worker's name, the lasting id of what was lost
+    before, until the worker hears of it.
     """
 
     past: int = 0
     lasting: Mapping[int, int] = field(default_factory=dict)
     lost: dict[str, int] = field(default_factory=dict)
+    copies: frozenset[int] = frozenset()
     now: Mapping[int, int] = field(init=False, repr=False, compare=False)
 
     def __post_init__(self) -> None:
@@ -40,6 +44,20 @@ class Ids:
             return self.now[lasting]
         element = lasting & LOW
         return element if lasting >> 32 == self.past and element not in self.lasting else None
+
+    def place(self, lasting: int) -> int:
+        """Returns the manager's id from which a list goes on from this lasting one, which need be no
+        element's: behind the next lesser one of those that were born after as many rollovers, and were alive
+        at the last. Rollovers keep the order of what is alive, so nothing that stood behind it is left out.
+        """
+        if lasting >> 64:
+            # (no line may have it: the program refuses it)
+            return lasting
+        since = lasting >> 32
+        if since >= self.past:
+            return min(lasting - (self.past << 32), NOBODY)
+        alive = ((now, last) for now, last in self.lasting.items() if now not in self.copies)
+        return max((now for now, last in alive if since << 32 <= last < lasting), default=-1) + 1
 
     def teller(self, line: str, answer: str) -> Callable[[int], int]:
         """Returns what tells the ids in the answer to a line. A worker that hears of what it lost before a
@@ -61,7 +79,8 @@ class Ids:
         copy, where it wasn't alive. `dumped` are the lines of a dump before.
         """
         olds = {**copies, **{new: old for old, new in moved.items()}}
-        return Ids(self.past + 1, {new: self.told(old) for new, old in olds.items()}, self.lost_in(dumped))
+        told = {new: self.told(old) for new, old in olds.items()}
+        return Ids(self.past + 1, told, self.lost_in(dumped), frozenset(copies))
 
     def lost_in(self, dumped: Iterable[str]) -> dict[str, int]:
         """Returns what these lines of a dump say is lost, by lasting ids. What was lost before an earlier

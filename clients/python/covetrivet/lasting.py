@@ -13,11 +13,15 @@ from covetrivet.ids import Ids
 from covetrivet.lines import LONGEST_LINE, NOBODY
 
 GREATEST = 0xFFFFFFFFFFFFFFFF
-LISTS = ("reply", "collect", "family", "errors")
 OF_ID = re.compile(
     r" *(kill|cancel|requeue|release|read|reply|collect|family|take +[a-z]{1,8}"
-    r"|receive +[a-z]{1,8} +\d{1,20}) +(\d{1,20}) *"
+    r"|receive +[a-z]{1,8} +\d{1,20}|list +\d{1,20}) +(\d{1,20}) *"
 )
+# Which numbers are ids in the answers that are lists; behind the stage of `list`.
+LISTS = {
+    **dict.fromkeys(("reply", "collect", "family", "errors"), re.compile(r"(?<= )\d+(?=[ :]|$)")),
+    "list": re.compile(r"(?<=\d )\d+"),
+}
 OF_NAME = re.compile(
     r"\w+ (?:work|done|lost|full|already|aborted|refused) (\d+)"
     r"(?: unit \d+ attempt \d+ root (\d+)| unit \d+ outputs (\d+) [1-9])?"
@@ -59,10 +63,11 @@ def sent(line: str, ids: Ids) -> Sent:
     found = OF_ID.fullmatch(line) if len(line) <= LONGEST_LINE else None
     if not found or int(found[2]) > GREATEST:
         return Sent(line, verb)
-    asked = int(found[2])
+    asked, named = int(found[2]), " ".join(found[1].split())
+    if verb == "list":
+        return Sent(f"{named} {ids.place(asked)}", verb)
     now = ids.known(asked)
     is_nobody = now is None or now >= NOBODY
-    named = " ".join(found[1].split())
     return Sent(f"{named} {NOBODY if is_nobody else now}", verb, asked if is_nobody else None)
 
 
@@ -77,7 +82,7 @@ def told(it: Sent, answer: str, ids: Ids) -> str:
         return it.nobody if element == NOBODY and it.nobody is not None else tell(element)
 
     if it.verb in LISTS and not answer.startswith("refused "):
-        return re.sub(r"(?<= )\d+(?=[ :]|$)", lambda found: str(last(int(found[0]))), answer)
+        return LISTS[it.verb].sub(lambda found: str(last(int(found[0]))), answer)
     form = FORMS.get(it.verb)
     return with_groups(form, answer, last) if form else answer
 

@@ -11,7 +11,9 @@ OF_HEAD = (
     "rows", "units", "limit", "spare", "server", "start", "worker", "register", "client", *TO_RESTORE
 )  # fmt: skip
 # What changes nothing. A log needs none of it.
-QUIET = ("read", "reply", "family", "errors", "count", "balance", "sum", "account", "last", "dump")
+QUIET = (
+    "read", "reply", "family", "errors", "count", "depth", "list", "balance", "sum", "account", "last", "dump"
+)  # fmt: skip
 LONGEST_LINE = 208
 # The greatest id that a line may have. No element has it: there are 10,240 at most.
 NOBODY = 0xFFFFFFFF

@@ -8,7 +8,7 @@ import time
 from collections.abc import Sequence
 from typing import Protocol
 
-from covetrivet.answers import Counts
+from covetrivet.answers import Counts, Depth
 from covetrivet.faults import SessionFault
 from covetrivet.refusals import Refusal
 from covetrivet.replica import Replica
@@ -212,11 +212,14 @@ class Member:
         """Returns the place that the node has come to."""
         return self.replica.place if self.replica else self.stood[0]
 
-    def count(self) -> Counts:
-        """Returns the elements by status, as far as the node has come. TimeoutError where there is none."""
+    def count(self) -> tuple[Counts, tuple[Depth, ...]]:
+        """Returns the elements by status, and by stage, as far as the node has come. TimeoutError where there
+        is none.
+        """
+        replica = self.replica
         try:
-            if self.replica:
-                return self.replica.count()
+            if replica:
+                return replica.count(), replica.depth()
         except SessionFault as fault:
             raise TimeoutError from fault
         raise TimeoutError

@@ -5,7 +5,7 @@ import asyncio
 import time
 from collections.abc import Callable, Collection, Iterable, Sequence
 
-from covetrivet.answers import Counts
+from covetrivet.answers import Counts, Depth
 from covetrivet.connection import Connection, Limits
 from covetrivet.faults import SessionFault
 from covetrivet.member import NO_MORE, Member
@@ -145,7 +145,7 @@ class NodeServer(Server):
         for it in list(self.connections):
             it.dismiss(NO_MORE)
 
-    async def count(self) -> Counts:
+    async def count(self) -> tuple[Counts, tuple[Depth, ...]]:
         # (of this node's own session, which may be behind: no record is made for it)
         return await asyncio.to_thread(self.office.member.count)
 

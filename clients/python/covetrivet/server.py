@@ -5,19 +5,22 @@ import asyncio
 import contextlib
 import signal
 from collections.abc import Callable, Iterable, Sequence
+from typing import TypeVar
 
 from covetrivet import commands
-from covetrivet.answers import Counts, Heard
+from covetrivet.answers import Counts, Depth, Heard
+from covetrivet.commands import Command
 from covetrivet.connection import Connection, Limits
-from covetrivet.faults import SessionEnded, SessionFault
+from covetrivet.faults import SessionEnded, SessionFault, Unknown
 from covetrivet.holders import Holders, Orphans
 from covetrivet.lines import UNKNOWN
 from covetrivet.metrics import LONGEST_REQUEST, Metrics
 from covetrivet.pipe import Pipe
 from covetrivet.place import Place
 from covetrivet.relay import Asked, Caller, Hear, OnEnd, Performer, Relay
-from covetrivet.tally import Tally, shown, shown_counts, shown_units
+from covetrivet.tally import Tally, shown, shown_counts, shown_depths, shown_units
 
+T = TypeVar("T")
 SECONDS_TO_ANSWER, SECONDS_TO_READ, SECONDS_TO_COUNT = 10, 5, 1
 RESTARTS_IN_VAIN = 3
 
@@ -204,15 +207,22 @@ class Server:
         lines += shown("session_restarts_total", "counter", {"": self.restarts})
         lines += shown_units(self.holders.units.values())
         # (where that takes too long, or can't be, they are left out)
-        with contextlib.suppress(asyncio.TimeoutError, TimeoutError):
-            lines += shown_counts(await asyncio.wait_for(self.count(), SECONDS_TO_COUNT))
+        with contextlib.suppress(asyncio.TimeoutError, TimeoutError, Unknown):
+            counts, depths = await asyncio.wait_for(self.count(), SECONDS_TO_COUNT)
+            lines += [*shown_counts(counts), *shown_depths(depths)]
         return "\n".join([*lines, *self.more(), ""])
 
-    async def count(self) -> Counts:
-        """Returns the elements by status."""
+    async def count(self) -> tuple[Counts, tuple[Depth, ...]]:
+        """Returns the elements by status, and by stage."""
+        return await self.answer_to(commands.count()), await self.answer_to(commands.depth())
+
+    async def answer_to(self, command: Command[T]) -> T:
+        """Asks the session as its clients do."""
         once = Once()
-        self.ask(once, [b"count"])
-        return commands.count().read(Heard(await once.answer, "count"))
+        self.ask(once, [command.line.encode("ascii")])
+        heard = Heard(await once.answer, command.line)
+        heard.refused()
+        return command.read(heard)
 
     def more(self) -> Iterable[str]:
         """Returns what else a server tells of itself."""

@@ -6,7 +6,7 @@ import os
 import re
 import subprocess
 import weakref
-from collections.abc import Callable, Iterable, Sequence
+from collections.abc import Callable, Iterable, Iterator, Sequence
 from types import TracebackType
 from typing import Any, Concatenate, Literal, ParamSpec, TypeVar, Union
 
@@ -288,6 +288,18 @@ class Session:
         """Returns a batch, in whose `with` block commands are added that are sent together."""
         return Batch(lambda asked: self._gate.whole(lambda: self._do_all(asked)))
 
+    def all_waiting(self, stage: int) -> Iterator[int]:
+        """Yields the id of each element that waits in a stage, once, by as many calls of `waiting` as it
+        takes. What comes or goes meanwhile is among them or not.
+        """
+        told: set[int] = set()
+        start = 0
+        while listed := self.waiting(stage, start):
+            # (some are listed again where the last one was over before a rollover)
+            yield from (it for it in listed if it not in told)
+            told.update(listed)
+            start = listed[-1] + 1
+
     def shorten_log(self) -> None:
         """Has the log begin anew with a dump. The session rolls over to where that leads, so ids are others
         then, unless they last.
@@ -322,6 +334,8 @@ class Session:
     last_work = asked(commands.last_work)
     forget = asked(commands.forget)
     count = asked(commands.count)
+    depth = asked(commands.depth)
+    waiting = asked(commands.waiting)
     balance = asked(commands.balance)
     total = asked(commands.total)
     account = asked(commands.account)
@@ -384,6 +398,8 @@ class Session:
         """Returns a command's line, in which ids are those of the manager that there is now."""
         if self._ids is None or command.element is None:
             return command.line
+        if command.words[0] == "list":
+            return command.with_id(self._ids.place(command.element))
         now = self._ids.known(command.element)
         if now is None and command.words[0] == "receive":
             # The number may be the last one again, which is answered whatever the root.

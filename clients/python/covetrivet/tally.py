@@ -6,13 +6,14 @@ from collections import Counter
 from collections.abc import Iterable
 
 from covetrivet import refusals
-from covetrivet.answers import Counts
+from covetrivet.answers import Counts, Depth
 from covetrivet.holders import REFUSED, Unit
 from covetrivet.relay import Asked
 
 VERBS = frozenset(
     "submit claim take next commit abort turn prepare drop kill cancel requeue release read reply collect"
-    " family errors count balance sum account drain rollover dump restore".split()
+    " family errors count depth list balance sum account drain rollover dump restore register send receive"
+    " last forget".split()
 )
 
 
@@ -81,3 +82,16 @@ def shown_counts(counts: Counts) -> Iterable[str]:
     """Yields the lines of how many elements have each status."""
     values: dict[str, float] = {f'{{status="{it}"}}': many for it, many in vars(counts).items()}
     return shown("elements", "gauge", values)
+
+
+def shown_depths(depths: Iterable[Depth]) -> Iterable[str]:
+    """Yields the lines of how many elements of each stage wait, are held and are parked. (Zeros are told too:
+    who watches a number can't tell that it is 0 by its being left out.)
+    """
+    found = {it.stage: it for it in depths}
+    values: dict[str, float] = {}
+    for stage in range(1, 16):
+        told = found.get(stage, Depth(stage, 0, 0, 0))
+        for state in "waiting", "held", "parked":
+            values[f'{{stage="{stage}",state="{state}"}}'] = getattr(told, state)
+    return shown("stage_elements", "gauge", values)

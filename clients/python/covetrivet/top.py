@@ -6,7 +6,7 @@ import sys
 import time
 from collections.abc import Iterable, Iterator, Sequence
 
-from covetrivet.answers import Counts
+from covetrivet.answers import Counts, Depth
 from covetrivet.call import NO_SERVER
 from covetrivet.remote import connect, connected
 from covetrivet.faults import Disconnected, SessionFault
@@ -45,6 +45,14 @@ def of_session(counts: Counts, before: Counts | None, seconds: float, parked: Se
         yield f"parked: {' '.join(map(str, parked[:SHOWN_PARKED]))}{more}"
 
 
+def of_stages(depths: Sequence[Depth]) -> Iterator[str]:
+    """Yields a table of the stages that have any elements."""
+    if depths:
+        yield f"{'stage':10}{'waiting':>10}{'held':>10}{'parked':>10}"
+    for it in depths:
+        yield f"{it.stage:<10}{it.waiting:10}{it.held:10}{it.parked:10}"
+
+
 def of_server(now: Metrics, before: Metrics | None, seconds: float) -> Iterator[str]:
     """Yields the lines about the server."""
     count, total = "answer_seconds_count", "answer_seconds_sum"
@@ -72,10 +80,10 @@ def watch(session: Session, metrics: str | None, seconds: float | None) -> None:
     heard: Metrics | None = None
     then = time.monotonic()
     while True:
-        counts, parked = session.count(), session.errors()
+        counts, depths, parked = session.count(), session.depth(), session.errors()
         now = metrics_of(metrics) if metrics else None
         at = time.monotonic()
-        lines = [*of_session(counts, counted, at - then, parked)]
+        lines = [*of_session(counts, counted, at - then, parked), *of_stages(depths)]
         if now:
             lines += of_server(now, heard, at - then)
         show(lines, seconds is not None)

@@ -296,6 +296,8 @@ ERRORS = [
     Error("lines.py", "return head\n    last", "pass\n    last", "ClientLogs.test_heads"),
     Error("lines.py", ' or first == "client"', ' and first == "client"', "ClientLogs.test_heads"),
     Error("tally.py", "if found:", "if False:", "ServeCalls.test_metrics"),
+    Error("tally.py", "range(1, 16)", "found", "ServeCalls.test_metrics"),
+    Error("server.py", "heard.refused()", "pass", "Relays.test_metrics_whose_answers_were_lost"),
     Error("lasting.py", " root (\\d+)| unit", "| unit", "LastingLines.test_lines_and_answers"),
     Error("lasting.py", " [1-9])", " [0-9])", "LastingLines.test_lines_and_answers"),
     Error("lasting.py", "len(line) <= LONGEST_LINE", "True", "LastingLines.test_ids_that_no_element_has"),
@@ -304,6 +306,16 @@ ERRORS = [
     Error("ids.py", "self.lost.pop(name)", "self.lost[name]", "Logs.test_a_short_log_with_work_in_hand"),
     Error("ids.py", "self.lost.get(it[1], ", "max(0, ", "Rollovers.test_what_was_lost_is_told_by_its_id"),
     Error("ids.py", "*lasts, *lost]", "*lasts]", "Rollovers.test_what_was_lost_is_told_by_its_id"),
+    Error("ids.py", ", frozenset(copies))", ")", "Rollovers.test_pages_while_all_else_goes_on"),
+    Error(
+        "ids.py", "since << 32 <= last < lasting", "last < lasting",
+        "Rollovers.test_pages_while_all_else_goes_on",
+    ),
+    Error(
+        "session.py", 'if command.words[0] == "list":', "if False:",
+        "Rollovers.test_what_waits_is_listed_by_ids_that_last",
+    ),
+    Error("lasting.py", '(?<=\\d )', "(?<= )", "LastingLines.test_lines_and_answers"),
     Error(
         "session.py",
         "self._ids.teller(line, answer)\n\n",

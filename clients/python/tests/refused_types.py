@@ -11,6 +11,7 @@ def refused(session: Session, batch: Batch, caller: library.Caller) -> None:
     session.claim(5)
     session.claim()
     session.kill("0")
+    session.waiting("1")
     session.commit("packer", 7)
     session.nothing()
     work: Work = session.claim("packer")

@@ -6,8 +6,8 @@ import unittest
 from collections.abc import Callable
 
 from covetrivet import (
-    Account, Command, Counts, Done, Draft, Look, Member, Released, Reply, Session, SessionClosed,
-    SessionEnded, Work, claim, count, kill, refusals, rollover, submit,
+    Account, Command, Counts, Depth, Done, Draft, Look, Member, Released, Reply, Session, SessionClosed,
+    SessionEnded, Work, claim, count, depth, kill, refusals, rollover, submit, waiting,
 )  # fmt: skip
 
 HEAD = ["rows 8", "units 8", "limit 2", "server till eager 2 1 add", "start till 0 100", "worker packer 1"]
@@ -78,8 +78,52 @@ class Calls(unittest.TestCase):
             session.submit(2, 5, amount)
         self.assertEqual([session.claim_next("till"), session.abort("till")], [Work(0, 8, 1), 0])
         self.assertEqual(session.claim_next("till"), Work(1, 9, 1))
-        with self.assertRaises(refusals.BadName):
+
+    def test_workers_claims_in_turn(self) -> None:
+        session = self.session
+        self.assertIsNone(session.claim_next("packer"))
+        for amount in (1, 2):
+            session.submit(1, 5, amount)
+        self.assertEqual(session.claim_next("packer"), Work(0, 16, 1, 0, (5, 1, 0, 0)))
+        with self.assertRaises(refusals.Busy):
             session.claim_next("packer")
+        self.assertEqual(session.abort("packer"), 0)
+        self.assertEqual(session.claim_next("packer"), Work(1, 17, 1, 1, (5, 2, 0, 0)))
+        session.abort("packer")
+        # Behind the last id comes the first.
+        self.assertEqual(session.claim_next("packer"), Work(0, 18, 2, 0, (5, 1, 0, 0)))
+        with self.assertRaises(refusals.BadName):
+            session.claim_next("nobody")
+
+    def test_stages(self) -> None:
+        session = self.session
+        self.assertEqual((session.depth(), session.waiting(1)), ((), ()))
+        for stage in (1, 1, 2, 1):
+            session.submit(stage, 0, 7)
+        session.claim("packer")
+        self.assertEqual(session.depth(), (Depth(1, 2, 1, 0), Depth(2, 1, 0, 0)))
+        session.abort("packer")
+        self.assertEqual([session.waiting(1, it) for it in (0, 1, 4)], [(0, 1, 3), (1, 3), ()])
+        session.claim("packer")
+        session.abort("packer")
+        session.turn("till")
+        self.assertEqual(session.depth(), (Depth(1, 2, 0, 1),))
+        self.assertEqual([session.waiting(it) for it in (1, 2, 15)], [(1, 3), (), ()])
+        for stage, start in ((0, 0), (16, 0), (1, -1), (1, 1 << 32)):
+            with self.subTest(stage=stage, start=start), self.assertRaises(refusals.BadNumber):
+                session.waiting(stage, start)
+
+    def test_pages_of_a_stage(self) -> None:
+        with Session(["rows 256", "spare 32"]) as session:
+            with session.batch() as batch:
+                asked = [batch.add(submit(1, it)) for it in range(450)]
+                deep, listed = batch.add(depth()), batch.add(waiting(1, 100))
+            ids = [it.value.element for it in asked]
+            self.assertEqual(deep.value, (Depth(1, 450, 0, 0),))
+            self.assertEqual(listed.value, tuple(ids[100:300]))
+            self.assertEqual(session.waiting(1, ids[299] + 1), tuple(ids[300:]))
+            self.assertEqual([*session.all_waiting(1)], ids)
+            self.assertEqual([*session.all_waiting(2)], [])
 
     def test_drains(self) -> None:
         session = self.session

@@ -9,7 +9,9 @@ import tempfile
 import unittest
 from pathlib import Path
 
-from covetrivet import Counts, Draft, LogFault, NoProgram, Session, SessionBroken, SessionEnded, refusals
+from covetrivet import (
+    Counts, Depth, Draft, LogFault, NoProgram, Session, SessionBroken, SessionEnded, refusals,
+)  # fmt: skip
 
 FIRST = "# covetrivet log 1"
 HEAD = ["rows 16", "units 16", "worker clerk 1"]
@@ -45,6 +47,8 @@ class Logs(unittest.TestCase):
             with Session.from_log(self.path) as session:
                 # Order 1 is in hand, as it was: 2 and 3 wait, and the reply.
                 self.assertEqual(session.count(), Counts(3, 1, 1, 0, 0))
+                self.assertEqual(session.depth(), (Depth(1, 2, 1, 0), Depth(15, 1, 0, 0)))
+                self.assertEqual(session.waiting(1), (2, 3))
                 with self.assertRaises(refusals.Busy):
                     session.claim("clerk")
                 self.lost(session)

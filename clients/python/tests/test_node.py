@@ -61,6 +61,22 @@ reply 9 | reply 4
   replies 4 3:4:3 10:3:4:3:4 | replies 9 4294967303:4:3 8589934602:3:4:3:4
 collect 9 | collect 4
   collected 4 | collected 9
+next wa | next wa
+  wa work 4 unit 3 attempt 3 root 3 body 3:4:3:4 | wa work 9 unit 3 attempt 3 root 4294967303 body 3:4:3:4
+depth | depth
+  depth 3:4:10:3 | depth 3:4:10:3
+list 3 | list 3
+  list 3 3 4 10 | list 3 4294967303 9 8589934602
+list 4 | list 4
+  list 4 | list 4
+list 3 10 | list 3 5
+  list 3 | list 3
+list  3  9 | list 3 0
+  list 3 4 | list 3 9
+list 3 8589934602 | list 3 10
+  list 3 10 | list 3 8589934602
+list 16 9 | list 16 0
+  refused line 3: 2 BadNumber | refused line 3: 2 BadNumber
 errors | errors
   errors 3 4 | errors 4294967303 9
 read 9 | read 4
@@ -152,7 +168,7 @@ class LastingLines(unittest.TestCase):
         lost = "# covetrivet: wb lost 12", "# covetrivet: wc lost 9"
         self.assertEqual(comments, ["# covetrivet: rollovers 2", *lasts, *lost])
         self.assertEqual(Ids.of(comments), Ids(2, self.IDS.lasting, {"wb": 12, "wc": 9}))
-        behind = Ids(3, {0: 4294967303, 1: 2 << 32 | 5, 6: 9}, {"wb": 12, "wc": 9})
+        behind = Ids(3, {0: 4294967303, 1: 2 << 32 | 5, 6: 9}, {"wb": 12, "wc": 9}, frozenset({6}))
         self.assertEqual(ids.after({3: 0, 5: 1}, {6: 4}, dumped), behind)
 
     def test_ids_that_no_element_has(self) -> None:
@@ -164,8 +180,10 @@ class LastingLines(unittest.TestCase):
             self.assertEqual(answer, f"wa refused {asked} NotThere")
             it = sent(f"family {asked}", self.IDS)
             self.assertEqual(told(it, "family 4294967295", self.IDS), f"family {asked}")
+        self.assertEqual(sent(f"list 3 {(3 << 32) + 1}", self.IDS).line, "list 3 4294967295")
         too_long = "kill" + " " * 204 + "9"
-        for line in f"kill {1 << 64}", "kill\t9", "kill +9", too_long, "take abcdefghi 9", "kil 9":
+        far = f"kill {1 << 64}", f"list 3 {1 << 64}"
+        for line in *far, "list 3 -1", "kill\t9", "kill +9", too_long, "take abcdefghi 9", "kil 9":
             self.assertEqual(sent(line, self.IDS).line, line)
 
     def test_clients_over_a_rollover(self) -> None:
@@ -210,7 +228,8 @@ def random_lines(dice: random.Random, answers: list[str]) -> list[str]:
                     f"abort {name}", f"kill {element}", f"cancel {element}", f"read {element}",
                     f"family {element}", "turn till", f"collect {element}", f"take {name} {element}",
                     f"release {element}", "errors", "rollover", "dump", "rubbish \xe9",
-                    f"requeue {element}", "account",
+                    f"requeue {element}", "account", f"next {name}", "depth",
+                    f"list {dice.randint(1, 2)} {int(element) + dice.randint(0, 1)}",
                 ]
             )  # fmt: skip
         )

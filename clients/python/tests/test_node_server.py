@@ -133,6 +133,7 @@ class NodeServers(unittest.TestCase):
                 wanted = {f"covetrivet_leads {leads}", f"covetrivet_term {term}", "covetrivet_place 1"}
                 self.assertEqual(wanted - set(told), set())
                 self.assertIn('covetrivet_elements{status="waiting"} 1', told)
+                self.assertIn('covetrivet_stage_elements{stage="1",state="waiting"} 1', told)
             # (no record was made for them)
             self.assertEqual(len(nodes.store.records), 1)
 

@@ -1,6 +1,7 @@
 """Rollovers and dumps, and ids that last over them."""
 from __future__ import annotations
 
+import random
 import unittest
 
 from covetrivet import (
@@ -110,6 +111,55 @@ class Rollovers(unittest.TestCase):
                     session.commit("w")
                 self.assertEqual(lost.exception.element, first)
 
+    def test_what_waits_is_listed_by_ids_that_last(self) -> None:
+        with Session(["rows 8", "units 8", "worker w 1"], on_full="rollover") as session:
+            session.submit(1, 1)
+            early = session.submit(1, 2).element
+            session.claim("w")
+            (made,) = session.commit("w", Draft(1, 3)).outputs
+            self.assertEqual((session.waiting(1), made), ((early, made), 8))
+            session.rollover()
+            late = session.submit(1, 4).element
+            # What was carried over, and the client's own, stand before what w has made.
+            self.assertEqual(late, (1 << 32) + 1)
+            self.assertEqual(session.waiting(1), (early, late, made))
+            behind = {early: (late, made), late: (made,), made: (), 3 << 32: ()}
+            self.assertEqual({it: session.waiting(1, it + 1) for it in behind}, behind)
+            # Behind what is gone nothing is left out. (A root's copy, which is new, is no place for it.)
+            session.kill(early)
+            session.rollover()
+            self.assertEqual(session.waiting(1, early + 1), (late, made))
+            self.assertEqual(session.waiting(1, late + 1), (made,))
+            self.assertEqual([*session.all_waiting(1)], [late, made])
+            for start in (-1, 1 << 64):
+                with self.subTest(start), self.assertRaises(refusals.BadNumber):
+                    session.waiting(1, start)
+
+    def test_pages_while_all_else_goes_on(self) -> None:
+        """What waits from the first page to the last is listed, whatever comes, goes and rolls over."""
+        head = ["rows 16", "units 32", "spare 4", "worker w 1", "worker v 1"]
+        stays = rolled = 0
+        for seed in range(60):
+            dice, listed, start = random.Random(seed), set[int](), 0
+            with Session(head, on_full="rollover") as session:
+                shaken(session, dice, 20)
+                stay = {*session.waiting(1)}
+                for page in range(100):
+                    found = session.waiting(1, start)[: dice.randint(1, 3)]
+                    if not found:
+                        break
+                    listed |= {*found}
+                    start = found[-1] + 1
+                    if page < 12:
+                        shaken(session, dice, dice.randint(0, 4))
+                        stay &= {*session.waiting(1)}
+                self.assertEqual(stay - listed, set(), seed)
+                self.assertLess(page, 99)
+                stays += len(stay)
+                rolled += session.rollovers
+        self.assertGreater(stays, 100)
+        self.assertGreater(rolled, 100)
+
     def test_what_finds_no_room(self) -> None:
         head = ["rows 2", "units 8", "limit 2", "server till eager 1 1 add", "worker w 1"]
         with Session(head, on_full="rollover") as session:
@@ -128,6 +178,23 @@ class Rollovers(unittest.TestCase):
             with self.assertRaises(refusals.Full) as caught:
                 session.submit(1, 3)
             self.assertIsNone(caught.exception.__cause__)
+
+
+def shaken(session: Session, dice: random.Random, many: int) -> None:
+    """Has so many things done to what waits in stage 1, of which some are rollovers."""
+    for _ in range(many):
+        act = dice.choice(["submit", "submit", "work", "work", "kill", "rollover"])
+        waits = session.waiting(1)
+        if act == "submit" and len(waits) < 12:
+            session.submit(1, 0)
+        elif act == "work" and waits:
+            name = dice.choice("wv")
+            session.take(name, dice.choice(waits))
+            session.commit(name, *[Draft(1)] * dice.choice([0, 1, 1, 2]))
+        elif act == "kill" and waits:
+            session.kill(dice.choice(waits))
+        elif act == "rollover":
+            session.rollover()
 
 
 class Dumps(unittest.TestCase):

@@ -113,6 +113,7 @@ class ServeCalls(unittest.TestCase):
                 said = run("top", "--socket", server.path, "--metrics", server.metrics, "--once")
             self.assertEqual((said.returncode, said.stderr), (0, ""))
             self.assertEqual(said.stdout.split()[:4], ["waiting", "1", "held", "1"])
+            self.assertRegex(said.stdout, r"\nstage +waiting +held +parked\n1 +1 +1 +0\n")
             self.assertRegex(said.stdout, r"(?m)^in hand for \d+\.\d s: packer$")
             self.assertRegex(said.stdout, r"(?m)^refused: Syntax 1$")
             words = [*COMMAND, "top", "--socket", server.path, "--every", "0.1"]
@@ -121,24 +122,28 @@ class ServeCalls(unittest.TestCase):
                     shown = [again.stdout.readline().split() for _ in range(15)]
                 again.send_signal(signal.SIGINT)
                 self.assertEqual(again.wait(SECONDS), 0)
-            self.assertEqual(shown[5], ["waiting", "1", "+0.0/s"])
+            self.assertEqual(shown[7], ["waiting", "1", "+0.0/s"])
         self.assertEqual(run("top", "--socket", server.path, "--once").returncode, 69)
 
     def test_metrics(self) -> None:
         with Serving(WORKER) as server:
             it = server.client()
             it.ask("submit 1 5 6", "claim packer", "claim packer", "claim nobody", "kill 9", "x" * 300)
+            it.ask("submit 12 5 6", "submit 12 5 6")
             wanted = {'answers_total{command="claim"}': 3, 'answers_total{command="other"}': 1}
             refused = "Busy", "BadName", "NotThere", "TooLong"
             wanted |= {f'refusals_total{{why="{why}"}}': 1 for why in refused}
             wanted |= {'elements{status="held"}': 1, "connections": 1, "connections_total": 1}
             wanted["lines_in_flight"] = 0
+            for stage, state, many in (1, "held", 1), (12, "waiting", 2), (12, "parked", 0):
+                wanted[f'stage_elements{{stage="{stage}",state="{state}"}}'] = many
             self.assertEqual({name: server.counted(name) for name in wanted}, wanted)
             self.assertGreater(server.counted("answer_seconds_sum"), 0)
             head, text = server.scraped()
             self.assertRegex(head, "^HTTP/1.0 200 OK\r\n")
             self.assertIn(f"Content-Length: {len(text)}", head)
-            form = r"# TYPE \w+ (counter|gauge|summary)|\w+(\{\w+=\"\w+\"\})? [\d.]+"
+            self.assertIn('covetrivet_stage_elements{stage="15",state="waiting"} 0\n', text)
+            form = r"# TYPE \w+ (counter|gauge|summary)|\w+(\{\w+=\"\w+\"(,\w+=\"\w+\")*\})? [\d.]+"
             self.assertEqual([it for it in text.splitlines() if not re.fullmatch(form, it)], [])
             self.assertGreater(server.counted('unit_open_seconds{worker="packer"}'), 0)
             with Client(server.metrics) as other:

@@ -14,9 +14,11 @@ import unittest
 from unittest import mock
 
 from covetrivet import Unknown, connect, program, submit
+from covetrivet.connection import Limits
 from covetrivet.faults import SessionFault
 from covetrivet.pipe import Pipe
 from covetrivet.relay import Relay
+from covetrivet.server import Server
 from serving import SECONDS, WIDE, Client, Serving, comes
 
 HEAD = (*WIDE, "limit 7", "server till eager 2 1 add", "worker packer 1")
@@ -212,6 +214,19 @@ class Relays(unittest.TestCase):
         await asyncio.sleep(0.05)
         relay.pipe.let_go()
         self.assertEqual((len(ends), caller.told), (1, ["x", "y"]))
+
+    def test_metrics_whose_answers_were_lost(self) -> None:
+        """The elements are left out, and all else is told."""
+        asyncio.run(self.tell())
+
+    async def tell(self) -> None:
+        pipe = Pipe(["sed", "-u", "s/.*/unknown/"])
+        server = Server(lambda hear, on_end: Relay(pipe, hear, on_end), Limits(), None)
+        told = await server.tell()
+        server.relay.leave()
+        pipe.let_go()
+        self.assertIn("covetrivet_lines_in_flight 0\n", told)
+        self.assertNotIn("elements", told)
 
 
 class Caller:
