@@ -12,8 +12,12 @@ import signal
 import subprocess
 import sys
 import tempfile
+from collections.abc import Callable, Iterable
+from concurrent.futures import ThreadPoolExecutor
 from dataclasses import dataclass
+from functools import partial
 from pathlib import Path
+from queue import Queue
 
 TESTS = Path(__file__).resolve().parent
 SECONDS = 40
@@ -446,25 +450,52 @@ def passes(folder: str, test: str) -> bool:
             return False
 
 
-def main() -> int:
-    import covetrivet
+def tell_failing(test: str, folder: str) -> str:
+    """Tells of a test that doesn't pass on the copy of the client in this folder."""
+    return "" if passes(folder, test) else f"{test} doesn't pass on the client as it is"
 
-    package, wrong = Path(covetrivet.__file__).parent, 0
-    with tempfile.TemporaryDirectory() as folder:
-        copy = Path(folder) / "covetrivet"
-        shutil.copytree(package, copy)
-        for test in dict.fromkeys(it.test for it in ERRORS):
-            if not passes(folder, test):
-                print(f"{test} doesn't pass on the client as it is")
-                wrong += 1
+
+def tell_hidden(it: Error, folder: str) -> str:
+    """Tells of an error that isn't found in the copy of the client in this folder."""
+    file = Path(folder) / "covetrivet" / it.file
+    text = file.read_text(encoding="utf-8")
+    file.write_text(text.replace(it.old, it.new), encoding="utf-8")
+    is_hidden = it.old not in text or passes(folder, it.test)
+    file.write_text(text, encoding="utf-8")
+    return f"{it.file}: {it.new!r} in place of {it.old!r} isn't found by {it.test}" if is_hidden else ""
+
+
+class Copies:
+    """Copies of the client, each of which one call has at a time."""
+
+    def __init__(self, room: str, many: int) -> None:
+        import covetrivet
+
+        self.pool, self.folders = ThreadPoolExecutor(many), Queue[str]()
+        for number in range(many):
+            shutil.copytree(Path(covetrivet.__file__).parent, Path(room) / str(number) / "covetrivet")
+            self.folders.put(f"{room}/{number}")
+
+    def lent(self, call: Callable[[str], str]) -> str:
+        folder = self.folders.get()
+        try:
+            return call(folder)
+        finally:
+            self.folders.put(folder)
+
+    def told(self, calls: Iterable[Callable[[str], str]]) -> list[str]:
+        """Returns what these calls tell, where they tell anything."""
+        return [it for it in self.pool.map(self.lent, calls) if it]
+
+
+def main() -> int:
+    # (a test waits more than it works)
+    with tempfile.TemporaryDirectory() as room:
+        copies = Copies(room, os.cpu_count() or 2)
+        wrong = copies.told(partial(tell_failing, it) for it in dict.fromkeys(it.test for it in ERRORS))
         # (a test that fails in any case would find nothing)
-        for it in ERRORS if not wrong else []:
-            text = (copy / it.file).read_text(encoding="utf-8")
-            (copy / it.file).write_text(text.replace(it.old, it.new), encoding="utf-8")
-            if it.old not in text or passes(folder, it.test):
-                print(f"{it.file}: {it.new!r} in place of {it.old!r} isn't found by {it.test}")
-                wrong += 1
-            (copy / it.file).write_text(text, encoding="utf-8")
+        wrong = wrong or copies.told(partial(tell_hidden, it) for it in ERRORS)
+    print("\n".join(wrong))
     return 1 if wrong else 0
 
 
