@@ -121,8 +121,7 @@ module _ (h : HeadView) where
       let same : (before ++ c ∷ []) ++ cs ≡ before ++ c ∷ cs = append_assoc before (c ∷ []) cs in
       let few_so : length ((before ++ c ∷ []) ++ cs) ≤ MAX_CLIENTS = subst (λ z. length z ≤ MAX_CLIENTS) (sym same) few in
       let once_so : (k : List ℕ) → count_by (is_note_of k) ((before ++ c ∷ []) ++ cs) ≤ 1 = λ k. subst (λ z. count_by (is_note_of k) z ≤ 1) (sym same) (once k) in
-      let rest = clients_taken (before ++ c ∷ []) cs few_so (λ d at. fit d (there at)) once_so in
-      (
+      let rest = clients_taken (before ++ c ∷ []) cs few_so (λ d at. fit d (there at)) once_so in (
         with_clients (before ++ c ∷ []),
         client_reads c (with_clients before) it.0 named new (omega (arith, l, k, few)),
         subst (λ z. AreTaken (map client_text cs) (with_clients (before ++ c ∷ [])) (with_clients z)) same rest,
@@ -143,8 +142,7 @@ module _ (h : HeadView) where
       let new = none_before (is_request_of r.root) before r rs (same_number r.root) (once r.root) in
       let same : (before ++ r ∷ []) ++ rs ≡ before ++ r ∷ rs = append_assoc before (r ∷ []) rs in
       let once_so : (k : ℕ) → count_by (is_request_of k) ((before ++ r ∷ []) ++ rs) ≤ 1 = λ k. subst (λ z. count_by (is_request_of k) z ≤ 1) (sym same) (once k) in
-      let rest = requests_taken (before ++ r ∷ []) rs (λ d at. fit d (there at)) once_so in
-      (
+      let rest = requests_taken (before ++ r ∷ []) rs (λ d at. fit d (there at)) once_so in (
         with_requests (before ++ r ∷ []),
         request_reads r (with_requests before) it.0 it.1.0 it.1.1 new,
         subst (λ z. AreTaken (map request_text rs) (with_requests (before ++ r ∷ [])) (with_requests z)) same rest,
@@ -190,8 +188,7 @@ module _ (h : HeadView) where
       let mine : EndLine = record { worker = first; end = how } in
       let none_so : (k : ℕ) → suc first ≤ k → None_of k (before ++ mine ∷ []) = λ k low. any_parts (is_end_of k) before (mine ∷ []) (none k (omega (arith, low))) (ap (λ b. b || false) (other_number first k (λ e. omega (arith, low, e)))) in
       let rest = ends_taken (suc first) (before ++ mine ∷ []) workers ends (omega (arith, same)) none_so (λ n v is. let one = named (suc n) v is in (one.0, one.1 ∙ ap Some (omega arith))) (λ how at. fit how (there at)) in
-      let same_ends : (before ++ mine ∷ []) ++ told_ends (suc first) ends ≡ before ++ mine ∷ told_ends (suc first) ends = append_assoc before (mine ∷ []) (told_ends (suc first) ends) in
-      (
+      let same_ends : (before ++ mine ∷ []) ++ told_ends (suc first) ends ≡ before ++ mine ∷ told_ends (suc first) ends = append_assoc before (mine ∷ []) (told_ends (suc first) ends) in (
         with_ends (before ++ mine ∷ []),
         end_reads w.name first how (with_ends before) (fit how here) it.0 at (none first (omega arith)),
         subst (λ z. AreTaken (ended_lines workers ends) (with_ends (before ++ mine ∷ [])) (with_ends z)) same_ends rest,
@@ -286,6 +283,6 @@ pub note_lines_read : NoteLinesRead
 note_lines_read h n survivors past are named no_clients no_requests no_ends = (
   told_ends 0 n.ends,
   taken_told (note_lines h.workers n survivors) past h (behind_notes h n survivors are named no_clients no_requests no_ends)
-  (notes_taken h n survivors are named no_clients no_requests no_ends),
+      (notes_taken h n survivors are named no_clients no_requests no_ends),
   ap (λ ends. record { clients = n.clients; requests = kept h n survivors are named no_clients no_requests no_ends; ends = ends }) (begun h n survivors are named no_clients no_requests no_ends),
 )
