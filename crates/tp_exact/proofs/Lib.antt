@@ -48,6 +48,7 @@ pub mod LostReads
 pub mod WordLines
 pub mod ClientReads
 pub mod NoteReads
+pub mod RestoredNotes
 pub mod DumpReads
 pub mod Scripts
 pub mod Plains

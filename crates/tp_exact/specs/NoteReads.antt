@@ -16,7 +16,8 @@ use Rattle.tp_script.specs.declared.notes.RequestNote.{RequestNote}
 use Rattle.tp_script.specs.declared.notes.TheConstants.{MAX_CLIENTS}
 use Rattle.tp_script.specs.declared.notes.UnitEnd.{UnitEnd}
 use Rattle.tp_script.specs.declared.notes.UnitEnd.TheVariants.{Done, Aborted, Lost, Full}
-use Rattle.tp_session.specs.Notes.{NotesView, notes_of}
+use Rattle.tp_session.specs.Live.{Live, RestoredLive, survivors_of}
+use Rattle.tp_session.specs.Notes.{NotesView, notes_in, notes_of}
 use Rattle.tp_session.specs.NoteTexts.{is_root, note_lines}
 use Rattle.tp_session.specs.Told.{HeadLines}
 use Rattle.tp_exact.specs.AliveReads.{AreNamed, IsBody64}
@@ -77,3 +78,11 @@ NoteLinesRead =
     → (ends : List EndLine)
     × HeadLines past (note_lines h.workers n survivors) h [] (with_notes h (alive_notes survivors n) ends)
     × (notes_of (with_notes h (alive_notes survivors n) ends) h.workers ≡ alive_notes survivors n)
+
+-- Where a head's session, which begins with such notes, has made again what the head says is alive, the same is
+-- noted as would be after a rollover that has moved the same.
+abbrev pub RestoredNotes : Type 0
+RestoredNotes =
+    (head : HeadView) (old : Live) (text : List ℕ) (new : Live) (n : NotesView)
+    → old.notes ≡ alive_notes (survivors_of head) n → (t : RestoredLive head old text new)
+    → new.notes ≡ notes_in t.moved n

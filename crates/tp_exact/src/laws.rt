@@ -7,7 +7,7 @@ ghost use Rattle.tp_exact.specs.AliveReads.{AliveLineReads, DumpLinesRead, Found
 ghost use Rattle.tp_exact.specs.AliveReads.{LostLinesRead};
 ghost use Rattle.tp_exact.specs.Dumps.{ExactDump, HeldByWorkers, RestoredDump, RestoredHands};
 ghost use Rattle.tp_exact.specs.Finals.{ExactAccount, ExactFinals};
-ghost use Rattle.tp_exact.specs.NoteReads.{NoteLinesRead};
+ghost use Rattle.tp_exact.specs.NoteReads.{NoteLinesRead, RestoredNotes};
 ghost use Rattle.tp_exact.specs.Programs.{ComputedOfScript, ExactProgram, SamePlain};
 ghost use Rattle.tp_exact.specs.Repeats.{DoneForGood, ReceivesAgain, ReceivesOnce, SendsAgain, SendsOnce};
 ghost use Rattle.tp_exact.specs.Sessions.{ComputedOfBytes, ExactLine, ExactSession, ExactSessionFront};
@@ -54,11 +54,12 @@ pub fn exact_dump()
 {}
 
 /// A head that says what a dump has found alive describes just that, and where it is restored the new
-/// session's manager stands as after a rollover of the dumped one, and so do its workers. What a dump finds in
-/// hand, workers have in hand.
+/// session's manager stands as after a rollover of the dumped one, and so do its workers and its notes. What a
+/// dump finds in hand, workers have in hand.
 pub fn restored_dump()
     ensures restored { RestoredDump }
     ensures hands { RestoredHands }
+    ensures notes { RestoredNotes }
     ensures held { HeldByWorkers }
 {}
 
