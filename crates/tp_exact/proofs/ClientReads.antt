@@ -29,7 +29,7 @@ use Rattle.tp_exact.proofs.WordLines.{AreWords, Word, body_is, bytes_are, id_rea
 -- ---- a line of words
 
 -- a line that begins with a byte that is no `#`, read by its words
-by_words : (c : ℕ) (rest : List ℕ) (w : List ℕ) (ws : List (List ℕ)) (n : ℕ) (ns : List ℕ) → joined w ws ≡ c ∷ rest → (c == 35) ≡ false → Word n w → AreWords ws ns → room_of n ns ≤ 208 → line_words (c ∷ rest) ≡ Ok (w ∷ ws)
+pub by_words : (c : ℕ) (rest : List ℕ) (w : List ℕ) (ws : List (List ℕ)) (n : ℕ) (ns : List ℕ) → joined w ws ≡ c ∷ rest → (c == 35) ≡ false → Word n w → AreWords ws ns → room_of n ns ≤ 208 → line_words (c ∷ rest) ≡ Ok (w ∷ ws)
 by_words c rest w ws n ns same no_comment it all few =
     let bytes = subst (Bytes 32 126) same (bytes_are w ws n ns it all) in
     let long = room_is w ws n ns it all in

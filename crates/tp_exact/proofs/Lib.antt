@@ -49,6 +49,7 @@ pub mod WordLines
 pub mod ClientReads
 pub mod NoteReads
 pub mod RestoredNotes
+pub mod HeadReads
 pub mod DumpReads
 pub mod Scripts
 pub mod Plains

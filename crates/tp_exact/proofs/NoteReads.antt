@@ -50,7 +50,7 @@ module _ {A : Type 0} (p : A → Bool) where
       omega (arith, a, rest)
 
   -- no other stands before it
-  none_before : (xs : List A) (x : A) (ys : List A) → p x ≡ true → count_by p (xs ++ x ∷ ys) ≤ 1 → list_any p xs ≡ false
+  pub none_before : (xs : List A) (x : A) (ys : List A) → p x ≡ true → count_by p (xs ++ x ∷ ys) ≤ 1 → list_any p xs ≡ false
   none_before [] x ys is most = refl
   none_before (y ∷ xs) x ys is most =
       let a = counted y (xs ++ x ∷ ys) in
@@ -96,7 +96,7 @@ in_filtered f (y ∷ xs) x at = by_test (f y) refl (in_filtered f xs x)
     by_test true now others = first others (subst (λ z. In x z) (ap (λ b. cond b (y ∷ filter f xs) (filter f xs)) now) at)
     by_test false now others = there (others (subst (λ z. In x z) (ap (λ b. cond b (y ∷ filter f xs) (filter f xs)) now) at))
 
-same_bytes : (w : List ℕ) → bytes_eq w w ≡ true
+pub same_bytes : (w : List ℕ) → bytes_eq w w ≡ true
 same_bytes w = (bytes_eq-Decides w w).1 refl
 
 same_number : (n : ℕ) → (n == n) ≡ true

@@ -15,3 +15,4 @@ pub mod Programs
 pub mod Dumps
 pub mod AliveReads
 pub mod NoteReads
+pub mod HeadReads

@@ -1,0 +1,42 @@
+-- What is read of the lines that a dump tells of settings, servers and workers.
+use Rattle.std.specs.Prelude.{◌≡◌, ◌<◌, ◌≤◌, ℕ, true, false, List, [], ◌∷◌, ◌++◌, None, Some, Ok, is_none}
+use Rattle.std.specs.Prelude.{count_by, length, map, position}
+use Rattle.std.specs.Str.{bytes_eq}
+use Rattle.tp_model.specs.History.{In}
+use Rattle.tp_model.specs.declared.types.TheConstants.{MAX_ATTEMPTS, MAX_BLOCKS, MAX_PART_ROWS, MAX_STAGE}
+use Rattle.tp_model.specs.declared.types.TheConstants.{MAX_UNITS}
+use Rattle.tp_script.specs.LineWords.{is_name}
+use Rattle.tp_script.specs.Script.{HeadView, SettingsView, WorkerView}
+use Rattle.tp_script.specs.ServerLines.{has_client, worker_at}
+use Rattle.tp_script.specs.declared.head.TheConstants.{MAX_WORKERS}
+use Rattle.tp_session.specs.Dump.{settings_lines, worker_text}
+use Rattle.tp_session.specs.Told.{HeadLines}
+
+-- settings that a head may have
+pub record AreSettings (s : SettingsView) : Type 0 where
+  pub rows : (1 ≤ s.rows) × (s.rows ≤ MAX_PART_ROWS)
+  pub units : (1 ≤ s.units) × (s.units ≤ MAX_UNITS)
+  pub attempts : (1 ≤ s.attempts) × (s.attempts ≤ MAX_ATTEMPTS)
+  pub spare : s.spare ≤ MAX_BLOCKS
+
+-- The lines of settings, read one after another by a head without servers, lead to a head with just these.
+abbrev pub SettingsLinesRead : Type 0
+SettingsLinesRead =
+    (s : SettingsView) (h : HeadView) (past : ℕ) → AreSettings s → h.servers ≡ []
+    → HeadLines past (settings_lines s) h [] (record h { settings = s })
+
+-- a worker of a head: a name that no server and no client has, and a stage of servers
+pub record IsWorker (h : HeadView) (w : WorkerView) : Type 0 where
+  pub named : is_name w.name ≡ true
+  pub no_server : is_none (position (λ server. bytes_eq server.name w.name) h.servers) ≡ true
+  pub no_client : has_client w.name h ≡ false
+  pub stage : (1 ≤ w.stage) × (w.stage ≤ MAX_STAGE)
+
+-- The lines of workers, each of a name of its own, read one after another by a head without workers, lead to a
+-- head with just these.
+abbrev pub WorkerLinesRead : Type 0
+WorkerLinesRead =
+    (workers : List WorkerView) (h : HeadView) (past : ℕ)
+    → ((w : WorkerView) → In w workers → IsWorker h w) → ((name : List ℕ) → count_by (λ (w : WorkerView). bytes_eq w.name name) workers ≤ 1)
+    → length workers ≤ MAX_WORKERS → h.workers ≡ []
+    → HeadLines past (map worker_text workers) h [] (record h { workers = workers })
