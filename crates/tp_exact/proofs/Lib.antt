@@ -50,6 +50,7 @@ pub mod ClientReads
 pub mod NoteReads
 pub mod RestoredNotes
 pub mod HeadReads
+pub mod ServerReads
 pub mod DumpReads
 pub mod Scripts
 pub mod Plains

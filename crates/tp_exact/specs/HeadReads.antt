@@ -1,15 +1,22 @@
 -- What is read of the lines that a dump tells of settings, servers and workers.
-use Rattle.std.specs.Prelude.{◌≡◌, ◌<◌, ◌≤◌, ℕ, true, false, List, [], ◌∷◌, ◌++◌, None, Some, Ok, is_none}
-use Rattle.std.specs.Prelude.{count_by, length, map, position}
+use Rattle.std.specs.Prelude.{◌≡◌, ◌<◌, ◌≤◌, ◌^◌, ⊤, ℕ, true, false, List, [], ◌∷◌, ◌++◌, None, Some, Ok, is_none}
+use Rattle.std.specs.Prelude.{count_by, is_ok, length, map, position, replicate}
 use Rattle.std.specs.Str.{bytes_eq}
 use Rattle.tp_model.specs.History.{In}
 use Rattle.tp_model.specs.declared.types.TheConstants.{MAX_ATTEMPTS, MAX_BLOCKS, MAX_PART_ROWS, MAX_STAGE}
-use Rattle.tp_model.specs.declared.types.TheConstants.{MAX_UNITS}
+use Rattle.tp_model.specs.declared.types.TheConstants.{MAX_OUTPUTS, MAX_UNITS}
+use Rattle.tp_server.specs.Check.{check_of}
+use Rattle.tp_server.specs.declared.recipe.AmountFrom.{AmountFrom}
+use Rattle.tp_server.specs.declared.recipe.AmountFrom.TheVariants as amounts
+use Rattle.tp_server.specs.declared.recipe.KeyFrom.{KeyFrom}
+use Rattle.tp_server.specs.declared.recipe.KeyFrom.TheVariants as keys
+use Rattle.tp_server.specs.declared.recipe.Output.{Output}
 use Rattle.tp_script.specs.LineWords.{is_name}
-use Rattle.tp_script.specs.Script.{HeadView, SettingsView, WorkerView}
+use Rattle.tp_script.specs.Script.{HeadView, ServerView, SettingsView, WorkerView}
 use Rattle.tp_script.specs.ServerLines.{has_client, worker_at}
 use Rattle.tp_script.specs.declared.head.TheConstants.{MAX_WORKERS}
-use Rattle.tp_session.specs.Dump.{settings_lines, worker_text}
+use Rattle.tp_script.specs.declared.script.TheConstants.{MAX_SERVERS}
+use Rattle.tp_session.specs.Dump.{server_line, settings_lines, worker_text}
 use Rattle.tp_session.specs.Told.{HeadLines}
 
 -- settings that a head may have
@@ -40,3 +47,42 @@ WorkerLinesRead =
     → ((w : WorkerView) → In w workers → IsWorker h w) → ((name : List ℕ) → count_by (λ (w : WorkerView). bytes_eq w.name name) workers ≤ 1)
     → length workers ≤ MAX_WORKERS → h.workers ≡ []
     → HeadLines past (map worker_text workers) h [] (record h { workers = workers })
+
+-- the numbers of an output
+abbrev pub IsFitKey : KeyFrom → Type 0
+IsFitKey keys.Same = ⊤
+IsFitKey (keys.Fixed n) = n < 2 ^ 64
+
+abbrev pub IsFitAmount : AmountFrom → Type 0
+IsFitAmount (amounts.Fixed n) = n < 2 ^ 64
+IsFitAmount other = ⊤
+
+pub record IsFitOutput (o : Output) : Type 0 where
+  pub stage : o.stage ≤ 255
+  pub key : IsFitKey o.key
+  pub amount : IsFitAmount o.amount
+
+-- a server of a head: a good recipe, whose line isn't too long, as that of a head was
+pub record IsServer (v : ServerView) : Type 0 where
+  pub named : is_name v.name ≡ true
+  pub stage : v.recipe.stage ≤ 255
+  pub registers : v.recipe.registers ≤ 255
+  pub word : (1 ≤ v.recipe.word) × (v.recipe.word ≤ 3)
+  pub good : is_ok (check_of v.recipe) ≡ true
+  pub few : length v.recipe.outputs.items ≤ MAX_OUTPUTS
+  pub outputs : (o : Output) → In o v.recipe.outputs.items → IsFitOutput o
+  pub short : length (server_line v) ≤ 208
+
+-- a server whose registers are all 0, as its line makes it
+abbrev pub unstarted : ServerView → ServerView
+unstarted v = record v { registers = replicate v.recipe.registers 0 }
+
+-- The lines of servers, each of a name of its own, read one after another by a head without servers, workers and
+-- clients, lead to a head with just these, whose registers are all 0.
+abbrev pub ServerLinesRead : Type 0
+ServerLinesRead =
+    (servers : List ServerView) (h : HeadView) (past : ℕ)
+    → ((v : ServerView) → In v servers → IsServer v)
+    → ((name : List ℕ) → count_by (λ (v : ServerView). bytes_eq v.name name) servers ≤ 1)
+    → length servers ≤ MAX_SERVERS → h.servers ≡ [] → h.workers ≡ [] → h.clients ≡ []
+    → HeadLines past (map server_line servers) h [] (record h { servers = map unstarted servers })
