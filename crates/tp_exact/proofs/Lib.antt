@@ -51,6 +51,7 @@ pub mod NoteReads
 pub mod RestoredNotes
 pub mod HeadReads
 pub mod ServerReads
+pub mod StartReads
 pub mod DumpReads
 pub mod Scripts
 pub mod Plains

@@ -1,6 +1,6 @@
 -- What is read of the lines that a dump tells of settings, servers and workers.
 use Rattle.std.specs.Prelude.{◌≡◌, ◌<◌, ◌≤◌, ◌^◌, ⊤, ℕ, true, false, List, [], ◌∷◌, ◌++◌, None, Some, Ok, is_none}
-use Rattle.std.specs.Prelude.{count_by, is_ok, length, map, position, replicate}
+use Rattle.std.specs.Prelude.{count_by, is_ok, length, map, position, replicate, slice_get}
 use Rattle.std.specs.Str.{bytes_eq}
 use Rattle.tp_model.specs.History.{In}
 use Rattle.tp_model.specs.declared.types.TheConstants.{MAX_ATTEMPTS, MAX_BLOCKS, MAX_PART_ROWS, MAX_STAGE}
@@ -16,7 +16,7 @@ use Rattle.tp_script.specs.Script.{HeadView, ServerView, SettingsView, WorkerVie
 use Rattle.tp_script.specs.ServerLines.{has_client, worker_at}
 use Rattle.tp_script.specs.declared.head.TheConstants.{MAX_WORKERS}
 use Rattle.tp_script.specs.declared.script.TheConstants.{MAX_SERVERS}
-use Rattle.tp_session.specs.Dump.{server_line, settings_lines, worker_text}
+use Rattle.tp_session.specs.Dump.{all_starts, server_line, settings_lines, worker_text}
 use Rattle.tp_session.specs.Told.{HeadLines}
 
 -- settings that a head may have
@@ -86,3 +86,28 @@ ServerLinesRead =
     → ((name : List ℕ) → count_by (λ (v : ServerView). bytes_eq v.name name) servers ≤ 1)
     → length servers ≤ MAX_SERVERS → h.servers ≡ [] → h.workers ≡ [] → h.clients ≡ []
     → HeadLines past (map server_line servers) h [] (record h { servers = map unstarted servers })
+
+-- the servers with these registers
+abbrev pub started : List ServerView → List (List ℕ) → List ServerView
+started (v ∷ servers) (held ∷ registers) = record v { registers = held } ∷ started servers registers
+started servers registers = []
+
+-- the server at a place is found there by its name, and these registers are its
+pub record HasRegisters (servers : List ServerView) (place : ℕ) (v : ServerView) (held : List ℕ) : Type 0 where
+  pub named : is_name v.name ≡ true
+  pub at : position (λ (u : ServerView). bytes_eq u.name v.name) servers ≡ Some place
+  pub many : length held ≡ v.recipe.registers
+  pub few : length held ≤ 64
+  pub values : (n value : ℕ) → slice_get held n ≡ Some value → value < 2 ^ 64
+
+-- The lines of registers that aren't 0, read one after another by a head whose registers are all 0, lead to a head
+-- with just these.
+abbrev pub StartLinesRead : Type 0
+StartLinesRead =
+    (servers : List ServerView) (registers : List (List ℕ)) (h : HeadView) (past : ℕ)
+    → length registers ≡ length servers
+    → ((place : ℕ) (v : ServerView) (held : List ℕ) → slice_get servers place ≡ Some v
+    → slice_get registers place ≡ Some held → HasRegisters servers place v held)
+    → h.servers ≡ map unstarted servers
+    → HeadLines past (all_starts servers registers (length servers)) h []
+    (record h { servers = started servers registers })
