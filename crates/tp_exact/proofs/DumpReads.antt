@@ -45,7 +45,7 @@ use Rattle.tp_exact.proofs.RestoredHands.{any_some, holder_is, racer_unit, some_
 use Rattle.tp_exact.proofs.SessionLines.{append_long, passes_long}
 
 -- lines without an answer, and then others
-both_told : (xs ys : List (List ℕ)) (past : ℕ) (h m t : HeadView) → HeadLines past xs h [] m → ((n : ℕ) → HeadLines n ys m [] t) → HeadLines past (xs ++ ys) h [] t
+pub both_told : (xs ys : List (List ℕ)) (past : ℕ) (h m t : HeadView) → HeadLines past xs h [] m → ((n : ℕ) → HeadLines n ys m [] t) → HeadLines past (xs ++ ys) h [] t
 both_told [] ys past h m t first then_so = subst (λ z. HeadLines past ys z [] t) first.1 (then_so past)
 both_told (x ∷ xs) ys past h m t (front, rest, between, one, more, whole) then_so =
     let parts = none_parts front rest whole in

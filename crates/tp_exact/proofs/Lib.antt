@@ -52,6 +52,7 @@ pub mod RestoredNotes
 pub mod HeadReads
 pub mod ServerReads
 pub mod StartReads
+pub mod WholeDumps
 pub mod DumpReads
 pub mod Scripts
 pub mod Plains

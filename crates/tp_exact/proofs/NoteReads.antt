@@ -36,7 +36,7 @@ abbrev nothing : ℕ
 nothing = 0
 
 module _ {A : Type 0} (p : A → Bool) where
-  counted : (x : A) (xs : List A) → count_by p (x ∷ xs) ≡ cond (p x) one nothing + count_by p xs
+  pub counted : (x : A) (xs : List A) → count_by p (x ∷ xs) ≡ cond (p x) one nothing + count_by p xs
   counted x xs = sum_by-cons (λ y. cond (p y) 1 0) x xs
 
   one_there : (xs : List A) (x : A) (ys : List A) → p x ≡ true → 1 ≤ count_by p (xs ++ x ∷ ys)
@@ -280,9 +280,9 @@ module _ (h : HeadView) (n : NotesView) (survivors : List Survivor) (are : AreNo
   begun = ends_are 0 [] h.workers n.ends are.each_worker (λ k low. refl)
 
 pub note_lines_read : NoteLinesRead
-note_lines_read h n survivors past are named no_clients no_requests no_ends = (
+note_lines_read h n survivors are named no_clients no_requests no_ends = (
   told_ends 0 n.ends,
-  taken_told (note_lines h.workers n survivors) past h (behind_notes h n survivors are named no_clients no_requests no_ends)
+  λ past. taken_told (note_lines h.workers n survivors) past h (behind_notes h n survivors are named no_clients no_requests no_ends)
       (notes_taken h n survivors are named no_clients no_requests no_ends),
   ap (λ ends. record { clients = n.clients; requests = kept h n survivors are named no_clients no_requests no_ends; ends = ends }) (begun h n survivors are named no_clients no_requests no_ends),
 )

@@ -225,6 +225,13 @@ module _ (name : List ℕ) where
       let far = as_far vs rss i n same in
       ap (λ k. cond (nat_lt k (length (up_to vs rss i n))) (Some k) None) far.1 ∙ ap (λ l. cond (nat_lt (position_or_len by_name vs) l) (Some (position_or_len by_name vs)) None) far.0
 
+  -- also once all have their registers
+  pub same_places : (vs : List ServerView) (rss : List (List ℕ)) → length rss ≡ length vs → position by_name (started vs rss) ≡ position by_name vs
+  same_places vs rss same =
+      let far = as_far_first vs rss (length vs) same in
+      ap (λ us. position by_name us) (sym (all_first vs rss (length vs) (omega arith)))
+      ∙ (ap (λ k. cond (nat_lt k (length (first_ones vs rss (length vs)))) (Some k) None) far.1 ∙ ap (λ l. cond (nat_lt (position_or_len by_name vs) l) (Some (position_or_len by_name vs)) None) far.0)
+
 -- ---- all lines
 
 module _ (vs : List ServerView) (rss : List (List ℕ)) (h : HeadView) (same : length rss ≡ length vs)

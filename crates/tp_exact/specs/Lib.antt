@@ -16,3 +16,4 @@ pub mod Dumps
 pub mod AliveReads
 pub mod NoteReads
 pub mod HeadReads
+pub mod WholeDumps

@@ -73,10 +73,11 @@ with_notes h n ends = record h { clients = n.clients; requests = n.requests; end
 -- refused. So the session of that head begins with them.
 abbrev pub NoteLinesRead : Type 0
 NoteLinesRead =
-    (h : HeadView) (n : NotesView) (survivors : List Survivor) (past : ℕ)
+    (h : HeadView) (n : NotesView) (survivors : List Survivor)
     → AreNotes h n → AreNamed h → h.clients ≡ [] → h.requests ≡ [] → h.ends ≡ []
     → (ends : List EndLine)
-    × HeadLines past (note_lines h.workers n survivors) h [] (with_notes h (alive_notes survivors n) ends)
+    × ((past : ℕ) → HeadLines past (note_lines h.workers n survivors) h []
+    (with_notes h (alive_notes survivors n) ends))
     × (notes_of (with_notes h (alive_notes survivors n) ends) h.workers ≡ alive_notes survivors n)
 
 -- Where a head's session, which begins with such notes, has made again what the head says is alive, the same is

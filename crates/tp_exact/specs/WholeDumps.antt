@@ -1,0 +1,99 @@
+-- What a new session's head says that has read all lines of a dump.
+use Rattle.std.specs.Prelude.{◌≡◌, ◌<◌, ◌≤◌, ◌+◌, ◌^◌, ℕ, true, false, List, [], None, Some, is_none, length, map}
+use Rattle.std.specs.Prelude.{count_by, position, slice_get}
+use Rattle.std.specs.Str.{bytes_eq}
+use Rattle.tp_model.specs.History.{In}
+use Rattle.tp_model.specs.Steps.{AreLimits}
+use Rattle.tp_model.specs.declared.types.TheConstants.{MAX_STAGE}
+use Rattle.tp_rollover.specs.declared.survivors.Survivor.{Survivor}
+use Rattle.tp_script.specs.LineWords.{is_name}
+use Rattle.tp_script.specs.Script.{HeadView, ServerView, WorkerView, no_head}
+use Rattle.tp_script.specs.declared.head.Act.TheVariants as acts
+use Rattle.tp_script.specs.declared.head.TheConstants.{MAX_WORKERS}
+use Rattle.tp_script.specs.declared.script.TheConstants.{MAX_SERVERS}
+use Rattle.tp_session.specs.Dump.{drop_lines, lost_element}
+use Rattle.tp_session.specs.Live as lives
+use Rattle.tp_session.specs.Live.{FoundAlive, HoldsUnits, Live, lines_of}
+use Rattle.tp_session.specs.Notes.{notes_of}
+use Rattle.tp_session.specs.declared.hand.Holding.{Holding}
+use Rattle.tp_exact.specs.AliveReads.{IsBody64}
+use Rattle.tp_exact.specs.Dumps.{all_lost, line_of}
+use Rattle.tp_exact.specs.HeadReads.{AreSettings, IsServer, started}
+use Rattle.tp_exact.specs.NoteReads.{AreNotes, alive_notes}
+use Rattle.tp_exact.specs.PlainSession.{HeadRead, SessionState, read_head}
+use Rattle.tp_exact.specs.Sessions.{StandsLive}
+
+-- ---- what was dumped
+
+-- a worker of a head: a name that no server has, and a stage of servers
+pub record IsPlacedWorker (h : HeadView) (w : WorkerView) : Type 0 where
+  pub named : is_name w.name ≡ true
+  pub no_server : is_none (position (λ (v : ServerView). bytes_eq v.name w.name) h.servers) ≡ true
+  pub stage : (1 ≤ w.stage) × (w.stage ≤ MAX_STAGE)
+
+-- settings, servers and workers as a head has them that a program has read
+pub record IsHead (h : HeadView) : Type 0 where
+  pub settings : AreSettings h.settings
+  pub servers : (v : ServerView) → In v h.servers → IsServer v
+  pub server_names : (name : List ℕ) → count_by (λ (v : ServerView). bytes_eq v.name name) h.servers ≤ 1
+  pub few_servers : length h.servers ≤ MAX_SERVERS
+  pub workers : (w : WorkerView) → In w h.workers → IsPlacedWorker h w
+  pub worker_names : (name : List ℕ) → count_by (λ (w : WorkerView). bytes_eq w.name name) h.workers ≤ 1
+  pub few_workers : length h.workers ≤ MAX_WORKERS
+
+-- these are the registers of the servers
+pub record AreRegisters (servers : List ServerView) (registers : List (List ℕ)) : Type 0 where
+  pub each : length registers ≡ length servers
+  pub many : (place : ℕ) (v : ServerView) (held : List ℕ) → slice_get servers place ≡ Some v
+      → slice_get registers place ≡ Some held → (length held ≡ v.recipe.registers) × (length held ≤ 64)
+  pub values : (place n value : ℕ) (held : List ℕ) → slice_get registers place ≡ Some held
+      → slice_get held n ≡ Some value → value < 2 ^ 64
+
+-- the registers of a session's servers, and whether their desks were dropped
+abbrev pub registers_of : Live → List (List ℕ)
+registers_of l = map (λ p. p.desk.registers) l.stand.scene.places
+
+-- the words of what is alive have 64 bits, and the ids of what was lost 32
+pub record AreWords64 (l : Live) (survivors : List Survivor) : Type 0 where
+  pub bodies : (s : Survivor) → In s survivors → IsBody64 s.body × IsBody64 s.root_body
+  pub lost : (n element : ℕ) (work : Holding) → slice_get l.works n ≡ Some work
+      → lost_element false work ≡ Some element → element < 2 ^ 32
+
+-- a session with this head, in which this was found for a dump, and no desk has a unit open
+pub record IsDumped (h : HeadView) (old done : Live) (survivors : List Survivor) (s : SessionState) : Type 0 where
+  pub stands : StandsLive h old s
+  pub holds : HoldsUnits old
+  pub no_desk : lives.has_desk_open old ≡ false
+  pub found : FoundAlive old survivors done
+  pub limits : AreLimits old.stand.manager.limits
+  pub head : IsHead h
+  pub works : length old.works ≡ length h.workers
+  pub registers : AreRegisters h.servers (registers_of old)
+  pub notes : AreNotes h old.notes
+  pub words : AreWords64 old survivors
+
+-- ---- what is read of it
+
+-- the head says all of this
+pub record SaysAll (h t : HeadView) (old : Live) (survivors : List Survivor) : Type 0 where
+  pub settings : t.settings ≡ h.settings
+  pub servers : t.servers ≡ started h.servers (registers_of old)
+  pub workers : t.workers ≡ h.workers
+  pub alive : t.alive ≡ map (line_of (1 + length h.servers)) survivors
+  pub lost : t.lost ≡ all_lost (1 + length h.servers) old.works survivors (length old.works)
+  pub notes : notes_of t h.workers ≡ alive_notes survivors old.notes
+
+-- All lines of a dump, read by a new session: none is refused, the first command is `restore`, behind which desks
+-- are dropped, and the head says all that was dumped.
+abbrev pub WholeDumpRead : Type 0
+WholeDumpRead =
+    (h : HeadView) (old done : Live) (survivors : List Survivor) (s : SessionState)
+    → IsDumped h old done survivors s
+    → (t : HeadView) × (past : ℕ) × SaysAll h t old survivors
+    × (read_head 0 (lines_of h old survivors) no_head ≡ record {
+      text = [];
+      head = t;
+      past = past;
+      command = Some acts.Restore;
+      behind = drop_lines h.servers (map (λ p. p.is_dropped) old.stand.scene.places) (length h.servers);
+    })
