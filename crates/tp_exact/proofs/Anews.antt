@@ -168,7 +168,7 @@ works_alone moved c (u ∷ us) more (w ∷ ws) same =
     let rest : length us ≡ length ws = omega (arith, same) in
     ap (λ vs. hand_after u (held_in c moved) w ∷ vs) (works_alone moved (c + 1) us more ws rest)
 
-lost_long : (lines : List LostLine) (n : ℕ) (ws : List Holding) → length (lost_works lines n ws) ≡ length ws
+pub lost_long : (lines : List LostLine) (n : ℕ) (ws : List Holding) → length (lost_works lines n ws) ≡ length ws
 lost_long lines n [] = refl
 lost_long lines n (w ∷ ws) = ap suc (lost_long lines (n + 1) ws)
 
@@ -300,9 +300,9 @@ module _ (head : Head) (old new : Live) (text : List ℕ) (s : SessionState) (is
   }
 
   -- what the workers have in hand is computed
-  works_so : (m : State) (moved : List Moved) (before : List Holding) → m ≡ m_new → AllZip BeginsAgain scene.places next.places → length next.racers ≡ length before → new.works ≡ lives.works_in new.stand moved before
-      → works_in s moved m before ≡ new.works
-  works_so m moved before same again long works =
+  pub works_here : (m : State) (moved : List Moved) (before : List Holding) → m ≡ m_new → AllZip BeginsAgain scene.places next.places → length next.racers ≡ length before
+      → works_in s moved m before ≡ lives.works_in new.stand moved before
+  works_here m moved before same again long =
       let n : ℕ = length next.places in
       let zs : List PassState = not_given new.stand.manager.limits (length (passes_in next)) in
       let desks : length s.report.desks ≡ n = sym (zip_long IsFor scene.places s.report.desks is.stands.desks) ∙ zip_long BeginsAgain scene.places next.places again in
@@ -313,10 +313,14 @@ module _ (head : Head) (old new : Live) (text : List ℕ) (s : SessionState) (is
       ∙ (ap (λ (x : State). works_after moved (1 + n) (held_units (drop (1 + n) x.passes)) before) same
       ∙ (ap (λ ps. works_after moved (1 + n) (held_units ps) before) behind
       ∙ (ap (λ us. works_after moved (1 + n) us before) (units_behind next.racers zs)
-      ∙ (works_alone moved (1 + n) (units_of next.racers) (held_units zs) before all ∙ sym works))))
+      ∙ works_alone moved (1 + n) (units_of next.racers) (held_units zs) before all)))
+
+  works_so : (m : State) (moved : List Moved) (before : List Holding) → m ≡ m_new → AllZip BeginsAgain scene.places next.places → length next.racers ≡ length before → new.works ≡ lives.works_in new.stand moved before
+      → works_in s moved m before ≡ new.works
+  works_so m moved before same again long works = works_here m moved before same again long ∙ sym works
 
   -- as many as there are passes of them
-  works_long : length old.works ≡ length scene.racers
+  pub works_long : length old.works ≡ length scene.racers
   works_long =
       sym (length-map old.works unit_of)
       ∙ (ap (λ (us : List (Option ℕ)). length us) (sym holds.workers) ∙ length-map scene.racers (λ (p : PassShown). p.open_unit))

@@ -36,7 +36,7 @@ only_trans : (p q r : PlaceShown) → OnlyPass p q → OnlyPass q r → OnlyPass
 only_trans p q r a b = b ∙ ap (λ (x : PlaceShown). record x { desk = record x.desk { pass = r.desk.pass } }) a
 
 -- what the desks show of themselves
-registers_are : (ps : List PlaceShown) (ds : List PlainDesk) → AllZip IsFor ps ds → map (λ p. p.desk.registers) ps ≡ map (λ d. d.registers) ds
+pub registers_are : (ps : List PlaceShown) (ds : List PlainDesk) → AllZip IsFor ps ds → map (λ p. p.desk.registers) ps ≡ map (λ d. d.registers) ds
 registers_are [] [] a = refl
 registers_are [] (d ∷ ds) a = absurd a
 registers_are (p ∷ ps) [] a = absurd a
@@ -75,7 +75,7 @@ module _ (head : Head) (old : Live) (s : SessionState) (is : StandsLive (head_vi
         }
 
   -- all that is alive is computed
-  alive_so : (done : Live) (survivors : List Survivor) → LiveLooks old done → FoundAlive old survivors done → survivors ≡ alive_of s.report.manager
+  pub alive_so : (done : Live) (survivors : List Survivor) → LiveLooks old done → FoundAlive old survivors done → survivors ≡ alive_of s.report.manager
   alive_so done survivors looks found =
       described_so l done.stand.keeper.seen survivors found.together.legal found.found
       ∙ ap alive_of (same done looks.manager found.together looks.looked.passes)

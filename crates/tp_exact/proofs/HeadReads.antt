@@ -1,5 +1,5 @@
 -- The lines that a dump tells of settings and workers, read one after another.
-use Rattle.std.proofs.Common.{◌≡◌, ℕ, suc, ◌+◌, ◌-◌, ◌^◌, ◌<◌, ◌≤◌, ◌==◌, ◌&&◌, Bool, true, false, cond, not, None, Some, Ok, Option, List, [], ◌∷◌, ◌++◌, length, map, nat_le, nat_lt, ◌||◌, refl, sym, ◌∙◌, ap, subst, append_assoc, inl, inr, arith}
+use Rattle.std.proofs.Common.{◌≡◌, ℕ, suc, ◌+◌, ◌-◌, ◌^◌, ◌<◌, ◌≤◌, ◌==◌, ◌&&◌, Bool, true, false, cond, not, None, Some, Ok, List, [], ◌∷◌, ◌++◌, length, map, nat_le, nat_lt, ◌||◌, refl, sym, ◌∙◌, ap, subst, append_assoc, inl, inr, arith}
 use Rattle.std.specs.Prelude.{codes, count_by, decimal, is_none, position}
 use Rattle.std.specs.List.{list_any, position_or_len}
 use Rattle.std.specs.Str.{bytes_eq}
@@ -11,7 +11,6 @@ use Rattle.tp_model.proofs.Bridges.{append_nil}
 use Rattle.tp_script.specs.Commands.{stage_at}
 use Rattle.tp_script.specs.Grammar.{head_at, head_keyword, head_words, limit_line, line_words, rows_line, setting_at, spare_line, units_line, worker_line}
 use Rattle.tp_script.specs.LineWords.{◌>>=◌, is_name, number_at, require}
-use Rattle.tp_script.specs.Notes.{NameView}
 use Rattle.tp_script.specs.Script.{HeadView, ServerView, SettingsView, WorkerView}
 use Rattle.tp_script.specs.ServerLines.{free_name, has_client, new_name, worker_at}
 use Rattle.tp_script.specs.declared.fault.LineFault.TheVariants.{BadLimits, BadName, BadNumber, Order}
@@ -21,7 +20,7 @@ use Rattle.tp_session.specs.Dump.{settings_lines, worker_text}
 use Rattle.tp_exact.specs.HeadReads.{AreSettings, IsWorker, SettingsLinesRead, WorkerLinesRead}
 use Rattle.tp_exact.proofs.AliveReads.{bind_ok, number_ok}
 use Rattle.tp_exact.proofs.ClientReads.{by_words}
-use Rattle.tp_exact.proofs.Cuts.{Bytes, and_true, le_true}
+use Rattle.tp_exact.proofs.Cuts.{and_true, le_true}
 use Rattle.tp_exact.proofs.LostReads.{AreTaken, taken_told}
 use Rattle.tp_exact.proofs.NoteReads.{none_before, same_bytes}
 use Rattle.tp_exact.proofs.WordLines.{Word, joined, name_word, number_word, small_word}
@@ -96,13 +95,22 @@ settings_taken s h are first =
     let fr : s.rows < 2 ^ 16 = omega (arith, r) in
     let fu : s.units < 2 ^ 16 = omega (arith, u) in
     let fa : s.attempts < 2 ^ 16 = omega (arith, a) in
-    let fb : s.spare < 2 ^ 16 = omega (arith, b) in
-    (
-      h1, two_words s.rows h fr first 114 (111 ∷ 119 ∷ 115 ∷ 32 ∷ decimal s.rows) (codes "rows") h1 refl refl rows_word (rows_words s.rows h fr first are.rows.0 r),
-      (h2, two_words s.units h1 fu first 117 (110 ∷ 105 ∷ 116 ∷ 115 ∷ 32 ∷ decimal s.units) (codes "units") h2 refl refl units_word (units_words s.units h1 fu first are.units.0 u),
-      (h3, two_words s.attempts h2 fa first 108 (105 ∷ 109 ∷ 105 ∷ 116 ∷ 32 ∷ decimal s.attempts) (codes "limit") h3 refl refl limit_word (limit_words s.attempts h2 fa first are.attempts.0 a),
-      (record h { settings = s }, two_words s.spare h3 fb first 115 (112 ∷ 97 ∷ 114 ∷ 101 ∷ 32 ∷ decimal s.spare) (codes "spare") (record h { settings = s }) refl refl spare_word (spare_words s.spare h3 fb first b),
-      refl))),
+    let fb : s.spare < 2 ^ 16 = omega (arith, b) in (
+      h1,
+      two_words s.rows h fr first 114 (111 ∷ 119 ∷ 115 ∷ 32 ∷ decimal s.rows) (codes "rows") h1 refl refl rows_word (rows_words s.rows h fr first are.rows.0 r),
+      (
+        h2,
+        two_words s.units h1 fu first 117 (110 ∷ 105 ∷ 116 ∷ 115 ∷ 32 ∷ decimal s.units) (codes "units") h2 refl refl units_word (units_words s.units h1 fu first are.units.0 u),
+        (
+          h3,
+          two_words s.attempts h2 fa first 108 (105 ∷ 109 ∷ 105 ∷ 116 ∷ 32 ∷ decimal s.attempts) (codes "limit") h3 refl refl limit_word (limit_words s.attempts h2 fa first are.attempts.0 a),
+          (
+            record h { settings = s },
+            two_words s.spare h3 fb first 115 (112 ∷ 97 ∷ 114 ∷ 101 ∷ 32 ∷ decimal s.spare) (codes "spare") (record h { settings = s }) refl refl spare_word (spare_words s.spare h3 fb first b),
+            refl,
+          ),
+        ),
+      ),
     )
 
 pub settings_lines_read : SettingsLinesRead
@@ -191,8 +199,7 @@ module _ (h : HeadView) where
       let same : (before ++ w ∷ []) ++ ws ≡ before ++ w ∷ ws = append_assoc before (w ∷ []) ws in
       let few_so : length ((before ++ w ∷ []) ++ ws) ≤ MAX_WORKERS = subst (λ z. length z ≤ MAX_WORKERS) (sym same) few in
       let once_so : (k : List ℕ) → count_by (λ (v : WorkerView). bytes_eq v.name k) ((before ++ w ∷ []) ++ ws) ≤ 1 = λ k. subst (λ z. count_by (λ (v : WorkerView). bytes_eq v.name k) z ≤ 1) (sym same) (once k) in
-      let rest = workers_taken (before ++ w ∷ []) ws few_so (λ v at. fit v (there at)) once_so in
-      (
+      let rest = workers_taken (before ++ w ∷ []) ws few_so (λ v at. fit v (there at)) once_so in (
         with_workers (before ++ w ∷ []),
         worker_reads w (with_workers before) named new (omega (arith, l, k, few)),
         subst (λ z. AreTaken (map worker_text ws) (with_workers (before ++ w ∷ [])) (with_workers z)) same rest,

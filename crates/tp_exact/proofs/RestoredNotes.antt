@@ -1,7 +1,7 @@
 -- What is noted where a dump was restored is what would be noted after a rollover.
 use Rattle.std.proofs.Common.{◌≡◌, ◌∙◌, ◌==◌, ◌||◌, ℕ, Bool, true, false, cond, List, [], ◌∷◌, Option, None, Some, map, refl, sym, ap, subst}
 use Rattle.std.specs.Prelude.{filter, is_some}
-use Rattle.std.specs.List.{AllZip, find, list_any}
+use Rattle.std.specs.List.{AllZip, find}
 use Rattle.std.specs.Option.{option_map}
 use Rattle.tp_model.specs.declared.event.Event.{Event}
 use Rattle.tp_model.specs.declared.types.Limits.{Limits}
@@ -10,9 +10,9 @@ use Rattle.tp_rollover.specs.declared.moved.Moved.{Moved}
 use Rattle.tp_rollover.specs.declared.survivors.Survivor.{Survivor}
 use Rattle.tp_script.specs.declared.notes.RequestNote.{RequestNote}
 use Rattle.tp_session.specs.Live.{survivors_of}
-use Rattle.tp_session.specs.Notes.{NotesView, goes_on, notes_in, request_in}
+use Rattle.tp_session.specs.Notes.{goes_on, notes_in, request_in}
 use Rattle.tp_session.specs.NoteTexts.{is_root}
-use Rattle.tp_exact.specs.NoteReads.{RestoredNotes, alive_notes}
+use Rattle.tp_exact.specs.NoteReads.{RestoredNotes}
 
 -- what passes the first test passes the other one
 twice : {A : Type 0} (p q : A → Bool) (xs : List A) → ((x : A) → p x ≡ true → q x ≡ true) → filter p (filter q xs) ≡ filter p xs

@@ -1,5 +1,5 @@
 -- The lines that a dump tells of servers, read one after another.
-use Rattle.std.proofs.Common.{◌≡◌, ◌≢◌, ℕ, suc, ◌+◌, ◌-◌, ◌^◌, ◌<◌, ◌≤◌, ◌==◌, ◌&&◌, ◌||◌, Bool, true, false, cond, if◌then◌else◌, not, None, Some, Ok, Option, Result, List, [], ◌∷◌, ◌++◌, length, map, nat_le, nat_lt, refl, sym, ◌∙◌, ap, subst, append_assoc, inl, inr, arith}
+use Rattle.std.proofs.Common.{◌≡◌, ◌≢◌, ℕ, suc, ◌+◌, ◌-◌, ◌^◌, ◌<◌, ◌≤◌, ◌==◌, ◌&&◌, ◌||◌, Bool, true, false, if◌then◌else◌, not, None, Ok, Result, List, [], ◌∷◌, ◌++◌, length, map, nat_le, nat_lt, refl, sym, ◌∙◌, ap, subst, append_assoc, inl, inr, arith}
 use Rattle.std.specs.Prelude.{codes, count_by, decimal, is_none, is_ok, position, replicate}
 use Rattle.std.specs.List.{flat_map, list_all, list_any, slice_split}
 use Rattle.std.specs.Str.{bytes_eq}
@@ -18,14 +18,11 @@ use Rattle.tp_server.specs.declared.recipe.AmountFrom.TheVariants as amounts
 use Rattle.tp_server.specs.declared.recipe.KeyFrom.{KeyFrom}
 use Rattle.tp_server.specs.declared.recipe.KeyFrom.TheVariants as keys
 use Rattle.tp_server.specs.declared.recipe.Output.{Output}
-use Rattle.tp_server.specs.declared.recipe.Recipe.{Recipe}
 use Rattle.tp_script.specs.Grammar.{head_at, head_keyword, head_words, line_words}
-use Rattle.tp_script.specs.LineWords.{◌>>=◌, act_at, act_named, act_words, amount_at, is_name, is_output, key_at, kind_at, number_at, output_at, outputs_at, place_at, require, three}
-use Rattle.tp_script.specs.Notes.{NameView}
+use Rattle.tp_script.specs.LineWords.{◌>>=◌, act_at, act_named, amount_at, is_name, is_output, key_at, kind_at, number_at, output_at, outputs_at, place_at, require, three}
 use Rattle.tp_script.specs.Script.{HeadView, ServerView, WorkerView}
 use Rattle.tp_script.specs.ServerLines as grammar
 use Rattle.tp_script.specs.ServerLines.{Shape, free_name, has_client, new_name, recipe_at, registers_for, shape_at, with_server, worker_at}
-use Rattle.tp_script.specs.Text.{words}
 use Rattle.tp_script.specs.declared.fault.LineFault.{LineFault}
 use Rattle.tp_script.specs.declared.fault.LineFault.TheVariants.{BadLimits, BadName, BadRecipe, Syntax}
 use Rattle.tp_script.specs.declared.head.Driver.TheVariants as drivers
@@ -35,8 +32,8 @@ use Rattle.tp_script.specs.declared.script.Kind.TheVariants as kinds
 use Rattle.tp_script.specs.declared.script.TheConstants.{MAX_SERVERS}
 use Rattle.tp_session.specs.Dump.{act_text, amount_text, key_text, kind_text, output_text, server_line, word_text}
 use Rattle.tp_exact.specs.HeadReads.{IsFitAmount, IsFitKey, IsFitOutput, IsServer, ServerLinesRead, unstarted}
-use Rattle.tp_exact.proofs.AliveReads.{bind_ok, digits_free, line_ok, no_space, number_ok}
-use Rattle.tp_exact.proofs.Cuts.{Bytes, Free, and_true, counted, cut, digits, free_more, free_of, le_true, uncounted, uncut, wider, with_more}
+use Rattle.tp_exact.proofs.AliveReads.{bind_ok, digits_free, line_ok, number_ok}
+use Rattle.tp_exact.proofs.Cuts.{Bytes, Free, and_true, counted, cut, digits, free_more, free_of, le_true, uncounted, uncut, with_more}
 use Rattle.tp_exact.proofs.HeadReads.{no_place}
 use Rattle.tp_exact.proofs.LostReads.{AreTaken, taken_told}
 use Rattle.tp_exact.proofs.NoteReads.{none_before, same_bytes}
@@ -418,8 +415,7 @@ module _ (h : HeadView) (no_workers : h.workers ≡ []) (no_clients : h.clients 
       let few_so : length ((before ++ v ∷ []) ++ vs) ≤ MAX_SERVERS = subst (λ z. length z ≤ MAX_SERVERS) (sym same) few in
       let once_so : (k : List ℕ) → count_by (λ (u : ServerView). bytes_eq u.name k) ((before ++ v ∷ []) ++ vs) ≤ 1 = λ k. subst (λ z. count_by (λ (u : ServerView). bytes_eq u.name k) z ≤ 1) (sym same) (once k) in
       let rest = servers_taken (before ++ v ∷ []) vs few_so (λ u at. fit u (there at)) once_so in
-      let one = server_reads v (fit v here) (with_servers before) new no_workers no_clients (omega (arith, l, k, m, few)) in
-      (
+      let one = server_reads v (fit v here) (with_servers before) new no_workers no_clients (omega (arith, l, k, m, few)) in (
         with_servers (before ++ v ∷ []),
         one ∙ ap (λ vs. Ok (record h { servers = vs }, None)) (sym (map_two unstarted before (v ∷ []))),
         subst (λ z. AreTaken (map server_line vs) (with_servers (before ++ v ∷ [])) (with_servers z)) same rest,

@@ -1,11 +1,11 @@
 -- The lines that a dump tells of registers, read one after another.
-use Rattle.std.proofs.Common.{◌≡◌, ◌≢◌, ℕ, zero, suc, ◌+◌, ◌-◌, ◌^◌, ◌<◌, ◌≤◌, ◌==◌, ◌&&◌, ◌||◌, Bool, true, false, cond, if◌then◌else◌, not, None, Some, Ok, Option, Result, List, [], ◌∷◌, ◌++◌, length, map, nat_le, nat_lt, refl, sym, ◌∙◌, ap, subst, inl, inr, arith}
+use Rattle.std.proofs.Common.{◌≡◌, ℕ, zero, suc, ◌+◌, ◌-◌, ◌^◌, ◌<◌, ◌≤◌, ◌==◌, Bool, true, false, cond, if◌then◌else◌, not, None, Some, Ok, Option, List, [], ◌∷◌, ◌++◌, length, map, nat_lt, refl, sym, ◌∙◌, ap, subst, arith}
 use Rattle.std.specs.Prelude.{codes, decimal, position, replicate, slice_get, slice_set}
 use Rattle.std.specs.List.{position_or_len}
 use Rattle.std.specs.Str.{bytes_eq}
 use Rattle.std.proofs.lemmas.Bool.Decides.{Decides-eqb}
 use Rattle.tp_script.specs.Grammar.{head_at, head_keyword, head_words, line_words}
-use Rattle.tp_script.specs.LineWords.{◌>>=◌, is_name, known, number_at, require}
+use Rattle.tp_script.specs.LineWords.{is_name, known, number_at, require}
 use Rattle.tp_script.specs.Script.{HeadView, ServerView}
 use Rattle.tp_script.specs.ServerLines.{begin_at, begun, server_at, start_line}
 use Rattle.tp_script.specs.declared.fault.LineFault.TheVariants.{BadName, BadRecipe}
@@ -251,11 +251,10 @@ module _ (vs : List ServerView) (rss : List (List ℕ)) (h : HeadView) (same : l
     one_taken n value within has_it false other =
         let few = it.few in
         let long = front_long held n in
-        let now = front_set held n value has_it in
-        (
+        let now = front_set held n value has_it in (
           with_servers (slice_set (up_to vs rss i n) i (record v { registers = slice_set (front held n) n value })),
           start_reads v.name n value i (with_servers (up_to vs rss i n)) (record v { registers = front held n }) it.named (omega (arith, few, within)) (it.values n value has_it)
-          (found_there v.name vs rss i n same ∙ it.at) (its v held vs rss i n is has) (omega (arith, long, within)),
+              (found_there v.name vs rss i n same ∙ it.at) (its v held vs rss i n is has) (omega (arith, long, within)),
           ap with_servers (sym (goes_on v held vs rss i n (slice_set (front held n) n value) is has now)),
         )
 

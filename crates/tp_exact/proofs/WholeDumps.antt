@@ -1,33 +1,28 @@
 -- All lines of a dump, read by a new session.
-use Rattle.std.proofs.Common.{◌≡◌, ◌≢◌, ℕ, zero, suc, ◌+◌, ◌-◌, ◌^◌, ◌<◌, ◌≤◌, ◌==◌, ◌||◌, Bool, true, false, cond, not, None, Some, Ok, Err, Option, Result, List, [], ◌∷◌, ◌++◌, length, map, nat_lt, refl, sym, ◌∙◌, ap, subst, append_assoc, inl, inr, arith}
+use Rattle.std.proofs.Common.{◌≡◌, ℕ, zero, suc, ◌+◌, ◌<◌, ◌≤◌, Bool, true, false, cond, not, None, Some, Ok, Err, Option, Result, List, [], ◌∷◌, ◌++◌, length, map, nat_lt, refl, sym, ◌∙◌, ap, subst, append_assoc, arith}
 use Rattle.std.specs.Prelude.{codes, count_by, is_none, position, slice_get}
-use Rattle.std.specs.List.{list_any, position_or_len}
+use Rattle.std.specs.List.{position_or_len}
 use Rattle.std.specs.Str.{bytes_eq}
 use Rattle.tp_model.specs.History.{In, here, there}
 use Rattle.tp_rollover.specs.declared.survivors.Survivor.{Survivor}
-use Rattle.tp_script.specs.Fault.{◌<>◌}
 use Rattle.tp_script.specs.Grammar.{head_at, head_keyword, head_words, line_words}
-use Rattle.tp_script.specs.LineWords.{◌>>=◌}
 use Rattle.tp_script.specs.Script.{HeadView, ServerView, WorkerView, no_head}
-use Rattle.tp_script.specs.Text.{words}
 use Rattle.tp_script.specs.declared.fault.LineFault.{LineFault}
 use Rattle.tp_script.specs.declared.head.Act.{Act}
 use Rattle.tp_script.specs.declared.head.Act.TheVariants as acts
 use Rattle.tp_script.specs.declared.head.Driver.TheVariants as drivers
-use Rattle.tp_script.specs.declared.notes.ClientNote.{ClientNote}
 use Rattle.tp_script.specs.declared.notes.EndLine.{EndLine}
 use Rattle.tp_session.specs.Answers.{refused_line}
 use Rattle.tp_session.specs.Dump.{all_starts, drop_lines, life_text, lost_lines, server_line, settings_lines, worker_text}
-use Rattle.tp_session.specs.Live.{Live, lines_of}
+use Rattle.tp_session.specs.Live.{Live}
 use Rattle.tp_session.specs.NoteTexts.{note_lines}
-use Rattle.tp_session.specs.Notes.{notes_of}
 use Rattle.tp_session.specs.Told.{HeadLine, HeadLines}
 use Rattle.tp_exact.specs.AliveReads.{AreNamed, lines_between}
 use Rattle.tp_exact.specs.Dumps.{all_lost, line_of}
 use Rattle.tp_exact.specs.HeadReads.{HasRegisters, IsWorker, started, unstarted}
-use Rattle.tp_exact.specs.NoteReads.{AreNotes, IsClientName, alive_notes, with_notes}
-use Rattle.tp_exact.specs.PlainSession.{HeadRead, SessionState, read_head, read_line}
-use Rattle.tp_exact.specs.WholeDumps.{IsDumped, IsHead, SaysAll, WholeDumpRead, registers_of}
+use Rattle.tp_exact.specs.NoteReads.{AreNotes, alive_notes, with_notes}
+use Rattle.tp_exact.specs.PlainSession.{SessionState, read_head, read_line}
+use Rattle.tp_exact.specs.WholeDumps.{IsDumped, WholeDumpRead, registers_of}
 use Rattle.tp_exact.proofs.AliveReads.{bind_ok}
 use Rattle.tp_exact.proofs.ClientReads.{by_words}
 use Rattle.tp_exact.proofs.Cuts.{le_true}
@@ -163,7 +158,6 @@ module _ (h : HeadView) (old done : Live) (survivors : List Survivor) (s : Sessi
     each_worker = it.notes.each_worker;
   }
 
-
   abbrev ends : List EndLine
   ends = (note_lines_read g5 old.notes survivors notes named refl refl refl).0
 
@@ -264,11 +258,10 @@ pub whole_dump_read : WholeDumpRead
 whole_dump_read h old done survivors s it =
     let front = all_front h old done survivors s it in
     let t = g6 h old done survivors s it in
-    let drops = drop_lines h.servers (map (λ p. p.is_dropped) old.stand.scene.places) (length h.servers) in
-    (
+    let drops = drop_lines h.servers (map (λ p. p.is_dropped) old.stand.scene.places) (length h.servers) in (
       t,
       0 + length front,
       record { settings = refl; servers = refl; workers = refl; alive = refl; lost = refl; notes = (note_lines_read (g5 h old done survivors s it) old.notes survivors (notes h old done survivors s it) (named h old done survivors s it) refl refl refl).2 },
       read_lines front (codes "restore" ∷ drops) 0 no_head t (all_seven h old done survivors s it)
-      ∙ ap (λ r. read_line (0 + length front) (codes "restore") drops t (read_head (0 + length front + 1) drops) r) (restore_read t),
+          ∙ ap (λ r. read_line (0 + length front) (codes "restore") drops t (read_head (0 + length front + 1) drops) r) (restore_read t),
     )

@@ -1,5 +1,5 @@
 -- What is read of the lines that a dump tells of settings, servers and workers.
-use Rattle.std.specs.Prelude.{◌≡◌, ◌<◌, ◌≤◌, ◌^◌, ⊤, ℕ, true, false, List, [], ◌∷◌, ◌++◌, None, Some, Ok, is_none}
+use Rattle.std.specs.Prelude.{◌≡◌, ◌<◌, ◌≤◌, ◌^◌, ⊤, ℕ, true, false, List, [], ◌∷◌, Some, is_none}
 use Rattle.std.specs.Prelude.{count_by, is_ok, length, map, position, replicate, slice_get}
 use Rattle.std.specs.Str.{bytes_eq}
 use Rattle.tp_model.specs.History.{In}
@@ -13,7 +13,7 @@ use Rattle.tp_server.specs.declared.recipe.KeyFrom.TheVariants as keys
 use Rattle.tp_server.specs.declared.recipe.Output.{Output}
 use Rattle.tp_script.specs.LineWords.{is_name}
 use Rattle.tp_script.specs.Script.{HeadView, ServerView, SettingsView, WorkerView}
-use Rattle.tp_script.specs.ServerLines.{has_client, worker_at}
+use Rattle.tp_script.specs.ServerLines.{has_client}
 use Rattle.tp_script.specs.declared.head.TheConstants.{MAX_WORKERS}
 use Rattle.tp_script.specs.declared.script.TheConstants.{MAX_SERVERS}
 use Rattle.tp_session.specs.Dump.{all_starts, server_line, settings_lines, worker_text}

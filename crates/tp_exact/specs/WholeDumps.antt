@@ -1,5 +1,5 @@
 -- What a new session's head says that has read all lines of a dump.
-use Rattle.std.specs.Prelude.{◌≡◌, ◌<◌, ◌≤◌, ◌+◌, ◌^◌, ℕ, true, false, List, [], None, Some, is_none, length, map}
+use Rattle.std.specs.Prelude.{◌≡◌, ◌<◌, ◌≤◌, ◌+◌, ◌^◌, ℕ, true, false, List, [], Some, is_none, length, map}
 use Rattle.std.specs.Prelude.{count_by, position, slice_get}
 use Rattle.std.specs.Str.{bytes_eq}
 use Rattle.tp_model.specs.History.{In}
@@ -7,20 +7,22 @@ use Rattle.tp_model.specs.Steps.{AreLimits}
 use Rattle.tp_model.specs.declared.types.TheConstants.{MAX_STAGE}
 use Rattle.tp_rollover.specs.declared.survivors.Survivor.{Survivor}
 use Rattle.tp_script.specs.LineWords.{is_name}
-use Rattle.tp_script.specs.Script.{HeadView, ServerView, WorkerView, no_head}
+use Rattle.tp_script.specs.Script.{HeadView, ServerView, WorkerView, head_view, no_head}
 use Rattle.tp_script.specs.declared.head.Act.TheVariants as acts
+use Rattle.tp_script.specs.declared.head.Head.{Head}
 use Rattle.tp_script.specs.declared.head.TheConstants.{MAX_WORKERS}
 use Rattle.tp_script.specs.declared.script.TheConstants.{MAX_SERVERS}
+use Rattle.tp_session.specs.Conversed.{limits_of}
 use Rattle.tp_session.specs.Dump.{drop_lines, lost_element}
 use Rattle.tp_session.specs.Live as lives
-use Rattle.tp_session.specs.Live.{FoundAlive, HoldsUnits, Live, lines_of}
+use Rattle.tp_session.specs.Live.{FoundAlive, HoldsUnits, Live, LiveLooks, RestoredLive, lines_of}
 use Rattle.tp_session.specs.Notes.{notes_of}
 use Rattle.tp_session.specs.declared.hand.Holding.{Holding}
 use Rattle.tp_exact.specs.AliveReads.{IsBody64}
 use Rattle.tp_exact.specs.Dumps.{all_lost, line_of}
 use Rattle.tp_exact.specs.HeadReads.{AreSettings, IsServer, started}
 use Rattle.tp_exact.specs.NoteReads.{AreNotes, alive_notes}
-use Rattle.tp_exact.specs.PlainSession.{HeadRead, SessionState, read_head}
+use Rattle.tp_exact.specs.PlainSession.{SessionState, begin, read_head, restored, rolled_over}
 use Rattle.tp_exact.specs.Sessions.{StandsLive}
 
 -- ---- what was dumped
@@ -64,6 +66,7 @@ pub record IsDumped (h : HeadView) (old done : Live) (survivors : List Survivor)
   pub stands : StandsLive h old s
   pub holds : HoldsUnits old
   pub no_desk : lives.has_desk_open old ≡ false
+  pub looks : LiveLooks old done
   pub found : FoundAlive old survivors done
   pub limits : AreLimits old.stand.manager.limits
   pub head : IsHead h
@@ -97,3 +100,24 @@ WholeDumpRead =
       command = Some acts.Restore;
       behind = drop_lines h.servers (map (λ p. p.is_dropped) old.stand.scene.places) (length h.servers);
     })
+
+-- ---- what is made of it
+
+-- the managers, what workers have in hand, what is noted and the servers' registers are the same
+pub record AreAlike (a b : SessionState) : Type 0 where
+  pub manager : a.report.manager ≡ b.report.manager
+  pub works : a.works ≡ b.works
+  pub notes : a.notes ≡ b.notes
+  pub registers : map (λ d. d.registers) a.report.desks ≡ map (λ d. d.registers) b.report.desks
+
+-- Where the new session's `restore` makes again what its head says, that leads to a state like the one to which a
+-- rollover of the dumped session leads.
+abbrev pub RestoredStands : Type 0
+RestoredStands =
+    (source : Head) (old done : Live) (survivors : List Survivor) (s : SessionState)
+    (head : Head) (begun : Live) (text : List ℕ) (new : Live)
+    → let h = head_view source in let t = head_view head in
+    IsDumped h old done survivors s → SaysAll h t old survivors
+    → old.stand.manager.limits ≡ limits_of h 0 → begun.stand.manager.limits ≡ limits_of t 0
+    → StandsLive t begun (begin t) → HoldsUnits begun → RestoredLive t begun text new
+    → AreAlike (restored t (begin t)).1 (rolled_over h s).1

@@ -12,6 +12,7 @@ ghost use Rattle.tp_exact.specs.Programs.{ComputedOfScript, ExactProgram, SamePl
 ghost use Rattle.tp_exact.specs.Repeats.{DoneForGood, ReceivesAgain, ReceivesOnce, SendsAgain, SendsOnce};
 ghost use Rattle.tp_exact.specs.Sessions.{ComputedOfBytes, ExactLine, ExactSession, ExactSessionFront};
 ghost use Rattle.tp_exact.specs.Sessions.{ExactWorker};
+ghost use Rattle.tp_exact.specs.WholeDumps.{RestoredStands, WholeDumpRead};
 
 /// The line of a client's command where nobody else acts, and what the command leaves.
 pub fn exact_client()
@@ -79,6 +80,14 @@ pub fn found_lines_read()
     ensures lost { LostLinesRead }
     ensures whole { DumpLinesRead }
     ensures notes { NoteLinesRead }
+{}
+
+/// A new session that is sent the lines of a dump reads all of them, and its head says all that was dumped. Where
+/// its `restore` succeeds, it stands then as the dumped session stands after a rollover: its manager, what workers
+/// have in hand, what is noted, and the servers' registers are the same.
+pub fn recovered_stands()
+    ensures read { WholeDumpRead }
+    ensures stands { RestoredStands }
 {}
 
 /// The answers to a whole live session: they are the computed ones, and after a fault a prefix of them. They

@@ -1,0 +1,206 @@
+-- The state to which the restore of a dump leads is like the one to which a rollover leads.
+use Rattle.std.proofs.Common.{◌≡◌, ℕ, ◌+◌, List, [], ◌∷◌, length, map, Some, refl, sym, ◌∙◌, ap, subst, arith}
+use Rattle.std.specs.Prelude.{drop}
+use Rattle.std.proofs.lemmas.List.{length-map}
+use Rattle.tp_model.specs.declared.types.Limits.{Limits}
+use Rattle.tp_plain.specs.OneThread.{State, start}
+use Rattle.tp_rollover.specs.Anew.{made_anew}
+use Rattle.tp_rollover.specs.declared.moved.Moved.{Moved}
+use Rattle.tp_rollover.specs.declared.survivors.Survivor.{Survivor}
+use Rattle.tp_alone.specs.Thread.{thread_of}
+use Rattle.tp_reference.specs.PlainReport.{new_desk}
+use Rattle.tp_script.specs.Script.{HeadView, ServerView, WorkerView, head_view}
+use Rattle.tp_script.specs.declared.head.Head.{Head}
+use Rattle.tp_perform.specs.Scenes.{passes_in}
+use Rattle.tp_session.specs.Answers.{restored_text}
+use Rattle.tp_report.specs.Answer.{rolled_text}
+use Rattle.tp_session.specs.Carried.{lost_works, works_after}
+use Rattle.tp_session.specs.Conversed.{limits_of}
+use Rattle.tp_session.specs.Live as lives
+use Rattle.tp_session.specs.Live.{HoldsUnits, Live, RestoredLive, survivors_of}
+use Rattle.tp_session.specs.Notes.{notes_in, notes_of}
+use Rattle.tp_session.specs.declared.hand.Holding.{Holding}
+use Rattle.tp_session.specs.declared.hand.Holding.TheVariants.{Nothing}
+use Rattle.tp_exact.specs.Alive.{alive_of}
+use Rattle.tp_exact.specs.Dumps.{AreHeldFrom, all_lost, line_of}
+use Rattle.tp_exact.specs.HeadReads.{started}
+use Rattle.tp_exact.specs.NoteReads.{alive_notes}
+use Rattle.tp_exact.specs.PlainSession.{SessionState, anew_as, begin, restored, rolled_over, unrestored, works_in}
+use Rattle.tp_exact.specs.Sessions.{StandsLive}
+use Rattle.tp_exact.specs.Stands.{IsFor}
+use Rattle.tp_exact.specs.WholeDumps.{AreAlike, IsDumped, RestoredStands, SaysAll, registers_of}
+use Rattle.tp_exact.proofs.Anews.{lost_long, works_here, works_long}
+use Rattle.tp_exact.proofs.DumpActs.{alive_so, registers_are}
+use Rattle.tp_exact.proofs.RestoredDumps.{described_again, held_by_workers}
+use Rattle.tp_exact.proofs.RestoredHands.{restored_hands}
+use Rattle.tp_exact.proofs.RestoredNotes.{restored_notes}
+use Rattle.tp_exact.proofs.SessionLines.{zip_long}
+
+-- ---- servers with their registers
+
+started_long : (vs : List ServerView) (rss : List (List ℕ)) → length rss ≡ length vs → length (started vs rss) ≡ length vs
+started_long [] [] same = refl
+started_long [] (rs ∷ rss) same = refl
+started_long (v ∷ vs) [] same = absurd (omega (arith, same))
+started_long (v ∷ vs) (rs ∷ rss) same = let k = started_long vs rss (omega (arith, same)) in omega (arith, k)
+
+started_held : (vs : List ServerView) (rss : List (List ℕ)) → length rss ≡ length vs → map (λ d. d.registers) (map new_desk (started vs rss)) ≡ rss
+started_held [] [] same = refl
+started_held [] (rs ∷ rss) same = absurd (omega (arith, same))
+started_held (v ∷ vs) [] same = absurd (omega (arith, same))
+started_held (v ∷ vs) (rs ∷ rss) same = ap (λ z. rs ∷ z) (started_held vs rss (omega (arith, same)))
+
+module _ (source : Head) (old done : Live) (survivors : List Survivor) (s : SessionState) (head : Head) (begun : Live) (text : List ℕ) (new : Live)
+    (it : IsDumped (head_view source) old done survivors s) (says : SaysAll (head_view source) (head_view head) old survivors) (limits : old.stand.manager.limits ≡ limits_of (head_view source) 0) (as_said : begun.stand.manager.limits ≡ limits_of (head_view head) 0)
+    (stands : StandsLive (head_view head) begun (begin (head_view head))) (holds : HoldsUnits begun) (t : RestoredLive (head_view head) begun text new) where
+  abbrev h : HeadView
+  h = head_view source
+
+  abbrev g : HeadView
+  g = head_view head
+
+  abbrev b : SessionState
+  b = begin g
+
+  abbrev moved : List Moved
+  moved = t.moved
+
+  abbrev m : State
+  m = thread_of new.stand.manager.limits (passes_in new.stand.scene) new.stand.keeper.seen
+
+  -- as many servers and workers
+  servers_long : length g.servers ≡ length h.servers
+  servers_long = ap (λ (vs : List ServerView). length vs) says.servers ∙ started_long h.servers (registers_of old) it.registers.each
+
+  workers_long : length g.workers ≡ length h.workers
+  workers_long = ap (λ (ws : List WorkerView). length ws) says.workers
+
+  -- under the same limits
+  same_limits : limits_of g 0 ≡ limits_of h 0
+  same_limits =
+      ap (λ st. record { parts = 1 + length g.servers + length g.workers + 0; rows = st.rows; units = st.units; attempts = st.attempts; spare = st.spare }) says.settings
+      ∙ (ap (λ k. record { parts = 1 + k + length g.workers + 0; rows = h.settings.rows; units = h.settings.units; attempts = h.settings.attempts; spare = h.settings.spare }) servers_long
+      ∙ ap (λ k. record { parts = 1 + length h.servers + k + 0; rows = h.settings.rows; units = h.settings.units; attempts = h.settings.attempts; spare = h.settings.spare }) workers_long)
+
+  begun_limits : begun.stand.manager.limits ≡ old.stand.manager.limits
+  begun_limits = as_said ∙ (same_limits ∙ sym limits)
+
+  new_limits : new.stand.manager.limits ≡ old.stand.manager.limits
+  new_limits = t.restored.limits ∙ begun_limits
+
+  -- what is described is what is alive
+  held : AreHeldFrom (1 + length g.servers) survivors
+  held = subst (λ k. AreHeldFrom (1 + k) survivors) (sym servers_long) (held_by_workers h old done survivors s it.stands it.holds it.no_desk it.found)
+
+  alive_said : g.alive ≡ map (line_of (1 + length g.servers)) survivors
+  alive_said = says.alive ∙ ap (λ k. map (line_of (1 + k)) survivors) (sym servers_long)
+
+  attempts : g.settings.attempts ≡ old.stand.manager.limits.attempts
+  attempts = ap (λ st. st.attempts) says.settings ∙ sym (ap (λ (z : Limits). z.attempts) limits)
+
+  described : survivors_of g ≡ survivors
+  described = described_again old done survivors g it.limits it.found held alive_said attempts
+
+  alive : survivors ≡ alive_of s.report.manager
+  alive = alive_so source old s it.stands done survivors it.looks it.found
+
+  made : made_anew old.stand.manager.limits old.stand.manager.limits.parts survivors (start old.stand.manager.limits) ≡ Some (moved, m)
+  made =
+      subst (λ ss. made_anew old.stand.manager.limits old.stand.manager.limits.parts ss (start old.stand.manager.limits) ≡ Some (moved, m)) described
+      (subst (λ (z : Limits). made_anew z z.parts (survivors_of g) (start z) ≡ Some (moved, m)) new_limits t.restored.anew)
+
+  -- ---- as it is computed
+
+  abbrev before : List Holding
+  before = lost_works g.lost 0 b.works
+
+  abbrev by_restore : SessionState
+  by_restore = record { report = record b.report { manager = m }; works = works_in b moved m before; notes = notes_in moved b.notes }
+
+  abbrev by_rollover : SessionState
+  by_rollover = record { report = record s.report { manager = m }; works = works_in s moved m s.works; notes = notes_in moved s.notes }
+
+  b_limits : b.report.manager.limits ≡ old.stand.manager.limits
+  b_limits = same_limits ∙ sym limits
+
+  s_limits : s.report.manager.limits ≡ old.stand.manager.limits
+  s_limits = ap (λ (z : State). z.limits) it.stands.stands.manager
+
+  restored_is : (restored g b).1 ≡ by_restore
+  restored_is =
+      ap (λ o. (anew_as restored_text g before (unrestored b) b o).1)
+      (ap (λ ss. made_anew b.report.manager.limits b.report.manager.limits.parts ss (start b.report.manager.limits)) described
+      ∙ (ap (λ (z : Limits). made_anew z z.parts survivors (start z)) b_limits ∙ made))
+
+  rolled_is : (rolled_over h s).1 ≡ by_rollover
+  rolled_is =
+      ap (λ o. (anew_as rolled_text h s.works s s o).1)
+      (ap (λ ss. made_anew s.report.manager.limits s.report.manager.limits.parts ss (start s.report.manager.limits)) (sym alive)
+      ∙ (ap (λ (z : Limits). made_anew z z.parts survivors (start z)) s_limits ∙ made))
+
+  -- ---- what workers have in hand
+
+  begun_works : length begun.works ≡ length old.works
+  begun_works =
+      sym (ap (λ (ws : List Holding). length ws) stands.works)
+      ∙ (length-map g.workers (λ (w : WorkerView). Nothing) ∙ (workers_long ∙ sym it.works))
+
+  begun_racers : length begun.stand.scene.racers ≡ length begun.works
+  begun_racers = sym (works_long head begun new text b stands holds)
+
+  begun_places : length begun.stand.scene.places ≡ length g.servers
+  begun_places = zip_long IsFor begun.stand.scene.places b.report.desks stands.stands.desks ∙ length-map g.servers new_desk
+
+  lost_said : g.lost ≡ all_lost (1 + length g.servers) old.works survivors (length old.works)
+  lost_said = says.lost ∙ ap (λ k. all_lost (1 + k) old.works survivors (length old.works)) (sym servers_long)
+
+  same_hands : new.works ≡ lives.works_in new.stand moved old.works
+  same_hands = restored_hands old done survivors g begun text new it.limits it.found held alive_said lost_said attempts begun_works begun_racers begun_places t
+
+  racers_are : (ws : List Holding) → length ws ≡ length begun.works → length new.stand.scene.racers ≡ length ws
+  racers_are ws same = t.restored.racers ∙ (begun_racers ∙ sym same)
+
+  restored_works : works_in b moved m before ≡ new.works
+  restored_works =
+      works_here head begun new text b stands holds m moved before refl t.restored.places (racers_are before (lost_long g.lost 0 b.works ∙ ap (λ (ws : List Holding). length ws) stands.works))
+      ∙ (ap (λ ws. lives.works_in new.stand moved (lost_works g.lost 0 ws)) stands.works ∙ sym t.works)
+
+  -- as many desks
+  desks_long : length b.report.desks ≡ length s.report.desks
+  desks_long =
+      length-map g.servers new_desk ∙ (servers_long
+      ∙ (sym it.registers.each ∙ (length-map old.stand.scene.places (λ p. p.desk.registers) ∙ zip_long IsFor old.stand.scene.places s.report.desks it.stands.stands.desks)))
+
+  rolled_works : works_in s moved m s.works ≡ new.works
+  rolled_works =
+      ap (λ k. works_at k s.works) (sym desks_long)
+      ∙ (ap (λ ws. works_in b moved m ws) it.stands.works
+      ∙ (works_here head begun new text b stands holds m moved old.works refl t.restored.places (racers_are old.works (sym begun_works)) ∙ sym same_hands))
+    where
+      works_at : ℕ → List Holding → List Holding
+      works_at k ws = works_after moved (1 + k) (map (λ p. p.holding) (drop (1 + k) m.passes)) ws
+
+  -- ---- notes and registers
+
+  notes_said : begun.notes ≡ alive_notes (survivors_of g) old.notes
+  notes_said =
+      sym stands.notes
+      ∙ (ap (λ (ws : List WorkerView). notes_of g ws) says.workers ∙ (says.notes ∙ ap (λ ss. alive_notes ss old.notes) (sym described)))
+
+  same_notes : notes_in moved b.notes ≡ notes_in moved s.notes
+  same_notes =
+      ap (notes_in moved) stands.notes ∙ (sym t.notes ∙ (restored_notes g begun text new old.notes notes_said t ∙ ap (notes_in moved) (sym it.stands.notes)))
+
+  same_registers : map (λ d. d.registers) b.report.desks ≡ map (λ d. d.registers) s.report.desks
+  same_registers =
+      ap (λ (vs : List ServerView). map (λ d. d.registers) (map new_desk vs)) says.servers
+      ∙ (started_held h.servers (registers_of old) it.registers.each ∙ registers_are old.stand.scene.places s.report.desks it.stands.stands.desks)
+
+  alike : AreAlike by_restore by_rollover
+  alike = record { manager = refl; works = restored_works ∙ sym rolled_works; notes = same_notes; registers = same_registers }
+
+  pub stands_so : AreAlike (restored g b).1 (rolled_over h s).1
+  stands_so = subst (λ z. AreAlike z (rolled_over h s).1) (sym restored_is) (subst (λ z. AreAlike by_restore z) (sym rolled_is) alike)
+
+pub restored_stands : RestoredStands
+restored_stands source old done survivors s head begun text new it says limits as_said stands holds t = stands_so source old done survivors s head begun text new it says limits as_said stands holds t

@@ -1,0 +1,9 @@
+use Rattle.tp_exact.proofs.RestoredStates.{restored_stands}
+use Rattle.tp_exact.proofs.WholeDumps.{whole_dump_read}
+use Rattle.tp_exact.proofs.laws.recovered_stands.Goals as goal
+
+pub returns-clause-read : goal.returns-clause-read
+returns-clause-read c = whole_dump_read
+
+pub returns-clause-stands : goal.returns-clause-stands
+returns-clause-stands c = restored_stands
