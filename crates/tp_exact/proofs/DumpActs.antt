@@ -42,7 +42,7 @@ registers_are [] (d ∷ ds) a = absurd a
 registers_are (p ∷ ps) [] a = absurd a
 registers_are (p ∷ ps) (d ∷ ds) a = ap (λ r. r ∷ map (λ p. p.desk.registers) ps) (sym a.0.desk.registers) ∙ ap (λ rs. d.registers ∷ rs) (registers_are ps ds a.1)
 
-dropped_are : (ps : List PlaceShown) (ds : List PlainDesk) → AllZip IsFor ps ds → map (λ p. p.is_dropped) ps ≡ map (λ d. d.is_dropped) ds
+pub dropped_are : (ps : List PlaceShown) (ds : List PlainDesk) → AllZip IsFor ps ds → map (λ p. p.is_dropped) ps ≡ map (λ d. d.is_dropped) ds
 dropped_are [] [] a = refl
 dropped_are [] (d ∷ ds) a = absurd a
 dropped_are (p ∷ ps) [] a = absurd a

@@ -53,6 +53,7 @@ pub mod HeadReads
 pub mod ServerReads
 pub mod StartReads
 pub mod WholeDumps
+pub mod DropReads
 pub mod RestoredStates
 pub mod DumpReads
 pub mod Scripts

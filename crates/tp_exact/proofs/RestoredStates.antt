@@ -1,16 +1,24 @@
 -- The state to which the restore of a dump leads is like the one to which a rollover leads.
-use Rattle.std.proofs.Common.{◌≡◌, ℕ, ◌+◌, List, [], ◌∷◌, length, map, Some, refl, sym, ◌∙◌, ap, subst, arith}
-use Rattle.std.specs.Prelude.{drop}
+use Rattle.std.proofs.Common.{◌≡◌, ℕ, suc, None, ◌+◌, List, [], ◌∷◌, length, map, Some, refl, sym, ◌∙◌, ap, subst, arith, Bool, true, false, ◌<◌}
+use Rattle.std.specs.Prelude.{drop, position, slice_get}
 use Rattle.std.proofs.lemmas.List.{length-map}
 use Rattle.tp_model.specs.declared.types.Limits.{Limits}
 use Rattle.tp_plain.specs.OneThread.{State, start}
 use Rattle.tp_rollover.specs.Anew.{made_anew}
 use Rattle.tp_rollover.specs.declared.moved.Moved.{Moved}
 use Rattle.tp_rollover.specs.declared.survivors.Survivor.{Survivor}
-use Rattle.tp_alone.specs.Thread.{thread_of}
-use Rattle.tp_reference.specs.PlainReport.{new_desk}
+use Rattle.std.proofs.lemmas.List.Elements.{All-tail}
+use Rattle.std.specs.Str.{bytes_eq}
+use Rattle.tp_alone.specs.Thread.{not_given, thread_of}
+use Rattle.tp_reference.specs.PlainDesks.{has_open}
+use Rattle.tp_reference.specs.declared.plain_desk.PlainDesk.{PlainDesk}
+use Rattle.tp_script.specs.LineWords.{is_name}
+use Rattle.tp_script.specs.ServerLines.{worker_at}
+use Rattle.tp_session.specs.Dump.{drop_lines}
+use Rattle.tp_reference.specs.PlainReport.{new_desk, worker}
 use Rattle.tp_script.specs.Script.{HeadView, ServerView, WorkerView, head_view}
 use Rattle.tp_script.specs.declared.head.Head.{Head}
+use Rattle.tp_perform.specs.Rollover.{BeginsAgain}
 use Rattle.tp_perform.specs.Scenes.{passes_in}
 use Rattle.tp_session.specs.Answers.{restored_text}
 use Rattle.tp_report.specs.Answer.{rolled_text}
@@ -25,16 +33,21 @@ use Rattle.tp_exact.specs.Alive.{alive_of}
 use Rattle.tp_exact.specs.Dumps.{AreHeldFrom, all_lost, line_of}
 use Rattle.tp_exact.specs.HeadReads.{started}
 use Rattle.tp_exact.specs.NoteReads.{alive_notes}
-use Rattle.tp_exact.specs.PlainSession.{SessionState, anew_as, begin, restored, rolled_over, unrestored, works_in}
+use Rattle.tp_exact.specs.PlainSession.{SessionState, anew_as, begin, lines_step, restored, rolled_over, unrestored, works_in}
 use Rattle.tp_exact.specs.Sessions.{StandsLive}
 use Rattle.tp_exact.specs.Stands.{IsFor}
 use Rattle.tp_exact.specs.WholeDumps.{AreAlike, IsDumped, RestoredStands, SaysAll, registers_of}
 use Rattle.tp_exact.proofs.Anews.{lost_long, works_here, works_long}
-use Rattle.tp_exact.proofs.DumpActs.{alive_so, registers_are}
+use Rattle.tp_exact.proofs.DumpActs.{alive_so, dropped_are, registers_are}
 use Rattle.tp_exact.proofs.RestoredDumps.{described_again, held_by_workers}
 use Rattle.tp_exact.proofs.RestoredHands.{restored_hands}
 use Rattle.tp_exact.proofs.RestoredNotes.{restored_notes}
+use Rattle.tp_exact.proofs.DropReads.{AreFresh, Free, drops_are, drops_keep, drops_lead, first_ones, none_held}
+use Rattle.tp_exact.proofs.NoteReads.{same_bytes}
+use Rattle.tp_exact.proofs.Places.{passes}
 use Rattle.tp_exact.proofs.SessionLines.{zip_long}
+use Rattle.tp_exact.proofs.StartReads.{same_places}
+use Rattle.tp_exact.proofs.WholeDumps.{found_at, in_list}
 
 -- ---- servers with their registers
 
@@ -196,11 +209,68 @@ module _ (source : Head) (old done : Live) (survivors : List Survivor) (s : Sess
       ap (λ (vs : List ServerView). map (λ d. d.registers) (map new_desk vs)) says.servers
       ∙ (started_held h.servers (registers_of old) it.registers.each ∙ registers_are old.stand.scene.places s.report.desks it.stands.stands.desks)
 
-  alike : AreAlike by_restore by_rollover
-  alike = record { manager = refl; works = restored_works ∙ sym rolled_works; notes = same_notes; registers = same_registers }
+  -- ---- desks
 
-  pub stands_so : AreAlike (restored g b).1 (rolled_over h s).1
-  stands_so = subst (λ z. AreAlike z (rolled_over h s).1) (sym restored_is) (subst (λ z. AreAlike by_restore z) (sym rolled_is) alike)
+  abbrev bs : List Bool
+  bs = map (λ p. p.is_dropped) old.stand.scene.places
+
+  places_long : length old.stand.scene.places ≡ length h.servers
+  places_long = sym (length-map old.stand.scene.places (λ p. p.desk.registers)) ∙ it.registers.each
+
+  next_long : length new.stand.scene.places ≡ length h.servers
+  next_long = sym (zip_long BeginsAgain begun.stand.scene.places new.stand.scene.places t.restored.places) ∙ (begun_places ∙ servers_long)
+
+  names : (place : ℕ) (v : ServerView) → slice_get h.servers place ≡ Some v → (is_name v.name ≡ true) × (position (λ (u : ServerView). bytes_eq u.name v.name) g.servers ≡ Some place) × (worker_at v.name g ≡ None)
+  names place v is = (
+    (it.head.servers v (in_list h.servers place v is)).named,
+    ap (λ (vs : List ServerView). position (λ (u : ServerView). bytes_eq u.name v.name) vs) says.servers
+        ∙ (same_places v.name h.servers (registers_of old) it.registers.each ∙ found_at (λ (u : ServerView). bytes_eq u.name v.name) h.servers place v is (same_bytes v.name) (it.head.server_names v.name)),
+    ap (λ (ws : List WorkerView). position (λ (w : WorkerView). bytes_eq w.name v.name) ws) says.workers ∙ it.head.apart v (in_list h.servers place v is),
+  )
+
+  fresh : (vs : List ServerView) → AreFresh (map new_desk vs)
+  fresh [] = tt
+  fresh (v ∷ vs) = (refl, fresh vs)
+
+  free : (i : ℕ) → i < length h.servers → has_open by_restore.report.manager (worker i) ≡ false
+  free i low =
+      let next : worker i ≡ suc i = omega arith in
+      let k = next_long in
+      ap (λ c. has_open m c) next
+      ∙ none_held new.stand.scene.places new.stand.scene.racers (not_given new.stand.manager.limits (length (passes_in new.stand.scene))) i (omega (arith, low, k)) (All-tail Free new.stand.scene.client (passes new.stand.scene.places) t.restored.free)
+
+  module _ (past : ℕ) where
+    abbrev drops : List (List ℕ)
+    drops = drop_lines h.servers bs (length h.servers)
+
+    abbrev last_desks : List PlainDesk
+    last_desks = first_ones (map new_desk g.servers) bs (length h.servers)
+
+    abbrev last : SessionState
+    last = record by_restore { report = record { manager = m; desks = last_desks } }
+
+    bs_long : length bs ≡ length h.servers
+    bs_long = length-map old.stand.scene.places (λ p. p.is_dropped) ∙ places_long
+
+    new_long : length (map new_desk g.servers) ≡ length h.servers
+    new_long = length-map g.servers new_desk ∙ servers_long
+
+    last_is : (lines_step g past [] drops by_restore).1 ≡ last
+    last_is = drops_lead h.servers g servers_long names bs (map new_desk g.servers) bs_long new_long (fresh g.servers) by_restore refl free past
+
+    last_registers : map (λ d. d.registers) last_desks ≡ map (λ d. d.registers) s.report.desks
+    last_registers = drops_keep h.servers g servers_long names bs (map new_desk g.servers) bs_long new_long (fresh g.servers) by_restore refl free ∙ same_registers
+
+    last_dropped : map (λ d. d.is_dropped) last_desks ≡ map (λ d. d.is_dropped) s.report.desks
+    last_dropped = drops_are h.servers g servers_long names bs (map new_desk g.servers) bs_long new_long (fresh g.servers) by_restore refl free ∙ dropped_are old.stand.scene.places s.report.desks it.stands.stands.desks
+
+    alike : AreAlike last by_rollover
+    alike = record { manager = refl; works = restored_works ∙ sym rolled_works; notes = same_notes; registers = last_registers; dropped = last_dropped }
+
+    pub stands_so : AreAlike (lines_step g past [] drops (restored g b).1).1 (rolled_over h s).1
+    stands_so =
+        subst (λ z. AreAlike (lines_step g past [] drops z).1 (rolled_over h s).1) (sym restored_is)
+        (subst (λ z. AreAlike (lines_step g past [] drops by_restore).1 z) (sym rolled_is) (subst (λ z. AreAlike z by_rollover) (sym last_is) alike))
 
 pub restored_stands : RestoredStands
-restored_stands source old done survivors s head begun text new it says limits as_said stands holds t = stands_so source old done survivors s head begun text new it says limits as_said stands holds t
+restored_stands source old done survivors s head begun text new past it says limits as_said stands holds t = stands_so source old done survivors s head begun text new it says limits as_said stands holds t past

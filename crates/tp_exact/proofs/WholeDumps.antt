@@ -84,14 +84,14 @@ module _ {A : Type 0} (f : A → Bool) where
           let l = then_so.1 in
           (ap (λ b. cond (not b) (1 + position_or_len f xs) 0) now ∙ omega (arith, p), omega (arith, l))
 
-  found_at : (xs : List A) (i : ℕ) (x : A) → slice_get xs i ≡ Some x → f x ≡ true → count_by f xs ≤ 1 → position f xs ≡ Some i
+  pub found_at : (xs : List A) (i : ℕ) (x : A) → slice_get xs i ≡ Some x → f x ≡ true → count_by f xs ≤ 1 → position f xs ≡ Some i
   found_at xs i x is test once =
       let so = far xs i x is test once in
       let p = so.0 in
       let l = so.1 in
       ap (λ k. cond (nat_lt k (length xs)) (Some k) None) p ∙ ap (λ b. cond b (Some i) None) (le_true (suc i) (length xs) (omega (arith, l)))
 
-in_list : {A : Type 0} (xs : List A) (i : ℕ) (x : A) → slice_get xs i ≡ Some x → In x xs
+pub in_list : {A : Type 0} (xs : List A) (i : ℕ) (x : A) → slice_get xs i ≡ Some x → In x xs
 in_list [] i x is = absurd cc
 in_list {A} (y ∷ xs) zero x is = subst (λ z. In z (y ∷ xs)) (got is) here
   where

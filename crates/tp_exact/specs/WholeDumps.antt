@@ -1,5 +1,5 @@
 -- What a new session's head says that has read all lines of a dump.
-use Rattle.std.specs.Prelude.{◌≡◌, ◌<◌, ◌≤◌, ◌+◌, ◌^◌, ℕ, true, false, List, [], Some, is_none, length, map}
+use Rattle.std.specs.Prelude.{◌≡◌, ◌<◌, ◌≤◌, ◌+◌, ◌^◌, ℕ, true, false, List, [], None, Some, is_none, length, map}
 use Rattle.std.specs.Prelude.{count_by, position, slice_get}
 use Rattle.std.specs.Str.{bytes_eq}
 use Rattle.tp_model.specs.History.{In}
@@ -8,6 +8,7 @@ use Rattle.tp_model.specs.declared.types.TheConstants.{MAX_STAGE}
 use Rattle.tp_rollover.specs.declared.survivors.Survivor.{Survivor}
 use Rattle.tp_script.specs.LineWords.{is_name}
 use Rattle.tp_script.specs.Script.{HeadView, ServerView, WorkerView, head_view, no_head}
+use Rattle.tp_script.specs.ServerLines.{worker_at}
 use Rattle.tp_script.specs.declared.head.Act.TheVariants as acts
 use Rattle.tp_script.specs.declared.head.Head.{Head}
 use Rattle.tp_script.specs.declared.head.TheConstants.{MAX_WORKERS}
@@ -22,7 +23,8 @@ use Rattle.tp_exact.specs.AliveReads.{IsBody64}
 use Rattle.tp_exact.specs.Dumps.{all_lost, line_of}
 use Rattle.tp_exact.specs.HeadReads.{AreSettings, IsServer, started}
 use Rattle.tp_exact.specs.NoteReads.{AreNotes, alive_notes}
-use Rattle.tp_exact.specs.PlainSession.{SessionState, begin, read_head, restored, rolled_over}
+use Rattle.tp_exact.specs.PlainSession.{SessionState, begin, lines_step, read_head, restored}
+use Rattle.tp_exact.specs.PlainSession.{rolled_over}
 use Rattle.tp_exact.specs.Sessions.{StandsLive}
 
 -- ---- what was dumped
@@ -39,6 +41,7 @@ pub record IsHead (h : HeadView) : Type 0 where
   pub servers : (v : ServerView) → In v h.servers → IsServer v
   pub server_names : (name : List ℕ) → count_by (λ (v : ServerView). bytes_eq v.name name) h.servers ≤ 1
   pub few_servers : length h.servers ≤ MAX_SERVERS
+  pub apart : (v : ServerView) → In v h.servers → worker_at v.name h ≡ None
   pub workers : (w : WorkerView) → In w h.workers → IsPlacedWorker h w
   pub worker_names : (name : List ℕ) → count_by (λ (w : WorkerView). bytes_eq w.name name) h.workers ≤ 1
   pub few_workers : length h.workers ≤ MAX_WORKERS
@@ -54,6 +57,10 @@ pub record AreRegisters (servers : List ServerView) (registers : List (List ℕ)
 -- the registers of a session's servers, and whether their desks were dropped
 abbrev pub registers_of : Live → List (List ℕ)
 registers_of l = map (λ p. p.desk.registers) l.stand.scene.places
+
+-- the lines of a dump behind `restore`
+abbrev pub drops_of : HeadView → Live → List (List ℕ)
+drops_of h l = drop_lines h.servers (map (λ p. p.is_dropped) l.stand.scene.places) (length h.servers)
 
 -- the words of what is alive have 64 bits, and the ids of what was lost 32
 pub record AreWords64 (l : Live) (survivors : List Survivor) : Type 0 where
@@ -98,26 +105,28 @@ WholeDumpRead =
       head = t;
       past = past;
       command = Some acts.Restore;
-      behind = drop_lines h.servers (map (λ p. p.is_dropped) old.stand.scene.places) (length h.servers);
+      behind = drops_of h old;
     })
 
 -- ---- what is made of it
 
--- the managers, what workers have in hand, what is noted and the servers' registers are the same
+-- The managers, what workers have in hand, what is noted and the servers' registers are the same, and so is which
+-- desks were dropped.
 pub record AreAlike (a b : SessionState) : Type 0 where
   pub manager : a.report.manager ≡ b.report.manager
   pub works : a.works ≡ b.works
   pub notes : a.notes ≡ b.notes
   pub registers : map (λ d. d.registers) a.report.desks ≡ map (λ d. d.registers) b.report.desks
+  pub dropped : map (λ d. d.is_dropped) a.report.desks ≡ map (λ d. d.is_dropped) b.report.desks
 
--- Where the new session's `restore` makes again what its head says, that leads to a state like the one to which a
--- rollover of the dumped session leads.
+-- Where the new session's `restore` makes again what its head says, and then drops the desks that were dropped, that
+-- leads to a state like the one to which a rollover of the dumped session leads.
 abbrev pub RestoredStands : Type 0
 RestoredStands =
     (source : Head) (old done : Live) (survivors : List Survivor) (s : SessionState)
-    (head : Head) (begun : Live) (text : List ℕ) (new : Live)
+    (head : Head) (begun : Live) (text : List ℕ) (new : Live) (past : ℕ)
     → let h = head_view source in let t = head_view head in
     IsDumped h old done survivors s → SaysAll h t old survivors
     → old.stand.manager.limits ≡ limits_of h 0 → begun.stand.manager.limits ≡ limits_of t 0
     → StandsLive t begun (begin t) → HoldsUnits begun → RestoredLive t begun text new
-    → AreAlike (restored t (begin t)).1 (rolled_over h s).1
+    → AreAlike (lines_step t past [] (drops_of h old) (restored t (begin t)).1).1 (rolled_over h s).1

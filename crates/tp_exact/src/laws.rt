@@ -83,8 +83,8 @@ pub fn found_lines_read()
 {}
 
 /// A new session that is sent the lines of a dump reads all of them, and its head says all that was dumped. Where
-/// its `restore` succeeds, it stands then as the dumped session stands after a rollover: its manager, what workers
-/// have in hand, what is noted, and the servers' registers are the same.
+/// its `restore` succeeds, it stands behind them as the dumped session stands after a rollover: its manager, what
+/// workers have in hand, what is noted, the servers' registers and which desks were dropped are the same.
 pub fn recovered_stands()
     ensures read { WholeDumpRead }
     ensures stands { RestoredStands }
