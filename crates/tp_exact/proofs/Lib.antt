@@ -54,6 +54,8 @@ pub mod ServerReads
 pub mod StartReads
 pub mod WholeDumps
 pub mod DropReads
+pub mod ActsAlike
+pub mod HeadsAlike
 pub mod RestoredStates
 pub mod DumpReads
 pub mod Scripts
