@@ -1,15 +1,13 @@
 -- Behind the head what is asked for does the same in sessions whose heads say the same but for registers and for what
 -- is alive, was lost or is noted.
-use Rattle.std.proofs.Common.{◌≡◌, ℕ, zero, suc, ◌+◌, ◌||◌, Bool, true, false, if◌then◌else◌, None, Some, Ok, Err, Option, Result, List, [], ◌∷◌, ◌++◌, length, map, refl, sym, ◌∙◌, ap, subst, arith}
+use Rattle.std.proofs.Common.{◌≡◌, ℕ, zero, suc, ◌+◌, ◌||◌, Bool, true, false, if◌then◌else◌, None, Some, Ok, Err, Option, Result, List, [], ◌∷◌, ◌++◌, length, map, refl, sym, ◌∙◌, ap}
 use Rattle.std.specs.Prelude.{codes, slice_get}
 use Rattle.std.specs.Option.{option_map}
 use Rattle.std.proofs.lemmas.List.{length-map}
 use Rattle.std.proofs.lemmas.Option.{slice_get-map}
 use Rattle.tp_plain.specs.OneThread.{State}
-use Rattle.tp_model.specs.declared.types.Limits.{Limits}
 use Rattle.tp_rollover.specs.declared.moved.Moved.{Moved}
 use Rattle.tp_rollover.specs.declared.moved.RollFault.{RollFault}
-use Rattle.tp_rollover.specs.declared.survivors.Survivor.{Survivor}
 use Rattle.tp_report.specs.Answer.{line, rolled_text}
 use Rattle.tp_perform.specs.Rollover.{renamed}
 use Rattle.tp_script.specs.Fault.{◌<>◌}
@@ -30,8 +28,7 @@ use Rattle.tp_script.specs.declared.head.Act.TheVariants as acts
 use Rattle.tp_script.specs.declared.script.Command.{Command}
 use Rattle.tp_script.specs.declared.script.Command.TheVariants.{Client, Desk, Balance, Sum, Race, Drain, DrainNext, Rollover}
 use Rattle.tp_script.specs.declared.script.DeskAct.{DeskAct}
-use Rattle.tp_session.specs.Dump.{all_starts, drop_lines, drop_of, dump_lines, dump_text, life_text, lost_lines, server_line, server_starts, settings_lines, worker_text}
-use Rattle.tp_session.specs.Notes.{NotesView}
+use Rattle.tp_session.specs.Dump.{all_starts, drop_lines, drop_of, dump_text, life_text, lost_lines, server_line, server_starts, settings_lines, worker_text}
 use Rattle.tp_session.specs.declared.hand.Holding.{Holding}
 use Rattle.tp_exact.specs.PlainSession.{Refusals, SessionState, act_step, anew_as, command_by, dump_of, first_refusal, has_desk_open, last_step, line_step, lines_step, other_refusals, rolled_over, unless_refused, worker_step, works_in}
 

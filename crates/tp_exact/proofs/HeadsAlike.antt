@@ -1,14 +1,12 @@
 -- Behind the head a line says the same to heads that have the same names, and does the same.
-use Rattle.std.proofs.Common.{◌≡◌, ℕ, zero, suc, ◌+◌, ◌-◌, ◌^◌, ◌==◌, ◌&&◌, ◌||◌, Bool, true, false, if◌then◌else◌, None, Some, Ok, Err, Option, Result, List, [], ◌∷◌, ◌++◌, length, map, refl, sym, ◌∙◌, ap, subst, arith}
-use Rattle.std.specs.Prelude.{codes, is_none, position, slice_get}
-use Rattle.std.specs.Option.{option_map}
+use Rattle.std.proofs.Common.{◌≡◌, ℕ, ◌-◌, ◌^◌, ◌&&◌, Bool, true, false, if◌then◌else◌, None, Some, Ok, Err, Option, Result, List, [], ◌∷◌, refl, ◌∙◌, ap}
+use Rattle.std.specs.Prelude.{is_none, position}
 use Rattle.std.specs.Str.{bytes_eq}
 use Rattle.tp_script.specs.Clients.{client_words, forget_at, last_at, last_by, noted_at, receive_at, receive_least, receive_of, register_at, send_of, send_words}
 use Rattle.tp_script.specs.Commands.{SubmitWords, balance_at, command_at, named, one_server, submit_body, take_at}
 use Rattle.tp_script.specs.Grammar.{act_at, act_by, body_at, body_keyword, body_words, given_by, is_named, line_words, out_of_order, worker_act, worker_of}
 use Rattle.tp_script.specs.Keyword.{keyword}
 use Rattle.tp_script.specs.LineWords.{◌>>=◌, is_name, known, none, number_at, one, ordinal_at, require, three, two}
-use Rattle.tp_script.specs.Notes.{NameView}
 use Rattle.tp_script.specs.Script.{HeadView, ServerView, WorkerView}
 use Rattle.tp_script.specs.ServerLines.{free_name, server_at, shape_at, worker_at}
 use Rattle.tp_script.specs.declared.fault.LineFault.{LineFault}

@@ -50,6 +50,7 @@ pub mod ClientReads
 pub mod NoteReads
 pub mod RestoredNotes
 pub mod HeadReads
+pub mod OutputReads
 pub mod ServerReads
 pub mod StartReads
 pub mod WholeDumps

@@ -1,5 +1,5 @@
 -- The state to which the restore of a dump leads is like the one to which a rollover leads.
-use Rattle.std.proofs.Common.{◌≡◌, ℕ, suc, None, ◌+◌, List, [], ◌∷◌, length, map, Some, refl, sym, ◌∙◌, ap, subst, arith, Bool, true, false, ◌<◌}
+use Rattle.std.proofs.Common.{◌≡◌, ℕ, suc, None, ◌+◌, List, [], ◌∷◌, length, map, Some, refl, sym, ◌∙◌, ap, subst, arith, Bool, true, false, ◌<◌, inl, inr, zero}
 use Rattle.std.specs.Prelude.{drop, position, slice_get}
 use Rattle.std.proofs.lemmas.List.{length-map}
 use Rattle.tp_model.specs.declared.types.Limits.{Limits}
@@ -15,7 +15,7 @@ use Rattle.tp_reference.specs.declared.plain_desk.PlainDesk.{PlainDesk}
 use Rattle.tp_script.specs.LineWords.{is_name}
 use Rattle.tp_script.specs.ServerLines.{worker_at}
 use Rattle.tp_session.specs.Dump.{drop_lines}
-use Rattle.tp_reference.specs.PlainReport.{new_desk, worker}
+use Rattle.tp_reference.specs.PlainReport.{finals_below, new_desk, worker}
 use Rattle.tp_script.specs.Script.{HeadView, ServerView, WorkerView, head_view}
 use Rattle.tp_script.specs.declared.head.Head.{Head}
 use Rattle.tp_perform.specs.Rollover.{BeginsAgain}
@@ -33,15 +33,19 @@ use Rattle.tp_exact.specs.Alive.{alive_of}
 use Rattle.tp_exact.specs.Dumps.{AreHeldFrom, all_lost, line_of}
 use Rattle.tp_exact.specs.HeadReads.{started}
 use Rattle.tp_exact.specs.NoteReads.{alive_notes}
-use Rattle.tp_exact.specs.PlainSession.{SessionState, anew_as, begin, lines_step, restored, rolled_over, unrestored, works_in}
+use Rattle.tp_exact.specs.PlainSession.{Refusals, SessionState, anew_as, begin, lines_step, restored, rolled_over, unrestored, works_in}
 use Rattle.tp_exact.specs.Sessions.{StandsLive}
 use Rattle.tp_exact.specs.Stands.{IsFor}
-use Rattle.tp_exact.specs.WholeDumps.{AreAlike, IsDumped, RestoredStands, SaysAll, registers_of}
+use Rattle.tp_exact.specs.WholeDumps.{AnswersGoOn, AreAlike, AreAtRest, IsDumped, RestoredStands, SaysAll, registers_of}
 use Rattle.tp_exact.proofs.Anews.{lost_long, works_here, works_long}
 use Rattle.tp_exact.proofs.DumpActs.{alive_so, dropped_are, registers_are}
 use Rattle.tp_exact.proofs.RestoredDumps.{described_again, held_by_workers}
 use Rattle.tp_exact.proofs.RestoredHands.{restored_hands}
 use Rattle.tp_exact.proofs.RestoredNotes.{restored_notes}
+use Rattle.tp_exact.proofs.ActsAlike.{SayTheSame, same_finals, same_lines_step, strip}
+use Rattle.tp_exact.proofs.HeadsAlike.{SameNames, no_restore, same_body}
+use Rattle.tp_model.specs.History.{In, here, there}
+use Rattle.tp_model.proofs.Bridges.{in_cons, in_none}
 use Rattle.tp_exact.proofs.DropReads.{AreFresh, Free, drops_are, drops_keep, drops_lead, first_ones, none_held}
 use Rattle.tp_exact.proofs.NoteReads.{same_bytes}
 use Rattle.tp_exact.proofs.Places.{passes}
@@ -62,6 +66,64 @@ started_held [] [] same = refl
 started_held [] (rs ∷ rss) same = absurd (omega (arith, same))
 started_held (v ∷ vs) [] same = absurd (omega (arith, same))
 started_held (v ∷ vs) (rs ∷ rss) same = ap (λ z. rs ∷ z) (started_held vs rss (omega (arith, same)))
+
+-- ---- desks at rest
+
+abbrev AreRested : List PlainDesk → Type 0
+AreRested ds = (d : PlainDesk) → In d ds → (d.taken ≡ None) × (d.is_prepared ≡ false)
+
+new_rested : (vs : List ServerView) → AreRested (map new_desk vs)
+new_rested [] d at = absurd (in_none at)
+new_rested (v ∷ vs) d at = elim (in_cons at) [
+  | inl e ↦ (ap (λ (x : PlainDesk). x.taken) e, ap (λ (x : PlainDesk). x.is_prepared) e)
+  | inr more ↦ new_rested vs d more
+]
+
+rested : (ds : List PlainDesk) (bs : List Bool) (n : ℕ) → AreRested ds → AreRested (first_ones ds bs n)
+rested [] [] n rest e at = rest e at
+rested [] (b ∷ bs) n rest e at = rest e at
+rested (d ∷ ds) [] n rest e at = rest e at
+rested (d ∷ ds) (b ∷ bs) zero rest e at = elim (in_cons at) [
+  | inl same ↦ subst (λ (x : PlainDesk). (x.taken ≡ None) × (x.is_prepared ≡ false)) (sym same) (rest d here)
+  | inr more ↦ rested ds bs zero (λ x in_it. rest x (there in_it)) e more
+]
+rested (d ∷ ds) (true ∷ bs) (suc n) rest e at = elim (in_cons at) [
+  | inl same ↦ (ap (λ (x : PlainDesk). x.taken) same, ap (λ (x : PlainDesk). x.is_prepared) same)
+  | inr more ↦ rested ds bs n (λ x in_it. rest x (there in_it)) e more
+]
+rested (d ∷ ds) (false ∷ bs) (suc n) rest e at = elim (in_cons at) [
+  | inl same ↦ subst (λ (x : PlainDesk). (x.taken ≡ None) × (x.is_prepared ≡ false)) (sym same) (rest d here)
+  | inr more ↦ rested ds bs n (λ x in_it. rest x (there in_it)) e more
+]
+
+first_of : {A : Type 0} (x y : A) (xs ys : List A) → x ∷ xs ≡ y ∷ ys → x ≡ y
+first_of {A} x y xs ys e = ap (λ (zs : List A). head_of zs) e
+  where
+    head_of : List A → A
+    head_of [] = x
+    head_of (z ∷ zs) = z
+
+others_of : {A : Type 0} (x y : A) (xs ys : List A) → x ∷ xs ≡ y ∷ ys → xs ≡ ys
+others_of {A} x y xs ys e = ap (λ (zs : List A). tail_of zs) e
+  where
+    tail_of : List A → List A
+    tail_of [] = xs
+    tail_of (z ∷ zs) = zs
+
+same_desks : (ds es : List PlainDesk) → map (λ d. d.registers) ds ≡ map (λ d. d.registers) es → map (λ d. d.is_dropped) ds ≡ map (λ d. d.is_dropped) es → AreRested ds → AreRested es → ds ≡ es
+same_desks [] [] held dropped rest also = refl
+same_desks [] (e ∷ es) held dropped rest also = absurd cc
+same_desks (d ∷ ds) [] held dropped rest also = absurd cc
+same_desks (d ∷ ds) (e ∷ es) held dropped rest also =
+    let r = first_of d.registers e.registers (map (λ d. d.registers) ds) (map (λ d. d.registers) es) held in
+    let x = first_of d.is_dropped e.is_dropped (map (λ d. d.is_dropped) ds) (map (λ d. d.is_dropped) es) dropped in
+    let one = rest d here in
+    let other = also e here in
+    let others = same_desks ds es (others_of d.registers e.registers (map (λ d. d.registers) ds) (map (λ d. d.registers) es) held) (others_of d.is_dropped e.is_dropped (map (λ d. d.is_dropped) ds) (map (λ d. d.is_dropped) es) dropped) (λ y at. rest y (there at)) (λ y at. also y (there at)) in
+    ap (λ z. record d { registers = z } ∷ ds) r
+    ∙ (ap (λ z. record d { registers = e.registers; taken = z } ∷ ds) (one.0 ∙ sym other.0)
+    ∙ (ap (λ z. record d { registers = e.registers; taken = e.taken; is_prepared = z } ∷ ds) (one.1 ∙ sym other.1)
+    ∙ (ap (λ z. record e { is_dropped = z } ∷ ds) x ∙ ap (λ z. e ∷ z) others)))
 
 module _ (source : Head) (old done : Live) (survivors : List Survivor) (s : SessionState) (head : Head) (begun : Live) (text : List ℕ) (new : Live)
     (it : IsDumped (head_view source) old done survivors s) (says : SaysAll (head_view source) (head_view head) old survivors) (limits : old.stand.manager.limits ≡ limits_of (head_view source) 0) (as_said : begun.stand.manager.limits ≡ limits_of (head_view head) 0)
@@ -272,5 +334,50 @@ module _ (source : Head) (old done : Live) (survivors : List Survivor) (s : Sess
         subst (λ z. AreAlike (lines_step g past [] drops z).1 (rolled_over h s).1) (sym restored_is)
         (subst (λ z. AreAlike (lines_step g past [] drops by_restore).1 z) (sym rolled_is) (subst (λ z. AreAlike z by_rollover) (sym last_is) alike))
 
+    -- ---- the very state
+
+    whole : AreAtRest s → last ≡ by_rollover
+    whole rest =
+        let desks = same_desks last_desks s.report.desks last_registers last_dropped (rested (map new_desk g.servers) bs (length h.servers) (new_rested g.servers)) rest in
+        ap (λ ds. record by_restore { report = record { manager = m; desks = ds } }) desks
+        ∙ (ap (λ ws. record { report = record s.report { manager = m }; works = ws; notes = notes_in moved b.notes }) (restored_works ∙ sym rolled_works)
+        ∙ ap (λ n. record { report = record s.report { manager = m }; works = works_in s moved m s.works; notes = n }) same_notes)
+
+    same_state : AreAtRest s → (lines_step g past [] drops (restored g b).1).1 ≡ (rolled_over h s).1
+    same_state rest = ap (λ z. (lines_step g past [] drops z).1) restored_is ∙ (last_is ∙ (whole rest ∙ sym rolled_is))
+
+  stripped : (vs : List ServerView) (rss : List (List ℕ)) → length rss ≡ length vs → map strip (started vs rss) ≡ map strip vs
+  stripped [] [] same = refl
+  stripped [] (rs ∷ rss) same = refl
+  stripped (v ∷ vs) [] same = absurd (omega (arith, same))
+  stripped (v ∷ vs) (rs ∷ rss) same = ap (λ z. strip v ∷ z) (stripped vs rss (omega (arith, same)))
+
+  say_the_same : SayTheSame g h
+  say_the_same = record {
+    settings = says.settings;
+    servers = ap (λ (vs : List ServerView). map strip vs) says.servers ∙ stripped h.servers (registers_of old) it.registers.each;
+    workers = says.workers;
+  }
+
+  same_names : SameNames g h
+  same_names = record {
+    servers = λ name. ap (λ (vs : List ServerView). position (λ (v : ServerView). bytes_eq v.name name) vs) says.servers ∙ same_places name h.servers (registers_of old) it.registers.each;
+    workers = says.workers;
+  }
+
+  pub goes_on : (past n : ℕ) (refusals : Refusals) (lines : List (List ℕ)) → AreAtRest s
+      → lines_step g n refusals lines (lines_step g past [] (drop_lines h.servers bs (length h.servers)) (restored g b).1).1 ≡ lines_step h n refusals lines (rolled_over h s).1
+  goes_on past n refusals lines rest =
+      ap (λ z. lines_step g n refusals lines z) (same_state past rest) ∙ same_lines_step g h say_the_same (same_body g h same_names) (no_restore h) n refusals lines (rolled_over h s).1
+
+  pub final_lines : (desks : List PlainDesk) → finals_below g.servers desks (length g.servers) ≡ finals_below h.servers desks (length h.servers)
+  final_lines desks = ap (λ n. finals_below g.servers desks n) servers_long ∙ same_finals g.servers h.servers say_the_same.servers desks (length h.servers)
+
 pub restored_stands : RestoredStands
 restored_stands source old done survivors s head begun text new past it says limits as_said stands holds t = stands_so source old done survivors s head begun text new it says limits as_said stands holds t past
+
+pub answers_go_on : AnswersGoOn
+answers_go_on source old done survivors s head begun text new past n refusals lines it says limits as_said stands holds t rest = (
+  goes_on source old done survivors s head begun text new it says limits as_said stands holds t past n refusals lines rest,
+  final_lines source old done survivors s head begun text new it says limits as_said stands holds t,
+)

@@ -39,12 +39,13 @@ pub record IsWorker (h : HeadView) (w : WorkerView) : Type 0 where
   pub no_client : has_client w.name h ≡ false
   pub stage : (1 ≤ w.stage) × (w.stage ≤ MAX_STAGE)
 
--- The lines of workers, each of a name of its own, read one after another by a head without workers, lead to a
--- head with just these.
+-- The lines of workers, each of a name of its own, read one after another by a head without workers, lead to
+-- a head with just these.
 abbrev pub WorkerLinesRead : Type 0
 WorkerLinesRead =
     (workers : List WorkerView) (h : HeadView) (past : ℕ)
-    → ((w : WorkerView) → In w workers → IsWorker h w) → ((name : List ℕ) → count_by (λ (w : WorkerView). bytes_eq w.name name) workers ≤ 1)
+    → ((w : WorkerView) → In w workers → IsWorker h w)
+    → ((name : List ℕ) → count_by (λ (w : WorkerView). bytes_eq w.name name) workers ≤ 1)
     → length workers ≤ MAX_WORKERS → h.workers ≡ []
     → HeadLines past (map worker_text workers) h [] (record h { workers = workers })
 
@@ -77,8 +78,8 @@ pub record IsServer (v : ServerView) : Type 0 where
 abbrev pub unstarted : ServerView → ServerView
 unstarted v = record v { registers = replicate v.recipe.registers 0 }
 
--- The lines of servers, each of a name of its own, read one after another by a head without servers, workers and
--- clients, lead to a head with just these, whose registers are all 0.
+-- The lines of servers, each of a name of its own, read one after another by a head without servers, workers
+-- and clients, lead to a head with just these, whose registers are all 0.
 abbrev pub ServerLinesRead : Type 0
 ServerLinesRead =
     (servers : List ServerView) (h : HeadView) (past : ℕ)
@@ -93,15 +94,16 @@ started (v ∷ servers) (held ∷ registers) = record v { registers = held } ∷
 started servers registers = []
 
 -- the server at a place is found there by its name, and these registers are its
-pub record HasRegisters (servers : List ServerView) (place : ℕ) (v : ServerView) (held : List ℕ) : Type 0 where
+pub record HasRegisters (servers : List ServerView) (place : ℕ) (v : ServerView) (held : List ℕ)
+    : Type 0 where
   pub named : is_name v.name ≡ true
   pub at : position (λ (u : ServerView). bytes_eq u.name v.name) servers ≡ Some place
   pub many : length held ≡ v.recipe.registers
   pub few : length held ≤ 64
   pub values : (n value : ℕ) → slice_get held n ≡ Some value → value < 2 ^ 64
 
--- The lines of registers that aren't 0, read one after another by a head whose registers are all 0, lead to a head
--- with just these.
+-- The lines of registers that aren't 0, read one after another by a head whose registers are all 0, lead to a
+-- head with just these.
 abbrev pub StartLinesRead : Type 0
 StartLinesRead =
     (servers : List ServerView) (registers : List (List ℕ)) (h : HeadView) (past : ℕ)

@@ -49,8 +49,8 @@ IsFitEnd (Aborted element) = IsId element
 IsFitEnd (Lost element) = IsId element
 IsFitEnd (Full element) = IsId element
 
--- What is noted in a session with this head: one note of each client, whose name neither a server nor a worker
--- has; requests of theirs, each once; and of each worker how its last unit ended, if one has.
+-- What is noted in a session with this head: one note of each client, whose name neither a server nor a
+-- worker has; requests of theirs, each once; and of each worker how its last unit ended, if one has.
 pub record AreNotes (h : HeadView) (n : NotesView) : Type 0 where
   pub few : length n.clients ≤ MAX_CLIENTS
   pub clients : (c : ClientNote) → In c n.clients → IsFitNote c × IsClientName h c.name.letters
@@ -68,9 +68,9 @@ alive_notes survivors n = record n { requests = filter (λ r. is_root survivors 
 abbrev pub with_notes : HeadView → NotesView → List EndLine → HeadView
 with_notes h n ends = record h { clients = n.clients; requests = n.requests; ends = ends }
 
--- All lines that a dump tells of notes, read one after another by a head that has the workers and in which nothing
--- is noted yet, lead to a head with just these notes, but for requests of which nothing is alive; and none is
--- refused. So the session of that head begins with them.
+-- All lines that a dump tells of notes, read one after another by a head that has the workers and in which
+-- nothing is noted yet, lead to a head with just these notes, but for requests of which nothing is alive; and
+-- none is refused. So the session of that head begins with them.
 abbrev pub NoteLinesRead : Type 0
 NoteLinesRead =
     (h : HeadView) (n : NotesView) (survivors : List Survivor)
@@ -80,8 +80,8 @@ NoteLinesRead =
     (with_notes h (alive_notes survivors n) ends))
     × (notes_of (with_notes h (alive_notes survivors n) ends) h.workers ≡ alive_notes survivors n)
 
--- Where a head's session, which begins with such notes, has made again what the head says is alive, the same is
--- noted as would be after a rollover that has moved the same.
+-- Where a head's session, which begins with such notes, has made again what the head says is alive, the same
+-- is noted as would be after a rollover that has moved the same.
 abbrev pub RestoredNotes : Type 0
 RestoredNotes =
     (head : HeadView) (old : Live) (text : List ℕ) (new : Live) (n : NotesView)

@@ -1,11 +1,13 @@
 -- What a new session's head says that has read all lines of a dump.
-use Rattle.std.specs.Prelude.{◌≡◌, ◌<◌, ◌≤◌, ◌+◌, ◌^◌, ℕ, true, false, List, [], None, Some, is_none, length, map}
-use Rattle.std.specs.Prelude.{count_by, position, slice_get}
+use Rattle.std.specs.Prelude.{◌≡◌, ◌<◌, ◌≤◌, ◌+◌, ◌^◌, ℕ, true, false, List, [], None, Some, length, map}
+use Rattle.std.specs.Prelude.{is_none, count_by, position, slice_get}
 use Rattle.std.specs.Str.{bytes_eq}
 use Rattle.tp_model.specs.History.{In}
 use Rattle.tp_model.specs.Steps.{AreLimits}
 use Rattle.tp_model.specs.declared.types.TheConstants.{MAX_STAGE}
 use Rattle.tp_rollover.specs.declared.survivors.Survivor.{Survivor}
+use Rattle.tp_reference.specs.PlainReport.{finals_below}
+use Rattle.tp_reference.specs.declared.plain_desk.PlainDesk.{PlainDesk}
 use Rattle.tp_script.specs.LineWords.{is_name}
 use Rattle.tp_script.specs.Script.{HeadView, ServerView, WorkerView, head_view, no_head}
 use Rattle.tp_script.specs.ServerLines.{worker_at}
@@ -23,7 +25,7 @@ use Rattle.tp_exact.specs.AliveReads.{IsBody64}
 use Rattle.tp_exact.specs.Dumps.{all_lost, line_of}
 use Rattle.tp_exact.specs.HeadReads.{AreSettings, IsServer, started}
 use Rattle.tp_exact.specs.NoteReads.{AreNotes, alive_notes}
-use Rattle.tp_exact.specs.PlainSession.{SessionState, begin, lines_step, read_head, restored}
+use Rattle.tp_exact.specs.PlainSession.{Refusals, SessionState, begin, lines_step, read_head, restored}
 use Rattle.tp_exact.specs.PlainSession.{rolled_over}
 use Rattle.tp_exact.specs.Sessions.{StandsLive}
 
@@ -69,7 +71,8 @@ pub record AreWords64 (l : Live) (survivors : List Survivor) : Type 0 where
       → lost_element false work ≡ Some element → element < 2 ^ 32
 
 -- a session with this head, in which this was found for a dump, and no desk has a unit open
-pub record IsDumped (h : HeadView) (old done : Live) (survivors : List Survivor) (s : SessionState) : Type 0 where
+pub record IsDumped (h : HeadView) (old done : Live) (survivors : List Survivor) (s : SessionState)
+    : Type 0 where
   pub stands : StandsLive h old s
   pub holds : HoldsUnits old
   pub no_desk : lives.has_desk_open old ≡ false
@@ -93,8 +96,8 @@ pub record SaysAll (h t : HeadView) (old : Live) (survivors : List Survivor) : T
   pub lost : t.lost ≡ all_lost (1 + length h.servers) old.works survivors (length old.works)
   pub notes : notes_of t h.workers ≡ alive_notes survivors old.notes
 
--- All lines of a dump, read by a new session: none is refused, the first command is `restore`, behind which desks
--- are dropped, and the head says all that was dumped.
+-- All lines of a dump, read by a new session: none is refused, the first command is `restore`, behind which
+-- desks are dropped, and the head says all that was dumped.
 abbrev pub WholeDumpRead : Type 0
 WholeDumpRead =
     (h : HeadView) (old done : Live) (survivors : List Survivor) (s : SessionState)
@@ -110,8 +113,8 @@ WholeDumpRead =
 
 -- ---- what is made of it
 
--- The managers, what workers have in hand, what is noted and the servers' registers are the same, and so is which
--- desks were dropped.
+-- The managers, what workers have in hand, what is noted and the servers' registers are the same, and so is
+-- which desks were dropped.
 pub record AreAlike (a b : SessionState) : Type 0 where
   pub manager : a.report.manager ≡ b.report.manager
   pub works : a.works ≡ b.works
@@ -119,8 +122,8 @@ pub record AreAlike (a b : SessionState) : Type 0 where
   pub registers : map (λ d. d.registers) a.report.desks ≡ map (λ d. d.registers) b.report.desks
   pub dropped : map (λ d. d.is_dropped) a.report.desks ≡ map (λ d. d.is_dropped) b.report.desks
 
--- Where the new session's `restore` makes again what its head says, and then drops the desks that were dropped, that
--- leads to a state like the one to which a rollover of the dumped session leads.
+-- Where the new session's `restore` makes again what its head says, and then drops the desks that were
+-- dropped, that leads to a state like the one to which a rollover of the dumped session leads.
 abbrev pub RestoredStands : Type 0
 RestoredStands =
     (source : Head) (old done : Live) (survivors : List Survivor) (s : SessionState)
@@ -130,3 +133,23 @@ RestoredStands =
     → old.stand.manager.limits ≡ limits_of h 0 → begun.stand.manager.limits ≡ limits_of t 0
     → StandsLive t begun (begin t) → HoldsUnits begun → RestoredLive t begun text new
     → AreAlike (lines_step t past [] (drops_of h old) (restored t (begin t)).1).1 (rolled_over h s).1
+
+-- no desk has work in hand, nor anything left of it
+abbrev pub AreAtRest : SessionState → Type 0
+AreAtRest s = (d : PlainDesk) → In d s.report.desks → (d.taken ≡ None) × (d.is_prepared ≡ false)
+
+-- So all lines that come behind have the same answers in both sessions, where they have the same numbers and
+-- are refused alike, and so are the final lines: from there on nobody can tell the two apart.
+abbrev pub AnswersGoOn : Type 0
+AnswersGoOn =
+    (source : Head) (old done : Live) (survivors : List Survivor) (s : SessionState)
+    (head : Head) (begun : Live) (text : List ℕ) (new : Live)
+    (past n : ℕ) (refusals : Refusals) (lines : List (List ℕ))
+    → let h = head_view source in let t = head_view head in
+    IsDumped h old done survivors s → SaysAll h t old survivors
+    → old.stand.manager.limits ≡ limits_of h 0 → begun.stand.manager.limits ≡ limits_of t 0
+    → StandsLive t begun (begin t) → HoldsUnits begun → RestoredLive t begun text new → AreAtRest s
+    → (lines_step t n refusals lines (lines_step t past [] (drops_of h old) (restored t (begin t)).1).1
+    ≡ lines_step h n refusals lines (rolled_over h s).1)
+    × ((desks : List PlainDesk)
+    → finals_below t.servers desks (length t.servers) ≡ finals_below h.servers desks (length h.servers))

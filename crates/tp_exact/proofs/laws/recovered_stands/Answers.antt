@@ -1,4 +1,4 @@
-use Rattle.tp_exact.proofs.RestoredStates.{restored_stands}
+use Rattle.tp_exact.proofs.RestoredStates.{answers_go_on, restored_stands}
 use Rattle.tp_exact.proofs.WholeDumps.{whole_dump_read}
 use Rattle.tp_exact.proofs.laws.recovered_stands.Goals as goal
 
@@ -7,3 +7,6 @@ returns-clause-read c = whole_dump_read
 
 pub returns-clause-stands : goal.returns-clause-stands
 returns-clause-stands c = restored_stands
+
+pub returns-clause-answers : goal.returns-clause-answers
+returns-clause-answers c = answers_go_on
