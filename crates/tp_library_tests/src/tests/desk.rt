@@ -1,62 +1,50 @@
-//! Desks at work, and what the lenders of a pass and a server find afterwards.
+//! Desks at work: each turn asks the server once, and a desk that is dropped calls off its work.
 ghost use Rattle.std.specs.Prelude.{◌≡◌, None};
 ghost use Rattle.tp_manager.specs.Shown.{IsOf};
 
-mod asides;
-mod asking;
-mod calls;
-mod counting;
-mod drops;
-mod given;
 mod lender;
-mod plays;
-mod turns;
 
-use crate::tests::fixture::two;
-use std::process::Abort;
-use tp_manager::{Manager, Pass};
-use tp_model::types::Limits;
-use tp_server::Server;
+use crate::tests::desk::lender::prepare_and_drop;
+use crate::tests::fixture::{eager, manager, pass, recipe};
+use crate::tests::server::told::from_zero;
+use tp_model::types::{Limits, Status};
+use tp_server::{Act, Server};
+use tp_workers::{Plan, work_off};
 
-/// A manager with a client's pass, and a server with its pass. A test borrows the parts, and lets the whole
-/// go at its end.
-#[derive(Drop)]
-struct Parts {
-    manager: Manager,
-    client: Pass,
-    worker: Pass,
-    server: Box<dyn Server + Send>,
+const LIMITS: Limits = Limits {
+    parts: 2,
+    rows: 4,
+    units: 8,
+    attempts: 3,
+    spare: 0,
+};
+
+#[test]
+fn a_turn_asks_once(rt: HostRuntime) {
+    let (manager, mut keeper) = manager(&rt, LIMITS);
+    let mut client = pass(&rt, &mut keeper, &manager);
+    let mut worker = pass(&rt, &mut keeper, &manager);
+    assert!(rt; manager.submit(&mut client, 1, [0, 5, 0, 0]) == Ok(0));
+    assert!(rt; manager.submit(&mut client, 1, [0, 7, 0, 0]) == Ok(1));
+    let mut server: Box<dyn Server + Send> = Box::new(rt.alloc(), from_zero()).expect(
+        &rt,
+        "no memory",
+    );
+    let counts = work_off(&manager, &mut worker, &mut server, Plan::least_first(2));
+    assert!(rt; counts.done == 2);
+    assert!(rt; server.balance(0) == Some(1) && server.balance(1) == Some(1));
 }
 
-/// A bench for this server, whose passes have this many rows and units, where an element has three attempts.
-fn bench<R: Abort + AllocGlobal>(
-    rt: &R,
-    rows: u16,
-    units: u16,
-    server: Box<dyn Server + Send>,
-) -> Parts
-    requires { pending server ≡ None }
-    ensures own { IsOf result.manager result.client × IsOf result.manager result.worker }
-    ensures free { (result.client.open_unit ≡ None) × (result.worker.open_unit ≡ None) }
-    ensures clear { pending result.server ≡ None }
-{
-    let limits = Limits {
-        parts: 2,
-        rows,
-        units,
-        attempts: 3,
-        spare: 0,
-    };
-    let (manager, client, worker) = two(rt, limits);
-    Parts {
-        manager,
-        client,
-        worker,
-        server,
-    }
-}
-
-/// Lets the parts go.
-fn clear(parts: Parts) {
-    drop(parts);
+#[test]
+fn dropped_with_prepared_work(rt: HostRuntime) {
+    let (manager, mut keeper) = manager(&rt, LIMITS);
+    let mut client = pass(&rt, &mut keeper, &manager);
+    let mut worker = pass(&rt, &mut keeper, &manager);
+    assert!(rt; manager.submit(&mut client, 1, [0, 6, 0, 0]) == Ok(0));
+    let mut server = eager(&rt, 0, recipe(1, Act::Add, &[]));
+    assert!(rt; prepare_and_drop(&manager, &mut worker, &mut server));
+    assert!(rt; !worker.has_open() && !server.is_prepared());
+    assert!(rt; server.balance(0) == Some(0));
+    let look = manager.read(&mut client, 0).expect(&rt, "not born");
+    assert!(rt; look.status == Status::Waiting { attempts: 1 });
 }

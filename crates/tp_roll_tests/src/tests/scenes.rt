@@ -29,10 +29,7 @@ pub(super) fn kept<R: Abort + AllocGlobal>(rt: &R, limits: Limits) -> (Manager, 
 }
 
 /// Whether what was found is what was wanted.
-pub(super) fn is_answer(
-    found: Result<Vec<Moved>, RollFault>,
-    wanted: Result<&[Moved], RollFault>,
-) -> bool {
+fn is_answer(found: Result<Vec<Moved>, RollFault>, wanted: Result<&[Moved], RollFault>) -> bool {
     match found {
         Ok(moved) => wanted == Ok(moved.as_slice()),
         Err(fault) => wanted == Err(fault),
