@@ -7,7 +7,7 @@ use arrayvec::ArrayVec;
 use std::process::Abort;
 use tp_crew::{Crew, CrewLimits};
 use tp_desk::Order;
-use tp_manager::Room;
+use tp_manager::{MakeFault, Room};
 use tp_model::types::Status;
 use tp_rollover::{Moved, RollFault};
 use tp_server::{Act, AmountFrom, EagerServer, KeyFrom, Output, Recipe, Registers, Server};
@@ -182,4 +182,15 @@ fn crew_without_room(rt: HostRuntime) {
     drop(rolls(&rt, &mut crew, 2));
     has_added(&rt, &crew, 10);
     drop(crew);
+}
+
+/// With the caller's own pass, those of the box and of 31 clients would be 33, one more than there can be.
+#[test]
+fn crew_too_large(rt: HostRuntime) {
+    let mut boxes: Vec<Box<dyn Server + Send>> = Vec::new(rt.alloc());
+    boxes
+        .push(server(&rt, 1, Act::Add, 0))
+        .expect(&rt, "no memory");
+    let made = Crew::new(rt.alloc(), limits(2), boxes, 31);
+    assert!(rt; made.err() == Some(MakeFault::BadLimits));
 }
