@@ -1,5 +1,4 @@
 //! Worked examples of the calls.
-ghost use Rattle.tp_manager.specs.Shown.{IsOf};
 
 mod asking;
 mod kills;

@@ -1,6 +1,5 @@
 //! Seats that step in turn.
-ghost use Rattle.std.specs.Prelude.{◌≡◌, ◌+◌, ◌-◌, ◌*◌, ◌<◌, ◌≤◌, [], length, true, false, IfSome, Some};
-ghost use Rattle.std.specs.Prelude.{None};
+ghost use Rattle.std.specs.Prelude.{◌≡◌, ◌+◌, ◌-◌, ◌*◌, ◌<◌, [], length, true, IfSome, Some, None};
 ghost use Rattle.tp_model.specs.declared.trace.StepKind.TheVariants as kinds;
 ghost use Rattle.tp_model.specs.declared.types.Element.{Element};
 ghost use Rattle.tp_model.specs.History.{Aborted, element_of, end_of, first_id};
@@ -10,17 +9,18 @@ ghost use Rattle.tp_rule.specs.Views.{IsNextRow, IsNextUnit, IsSameSeat};
 ghost use Rattle.tp_rule.specs.Steps.{HasWork, IsOwnWork, noted};
 ghost use Rattle.tp_rule.specs.Tables.{table_limits, IsSeatOf, IsPassOf};
 
-use std::alloc::Global;
+use std::process::Abort;
 use tp_model::types::{Body, Limits};
 use tp_rule::{Seat, Words};
 use tp_words::{Claim, FoundClaim, Head, Places, UnitWord};
 
 /// Words for three passes of four rows and two units each, with two attempts, and the keeper's seat.
-fn small(alloc: Global) -> Option<(Words, Seat)>
-    ensures limits { IfSome result (λ made. table_limits made.0 ≡ record { parts = 3; rows = 4; units = 2; attempts = 2; spare = 0 }) }
-    ensures seat { IfSome result (λ made. IsSeatOf made.0 made.1) }
-    ensures view { IfSome result (λ made. view_of made.1 ≡ first_view (table_limits made.0)) }
-    ensures hands { IfSome result (λ made. (view_of made.1).hands ≡ fresh_from (table_limits made.0) 0 (3 - 0)) }
+fn small<R: Abort + AllocGlobal>(rt: &R) -> (Words, Seat)
+    ensures limits { table_limits result.0
+        ≡ record { parts = 3; rows = 4; units = 2; attempts = 2; spare = 0 } }
+    ensures seat { IsSeatOf result.0 result.1 }
+    ensures view { view_of result.1 ≡ first_view (table_limits result.0) }
+    ensures hands { (view_of result.1).hands ≡ fresh_from (table_limits result.0) 0 (3 - 0) }
 {
     let limits = Limits {
         parts: 3,
@@ -29,18 +29,20 @@ fn small(alloc: Global) -> Option<(Words, Seat)>
         attempts: 2,
         spare: 0,
     };
-    let places = Places::new(limits).ok()?;
-    Words::new(alloc, places).ok()
+    let places = Places::new(limits).expect(rt, "no places");
+    Words::new(rt.alloc(), places).expect(rt, "no memory")
 }
 
 /// The next pass of the three.
 fn pass(words: &Words, keeper: &mut Seat, number: u16) -> Seat
     requires own { IsSeatOf words.now keeper.old }
     requires limits { (view_of keeper.old).limits ≡ table_limits words.now }
-    requires left { (number < 3) × ((view_of keeper.old).hands ≡ fresh_from (table_limits words.now) number (3 - number)) }
+    requires left { (number < 3)
+        × ((view_of keeper.old).hands ≡ fresh_from (table_limits words.now) number (3 - number)) }
     ensures same { IsSameSeat keeper.old keeper.new }
     ensures limits { (view_of keeper.new).limits ≡ table_limits words.now }
-    ensures left { (view_of keeper.new).hands ≡ fresh_from (table_limits words.now) (number + 1) (3 - (number + 1)) }
+    ensures left { (view_of keeper.new).hands
+        ≡ fresh_from (table_limits words.now) (number + 1) (3 - (number + 1)) }
     ensures own { IsSeatOf words.now result }
     ensures one { IsPassOf words.now result }
     ensures number { (hand_of result).number ≡ number }
@@ -82,7 +84,8 @@ fn shows_request(words: &Words, seat: &mut Seat, row: u32) -> bool
     ensures one { IsPassOf words.now seat.new }
     ensures looked { hand_of seat.new ≡ noted kinds.Load (seen_by seat.new) (hand_of seat.old) }
     ensures there { result ≡ true
-        → (x : Element) × (element_of (seen_by seat.new) row ≡ Some x) × IsServerStage x.stage × (x.root ≡ 0) }
+        → (x : Element) × (element_of (seen_by seat.new) row ≡ Some x)
+        × IsServerStage x.stage × (x.root ≡ 0) }
 {
     let head = words.load_head(seat, row);
     head == Head::Filled {
@@ -137,14 +140,11 @@ fn draft_reply(words: &Words, seat: &mut Seat, row: u32, unit: u16)
     words.store_draft_head(seat, row, 15, 0, unit);
 }
 
-/// An output is written before its unit commits, and another pass can read its head. It is born where the word of the
-/// unit that its head names says so: in the exchange on that word.
+/// An output is written before its unit commits, and another pass can read its head. It is born where the
+/// word of the unit that its head names says so: in the exchange on that word.
 #[test]
 fn output_born_at_exchange(rt: HostRuntime) {
-    let Some((words, mut keeper)) = small(rt.alloc()) else {
-        assert!(rt; false);
-        return;
-    };
+    let (words, mut keeper) = small(&rt);
     let mut server = pass(&words, &mut keeper, 0);
     let mut reader = pass(&words, &mut keeper, 1);
     submit(&words, &mut server, 0, [0, 9, 8, 7]);
@@ -267,14 +267,11 @@ fn kill_as_first_found(words: &Words, seat: &mut Seat, row: u32, unit: u16) -> O
     }
 }
 
-/// A pass aborts the unit that holds an element, another claims the element again, and then the first pass's kill
-/// exchange with the old claim fails and adds no event: the element is not killed.
+/// A pass aborts the unit that holds an element, another claims the element again, and then the first pass's
+/// kill exchange with the old claim fails and adds no event: the element is not killed.
 #[test]
 fn stale_kill_exchange(rt: HostRuntime) {
-    let Some((words, mut keeper)) = small(rt.alloc()) else {
-        assert!(rt; false);
-        return;
-    };
+    let (words, mut keeper) = small(&rt);
     let mut killer = pass(&words, &mut keeper, 0);
     let mut first = pass(&words, &mut keeper, 1);
     let mut second = pass(&words, &mut keeper, 2);

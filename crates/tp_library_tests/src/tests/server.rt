@@ -104,12 +104,4 @@ fn printed_names(rt: HostRuntime) {
         let text = format!(in rt.alloc(); "{fault}").expect(&rt, "no memory");
         assert!(rt; text.as_str() == name);
     }
-    for (why, name) in [
-        (Declined::NoRegister, "NoRegister"),
-        (Declined::TooLarge, "TooLarge"),
-        (Declined::Short, "Short"),
-    ] {
-        let text = format!(in rt.alloc(); "{why}").expect(&rt, "no memory");
-        assert!(rt; text.as_str() == name);
-    }
 }

@@ -1,5 +1,5 @@
-//! Which values given numbers are as words, and that others are none. That a value packs to the number that it is read
-//! from is proved, and not tried here.
+//! Which values given numbers are as words, and that others are none. That a value packs to the number that
+//! it is read from is proved, and not tried here.
 
 use tp_words::{Claim, Head, UnitWord};
 

@@ -7,7 +7,7 @@ use tp_manager::{Manager, Pass};
 use tp_model::types::{Body, Draft, Ended, Outcome, Status};
 
 /// How an element stands.
-#[derive(Clone, Copy, Debug, PartialEq, Eq)]
+#[derive(Clone, Copy)]
 pub(super) struct Stand {
     pub id: u32,
     pub stage: u8,

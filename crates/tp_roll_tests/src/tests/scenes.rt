@@ -1,4 +1,5 @@
-//! Scenes: what is done in two managers, what the rollover from the one to the other answers, and what they show then.
+//! Scenes: what is done in two managers, what the rollover from the one to the other answers, and what they
+//! show then.
 ghost use Rattle.std.specs.Prelude.{All};
 ghost use Rattle.tp_manager.specs.Shown.{IsKeptBy, IsOf};
 
@@ -125,7 +126,8 @@ pub(super) fn rolls<R: Abort + AllocGlobal>(
     drop(old);
 }
 
-/// Whether a rollover between managers with these limits, neither of which gave out a pass, is refused for that.
+/// Whether a rollover between managers with these limits, neither of which gave out a pass, is refused for
+/// that.
 pub(super) fn needs_passes<R: Abort + AllocGlobal>(rt: &R, limits: Limits) -> bool {
     let (old, mut old_keeper) = Keeper::new(rt.alloc(), limits).expect(rt, "no manager");
     let (new, mut new_keeper) = Keeper::new(rt.alloc(), limits).expect(rt, "no manager");

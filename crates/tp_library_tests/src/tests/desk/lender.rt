@@ -8,8 +8,8 @@ use tp_manager::{Manager, Pass};
 use tp_model::types::Claimed;
 use tp_server::Server;
 
-/// Lends a pass and a server to a desk that takes an element in hand, prepares its work, and is dropped. Whether it came
-/// so far.
+/// Lends a pass and a server to a desk that takes an element in hand, prepares its work, and is dropped.
+/// Whether it came so far.
 pub(super) fn prepare_and_drop(
     manager: &Manager,
     pass: &mut Pass,
@@ -21,7 +21,8 @@ pub(super) fn prepare_and_drop(
     ensures own { IsOf manager.now pass.new }
     ensures free { pass.new.open_unit ≡ None }
     ensures clear { pending server.new ≡ None }
-    ensures leaves { Leaves (behaviour server.new) (registers server.old) (registers server.new) pass.old pass.new }
+    ensures leaves { Leaves (behaviour server.new) (registers server.old) (registers server.new)
+        pass.old pass.new }
 {
     let mut desk = Desk::new(manager, pass, server);
     match desk.claim() {

@@ -1,5 +1,5 @@
-//! Calls of a manager with the answers that they are to give. A call that the pass may not make now isn't made, and gives
-//! no answer.
+//! Calls of a manager with the answers that they are to give. A call that the pass may not make now isn't
+//! made, and gives no answer.
 ghost use Rattle.tp_manager.specs.Shown.{IsOf};
 
 use tp_manager::{Manager, Pass};

@@ -1,4 +1,5 @@
-//! Tests as tables: calls of a manager's passes with the answers that they are to give, played one after another.
+//! Tests as tables: calls of a manager's passes with the answers that they are to give, played one after
+//! another.
 ghost use Rattle.std.specs.Prelude.{All};
 ghost use Rattle.tp_manager.specs.Shown.{IsOf};
 

@@ -1,8 +1,7 @@
-//! A handler is asked for the effect of each element once, and told of each commit once. It counts both: its registers
-//! become how often it was asked before, and how often told.
+//! A handler that counts: its registers become how often it was asked for an effect before, and how often it
+//! was told of a commit.
 ghost use Rattle.std.specs.Prelude.{◌≡◌, [], ◌∷◌, Ok, None, slice_index};
 
-use super::element;
 use tp_model::types::Element;
 use tp_server::{Declined, Effect, Handler, OwnServer, Server};
 
@@ -12,7 +11,7 @@ pub(crate) struct Counting {
     told: u64,
 }
 
-/// A server that counts from 0.
+/// A server that has counted nothing.
 pub(crate) fn from_zero() -> OwnServer<Counting, 2>
     ensures { ⟦<OwnServer<Counting, 2> as Server>⟧.pending result ≡ None }
 {
@@ -39,18 +38,4 @@ impl Handler<2> for Counting {
     fn committed(&mut self, _element: &Element, _registers: &[u64; 2]) {
         self.told = self.told.wrapping_add(1);
     }
-}
-
-#[test]
-fn told_once_a_commit(rt: HostRuntime) {
-    let mut server = from_zero();
-    assert!(rt; server.prepare(&element(0, 1)).is_ok());
-    server.commit();
-    assert!(rt; server.balance(0) == Some(0) && server.balance(1) == Some(0));
-    // Work that is undone isn't told of.
-    assert!(rt; server.prepare(&element(0, 1)).is_ok());
-    server.undo();
-    assert!(rt; server.prepare(&element(0, 1)).is_ok());
-    server.commit();
-    assert!(rt; server.balance(0) == Some(2) && server.balance(1) == Some(1));
 }

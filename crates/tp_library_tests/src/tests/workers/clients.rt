@@ -7,13 +7,13 @@ ghost use Rattle.tp_workers.specs.Free.{IsFreePass};
 ghost use Rattle.tp_workers.specs.Sums.{calls_of};
 
 use crate::tests::fixture::{eager, manager, output, pass, recipe, two};
-use crate::tests::workers::{client, turns};
+use crate::tests::workers::client;
 use std::process::Abort;
 use std::thread::Threads;
 use tp_manager::{Keeper, Manager, Pass};
 use tp_model::types::Limits;
-use tp_server::{Act, AmountFrom, Server};
-use tp_workers::{ClientJob, KillJob, NoGate, Plan, Shift, shift};
+use tp_server::{Act, AmountFrom};
+use tp_workers::{ClientJob, KillJob, NoGate, Plan, Shift, shift, work_off};
 
 /// A shift of clients alone.
 fn submits<R: Threads + Sync>(
@@ -118,9 +118,9 @@ fn full_then_no_unit(rt: HostRuntime) {
     let counts = submits(&rt, &manager, &mut clients, &mut [client(&rt, 1, 3)]);
     assert_eq!(rt; counts, submitted(1, 2));
     let twice = [output(15, AmountFrom::Same), output(15, AmountFrom::Same)];
-    let mut servers = [eager(&rt, 0, recipe(1, Act::Add, &twice))];
-    let mut desks = [pass(&rt, &mut keeper, &manager)];
-    let counts = turns(&rt, &manager, &mut desks, &mut servers, 2, &mut [], &NoGate);
+    let mut server = eager(&rt, 0, recipe(1, Act::Add, &twice));
+    let mut desk = pass(&rt, &mut keeper, &manager);
+    let counts = work_off(&manager, &mut desk, &mut server, Plan::least_first(2));
     let wanted = Shift {
         full: 1,
         nounit: 1,

@@ -12,7 +12,8 @@ use tp_model::types::Limits;
 use tp_server::Server;
 use tp_workers::{Gate, Point, Shift};
 
-/// Holds worker 1 at its start until worker 0 has claimed, and worker 0, once prepared, until worker 1 has settled.
+/// Holds worker 1 at its start until worker 0 has claimed, and worker 0, once prepared, until worker 1 has
+/// settled.
 #[derive(Drop)]
 struct Overlap {
     claimed: AtomicU64,

@@ -24,7 +24,8 @@ fn accounted(manager: &Manager, keeper: &mut Keeper, passes: &mut [Pass]) -> Opt
     Some(keeper.account(manager, passes))
 }
 
-/// Two clients, two desks and a killer race, then the desks drain, and then all that the passes saw is counted.
+/// Two clients, two desks and a killer race, then the desks drain, and then all that the passes saw is
+/// counted.
 fn raced<R: Threads + Sync + Abort + AllocGlobal>(
     rt: &R,
     manager: &Manager,

