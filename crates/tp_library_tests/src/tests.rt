@@ -3,7 +3,6 @@
 mod desk;
 mod fixture;
 mod manager;
-mod model;
 mod rule;
 mod server;
 mod words;

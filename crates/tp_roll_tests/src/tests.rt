@@ -3,7 +3,6 @@ mod crews;
 mod held;
 mod plays;
 mod scenes;
-mod storms;
 mod surveys;
 
 use plays::Call::{Aborts, Commits, Requeues, Shows, Stands, Submits, Takes};
@@ -100,8 +99,8 @@ fn within<'a>(limits: Limits, after: &'a [(usize, Call)]) -> Side<'a> {
     }
 }
 
-/// A family of six, one of them parked in its second round and one a reply, beside another request. The carriers, 0 and
-/// 4, are consumed by the first unit of either pass.
+/// A family of six, one of them parked in its second round and one a reply, beside another request. The
+/// carriers, 0 and 4, are consumed by the first unit of either pass.
 #[test]
 fn six_of_a_family(rt: HostRuntime) {
     let before = [

@@ -1,62 +1,40 @@
-//! Desks at work, and what the lenders of a pass and a server find afterwards.
-ghost use Rattle.std.specs.Prelude.{◌≡◌, None};
-ghost use Rattle.tp_manager.specs.Shown.{IsOf};
+//! A desk that is dropped calls off its work, and a desk asks its server once for each element that it takes.
 
-mod asides;
-mod asking;
-mod calls;
-mod counting;
-mod drops;
-mod given;
 mod lender;
-mod plays;
-mod turns;
 
-use crate::tests::fixture::two;
-use std::process::Abort;
-use tp_manager::{Manager, Pass};
-use tp_model::types::Limits;
+use crate::tests::desk::lender::prepare_and_drop;
+use crate::tests::fixture::{manager, pass};
+use crate::tests::server::told::from_zero;
+use tp_model::types::{Limits, Status};
 use tp_server::Server;
+use tp_workers::{Plan, work_off};
 
-/// A manager with a client's pass, and a server with its pass. A test borrows the parts, and lets the whole
-/// go at its end.
-#[derive(Drop)]
-struct Parts {
-    manager: Manager,
-    client: Pass,
-    worker: Pass,
-    server: Box<dyn Server + Send>,
-}
-
-/// A bench for this server, whose passes have this many rows and units, where an element has three attempts.
-fn bench<R: Abort + AllocGlobal>(
-    rt: &R,
-    rows: u16,
-    units: u16,
-    server: Box<dyn Server + Send>,
-) -> Parts
-    requires { pending server ≡ None }
-    ensures own { IsOf result.manager result.client × IsOf result.manager result.worker }
-    ensures free { (result.client.open_unit ≡ None) × (result.worker.open_unit ≡ None) }
-    ensures clear { pending result.server ≡ None }
-{
+/// Of two elements the first is prepared at a desk that is dropped, and then both are consumed in two turns.
+/// The server is told of the two commits, each once, and not of what was called off.
+#[test]
+fn told_once_a_commit(rt: HostRuntime) {
     let limits = Limits {
         parts: 2,
-        rows,
-        units,
+        rows: 4,
+        units: 8,
         attempts: 3,
         spare: 0,
     };
-    let (manager, client, worker) = two(rt, limits);
-    Parts {
-        manager,
-        client,
-        worker,
-        server,
-    }
-}
-
-/// Lets the parts go.
-fn clear(parts: Parts) {
-    drop(parts);
+    let (manager, mut keeper) = manager(&rt, limits);
+    let mut client = pass(&rt, &mut keeper, &manager);
+    let mut worker = pass(&rt, &mut keeper, &manager);
+    assert!(rt; manager.submit(&mut client, 1, [0, 5, 0, 0]) == Ok(0));
+    assert!(rt; manager.submit(&mut client, 1, [0, 7, 0, 0]) == Ok(1));
+    let mut server: Box<dyn Server + Send> = Box::new(rt.alloc(), from_zero()).expect(
+        &rt,
+        "no memory",
+    );
+    assert!(rt; prepare_and_drop(&manager, &mut worker, &mut server));
+    assert!(rt; !worker.has_open() && !server.is_prepared());
+    let look = manager.read(&mut client, 0).expect(&rt, "not born");
+    assert!(rt; look.status == Status::Waiting { attempts: 1 });
+    let counts = work_off(&manager, &mut worker, &mut server, Plan::least_first(2));
+    assert!(rt; counts.done == 2);
+    // Before the second turn it was asked twice and told once.
+    assert!(rt; server.balance(0) == Some(2) && server.balance(1) == Some(1));
 }

@@ -7,7 +7,7 @@ use tp_manager::{Manager, Pass};
 use tp_model::types::{Body, Draft, Ended, Outcome, Status};
 
 /// How an element stands.
-#[derive(Clone, Copy, Debug, PartialEq, Eq)]
+#[derive(Clone, Copy)]
 pub(super) struct Stand {
     pub id: u32,
     pub stage: u8,
@@ -33,10 +33,6 @@ pub(super) enum Call {
     IsFree,
     /// A commit of what is in hand, with the first so many of these as its outputs.
     Commits([Draft; 4], usize, Outcome),
-    /// A kill of the element.
-    Kills(u32),
-    /// A cancel of the request.
-    Cancels(u32),
     /// A requeue of the element: how many further rounds it has then.
     Requeues(u32, u8),
     /// A read that finds the element so.
@@ -83,22 +79,6 @@ fn commits(
     pass.has_open() && count <= 4 && manager.commit(pass, &drafts[..count]) == outcome
 }
 
-/// Whether a kill ends the element.
-fn kills(manager: &Manager, pass: &mut Pass, id: u32) -> bool
-    requires { IsOf manager.now pass.old }
-    ensures { IsOf manager.now pass.new }
-{
-    !pass.has_open() && manager.kill(pass, id).is_ok()
-}
-
-/// Whether a cancel settles the family.
-fn cancels(manager: &Manager, pass: &mut Pass, root: u32) -> bool
-    requires { IsOf manager.now pass.old }
-    ensures { IsOf manager.now pass.new }
-{
-    !pass.has_open() && manager.cancel(pass, root).is_ok()
-}
-
 /// Whether a read finds the element so.
 fn stands(manager: &Manager, pass: &mut Pass, stand: Stand) -> bool
     requires { IsOf manager.now pass.old }
@@ -136,8 +116,6 @@ fn answers(manager: &Manager, pass: &mut Pass, call: Call) -> bool
         Call::IsOver => is_over(manager, pass),
         Call::IsFree => !pass.has_open(),
         Call::Commits(drafts, count, outcome) => commits(manager, pass, &drafts, count, outcome),
-        Call::Kills(id) => kills(manager, pass, id),
-        Call::Cancels(root) => cancels(manager, pass, root),
         Call::Requeues(id, rounds) => manager.requeue(pass, id) == Ok(rounds),
         Call::Stands(stand) => stands(manager, pass, stand),
         Call::Shows(id, status) => shows(manager, pass, id, status),

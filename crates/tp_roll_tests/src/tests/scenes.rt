@@ -1,4 +1,5 @@
-//! Scenes: what is done in two managers, what the rollover from the one to the other answers, and what they show then.
+//! Scenes: what is done in two managers, what the rollover from the one to the other answers, and what they
+//! show then.
 ghost use Rattle.std.specs.Prelude.{All};
 ghost use Rattle.tp_manager.specs.Shown.{IsKeptBy, IsOf};
 
@@ -29,10 +30,7 @@ pub(super) fn kept<R: Abort + AllocGlobal>(rt: &R, limits: Limits) -> (Manager, 
 }
 
 /// Whether what was found is what was wanted.
-pub(super) fn is_answer(
-    found: Result<Vec<Moved>, RollFault>,
-    wanted: Result<&[Moved], RollFault>,
-) -> bool {
+fn is_answer(found: Result<Vec<Moved>, RollFault>, wanted: Result<&[Moved], RollFault>) -> bool {
     match found {
         Ok(moved) => wanted == Ok(moved.as_slice()),
         Err(fault) => wanted == Err(fault),
@@ -128,7 +126,8 @@ pub(super) fn rolls<R: Abort + AllocGlobal>(
     drop(old);
 }
 
-/// Whether a rollover between managers with these limits, neither of which gave out a pass, is refused for that.
+/// Whether a rollover between managers with these limits, neither of which gave out a pass, is refused for
+/// that.
 pub(super) fn needs_passes<R: Abort + AllocGlobal>(rt: &R, limits: Limits) -> bool {
     let (old, mut old_keeper) = Keeper::new(rt.alloc(), limits).expect(rt, "no manager");
     let (new, mut new_keeper) = Keeper::new(rt.alloc(), limits).expect(rt, "no manager");

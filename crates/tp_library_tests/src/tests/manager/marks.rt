@@ -1,33 +1,34 @@
-//! Claims that begin after what is finished.
+//! What passes remember: the marks behind which claims and listings begin, and drawn blocks.
 
-use super::plays::Call::{Aborts, Claims, Commits, Kills, Low, NextError, Reply, Submits, Takes};
+use super::plays::Call::{
+    Aborts, Claims, ClaimsNext, Commits, Low, NextError, SeenBlocks, Submits,
+};
 use super::plays::{CLIENT, SERVER, plays};
-use super::{NOTHING, SMALL, request, work};
-use tp_model::types::{Claimed, Killed, Limits, Outcome};
+use super::{BODY, NOTHING, SMALL, request, work};
+use tp_model::types::{Claimed, Limits, Refusal};
 
 #[test]
 fn mark_rises(rt: HostRuntime) {
     let limits = Limits { units: 8, ..SMALL };
     let calls = [
-        (CLIENT, Submits(1, [0, 5, 0, 0], Ok(0))),
-        (CLIENT, Submits(1, [0, 6, 0, 0], Ok(1))),
-        (CLIENT, Submits(1, [0, 7, 0, 0], Ok(2))),
-        (SERVER, Low(1, 0, 0)),
-        (SERVER, Takes(1, 0)),
-        (SERVER, Low(1, 0, 0)),
-        (SERVER, Commits(&[], NOTHING)),
-        (SERVER, Takes(1, 1)),
-        (SERVER, Low(1, 0, 1)),
-        (SERVER, Commits(&[], NOTHING)),
-        (SERVER, Takes(1, 2)),
-        (SERVER, Low(1, 0, 2)),
+        (CLIENT, Submits(1, BODY, Ok(0))),
+        (CLIENT, Submits(1, BODY, Ok(1))),
+        (CLIENT, Submits(1, BODY, Ok(2))),
+        (SERVER, Claims(1, work(8, 1, request(0, 1, BODY)))),
+        (SERVER, Low(1, 0)),
+        (SERVER, Commits(0, BODY, NOTHING)),
+        (SERVER, Claims(1, work(9, 1, request(1, 1, BODY)))),
+        (SERVER, Low(1, 1)),
+        (SERVER, Commits(0, BODY, NOTHING)),
+        (SERVER, Claims(1, work(10, 1, request(2, 1, BODY)))),
+        (SERVER, Low(1, 2)),
         // The client hasn't looked at that mark. A listing raises the one that is about all stages.
-        (CLIENT, Low(0, 0, 0)),
+        (CLIENT, Low(0, 0)),
         (CLIENT, NextError(0, None)),
-        (CLIENT, Low(0, 0, 2)),
-        (CLIENT, Low(1, 0, 0)),
+        (CLIENT, Low(0, 2)),
+        (CLIENT, Low(1, 0)),
         (CLIENT, Claims(1, Claimed::Idle)),
-        (CLIENT, Low(1, 0, 2)),
+        (CLIENT, Low(1, 2)),
     ];
     plays(&rt, limits, &calls);
 }
@@ -40,50 +41,68 @@ fn parked_stays(rt: HostRuntime) {
         ..SMALL
     };
     let calls = [
-        (CLIENT, Submits(1, [0, 5, 0, 0], Ok(0))),
-        (CLIENT, Submits(1, [0, 6, 0, 0], Ok(1))),
-        (SERVER, Takes(1, 0)),
+        (CLIENT, Submits(1, BODY, Ok(0))),
+        (CLIENT, Submits(1, BODY, Ok(1))),
+        (SERVER, Claims(1, work(8, 1, request(0, 1, BODY)))),
         (SERVER, Aborts),
-        (SERVER, Takes(1, 1)),
-        (SERVER, Commits(&[], NOTHING)),
+        (SERVER, Claims(1, work(9, 1, request(1, 1, BODY)))),
+        (SERVER, Commits(0, BODY, NOTHING)),
         // The mark stays at the parked element.
-        (CLIENT, Submits(1, [0, 7, 0, 0], Ok(2))),
-        (SERVER, Takes(1, 2)),
-        (SERVER, Low(1, 0, 0)),
+        (CLIENT, Submits(1, BODY, Ok(2))),
+        (SERVER, Claims(1, work(10, 1, request(2, 1, BODY)))),
+        (SERVER, Low(1, 0)),
         (CLIENT, NextError(0, Some(0))),
-        (CLIENT, Low(0, 0, 0)),
+        (CLIENT, Low(0, 0)),
         // To other stages it is of no use.
-        (SERVER, Commits(&[], NOTHING)),
+        (SERVER, Commits(0, BODY, NOTHING)),
         (SERVER, Claims(2, Claimed::Idle)),
-        (SERVER, Low(2, 0, 3)),
+        (SERVER, Low(2, 3)),
     ];
     plays(&rt, limits, &calls);
 }
 
 #[test]
-fn mark_passes_dead_drafts(rt: HostRuntime) {
-    let limits = Limits { units: 8, ..SMALL };
-    let one = Outcome::Committed { first: 6, count: 1 };
-    let drafts = [(15, [0, 0, 0, 0]), (15, [0, 0, 0, 0])];
+fn mark_of_claims_in_turn(rt: HostRuntime) {
+    let limits = Limits {
+        rows: 2,
+        units: 8,
+        ..SMALL
+    };
     let calls = [
-        (CLIENT, Submits(1, [0, 5, 0, 0], Ok(0))),
-        (SERVER, Claims(1, work(8, 1, request(0, 1, [0, 5, 0, 0])))),
-        (CLIENT, Kills(0, Ok(Killed { units_aborted: 1 }))),
-        // The heads of rows 4 and 5 name unit 8, which was aborted: nothing is ever born in them.
-        (SERVER, Commits(&drafts, Outcome::Lost)),
-        (SERVER, Claims(1, Claimed::Idle)),
-        (SERVER, Low(1, 0, 1)),
-        (SERVER, Low(1, 1, 2)),
-        (CLIENT, Submits(1, [0, 6, 0, 0], Ok(1))),
-        (SERVER, Takes(1, 1)),
-        (SERVER, Commits(&drafts[..1], one)),
-        (SERVER, Claims(1, Claimed::Idle)),
-        (SERVER, Low(1, 0, 2)),
-        // The reply that is born after them is of no use to a claim. Who asks for it comes to it from its request.
-        (SERVER, Low(1, 1, 3)),
-        (CLIENT, Reply(0, 0, None)),
-        (CLIENT, Reply(1, 0, Some(6))),
-        (CLIENT, Low(15, 1, 0)),
+        (CLIENT, Submits(1, BODY, Ok(0))),
+        (CLIENT, Submits(1, BODY, Ok(1))),
+        (SERVER, ClaimsNext(1, work(8, 1, request(0, 1, BODY)))),
+        (SERVER, Aborts),
+        (SERVER, ClaimsNext(1, work(9, 1, request(1, 1, BODY)))),
+        (SERVER, Commits(0, BODY, NOTHING)),
+        // Row 1 is finished, and nothing before it: no mark has risen.
+        (SERVER, Low(1, 0)),
+        (SERVER, ClaimsNext(1, work(10, 2, request(0, 1, BODY)))),
+        (SERVER, Commits(0, BODY, NOTHING)),
+        (SERVER, ClaimsNext(1, Claimed::Idle)),
+        (SERVER, Low(1, 2)),
+    ];
+    plays(&rt, limits, &calls);
+}
+
+/// A row for each of two passes, and one spare block.
+#[test]
+fn part_then_block(rt: HostRuntime) {
+    let limits = Limits {
+        rows: 1,
+        spare: 1,
+        ..SMALL
+    };
+    let calls = [
+        (CLIENT, Submits(1, BODY, Ok(0))),
+        (CLIENT, SeenBlocks(0)),
+        (CLIENT, Submits(1, BODY, Ok(2))),
+        (CLIENT, SeenBlocks(1)),
+        // The other pass has its row yet, and no block.
+        (SERVER, SeenBlocks(0)),
+        (SERVER, Submits(1, BODY, Ok(1))),
+        (SERVER, Submits(1, BODY, Err(Refusal::Full))),
+        (SERVER, SeenBlocks(1)),
     ];
     plays(&rt, limits, &calls);
 }

@@ -2,16 +2,14 @@
 
 use crate::tests::server::element;
 use std::process::Abort;
-use tp_model::types::Draft;
+use tp_model::types::Body;
 use tp_server::{Declined, Server};
 
 /// A call, and after what it is given what it is to answer.
 #[derive(Clone, Copy)]
-pub(super) enum Call<'a> {
-    /// The preparation of an element with this key and amount.
-    Prepares(u64, u64, Result<&'a [Draft], Declined>),
-    /// The same, which is committed where it isn't declined.
-    Does(u64, u64, Result<&'a [Draft], Declined>),
+pub(super) enum Call {
+    /// The preparation of an element with this key and amount: the body of the one reply.
+    Prepares(u64, u64, Result<Body, Declined>),
     /// What is prepared is undone.
     Undoes,
     /// What is prepared is committed.
@@ -20,10 +18,6 @@ pub(super) enum Call<'a> {
     IsPrepared(bool),
     /// A register.
     Balance(u64, Option<u64>),
-    /// The stage.
-    Stage(u8),
-    /// How many registers it has.
-    Counts(u64),
 }
 
 /// Whether a preparation answers this. While another is prepared it isn't asked for.
@@ -31,13 +25,15 @@ fn prepares(
     server: &mut (dyn Server + Send),
     key: u64,
     amount: u64,
-    answer: Result<&[Draft], Declined>,
+    answer: Result<Body, Declined>,
 ) -> bool {
     if server.is_prepared() {
         return false;
     }
     match server.prepare(&element(key, amount)) {
-        Ok(drafts) => answer == Ok(drafts.as_slice()),
+        Ok(drafts) => {
+            drafts.len() == 1 && drafts[0].stage() == 15 && answer == Ok(drafts[0].body())
+        }
         Err(why) => answer == Err(why),
     }
 }
@@ -61,23 +57,18 @@ fn undo(server: &mut (dyn Server + Send)) -> bool {
 }
 
 /// Whether the call gives its answer.
-fn answers(server: &mut (dyn Server + Send), call: Call<'_>) -> bool {
+fn answers(server: &mut (dyn Server + Send), call: Call) -> bool {
     match call {
         Call::Prepares(key, amount, answer) => prepares(server, key, amount, answer),
-        Call::Does(key, amount, answer) => {
-            prepares(server, key, amount, answer) && commit(server) == answer.is_ok()
-        }
         Call::Undoes => undo(server),
         Call::Commits => commit(server),
         Call::IsPrepared(answer) => server.is_prepared() == answer,
         Call::Balance(k, answer) => server.balance(k) == answer,
-        Call::Stage(answer) => server.stage() == answer,
-        Call::Counts(answer) => server.count() == answer,
     }
 }
 
 /// Plays calls, and stops at the first that gives another answer.
-pub(super) fn play(rt: &impl Abort, server: &mut (dyn Server + Send), calls: &[Call<'_>]) {
+pub(super) fn play(rt: &impl Abort, server: &mut (dyn Server + Send), calls: &[Call]) {
     for (i, call) in calls.iter().enumerate() {
         assert!(rt; answers(server, *call), "at call {i}");
     }

@@ -3,15 +3,15 @@ ghost use denote.Param.Send.{IsSync};
 ghost use Rattle.std.specs.Prelude.{◌≡◌, ◌*◌, ◌<◌, ◌^◌, None, All, length};
 ghost use Rattle.tp_workers.specs.Free.{IsFreePass};
 
-use crate::tests::fixture::{eager, output, recipe};
-use crate::tests::workers::{hold, manager, pass};
+use crate::tests::fixture::{eager, manager, output, pass, recipe};
+use crate::tests::workers::{hold, turns};
 use std::process::Abort;
 use std::sync::atomic::{AtomicU64, Ordering};
 use std::thread::{Threads, join_mut};
 use tp_manager::{Manager, Pass};
 use tp_model::types::{Cancelled, Limits, Refusal};
-use tp_server::{Act, Server};
-use tp_workers::{Gate, Plan, Point, Shift, shift};
+use tp_server::{Act, AmountFrom, Server};
+use tp_workers::{Gate, Point, Shift};
 
 const LIMITS: Limits = Limits {
     parts: 3,
@@ -49,34 +49,6 @@ fn cancel(manager: &Manager, pass: &mut Pass, gate: &Stop) -> Result<Cancelled, 
     answer
 }
 
-/// One turn of a desk.
-fn turn<R: Threads + Sync>(
-    rt: &R,
-    manager: &Manager,
-    desks: &mut [Pass],
-    servers: &mut [Box<dyn Server + Send>],
-    gate: &Stop,
-) -> Shift
-    requires paired { length desks.old ≡ length servers.old }
-    requires few { 1 * length desks.old < 2 ^ 32 }
-    requires free { All (IsFreePass manager.now) desks.old }
-    requires clear { All (λ server. pending server ≡ None) servers.old }
-{
-    shift(
-        rt,
-        manager,
-        desks,
-        servers,
-        &mut [],
-        &mut [],
-        &mut [],
-        &mut [],
-        Plan::least_first(1),
-        &mut [],
-        gate,
-    )
-}
-
 /// One turn of a desk, and beside it the cancel.
 fn turn_and_cancel<R: Threads + Sync>(
     rt: &R,
@@ -95,7 +67,7 @@ fn turn_and_cancel<R: Threads + Sync>(
     let mut work = || -> Shift
         requires { IsSync R.row × (length desks.now ≡ length servers.now) × (1 * length desks.now < 2 ^ 32)
             × All (IsFreePass manager.now) desks.now × All (λ server. pending server ≡ None) servers.now }
-    { turn(rt, manager, desks, servers, gate) };
+    { turns(rt, manager, desks, servers, 1, &mut [], gate) };
     let mut cancels = || -> Result<Cancelled, Refusal>
         requires { IsFreePass manager.now canceller.now }
     { cancel(manager, canceller, gate) };
@@ -113,7 +85,7 @@ fn cancelled_at<R: Abort + AllocGlobal + Threads + Sync>(
     let mut desks = [pass(rt, &mut keeper, &manager)];
     let mut canceller = pass(rt, &mut keeper, &manager);
     assert!(rt; manager.submit(&mut client, 1, [0, 6, 0, 0]) == Ok(0));
-    let mut servers = [eager(rt, recipe(1, Act::Add, &[output(2)]))];
+    let mut servers = [eager(rt, 0, recipe(1, Act::Add, &[output(2, AmountFrom::Same)]))];
     let gate = Stop {
         at,
         reached: AtomicU64::new(0),
@@ -136,43 +108,28 @@ fn cancelled_at<R: Abort + AllocGlobal + Threads + Sync>(
     (counts, cancelled.killed, servers[0].balance(0))
 }
 
+/// At the last of the points the cancel comes too late for the request itself, and kills its output.
 #[test]
-fn at_the_start(rt: HostRuntime) {
-    let wanted = Shift {
+fn cancelled_at_each_point(rt: HostRuntime) {
+    let idle = Shift {
         idle: 1,
         ..Shift::default()
     };
-    let came = cancelled_at(&rt, Point::Start);
-    assert_eq!(rt; came, (wanted, 1, Some(0)));
-}
-
-#[test]
-fn once_claimed(rt: HostRuntime) {
-    let wanted = Shift {
+    let lost = Shift {
         lost: 1,
         ..Shift::default()
     };
-    let came = cancelled_at(&rt, Point::Claimed);
-    assert_eq!(rt; came, (wanted, 1, Some(0)));
-}
-
-#[test]
-fn once_prepared(rt: HostRuntime) {
-    let wanted = Shift {
-        lost: 1,
-        ..Shift::default()
-    };
-    let came = cancelled_at(&rt, Point::Prepared);
-    assert_eq!(rt; came, (wanted, 1, Some(0)));
-}
-
-/// The cancel comes too late for the request itself, and kills its output.
-#[test]
-fn once_settled(rt: HostRuntime) {
-    let wanted = Shift {
+    let done = Shift {
         done: 1,
         ..Shift::default()
     };
-    let came = cancelled_at(&rt, Point::Settled);
-    assert_eq!(rt; came, (wanted, 1, Some(6)));
+    for (point, counts, register) in [
+        (Point::Start, idle, 0),
+        (Point::Claimed, lost, 0),
+        (Point::Prepared, lost, 0),
+        (Point::Settled, done, 6),
+    ] {
+        let came = cancelled_at(&rt, point);
+        assert_eq!(rt; came, (counts, 1, Some(register)));
+    }
 }

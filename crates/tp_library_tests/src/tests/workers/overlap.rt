@@ -2,16 +2,18 @@
 ghost use Rattle.std.specs.Prelude.{◌≡◌, None, All, length};
 ghost use Rattle.tp_workers.specs.Free.{IsFreePass};
 
-use crate::tests::workers::{adders, hold, manager, pass, two};
+use crate::tests::fixture::{manager, pass, two};
+use crate::tests::workers::{adders, hold, turns};
 use std::process::Abort;
 use std::sync::atomic::{AtomicU64, Ordering};
 use std::thread::Threads;
 use tp_manager::{Manager, Pass};
 use tp_model::types::Limits;
 use tp_server::Server;
-use tp_workers::{Gate, Plan, Point, Shift, shift};
+use tp_workers::{Gate, Point, Shift};
 
-/// Holds worker 1 at its start until worker 0 has claimed, and worker 0, once prepared, until worker 1 has settled.
+/// Holds worker 1 at its start until worker 0 has claimed, and worker 0, once prepared, until worker 1 has
+/// settled.
 #[derive(Drop)]
 struct Overlap {
     claimed: AtomicU64,
@@ -48,19 +50,7 @@ fn overlaps<R: Threads + Sync + Abort>(
         failed: AtomicU64::new(0),
     };
     let mut each = [Shift::default(); 2];
-    let counts = shift(
-        rt,
-        manager,
-        desks,
-        servers,
-        &mut [],
-        &mut [],
-        &mut [],
-        &mut [],
-        Plan::least_first(1),
-        &mut each,
-        &gate,
-    );
+    let counts = turns(rt, manager, desks, servers, 1, &mut each, &gate);
     assert!(rt; gate.failed.load(Ordering::SeqCst) == 0);
     assert_eq!(rt; (counts.done, each[0].done, each[1].done), (2, 1, 1));
 }
@@ -81,9 +71,4 @@ fn two_desks_overlap(rt: HostRuntime) {
     assert!(rt; manager.submit(&mut client, 1, [0, 7, 0, 0]) == Ok(1));
     let mut servers = adders(&rt);
     overlaps(&rt, &manager, &mut desks, &mut servers);
-    drop(servers);
-    drop(desks);
-    drop(client);
-    drop(keeper);
-    drop(manager);
 }

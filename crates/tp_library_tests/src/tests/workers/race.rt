@@ -1,33 +1,46 @@
-//! A race of clients, servers and a killer, then rounds until nothing waits.
+//! A race of clients, servers and a killer, then a drain, and the closing account of it.
 ghost use Rattle.std.specs.Prelude.{◌≡◌, None, All, length};
-ghost use Rattle.tp_manager.specs.Shown.{IsOf};
+ghost use Rattle.tp_manager.specs.Shown.{IsKeptBy, IsOf};
 ghost use Rattle.tp_workers.specs.Free.{IsFreePass};
 
-use crate::tests::workers::{adders, client, manager, pass, survey, two};
+use crate::tests::fixture::{manager, pass};
+use crate::tests::workers::{adders, client};
 use std::process::Abort;
 use std::thread::Threads;
 use tp_desk::Order;
-use tp_manager::{Manager, Pass};
-use tp_model::types::Limits;
+use tp_manager::{Keeper, Manager, Pass};
+use tp_model::types::{Account, Limits};
 use tp_server::Server;
 use tp_workers::{Drained, KillJob, NoGate, Plan, Shift, drain, shift};
 
-/// Two desks, two clients and a killer race, then the desks drain.
+/// The closing account, if these are all passes of the keeper.
+fn accounted(manager: &Manager, keeper: &mut Keeper, passes: &mut [Pass]) -> Option<Account>
+    requires kept { IsKeptBy manager.now keeper.old }
+    requires own { All (IsOf manager.now) passes.old }
+{
+    if !keeper.has_all(passes) {
+        return None;
+    }
+    Some(keeper.account(manager, passes))
+}
+
+/// Two clients, two desks and a killer race, then the desks drain, and then all that the passes saw is
+/// counted.
 fn raced<R: Threads + Sync + Abort + AllocGlobal>(
     rt: &R,
     manager: &Manager,
-    desks: &mut [Pass],
+    keeper: &mut Keeper,
+    passes: &mut [Pass],
     servers: &mut [Box<dyn Server + Send>],
-    clients: &mut [Pass],
-    killers: &mut [Pass],
-) -> (Shift, Drained)
-    requires many { (length desks.old ≡ 2) × (length servers.old ≡ 2)
-        × (length clients.old ≡ 2) × (length killers.old ≡ 1) }
-    requires desks { All (IsFreePass manager.now) desks.old }
-    requires servers { All (λ server. pending server ≡ None) servers.old }
-    requires clients { All (IsFreePass manager.now) clients.old }
-    requires killers { All (IsFreePass manager.now) killers.old }
+) -> (Shift, Drained, Option<Account>)
+    requires kept { IsKeptBy manager.now keeper.old }
+    requires five { length passes.old ≡ 5 }
+    requires free { All (IsFreePass manager.now) passes.old }
+    requires two { length servers.old ≡ 2 }
+    requires clear { All (λ server. pending server ≡ None) servers.old }
 {
+    let (clients, others) = passes.split_at_mut(2);
+    let (desks, killers) = others.split_at_mut(2);
     let counts = shift(
         rt,
         manager,
@@ -42,85 +55,77 @@ fn raced<R: Threads + Sync + Abort + AllocGlobal>(
         &NoGate,
     );
     let drained = drain(manager, desks, servers, Order::LeastFirst);
-    (counts, drained)
+    let account = accounted(manager, keeper, passes);
+    (counts, drained, account)
 }
 
-/// What the race and the rounds count, the statuses of the elements, and what the registers add up to.
-fn adds_up<R: Abort>(
-    rt: &R,
-    manager: &Manager,
-    reader: &mut Pass,
-    counts: Shift,
-    drained: Drained,
-    registers: (Option<u64>, Option<u64>),
-)
-    requires { IsOf manager.now reader.old }
+/// The next five passes.
+fn five<R: Abort>(rt: &R, keeper: &mut Keeper, manager: &Manager) -> [Pass; 5]
+    requires { IsKeptBy manager.now keeper.old }
+    ensures kept { IsKeptBy manager.now keeper.new }
+    ensures free { All (IsFreePass manager.now) result }
 {
-    let all = survey(manager, reader, 1, 128);
-    let settled = all.consumed.wrapping_add(all.killed);
-    let done = counts.done.wrapping_add(drained.done);
-    assert_eq!(rt;
-        (counts.submitted, settled, counts.killed, done),
-        (100, 100, all.killed, all.consumed)
-    );
-    let (Some(x), Some(y)) = registers else {
-        panic!(rt; "no register")
-    };
-    assert_eq!(rt; x.wrapping_add(y), all.consumed as u64);
+    let first = pass(rt, keeper, manager);
+    let second = pass(rt, keeper, manager);
+    let third = pass(rt, keeper, manager);
+    let fourth = pass(rt, keeper, manager);
+    let fifth = pass(rt, keeper, manager);
+    [first, second, third, fourth, fifth]
 }
 
-/// The race and the rounds, and what they come to.
-fn races<R: Threads + Sync + Abort + AllocGlobal>(
-    rt: &R,
-    manager: &Manager,
-    desks: &mut [Pass],
-    servers: &mut [Box<dyn Server + Send>],
-    clients: &mut [Pass],
-    killers: &mut [Pass],
-    reader: &mut Pass,
-)
-    requires many { (length desks.old ≡ 2) × (length servers.old ≡ 2)
-        × (length clients.old ≡ 2) × (length killers.old ≡ 1) }
-    requires desks { All (IsFreePass manager.now) desks.old }
-    requires servers { All (λ server. pending server ≡ None) servers.old }
-    requires clients { All (IsFreePass manager.now) clients.old }
-    requires killers { All (IsFreePass manager.now) killers.old }
-    requires reader { IsOf manager.now reader.old }
-{
-    let (counts, drained) = raced(rt, manager, desks, servers, clients, killers);
-    let registers = (servers[0].balance(0), servers[1].balance(0));
-    adds_up(rt, manager, reader, counts, drained, registers);
+/// What a race came to: what was submitted, consumed and killed, the account, and the sum of the registers.
+#[derive(Clone, Copy)]
+struct Came {
+    submitted: u32,
+    consumed: u32,
+    killed: u32,
+    account: Account,
+    sum: u64,
 }
 
-#[test]
-fn race_with_killer(rt: HostRuntime) {
+/// The register of a server.
+fn balance<R: Abort>(rt: &R, server: &Box<dyn Server + Send>) -> u64 {
+    server.balance(0).expect(rt, "no register")
+}
+
+/// A race over a manager of its own.
+fn race<R: Threads + Sync + Abort + AllocGlobal>(rt: &R) -> Came {
     let limits = Limits {
-        parts: 6,
+        parts: 5,
         rows: 64,
         units: 256,
         attempts: 3,
         spare: 0,
     };
-    let (manager, mut keeper) = manager(&rt, limits);
-    let mut clients = two(&rt, &mut keeper, &manager);
-    let mut desks = two(&rt, &mut keeper, &manager);
-    let mut killers = [pass(&rt, &mut keeper, &manager)];
-    let mut reader = pass(&rt, &mut keeper, &manager);
-    let mut servers = adders(&rt);
-    races(
-        &rt,
-        &manager,
-        &mut desks,
-        &mut servers,
-        &mut clients,
-        &mut killers,
-        &mut reader,
+    let (manager, mut keeper) = manager(rt, limits);
+    let mut passes = five(rt, &mut keeper, &manager);
+    let mut servers = adders(rt);
+    let (counts, drained, account) = raced(rt, &manager, &mut keeper, &mut passes, &mut servers);
+    Came {
+        submitted: counts.submitted,
+        consumed: counts.done.wrapping_add(drained.done),
+        killed: counts.killed,
+        account: account.expect(rt, "not all passes"),
+        sum: balance(rt, &servers[0]).wrapping_add(balance(rt, &servers[1])),
+    }
+}
+
+#[test]
+fn race_with_killer(rt: HostRuntime) {
+    let came = race(&rt);
+    assert_eq!(rt; came.submitted, 100);
+    assert_eq!(rt; came.consumed.wrapping_add(came.killed), 100);
+    assert_eq!(rt; came.sum, u64::from(came.consumed));
+}
+
+#[test]
+fn account_after_race(rt: HostRuntime) {
+    let came = race(&rt);
+    let total = came.account.total;
+    assert_eq!(rt;
+        (total.consumed, total.killed),
+        (came.consumed, came.killed)
     );
-    drop(servers);
-    drop(reader);
-    drop(killers);
-    drop(desks);
-    drop(clients);
-    drop(keeper);
-    drop(manager);
+    assert_eq!(rt; (total.waiting, total.held, total.parked), (0, 0, 0));
+    assert!(rt; came.account.stages[0] == total);
 }

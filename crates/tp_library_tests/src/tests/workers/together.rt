@@ -2,7 +2,8 @@
 ghost use Rattle.std.specs.Prelude.{◌≡◌, None, All, length};
 ghost use Rattle.tp_workers.specs.Free.{IsFreePass};
 
-use crate::tests::workers::{adders, client, hold, manager, two};
+use crate::tests::fixture::{manager, two};
+use crate::tests::workers::{adders, client, hold};
 use std::process::Abort;
 use std::sync::atomic::{AtomicU64, Ordering};
 use std::thread::Threads;
@@ -88,10 +89,4 @@ fn six_start_together(rt: HostRuntime) {
         &mut clients,
         &mut killers,
     );
-    drop(servers);
-    drop(killers);
-    drop(clients);
-    drop(desks);
-    drop(keeper);
-    drop(manager);
 }

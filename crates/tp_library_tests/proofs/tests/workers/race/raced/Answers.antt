@@ -1,7 +1,7 @@
 use Rattle.std.proofs.lemmas.List.Elements.{All-append, All-weaker}
 use Rattle.tp_manager.specs.Shown.{IsOf}
 use Rattle.tp_workers.specs.Free.{IsFreePass}
-use Rattle.tp_library_tests.proofs.tests.workers.account.raced.Goals as goal
+use Rattle.tp_library_tests.proofs.tests.workers.race.raced.Goals as goal
 
 pub accounted-account-requires-clause-own : goal.accounted-account-requires-clause-own
 accounted-account-requires-clause-own g c =

@@ -1,6 +1,0 @@
-use Rattle.std.proofs.Common.{All}
-use Rattle.tp_manager.specs.Shown.{IsKeptBy, IsOf}
-use Rattle.tp_library_tests.proofs.tests.manager.accounts.accounts.Given as goal
-
-abbrev pub invariant-loop-i : goal.invariant-loop-i
-invariant-loop-i g l = record { kept : IsKeptBy l.manager l.keeper; own : All (IsOf l.manager) l.passes }

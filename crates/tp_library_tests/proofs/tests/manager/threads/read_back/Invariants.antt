@@ -1,5 +1,0 @@
-use Rattle.tp_manager.specs.Shown.{IsOf}
-use Rattle.tp_library_tests.proofs.tests.manager.threads.read_back.Given as goal
-
-abbrev pub invariant-loop-i : goal.invariant-loop-i
-invariant-loop-i l = IsOf l.manager l.pass

@@ -1,5 +1,0 @@
-use Rattle.std.proofs.Common.{rules, [], ◌∷◌}
-use Rattle.tp_library_tests.proofs.tests.server.told.CountingHandler1.effect.Goals as goal
-
-pub returns-clause-allowed : goal.returns-clause-allowed
-returns-clause-allowed c = (c.args.self.now.told ∷ [], search rules)

@@ -1,5 +1,0 @@
-use Rattle.tp_manager.specs.Shown.{IsOf}
-use Rattle.tp_library_tests.proofs.tests.workers.survey.Given as goal
-
-abbrev pub invariant-loop-id : goal.invariant-loop-id
-invariant-loop-id l = IsOf l.manager l.reader
