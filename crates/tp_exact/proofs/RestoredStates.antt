@@ -1,15 +1,15 @@
 -- The state to which the restore of a dump leads is like the one to which a rollover leads.
-use Rattle.std.proofs.Common.{◌≡◌, ℕ, suc, None, ◌+◌, List, [], ◌∷◌, length, map, Some, refl, sym, ◌∙◌, ap, subst, arith, Bool, true, false, ◌<◌, inl, inr, zero}
-use Rattle.std.specs.Prelude.{drop, position, slice_get}
+use Rattle.std.proofs.Common.{◌≡◌, ℕ, suc, None, ◌+◌, List, [], ◌∷◌, length, map, Some, refl, sym, ◌∙◌, ap, subst, arith, Bool, true, false, ◌<◌, zero, Option, if◌then◌else◌, ◌++◌}
+use Rattle.std.specs.Prelude.{drop, position, slice_get, IsSome, is_some, slice_index_or}
 use Rattle.std.proofs.lemmas.List.{length-map}
 use Rattle.tp_model.specs.declared.types.Limits.{Limits}
-use Rattle.tp_plain.specs.OneThread.{State, start}
+use Rattle.tp_plain.specs.OneThread.{State, no_pass, start}
 use Rattle.tp_rollover.specs.Anew.{made_anew}
 use Rattle.tp_rollover.specs.declared.moved.Moved.{Moved}
 use Rattle.tp_rollover.specs.declared.survivors.Survivor.{Survivor}
 use Rattle.std.proofs.lemmas.List.Elements.{All-tail}
 use Rattle.std.specs.Str.{bytes_eq}
-use Rattle.tp_alone.specs.Thread.{not_given, thread_of}
+use Rattle.tp_alone.specs.Thread.{not_given, state_of, thread_of}
 use Rattle.tp_reference.specs.PlainDesks.{has_open}
 use Rattle.tp_reference.specs.declared.plain_desk.PlainDesk.{PlainDesk}
 use Rattle.tp_script.specs.LineWords.{is_name}
@@ -34,22 +34,26 @@ use Rattle.tp_exact.specs.Dumps.{AreHeldFrom, all_lost, line_of}
 use Rattle.tp_exact.specs.HeadReads.{started}
 use Rattle.tp_exact.specs.NoteReads.{alive_notes}
 use Rattle.tp_exact.specs.PlainSession.{Refusals, SessionState, anew_as, begin, lines_step, restored, rolled_over, unrestored, works_in}
-use Rattle.tp_exact.specs.Sessions.{StandsLive}
+use Rattle.tp_exact.specs.Sessions.{AreUnforeseen, StandsLive}
 use Rattle.tp_exact.specs.Stands.{IsFor}
-use Rattle.tp_exact.specs.WholeDumps.{AnswersGoOn, AreAlike, AreAtRest, IsDumped, RestoredStands, SaysAll, registers_of}
+use Rattle.tp_exact.specs.WholeDumps.{AnswersGoOn, AreAlike, IsDumped, RestoredStands, SaysAll, registers_of}
 use Rattle.tp_exact.proofs.Anews.{lost_long, works_here, works_long}
 use Rattle.tp_exact.proofs.DumpActs.{alive_so, dropped_are, registers_are}
 use Rattle.tp_exact.proofs.RestoredDumps.{described_again, held_by_workers}
-use Rattle.tp_exact.proofs.RestoredHands.{restored_hands}
+use Rattle.tp_exact.proofs.RestoredHands.{got_in, restored_hands}
 use Rattle.tp_exact.proofs.RestoredNotes.{restored_notes}
 use Rattle.tp_exact.proofs.ActsAlike.{SayTheSame, same_finals, same_lines_step, strip}
 use Rattle.tp_exact.proofs.HeadsAlike.{SameNames, no_restore, same_body}
-use Rattle.tp_model.specs.History.{In, here, there}
-use Rattle.tp_model.proofs.Bridges.{in_cons, in_none}
 use Rattle.tp_exact.proofs.DropReads.{AreFresh, Free, drops_are, drops_keep, drops_lead, first_ones, none_held}
 use Rattle.tp_exact.proofs.NoteReads.{same_bytes}
 use Rattle.tp_exact.proofs.Places.{passes}
 use Rattle.tp_exact.proofs.SessionLines.{zip_long}
+use Rattle.tp_exact.proofs.Sessions.{lines_are}
+use Rattle.tp_session.specs.Told.{BodyLines}
+use Rattle.tp_manager.specs.Shown.{PassShown}
+use Rattle.tp_commands.specs.Acting.{PlaceShown}
+use Rattle.tp_plain.specs.declared.pass_state.PassState.{PassState}
+use Rattle.std.specs.List.{AllZip}
 use Rattle.tp_exact.proofs.StartReads.{same_places}
 use Rattle.tp_exact.proofs.WholeDumps.{found_at, in_list}
 
@@ -67,34 +71,17 @@ started_held [] (rs ∷ rss) same = absurd (omega (arith, same))
 started_held (v ∷ vs) [] same = absurd (omega (arith, same))
 started_held (v ∷ vs) (rs ∷ rss) same = ap (λ z. rs ∷ z) (started_held vs rss (omega (arith, same)))
 
--- ---- desks at rest
+-- ---- desks that have nothing in hand
 
-abbrev AreRested : List PlainDesk → Type 0
-AreRested ds = (d : PlainDesk) → In d ds → (d.taken ≡ None) × (d.is_prepared ≡ false)
-
-new_rested : (vs : List ServerView) → AreRested (map new_desk vs)
-new_rested [] d at = absurd (in_none at)
-new_rested (v ∷ vs) d at = elim (in_cons at) [
-  | inl e ↦ (ap (λ (x : PlainDesk). x.taken) e, ap (λ (x : PlainDesk). x.is_prepared) e)
-  | inr more ↦ new_rested vs d more
-]
-
-rested : (ds : List PlainDesk) (bs : List Bool) (n : ℕ) → AreRested ds → AreRested (first_ones ds bs n)
-rested [] [] n rest e at = rest e at
-rested [] (b ∷ bs) n rest e at = rest e at
-rested (d ∷ ds) [] n rest e at = rest e at
-rested (d ∷ ds) (b ∷ bs) zero rest e at = elim (in_cons at) [
-  | inl same ↦ subst (λ (x : PlainDesk). (x.taken ≡ None) × (x.is_prepared ≡ false)) (sym same) (rest d here)
-  | inr more ↦ rested ds bs zero (λ x in_it. rest x (there in_it)) e more
-]
-rested (d ∷ ds) (true ∷ bs) (suc n) rest e at = elim (in_cons at) [
-  | inl same ↦ (ap (λ (x : PlainDesk). x.taken) same, ap (λ (x : PlainDesk). x.is_prepared) same)
-  | inr more ↦ rested ds bs n (λ x in_it. rest x (there in_it)) e more
-]
-rested (d ∷ ds) (false ∷ bs) (suc n) rest e at = elim (in_cons at) [
-  | inl same ↦ subst (λ (x : PlainDesk). (x.taken ≡ None) × (x.is_prepared ≡ false)) (sym same) (rest d here)
-  | inr more ↦ rested ds bs n (λ x in_it. rest x (there in_it)) e more
-]
+-- the unit that the pass of a place has open
+open_here : (ps : List PlaceShown) (rs : List PassShown) (zs : List PassState) (i : ℕ) (p : PlaceShown) → slice_get ps i ≡ Some p → (slice_index_or (map state_of (passes ps ++ rs) ++ zs) i no_pass).holding ≡ p.desk.pass.open_unit
+open_here [] rs zs i p is = absurd cc
+open_here (q ∷ ps) rs zs zero p is = ap (λ (o : Option PlaceShown). unit_of o) is
+  where
+    unit_of : Option PlaceShown → Option ℕ
+    unit_of None = q.desk.pass.open_unit
+    unit_of (Some x) = x.desk.pass.open_unit
+open_here (q ∷ ps) rs zs (suc i) p is = open_here ps rs zs i p is
 
 first_of : {A : Type 0} (x y : A) (xs ys : List A) → x ∷ xs ≡ y ∷ ys → x ≡ y
 first_of {A} x y xs ys e = ap (λ (zs : List A). head_of zs) e
@@ -110,20 +97,40 @@ others_of {A} x y xs ys e = ap (λ (zs : List A). tail_of zs) e
     tail_of [] = xs
     tail_of (z ∷ zs) = zs
 
-same_desks : (ds es : List PlainDesk) → map (λ d. d.registers) ds ≡ map (λ d. d.registers) es → map (λ d. d.is_dropped) ds ≡ map (λ d. d.is_dropped) es → AreRested ds → AreRested es → ds ≡ es
-same_desks [] [] held dropped rest also = refl
-same_desks [] (e ∷ es) held dropped rest also = absurd cc
-same_desks (d ∷ ds) [] held dropped rest also = absurd cc
-same_desks (d ∷ ds) (e ∷ es) held dropped rest also =
-    let r = first_of d.registers e.registers (map (λ d. d.registers) ds) (map (λ d. d.registers) es) held in
-    let x = first_of d.is_dropped e.is_dropped (map (λ d. d.is_dropped) ds) (map (λ d. d.is_dropped) es) dropped in
-    let one = rest d here in
-    let other = also e here in
-    let others = same_desks ds es (others_of d.registers e.registers (map (λ d. d.registers) ds) (map (λ d. d.registers) es) held) (others_of d.is_dropped e.is_dropped (map (λ d. d.is_dropped) ds) (map (λ d. d.is_dropped) es) dropped) (λ y at. rest y (there at)) (λ y at. also y (there at)) in
-    ap (λ z. record d { registers = z } ∷ ds) r
-    ∙ (ap (λ z. record d { registers = e.registers; taken = z } ∷ ds) (one.0 ∙ sym other.0)
-    ∙ (ap (λ z. record d { registers = e.registers; taken = e.taken; is_prepared = z } ∷ ds) (one.1 ∙ sym other.1)
-    ∙ (ap (λ z. record e { is_dropped = z } ∷ ds) x ∙ ap (λ z. e ∷ z) others)))
+none_open : (o : Option ℕ) → is_some o ≡ false → o ≡ None
+none_open None is = refl
+none_open (Some x) is = absurd cc
+
+not_some : false ≡ true → ⊥
+not_some is = absurd cc
+
+-- a place stands for any desk with its registers, since nothing is in hand there
+module _ (p : PlaceShown) (d e : PlainDesk) (for_it : IsFor p d) (held : d.registers ≡ e.registers) (dropped : d.is_dropped ≡ e.is_dropped) (none : p.desk.pass.open_unit ≡ None) where
+  no_work : p.desk.work ≡ None
+  no_work = sym (sym (ap (λ o. if is_some o then d.taken else None) none) ∙ for_it.desk.work)
+
+  for_other : IsFor p e
+  for_other = record {
+    desk = record {
+      registers = sym held ∙ for_it.desk.registers;
+      work = ap (λ o. if is_some o then e.taken else None) none ∙ sym no_work;
+      open_is = for_it.desk.open_is;
+      prepared = λ some. absurd (not_some (subst (λ o. IsSome o) no_work some));
+    };
+    dropped = sym dropped ∙ for_it.dropped;
+  }
+
+all_for : (ps : List PlaceShown) (ds es : List PlainDesk) → AllZip IsFor ps ds → map (λ d. d.registers) ds ≡ map (λ d. d.registers) es → map (λ d. d.is_dropped) ds ≡ map (λ d. d.is_dropped) es
+    → ((i : ℕ) (p : PlaceShown) → slice_get ps i ≡ Some p → p.desk.pass.open_unit ≡ None) → AllZip IsFor ps es
+all_for [] [] [] all held dropped none = all
+all_for [] [] (e ∷ es) all held dropped none = absurd cc
+all_for [] (d ∷ ds) es all held dropped none = absurd all
+all_for (p ∷ ps) [] es all held dropped none = absurd all
+all_for (p ∷ ps) (d ∷ ds) [] all held dropped none = absurd cc
+all_for (p ∷ ps) (d ∷ ds) (e ∷ es) all held dropped none = (
+  for_other p d e all.0 (first_of d.registers e.registers (map (λ d. d.registers) ds) (map (λ d. d.registers) es) held) (first_of d.is_dropped e.is_dropped (map (λ d. d.is_dropped) ds) (map (λ d. d.is_dropped) es) dropped) (none zero p refl),
+  all_for ps ds es all.1 (others_of d.registers e.registers (map (λ d. d.registers) ds) (map (λ d. d.registers) es) held) (others_of d.is_dropped e.is_dropped (map (λ d. d.is_dropped) ds) (map (λ d. d.is_dropped) es) dropped) (λ i q is. none (suc i) q is),
+)
 
 module _ (source : Head) (old done : Live) (survivors : List Survivor) (s : SessionState) (head : Head) (begun : Live) (text : List ℕ) (new : Live)
     (it : IsDumped (head_view source) old done survivors s) (says : SaysAll (head_view source) (head_view head) old survivors) (limits : old.stand.manager.limits ≡ limits_of (head_view source) 0) (as_said : begun.stand.manager.limits ≡ limits_of (head_view head) 0)
@@ -334,17 +341,47 @@ module _ (source : Head) (old done : Live) (survivors : List Survivor) (s : Sess
         subst (λ z. AreAlike (lines_step g past [] drops z).1 (rolled_over h s).1) (sym restored_is)
         (subst (λ z. AreAlike (lines_step g past [] drops by_restore).1 z) (sym rolled_is) (subst (λ z. AreAlike z by_rollover) (sym last_is) alike))
 
-    -- ---- the very state
+    -- ---- what stands for the one stands for the other
 
-    whole : AreAtRest s → last ≡ by_rollover
-    whole rest =
-        let desks = same_desks last_desks s.report.desks last_registers last_dropped (rested (map new_desk g.servers) bs (length h.servers) (new_rested g.servers)) rest in
-        ap (λ ds. record by_restore { report = record { manager = m; desks = ds } }) desks
-        ∙ (ap (λ ws. record { report = record s.report { manager = m }; works = ws; notes = notes_in moved b.notes }) (restored_works ∙ sym rolled_works)
-        ∙ ap (λ n. record { report = record s.report { manager = m }; works = works_in s moved m s.works; notes = n }) same_notes)
+    module _ (first : Live) (is : StandsLive g first (lines_step g past [] drops (restored g b).1).1) where
+      a_is : (lines_step g past [] drops (restored g b).1).1 ≡ last
+      a_is = ap (λ z. (lines_step g past [] drops z).1) restored_is ∙ last_is
 
-    same_state : AreAtRest s → (lines_step g past [] drops (restored g b).1).1 ≡ (rolled_over h s).1
-    same_state rest = ap (λ z. (lines_step g past [] drops z).1) restored_is ∙ (last_is ∙ (whole rest ∙ sym rolled_is))
+      as_last : StandsLive g first last
+      as_last = subst (λ z. StandsLive g first z) a_is is
+
+      idle : (i : ℕ) (p : PlaceShown) → slice_get first.stand.scene.places i ≡ Some p → p.desk.pass.open_unit ≡ None
+      idle i p stored =
+          let low = got_in first.stand.scene.places i p stored in
+          let many = zip_long IsFor first.stand.scene.places last_desks as_last.stands.desks in
+          let kept = ap (λ (ds : List (List ℕ)). length ds) last_registers in
+          let k1 = length-map last_desks (λ d. d.registers) in
+          let k2 = length-map s.report.desks (λ d. d.registers) in
+          let k3 = desks_long in
+          let k4 = new_long in
+          let within : i < length h.servers = omega (arith, low, many, kept, k1, k2, k3, k4) in
+          let next : worker i ≡ suc i = omega arith in
+          let closed : has_open m (suc i) ≡ false = ap (λ c. has_open m c) (sym next) ∙ free i within in
+          let l = first.stand.manager.limits in
+          let there : m ≡ thread_of l (passes_in first.stand.scene) first.stand.keeper.seen = as_last.stands.manager in
+          none_open p.desk.pass.open_unit
+          (ap (λ o. is_some o) (sym (open_here first.stand.scene.places first.stand.scene.racers (not_given l (length (passes_in first.stand.scene))) i p stored))
+          ∙ (ap (λ (x : State). has_open x (suc i)) (sym there) ∙ closed))
+
+      as_rolled : StandsLive g first by_rollover
+      as_rolled = record {
+        stands = record {
+          together = as_last.stands.together;
+          manager = as_last.stands.manager;
+          desks = all_for first.stand.scene.places last_desks s.report.desks as_last.stands.desks last_registers last_dropped idle;
+          served = as_last.stands.served;
+        };
+        works = rolled_works ∙ (sym restored_works ∙ as_last.works);
+        notes = sym same_notes ∙ as_last.notes;
+      }
+
+      pub rolled_stands : StandsLive g first (rolled_over h s).1
+      rolled_stands = subst (λ z. StandsLive g first z) (sym rolled_is) as_rolled
 
   stripped : (vs : List ServerView) (rss : List (List ℕ)) → length rss ≡ length vs → map strip (started vs rss) ≡ map strip vs
   stripped [] [] same = refl
@@ -365,10 +402,11 @@ module _ (source : Head) (old done : Live) (survivors : List Survivor) (s : Sess
     workers = says.workers;
   }
 
-  pub goes_on : (past n : ℕ) (refusals : Refusals) (lines : List (List ℕ)) → AreAtRest s
-      → lines_step g n refusals lines (lines_step g past [] (drop_lines h.servers bs (length h.servers)) (restored g b).1).1 ≡ lines_step h n refusals lines (rolled_over h s).1
-  goes_on past n refusals lines rest =
-      ap (λ z. lines_step g n refusals lines z) (same_state past rest) ∙ same_lines_step g h say_the_same (same_body g h same_names) (no_restore h) n refusals lines (rolled_over h s).1
+  pub goes_on : (past n : ℕ) (first : Live) (lines : List (List ℕ)) (told : List ℕ) (end : Live) → StandsLive g first (lines_step g past [] (drop_lines h.servers bs (length h.servers)) (restored g b).1).1 → BodyLines head n lines first told end
+      → (refusals : Refusals) × AreUnforeseen refusals × (told ≡ (lines_step h n refusals lines (rolled_over h s).1).0)
+  goes_on past n first lines told end is answered =
+      let a = lines_are head n lines first end told (rolled_over h s).1 (rolled_stands past first is) answered in
+      (a.0, a.1, a.2.0 ∙ ap (λ z. z.0) (same_lines_step g h say_the_same (same_body g h same_names) (no_restore h) n a.0 lines (rolled_over h s).1))
 
   pub final_lines : (desks : List PlainDesk) → finals_below g.servers desks (length g.servers) ≡ finals_below h.servers desks (length h.servers)
   final_lines desks = ap (λ n. finals_below g.servers desks n) servers_long ∙ same_finals g.servers h.servers say_the_same.servers desks (length h.servers)
@@ -377,7 +415,6 @@ pub restored_stands : RestoredStands
 restored_stands source old done survivors s head begun text new past it says limits as_said stands holds t = stands_so source old done survivors s head begun text new it says limits as_said stands holds t past
 
 pub answers_go_on : AnswersGoOn
-answers_go_on source old done survivors s head begun text new past n refusals lines it says limits as_said stands holds t rest = (
-  goes_on source old done survivors s head begun text new it says limits as_said stands holds t past n refusals lines rest,
-  final_lines source old done survivors s head begun text new it says limits as_said stands holds t,
-)
+answers_go_on source old done survivors s head begun text new past n first lines told last it says limits as_said stands holds t is answered =
+    let all = goes_on source old done survivors s head begun text new it says limits as_said stands holds t past n first lines told last is answered in
+    (all.0, all.1, all.2, final_lines source old done survivors s head begun text new it says limits as_said stands holds t)

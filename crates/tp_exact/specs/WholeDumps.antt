@@ -20,6 +20,7 @@ use Rattle.tp_session.specs.Dump.{drop_lines, lost_element}
 use Rattle.tp_session.specs.Live as lives
 use Rattle.tp_session.specs.Live.{FoundAlive, HoldsUnits, Live, LiveLooks, RestoredLive, lines_of}
 use Rattle.tp_session.specs.Notes.{notes_of}
+use Rattle.tp_session.specs.Told.{BodyLines}
 use Rattle.tp_session.specs.declared.hand.Holding.{Holding}
 use Rattle.tp_exact.specs.AliveReads.{IsBody64}
 use Rattle.tp_exact.specs.Dumps.{all_lost, line_of}
@@ -27,7 +28,7 @@ use Rattle.tp_exact.specs.HeadReads.{AreSettings, IsServer, started}
 use Rattle.tp_exact.specs.NoteReads.{AreNotes, alive_notes}
 use Rattle.tp_exact.specs.PlainSession.{Refusals, SessionState, begin, lines_step, read_head, restored}
 use Rattle.tp_exact.specs.PlainSession.{rolled_over}
-use Rattle.tp_exact.specs.Sessions.{StandsLive}
+use Rattle.tp_exact.specs.Sessions.{AreUnforeseen, StandsLive}
 
 -- ---- what was dumped
 
@@ -134,22 +135,20 @@ RestoredStands =
     → StandsLive t begun (begin t) → HoldsUnits begun → RestoredLive t begun text new
     → AreAlike (lines_step t past [] (drops_of h old) (restored t (begin t)).1).1 (rolled_over h s).1
 
--- no desk has work in hand, nor anything left of it
-abbrev pub AreAtRest : SessionState → Type 0
-AreAtRest s = (d : PlainDesk) → In d s.report.desks → (d.taken ≡ None) × (d.is_prepared ≡ false)
-
--- So all lines that come behind have the same answers in both sessions, where they have the same numbers and
--- are refused alike, and so are the final lines: from there on nobody can tell the two apart.
+-- So what the new session is told from there on, of any lines, is what is computed of the dumped session behind its
+-- rollover, and so are the final lines: nobody can tell the two apart.
 abbrev pub AnswersGoOn : Type 0
 AnswersGoOn =
     (source : Head) (old done : Live) (survivors : List Survivor) (s : SessionState)
     (head : Head) (begun : Live) (text : List ℕ) (new : Live)
-    (past n : ℕ) (refusals : Refusals) (lines : List (List ℕ))
+    (past n : ℕ) (first : Live) (lines : List (List ℕ)) (told : List ℕ) (last : Live)
     → let h = head_view source in let t = head_view head in
     IsDumped h old done survivors s → SaysAll h t old survivors
     → old.stand.manager.limits ≡ limits_of h 0 → begun.stand.manager.limits ≡ limits_of t 0
-    → StandsLive t begun (begin t) → HoldsUnits begun → RestoredLive t begun text new → AreAtRest s
-    → (lines_step t n refusals lines (lines_step t past [] (drops_of h old) (restored t (begin t)).1).1
-    ≡ lines_step h n refusals lines (rolled_over h s).1)
+    → StandsLive t begun (begin t) → HoldsUnits begun → RestoredLive t begun text new
+    → StandsLive t first (lines_step t past [] (drops_of h old) (restored t (begin t)).1).1
+    → BodyLines head n lines first told last
+    → (refusals : Refusals) × AreUnforeseen refusals
+    × (told ≡ (lines_step h n refusals lines (rolled_over h s).1).0)
     × ((desks : List PlainDesk)
     → finals_below t.servers desks (length t.servers) ≡ finals_below h.servers desks (length h.servers))
