@@ -135,8 +135,8 @@ RestoredStands =
     → StandsLive t begun (begin t) → HoldsUnits begun → RestoredLive t begun text new
     → AreAlike (lines_step t past [] (drops_of h old) (restored t (begin t)).1).1 (rolled_over h s).1
 
--- So what the new session is told from there on, of any lines, is what is computed of the dumped session behind its
--- rollover, and so are the final lines: nobody can tell the two apart.
+-- So what the new session is told from there on, of any lines, is what is computed of the dumped session behind
+-- its rollover, and so are the final lines: nobody can tell the two apart.
 abbrev pub AnswersGoOn : Type 0
 AnswersGoOn =
     (source : Head) (old done : Live) (survivors : List Survivor) (s : SessionState)
