@@ -3,14 +3,13 @@ mod crews;
 mod held;
 mod plays;
 mod scenes;
-mod surveys;
 
 use plays::Call::{Aborts, Commits, Requeues, Shows, Stands, Submits, Takes};
 use plays::{Call, Stand};
 use scenes::{Side, needs_passes, rolls};
 use std::process::Abort;
 use tp_model::types::{Body, Draft, Limits, Outcome, Status};
-use tp_rollover::{Moved, RollFault};
+use tp_rollover::{Managed, Moved, RollFault};
 
 /// Two passes with eight rows and sixteen units each, and two attempts for each element.
 const LIMITS: Limits = Limits {
@@ -215,4 +214,11 @@ fn not_a_new_one(rt: HostRuntime) {
 #[test]
 fn no_pass(rt: HostRuntime) {
     assert!(rt; needs_passes(&rt, LIMITS));
+}
+
+/// Limits outside their ranges.
+#[test]
+fn no_limits(rt: HostRuntime) {
+    let limits = Limits { rows: 0, ..LIMITS };
+    assert!(&rt; Managed::restored(rt.alloc(), limits, &[]).err() == Some(RollFault::BadLimits));
 }

@@ -81,31 +81,6 @@ fn stands<R: Abort>(rt: &R, crew: &mut Crew, id: u32, status: Status)
     assert!(rt; look.status == status, "at element {id}");
 }
 
-/// The crew rolls over, which carries so many elements.
-fn rolls<R: Abort + AllocGlobal>(rt: &R, crew: &mut Crew, many: usize) -> Vec<Moved>
-    requires { IsSteadyCrew (shown behaviour) (shown registers) (shown pending) crew.old }
-    ensures steady { IsSteadyCrew (shown behaviour) (shown registers) (shown pending) crew.new }
-    ensures count { length result.items ≡ many }
-{
-    let moved = crew.roll_over(rt.alloc()).expect(rt, "no rollover");
-    assert_eq!(rt; moved.len(), many);
-    moved
-}
-
-/// The rollover has no room.
-fn is_refused<R: Abort + AllocGlobal>(rt: &R, crew: &mut Crew)
-    requires { IsSteadyCrew (shown behaviour) (shown registers) (shown pending) crew.old }
-    ensures steady { IsSteadyCrew (shown behaviour) (shown registers) (shown pending) crew.new }
-{
-    match crew.roll_over(rt.alloc()) {
-        Ok(moved) => {
-            drop(moved);
-            panic!(rt; "it has room");
-        }
-        Err(fault) => assert_eq!(rt; fault, RollFault::Full),
-    }
-}
-
 /// What was carried over stands: a parked element, a waiting one, and two replies to a request that is no
 /// more.
 fn all_stand<R: Abort>(rt: &R, crew: &mut Crew, moved: &[Moved])
@@ -131,12 +106,13 @@ fn crew_rolls_over(rt: HostRuntime) {
     works(&rt, &mut crew, 1, 0, 0);
     works(&rt, &mut crew, 1, 1, 1);
     works(&rt, &mut crew, 3, 0, 2);
-    is_refused(&rt, &mut crew);
+    assert!(rt; crew.roll_over(rt.alloc()).err() == Some(RollFault::Full));
     // The caller's own pass made three elements, and the box's began two units.
     assert_eq!(rt; crew.room(), Room { rows: 0, units: 14 });
     assert_eq!(rt; crew.reply(0, 0), Some(3));
     assert!(rt; crew.kill(3).is_ok());
-    let moved = rolls(&rt, &mut crew, 4);
+    let moved = crew.roll_over(rt.alloc()).expect(&rt, "no rollover");
+    assert_eq!(rt; moved.len(), 4);
     all_stand(&rt, &mut crew, &moved);
     assert_eq!(rt; added(&rt, &crew), 10);
     drop(moved);

@@ -19,7 +19,7 @@ pub(super) struct Side<'a> {
 }
 
 /// A manager with these limits, its keeper, and its first two passes.
-pub(super) fn kept<R: Abort + AllocGlobal>(rt: &R, limits: Limits) -> (Manager, Keeper, [Pass; 2])
+fn kept<R: Abort + AllocGlobal>(rt: &R, limits: Limits) -> (Manager, Keeper, [Pass; 2])
     ensures keeper { IsKeptBy result.0 result.1 }
     ensures own { All (IsOf result.0) result.2 }
 {
