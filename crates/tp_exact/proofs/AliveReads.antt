@@ -1,5 +1,5 @@
 -- An `alive` line of a dump, read again, says what was told.
-use Rattle.std.proofs.Common.{◌≡◌, ◌≢◌, ℕ, suc, ◌+◌, ◌-◌, ◌^◌, ◌<◌, ◌≤◌, ◌==◌, ◌&&◌, Bool, true, false, not, if◌then◌else◌, Option, None, Some, Result, Ok, List, [], ◌∷◌, ◌++◌, length, nat_le, nat_lt, refl, sym, ◌∙◌, ap, subst, append_assoc, inl, inr, arith}
+use Rattle.std.proofs.Common.{◌≡◌, ◌≢◌, ℕ, suc, ◌+◌, ◌-◌, ◌^◌, ◌<◌, ◌≤◌, ◌==◌, ◌&&◌, Bool, true, false, not, if◌then◌else◌, Option, None, Some, Ok, List, [], ◌∷◌, ◌++◌, length, nat_le, nat_lt, refl, sym, ◌∙◌, ap, subst, append_assoc, inl, inr, arith}
 use Rattle.std.specs.Prelude.{codes, count_by, decimal, slice_get}
 use Rattle.std.specs.List.{list_all, slice_split}
 use Rattle.std.specs.Option.{option_map}
@@ -13,39 +13,24 @@ use Rattle.tp_rollover.specs.declared.survivors.Survivor.{Survivor}
 use Rattle.tp_script.specs.Alive.{AliveWords, alive_at, alive_of, alive_places, alive_words}
 use Rattle.tp_script.specs.Commands.{SubmitWords, submit_body, submit_words}
 use Rattle.tp_script.specs.Drafts.{draft_at, draft_of, is_draft}
-use Rattle.tp_script.specs.LineWords.{◌>>=◌, any_stage_at, body_of, known, number_at, require}
+use Rattle.tp_script.specs.LineWords.{◌>>=◌, any_stage_at, known, number_at, require}
 use Rattle.tp_script.specs.Grammar.{alive_line, head_at, head_keyword, head_words, held_line, line_words, with_alive}
 use Rattle.tp_script.specs.Hands.{free_worker, has_in_hand, held_of, held_words}
 use Rattle.tp_script.specs.Script.{HeadView}
 use Rattle.tp_script.specs.ServerLines.{worker_at}
 use Rattle.tp_script.specs.declared.head.Driver.TheVariants as drivers
 use Rattle.tp_script.specs.Text.{words}
-use Rattle.tp_script.specs.declared.fault.LineFault.{LineFault}
-use Rattle.tp_script.specs.declared.fault.LineFault.TheVariants.{BadName, BadNumber, BadLimits, Syntax, TooLong}
+use Rattle.tp_script.specs.declared.fault.LineFault.TheVariants.{BadName, BadNumber, BadLimits, Syntax}
 use Rattle.tp_script.specs.declared.head.AliveLine.{AliveLine}
 use Rattle.tp_script.specs.declared.head.TheConstants.{MAX_ALIVE}
 use Rattle.tp_session.specs.Dump.{attempts_of, draft_text, element_text, held_text, holder_in, text_by}
 use Rattle.tp_exact.specs.AliveReads.{AliveLineReads, HeldLineReads, IsBody64, IsFit, IsFreeWorker}
 use Rattle.tp_exact.specs.Dumps.{tries_of}
-use Rattle.tp_exact.proofs.Cuts.{Bytes, Free, allowed, and_true, counted, cut, digits, free_of, le_true, number_is, uncounted, uncut, wider, with_more, words_last, words_more}
-
--- what is read first, and then the rest
-pub bind_ok : {A B : Type 0} (r : Result A LineFault) (x : A) (f : A → Result B LineFault) → r ≡ Ok x → (r >>= f) ≡ f x
-bind_ok r x f e = ap (λ z. z >>= f) e
+use Rattle.tp_exact.proofs.LineReads.{bind_ok, digits_allowed, digits_free, letters_of, line_ok, no_space, number_ok, some_letters, word_long}
+use Rattle.tp_exact.proofs.WordLines.{words_read}
+use Rattle.tp_exact.proofs.Cuts.{Bytes, Free, and_true, counted, cut, digits, free_of, le_true, uncounted, uncut, wider, with_more, words_last, words_more}
 
 -- ---- numbers
-
-word_long : (n : ℕ) → n < 2 ^ 64 → length (decimal n) ≤ 20
-word_long n h = length-decimal-le 20 n (omega arith) (omega (arith, h)) h
-
-pub number_ok : (most n : ℕ) → n < 2 ^ 64 → n ≤ most → number_at most (decimal n) ≡ Ok n
-number_ok most n h within = ap (λ o. known o BadNumber) (number_is most n h (word_long n h) within)
-
-pub digits_free : (k n : ℕ) → n < 2 ^ 64 → ((c : ℕ) → 48 ≤ c → c ≤ 57 → c ≢ k) → Free k (decimal n)
-digits_free k n h other = free_of k 48 57 (decimal n) other (digits n h)
-
-pub no_space : (c : ℕ) → 48 ≤ c → c ≤ 57 → c ≢ 32
-no_space c low high e = omega (arith, low, e)
 
 no_colon : (c : ℕ) → 48 ≤ c → c ≤ 57 → c ≢ 58
 no_colon c low high e = omega (arith, high, e)
@@ -103,12 +88,7 @@ module _ (stage a b c d : ℕ) (low : 1 ≤ stage) (high : stage ≤ REPLY_STAGE
   submitted = record { stage = decimal stage; key = decimal a; amount = decimal b; word_two = decimal c; word_three = decimal d }
 
   body_ok : submit_body submitted ≡ Ok body
-  unfolding body_of
-  body_ok =
-      bind_ok (number_at (2 ^ 64 - 1) (decimal a)) a _ (number_ok (2 ^ 64 - 1) a fa (omega (arith, fa)))
-      ∙ (bind_ok (number_at (2 ^ 64 - 1) (decimal b)) b _ (number_ok (2 ^ 64 - 1) b fb (omega (arith, fb)))
-      ∙ (bind_ok (number_at (2 ^ 64 - 1) (decimal c)) c _ (number_ok (2 ^ 64 - 1) c fc (omega (arith, fc)))
-      ∙ bind_ok (number_at (2 ^ 64 - 1) (decimal d)) d _ (number_ok (2 ^ 64 - 1) d fd (omega (arith, fd)))))
+  body_ok = words_read a b c d fa fb fc fd
 
   numbers : draft_of submitted ≡ Ok (record { stage = stage; body = body })
   unfolding draft_of
@@ -233,26 +213,11 @@ module _ (id attempts rounds root : ℕ) (own : List ℕ) (stage : ℕ) (body : 
       ∙ (bind_ok (free_worker name h) worker _ free
       ∙ (bind_ok (held_of worker said) (in_hand worker) _ (held_ok worker some) ∙ one_more (in_hand worker) h room)))
 
--- a line of allowed bytes that isn't too long, and no comment, is its words
-pub line_ok : (c : ℕ) (rest : List ℕ) → (c == 35) ≡ false → length (c ∷ rest) ≤ 208 → Bytes 32 126 (c ∷ rest) → line_words (c ∷ rest) ≡ Ok (words (c ∷ rest))
-unfolding line_words
-line_ok c rest no_comment short all =
-    let line = c ∷ rest in
-    bind_ok (require (nat_le (length line) 208) TooLong) tt (λ _. require (list_all (λ b. nat_le 32 b && nat_le b 126) line) Syntax >>= λ _. said (c == 35)) (ap (λ t. require t TooLong) (le_true (length line) 208 short))
-    ∙ (bind_ok (require (list_all (λ b. nat_le 32 b && nat_le b 126) line) Syntax) tt (λ _. said (c == 35)) (ap (λ t. require t Syntax) (allowed line all)) ∙ ap said no_comment)
-  where
-    said : Bool → Result (List (List ℕ)) LineFault
-    said comment = if comment then Ok [] else Ok (words (c ∷ rest))
-
 held_word : Free 32 (codes "held")
 held_word = (λ e. omega (arith, e), (λ e. omega (arith, e), (λ e. omega (arith, e), (λ e. omega (arith, e), tt))))
 
 alive_word : Free 32 (codes "alive")
 alive_word = (λ e. omega (arith, e), (λ e. omega (arith, e), (λ e. omega (arith, e), (λ e. omega (arith, e), (λ e. omega (arith, e), tt)))))
-
--- numbers and spaces are allowed
-pub digits_allowed : (n : ℕ) → n < 2 ^ 64 → Bytes 32 126 (decimal n)
-digits_allowed n h = wider 48 57 32 126 (decimal n) (omega arith) (omega arith) (digits n h)
 
 text_allowed : (text : List ℕ) → Bytes 48 58 text → Bytes 32 126 text
 text_allowed text all = wider 48 58 32 126 text (omega arith) (omega arith) all
@@ -501,18 +466,6 @@ alive_line_reads workers first s h fit none room =
     ap (λ o. head_at (text_by (holder_in workers first o) s) h) none
     ∙ (alive_reads s (attempts_of s.status) fit few h room
     ∙ ap (λ o. Ok (record h { alive = h.alive ++ line_by first s o ∷ [] }, None)) (sym none))
-
--- a name is of small letters
-pub letters_of : (xs : List ℕ) → list_all (λ b. nat_le 97 b && nat_le b 122) xs ≡ true → Bytes 97 122 xs
-letters_of [] all = tt
-letters_of (x ∷ xs) all =
-    let parts = and_parts (nat_le 97 x && nat_le x 122) (list_all (λ b. nat_le 97 b && nat_le b 122) xs) all in
-    let one = and_parts (nat_le 97 x) (nat_le x 122) parts.0 in
-    ((leb-true 97 x one.0, leb-true x 122 one.1), letters_of xs parts.1)
-
-pub some_letters : (xs : List ℕ) → not (length xs == 0) ≡ true → 0 < length xs
-some_letters [] is = absurd cc
-some_letters (x ∷ xs) is = omega arith
 
 pub free_ok : (name : List ℕ) (worker : ℕ) (h : HeadView) → IsFreeWorker name worker h → free_worker name h ≡ Ok worker
 unfolding free_worker

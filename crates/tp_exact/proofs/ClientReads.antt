@@ -22,7 +22,7 @@ use Rattle.tp_script.specs.declared.notes.UnitEnd.TheVariants.{Done, Aborted, Lo
 use Rattle.tp_exact.specs.NoteReads.{IsClientName, IsFitEnd, IsFitNote, IsId}
 use Rattle.tp_session.specs.Answers.{body_text}
 use Rattle.tp_session.specs.NoteTexts.{client_text, ended_text, id_text, request_text}
-use Rattle.tp_exact.proofs.AliveReads.{bind_ok, line_ok, number_ok}
+use Rattle.tp_exact.proofs.LineReads.{bind_ok, line_ok, number_ok}
 use Rattle.tp_exact.proofs.Cuts.{Bytes, and_true, le_true}
 use Rattle.tp_exact.proofs.WordLines.{AreWords, Word, body_is, bytes_are, id_reads, id_word, joined, name_word, number_word, room_is, room_of, small_word, words_are}
 

@@ -28,7 +28,7 @@ use Rattle.tp_script.specs.declared.script.Command.TheVariants.{Desk}
 use Rattle.tp_script.specs.declared.script.DeskAct.TheVariants as desk
 use Rattle.tp_session.specs.Dump.{drop_lines, drop_of}
 use Rattle.tp_exact.specs.PlainSession.{SessionState, line_step, lines_step}
-use Rattle.tp_exact.proofs.AliveReads.{bind_ok}
+use Rattle.tp_exact.proofs.LineReads.{bind_ok}
 use Rattle.tp_exact.proofs.ClientReads.{by_words}
 use Rattle.tp_exact.proofs.LostReads.{got_some}
 use Rattle.tp_exact.proofs.Places.{passes}

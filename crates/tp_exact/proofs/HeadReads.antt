@@ -1,5 +1,5 @@
 -- The lines that a dump tells of settings and workers, read one after another.
-use Rattle.std.proofs.Common.{◌≡◌, ℕ, suc, ◌+◌, ◌-◌, ◌^◌, ◌<◌, ◌≤◌, ◌==◌, ◌&&◌, Bool, true, false, cond, not, None, Some, Ok, List, [], ◌∷◌, ◌++◌, length, map, nat_le, nat_lt, ◌||◌, refl, sym, ◌∙◌, ap, subst, append_assoc, inl, inr, arith}
+use Rattle.std.proofs.Common.{◌≡◌, ℕ, suc, ◌+◌, ◌-◌, ◌^◌, ◌<◌, ◌≤◌, ◌==◌, ◌&&◌, Bool, true, false, cond, not, None, Some, Ok, List, [], ◌∷◌, ◌++◌, length, map, nat_le, nat_lt, refl, sym, ◌∙◌, ap, subst, append_assoc, inl, inr, arith}
 use Rattle.std.specs.Prelude.{codes, count_by, decimal, is_none, position}
 use Rattle.std.specs.List.{list_any, position_or_len}
 use Rattle.std.specs.Str.{bytes_eq}
@@ -18,11 +18,12 @@ use Rattle.tp_script.specs.declared.head.Driver.TheVariants as drivers
 use Rattle.tp_script.specs.declared.head.TheConstants.{MAX_WORKERS}
 use Rattle.tp_session.specs.Dump.{settings_lines, worker_text}
 use Rattle.tp_exact.specs.HeadReads.{AreSettings, IsWorker, SettingsLinesRead, WorkerLinesRead}
-use Rattle.tp_exact.proofs.AliveReads.{bind_ok, number_ok}
+use Rattle.tp_exact.proofs.LineReads.{bind_ok, number_ok}
 use Rattle.tp_exact.proofs.ClientReads.{by_words}
 use Rattle.tp_exact.proofs.Cuts.{and_true, le_true}
 use Rattle.tp_exact.proofs.LostReads.{AreTaken, taken_told}
 use Rattle.tp_exact.proofs.NoteReads.{none_before, same_bytes}
+use Rattle.tp_exact.proofs.SessionLines.{either_false}
 use Rattle.tp_exact.proofs.WordLines.{Word, joined, name_word, number_word, small_word}
 
 -- ---- settings
@@ -124,14 +125,10 @@ less_false a b high = elim (leb_tells (suc a) b) [
   | inr p ↦ p.0
 ]
 
-or_none : (a b : Bool) → (a || b) ≡ false → (a ≡ false) × (b ≡ false)
-or_none false b h = (refl, h)
-or_none true b h = absurd cc
-
 not_found : {A : Type 0} (f : A → Bool) (xs : List A) → list_any f xs ≡ false → position_or_len f xs ≡ length xs
 not_found f [] none = refl
 not_found f (x ∷ xs) none =
-    let parts = or_none (f x) (list_any f xs) none in
+    let parts = either_false (f x) (list_any f xs) none in
     let rest = not_found f xs parts.1 in
     ap (λ b. cond (not b) (1 + position_or_len f xs) 0) parts.0 ∙ omega (arith, rest)
 

@@ -41,11 +41,12 @@ pub mod Tries
 pub mod RestoredDumps
 pub mod RestoredHands
 pub mod Cuts
+pub mod LineReads
+pub mod WordLines
 pub mod AliveReads
 pub mod HoldsOnce
 pub mod FoundLines
 pub mod LostReads
-pub mod WordLines
 pub mod ClientReads
 pub mod NoteReads
 pub mod RestoredNotes

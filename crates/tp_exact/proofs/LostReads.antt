@@ -22,7 +22,8 @@ use Rattle.tp_session.specs.Told.{HeadLine, HeadLines}
 use Rattle.tp_session.specs.declared.hand.Holding.{Holding}
 use Rattle.tp_exact.specs.AliveReads.{IsFreeWorker, LostLinesRead}
 use Rattle.tp_exact.specs.Dumps.{all_lost, lost_in, lost_told}
-use Rattle.tp_exact.proofs.AliveReads.{bind_ok, digits_allowed, digits_free, free_ok, letters_of, line_ok, no_space, number_ok, some_letters}
+use Rattle.tp_exact.proofs.AliveReads.{free_ok}
+use Rattle.tp_exact.proofs.LineReads.{bind_ok, digits_allowed, digits_free, letters_of, line_ok, no_space, number_ok, some_letters}
 use Rattle.tp_exact.proofs.Cuts.{Bytes, Free, free_of, wider, with_more, words_last, words_more}
 use Rattle.tp_exact.proofs.RestoredHands.{other_is}
 use Rattle.tp_exact.proofs.SessionLines.{either_false}

@@ -22,7 +22,7 @@ use Rattle.tp_script.specs.declared.script.Kind.{Kind}
 use Rattle.tp_script.specs.declared.script.Kind.TheVariants as kinds
 use Rattle.tp_session.specs.Dump.{act_text, amount_text, key_text, kind_text, word_text}
 use Rattle.tp_exact.specs.HeadReads.{IsFitAmount, IsFitKey, IsFitOutput}
-use Rattle.tp_exact.proofs.AliveReads.{bind_ok, digits_free, number_ok}
+use Rattle.tp_exact.proofs.LineReads.{bind_ok, digits_free, number_ok}
 use Rattle.tp_exact.proofs.Cuts.{Bytes, Free, and_true, counted, cut, digits, free_more, free_of, uncounted, uncut, with_more}
 use Rattle.tp_exact.proofs.WordLines.{AreWords, Word, number_word, small_word}
 

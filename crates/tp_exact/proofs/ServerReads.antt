@@ -20,7 +20,7 @@ use Rattle.tp_script.specs.declared.notes.ClientNote.{ClientNote}
 use Rattle.tp_script.specs.declared.script.TheConstants.{MAX_SERVERS}
 use Rattle.tp_session.specs.Dump.{kind_text, output_text, server_line}
 use Rattle.tp_exact.specs.HeadReads.{IsServer, ServerLinesRead, unstarted}
-use Rattle.tp_exact.proofs.AliveReads.{bind_ok, line_ok, number_ok}
+use Rattle.tp_exact.proofs.LineReads.{bind_ok, line_ok, number_ok}
 use Rattle.tp_exact.proofs.Cuts.{and_true, le_true}
 use Rattle.tp_exact.proofs.HeadReads.{no_place}
 use Rattle.tp_exact.proofs.LostReads.{AreTaken, taken_told}

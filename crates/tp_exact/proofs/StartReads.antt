@@ -12,7 +12,7 @@ use Rattle.tp_script.specs.declared.fault.LineFault.TheVariants.{BadName, BadRec
 use Rattle.tp_script.specs.declared.head.Driver.TheVariants as drivers
 use Rattle.tp_session.specs.Dump.{all_starts, server_starts, start_lines, starts_of}
 use Rattle.tp_exact.specs.HeadReads.{HasRegisters, StartLinesRead, started, unstarted}
-use Rattle.tp_exact.proofs.AliveReads.{bind_ok, number_ok}
+use Rattle.tp_exact.proofs.LineReads.{bind_ok, number_ok}
 use Rattle.tp_exact.proofs.ClientReads.{by_words}
 use Rattle.tp_exact.proofs.Cuts.{le_true}
 use Rattle.tp_exact.proofs.LostReads.{AreTaken, got_some, taken_more, taken_told}

@@ -23,12 +23,13 @@ use Rattle.tp_exact.specs.HeadReads.{HasRegisters, IsWorker, started, unstarted}
 use Rattle.tp_exact.specs.NoteReads.{AreNotes, alive_notes, with_notes}
 use Rattle.tp_exact.specs.PlainSession.{SessionState, read_head, read_line}
 use Rattle.tp_exact.specs.WholeDumps.{IsDumped, WholeDumpRead, registers_of}
-use Rattle.tp_exact.proofs.AliveReads.{bind_ok}
+use Rattle.tp_exact.proofs.LineReads.{bind_ok}
 use Rattle.tp_exact.proofs.ClientReads.{by_words}
 use Rattle.tp_exact.proofs.Cuts.{le_true}
 use Rattle.tp_exact.proofs.DumpReads.{both_told, dump_lines_read}
 use Rattle.tp_exact.proofs.HeadReads.{settings_lines_read, worker_lines_read}
 use Rattle.tp_exact.proofs.NoteReads.{counted, note_lines_read, same_bytes}
+use Rattle.tp_exact.proofs.RestoredHands.{some_same}
 use Rattle.tp_exact.proofs.ServerReads.{server_lines_read}
 use Rattle.tp_exact.proofs.StartReads.{same_places, start_lines_read}
 use Rattle.tp_exact.proofs.WordLines.{Word, small_word}
@@ -46,16 +47,9 @@ module _ {A : Type 0} (f : A → Bool) where
   some_counted [] i x is test = absurd cc
   some_counted (y ∷ xs) zero x is test =
       let a = counted f y xs in
-      let same : y ≡ x = got is in
+      let same : y ≡ x = some_same y x is in
       let b : cond (f y) one nothing ≡ 1 = ap (λ (z : A). cond (f z) one nothing) same ∙ ap (λ b. cond b one nothing) test in
       omega (arith, a, b)
-    where
-      got : Some y ≡ Some x → y ≡ x
-      got e = ap (λ (o : Option A). of o) e
-        where
-          of : Option A → A
-          of None = y
-          of (Some z) = z
   some_counted (y ∷ xs) (suc i) x is test =
       let a = counted f y xs in
       let rest = some_counted xs i x is test in
@@ -93,14 +87,7 @@ module _ {A : Type 0} (f : A → Bool) where
 
 pub in_list : {A : Type 0} (xs : List A) (i : ℕ) (x : A) → slice_get xs i ≡ Some x → In x xs
 in_list [] i x is = absurd cc
-in_list {A} (y ∷ xs) zero x is = subst (λ z. In z (y ∷ xs)) (got is) here
-  where
-    got : Some y ≡ Some x → y ≡ x
-    got e = ap (λ (o : Option A). of o) e
-      where
-        of : Option A → A
-        of None = y
-        of (Some z) = z
+in_list (y ∷ xs) zero x is = subst (λ z. In z (y ∷ xs)) (some_same y x is) here
 in_list (y ∷ xs) (suc i) x is = there (in_list xs i x is)
 
 -- ---- the head

@@ -15,7 +15,7 @@ use Rattle.tp_exact.specs.AliveReads.{IsBody64}
 use Rattle.tp_exact.specs.NoteReads.{IsId}
 use Rattle.tp_session.specs.Answers.{body_text}
 use Rattle.tp_session.specs.NoteTexts.{id_text}
-use Rattle.tp_exact.proofs.AliveReads.{bind_ok, digits_allowed, digits_free, letters_of, no_space, number_ok, some_letters}
+use Rattle.tp_exact.proofs.LineReads.{bind_ok, digits_allowed, digits_free, letters_of, no_space, number_ok, some_letters}
 use Rattle.tp_exact.proofs.Cuts.{Bytes, Free, counted, cut, digits, free_of, uncounted, uncut, wider, with_more, words_last, words_more}
 
 -- ---- words
@@ -161,7 +161,7 @@ module _ (a b c d : ℕ) (fa : a < 2 ^ 64) (fb : b < 2 ^ 64) (fc : c < 2 ^ 64) (
       ∙ ap (λ z. decimal b ∷ z) (cut 58 (decimal c) _ (digits_free 58 c fc no_colon)
       ∙ ap (λ z. decimal c ∷ z) (uncut 58 (decimal d) (digits_free 58 d fd no_colon))))
 
-  words_read : body_of (decimal a, decimal b, decimal c, decimal d) ≡ Ok body
+  pub words_read : body_of (decimal a, decimal b, decimal c, decimal d) ≡ Ok body
   unfolding body_of
   words_read =
       bind_ok (number_at (2 ^ 64 - 1) (decimal a)) a _ (number_ok (2 ^ 64 - 1) a fa (omega (arith, fa)))
