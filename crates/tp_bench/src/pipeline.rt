@@ -1,7 +1,6 @@
-//! Pipelines of three stages whose servers make a reply beside the next element: stage 1 makes one of
-//! stage 2 and a reply,
-//! stage 2 one of stage 3 and a reply, stage 3 a reply. One thread. The lock's twin is `pipelines` of
-//! `bench/rust/mutex.rs`.
+//! Pipelines of three stages whose servers make a reply beside the next element: stage 1 makes one of stage 2
+//! and a reply, stage 2 one of stage 3 and a reply, stage 3 a reply. One thread. The lock's twin is
+//! `pipelines` of `bench/rust/mutex.rs`.
 ghost use Rattle.std.specs.Prelude.{◌≡◌, None, IfSome, IsSome};
 ghost use Rattle.tp_model.specs.Steps.{IsServerStage};
 ghost use Rattle.tp_manager.specs.Shown.{IsOf, IsKeptBy};

@@ -12,8 +12,9 @@ use crate::manager::{Manager, Pass, Task};
 use tp_model::types::{Claimed, Work};
 
 impl Manager {
-    /// Takes an element that waits in the stage, 1 to 14, into a new unit of work of the pass, which has none
-    /// open. `NoUnit` where the pass has used its units; `Idle` where nothing was found to wait.
+    /// Takes the element with the least id that was found to wait in the stage, 1 to 14, into a new unit of
+    /// work of the pass, which has none open. `NoUnit` where the pass has used its units; `Idle` where nothing
+    /// was found to wait.
     pub fn claim(&self, pass: &mut Pass, stage: u8) -> Claimed
         requires own { IsOf self.now pass.old }
         requires stage { IsServerStage stage }

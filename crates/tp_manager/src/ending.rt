@@ -9,8 +9,9 @@ use crate::manager::{Manager, Pass};
 use tp_model::types::{Draft, Ended, Outcome};
 
 impl Manager {
-    /// Gives up the open unit of work: its element waits again, or is parked. `AlreadyAborted` where another
-    /// caller had aborted the unit. Either way the pass has no unit open any more.
+    /// Gives up the open unit of work: its element waits again, or is parked, and nothing is born of it.
+    /// `AlreadyAborted` where another caller had aborted the unit. Either way the pass has no unit open any
+    /// more.
     pub fn abort(&self, pass: &mut Pass) -> Ended
         requires own { IsOf self.now pass.old }
         requires busy { IsSome pass.old.open_unit }

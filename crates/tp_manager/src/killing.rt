@@ -162,8 +162,8 @@ impl Shared {
 }
 
 impl Manager {
-    /// Kills the element with this id, and aborts the units of work that hold it on the way. The pass has no
-    /// unit open. `NotThere` where no such element is born, `Consumed` where a unit that took it has
+    /// Kills the element with this id, so that it is never taken again, and aborts the units of work that hold
+    /// it on the way. The pass has no unit open. `NotThere` where no such element is born, `Consumed` where a unit that took it has
     /// committed, and `AlreadyKilled`.
     pub fn kill(&self, pass: &mut Pass, id: u32) -> Result<Killed, Refusal>
         requires own { IsOf self.now pass.old }

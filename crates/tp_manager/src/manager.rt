@@ -219,11 +219,10 @@ impl Pass {
         self.number
     }
 
-    /// The mark of a part that is about a stage, 1 to 15, as this pass last loaded or set it. It is 0 before,
-    /// and where there is no such stage or part. No element of the stage in this many first rows of the part
-    /// waits, is held or is parked. With 0 for the stage it is the mark that is about all stages but 15. The
-    /// mark in the table is below it only where a claim could not raise it so far, since another pass had
-    /// raised it meanwhile.
+    /// How many first rows of a part this pass knows done with for a stage, 1 to 15: no element of the stage
+    /// in them waits, is held or is parked, or will. With 0 for the stage it is so of all stages but 15. It is
+    /// 0 at first, and where there is no such stage or part. It is what the pass last found in the table or
+    /// put there; a claim keeps what it found even where another pass was quicker to put something else.
     pub fn low(&self, stage: u8, part: u16) -> u16
         ensures answer { result ≡ low_of self.now stage part }
         ensures low { IsLow self.now.limits stage self.now.seen part result }

@@ -10,10 +10,10 @@ ghost use Rattle.tp_manager.specs.Lists.{AllKilled, NextReply};
 use crate::manager::{Manager, Pass};
 
 impl Manager {
-    /// The least id from this one on of a reply to the request with this root, of which it was found to wait.
+    /// A reply to the request with this root, with the least id from this one on of those that were found to
+    /// wait. `None` where none was.
     ///
-    /// It goes through the family of the request and through nothing else: `few` names how many elements that
-    /// are.
+    /// It looks at elements of the request's family alone, so its cost grows with their number (`few`).
     pub fn reply(&self, pass: &mut Pass, root: u32, from: u32) -> Option<u32>
         requires own { IsOf self.now pass.old }
         ensures own { IsOf self.now pass.new }

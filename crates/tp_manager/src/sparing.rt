@@ -11,7 +11,7 @@ ghost use Rattle.tp_manager.specs.CallSteps.{Steady};
 ghost use Rattle.tp_manager.specs.Marks.{Remembers, RisesAt};
 ghost use Rattle.tp_manager.specs.Scans.{IsSpare, NoneBehind, PassedBy, Took};
 
-use crate::listing::later;
+use crate::error_queue::later;
 use crate::manager::Shared;
 use crate::marking::Lows;
 use crate::scanning::Taken;
@@ -19,8 +19,7 @@ use tp_rule::Seat;
 
 impl Shared {
     /// The unit takes the first element of the spare blocks that waits in the stage, where nothing was born
-    /// from row
-    /// `end` on. The scan starts at the mark of the spare rows, and raises it.
+    /// from row `end` on. The scan starts at the mark of the spare rows, and raises it.
     pub(crate) fn scan_spare(
         &self,
         seat: &mut Seat,
@@ -63,8 +62,8 @@ impl Shared {
     }
 
     /// The first row of the spare blocks, from one of their rows on, whose element is looked for, where
-    /// nothing was born
-    /// from row `end` on. The scan starts at the mark of the spare rows, if that is further on, and raises it.
+    /// nothing was born from row `end` on. The scan starts at the mark of the spare rows, if that is further
+    /// on, and raises it.
     pub(crate) fn find_spare(
         &self,
         seat: &mut Seat,

@@ -52,9 +52,8 @@ pub fn settled_for_good()
 {}
 
 /// A family is a tree: each element of it but the root comes from another one of it, by the unit that
-/// consumed that one. Who begins
-/// at the root and goes on from each consumed element to its outputs comes to the whole family, and to no
-/// other element.
+/// consumed that one. Who begins at the root and goes on from each consumed element to its outputs comes to
+/// the whole family, and to no other element.
 pub fn family_is_tree()
     ensures tree { FamilyIsTree }
     ensures whole { ClosedHasFamily }

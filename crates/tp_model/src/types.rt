@@ -143,7 +143,8 @@ impl Limits {
 pub enum Claimed {
     /// An element, in the hand of a new unit of work.
     Work(Work),
-    /// No element of the stage waited.
+    /// None was found to wait: each element of the stage that was born when the call began had a moment in
+    /// the call at which it didn't.
     Idle,
     /// The pass has used up its units of work.
     NoUnit,

@@ -13,9 +13,8 @@ use tp_model::types::{Element, REPLY_STAGE, Refusal, Status};
 impl Plain {
     /// A pass takes a reply, once: it is killed.
     ///
-    /// `NotThere` where no element with this id is born, `BadStage` where it is no reply, and
-    /// `AlreadyKilled` where it was
-    /// collected or killed before.
+    /// `NotThere` where no element with this id is born, `BadStage` where it is no reply, and `AlreadyKilled`
+    /// where it was collected or killed before.
     pub fn collect(&mut self, caller: u16, id: u32) -> Result<Element, Refusal>
         requires pass { caller < self.old.limits.parts }
         requires free { (pass_at self.old caller).holding ≡ None }

@@ -118,8 +118,7 @@ abbrev pub IsApart : List Hand → Type 0
 IsApart [] = Unit {0}
 IsApart (a ∷ hands) = ((b : Hand) → In b hands → ¬ (b.number ≡ a.number)) × IsApart hands
 
--- what was found in a word that stays is still so
--- or has only risen
+-- what was found in a word that stays is still so or has only risen
 abbrev pub StillSo : Limits → List ℕ → Known → Type 0
 StillSo l ws (RowHead i head) = (i < rows_of l) × IsFitHead head
     × (head ≢ Empty → slice_index ws (head_place i) ≡ pack_head head)
@@ -192,8 +191,7 @@ abbrev pub IsFinished : Limits → List Event → List ℕ → ℕ → Type 0
 IsFinished l h ws i = IsSettledRow l h i ⊎ IsDead h ws i
 
 -- the stages that marks of kind s are about: those of kind 0 are about all but replies, and those of any
--- other kind about the stage with
--- that number
+-- other kind about the stage with that number
 abbrev pub Concerns : ℕ → ℕ → Type 0
 Concerns zero stage = ¬ (stage ≡ REPLY_STAGE)
 Concerns (suc s) stage = stage ≡ suc s

@@ -363,9 +363,8 @@ HasAside v s i = (head : Head) × Knows v (RowHead i head) × IsOther s head
 abbrev pub KnowsUseless : View → ℕ → ℕ → Type 0
 KnowsUseless v s i = KnowsFinished v i ⊎ HasAside v s i
 
--- the exchange of the mark of kind s of part p, or of the spare rows, from m to n, after which nothing
--- more is seen. What was known is
--- known, and nothing besides but the mark n, or that it is above m
+-- the exchange of the mark of kind s of part p, or of the spare rows, from m to n, after which nothing more
+-- is seen. What was known is known, and nothing besides but the mark n, or that it is above m
 abbrev pub RaisesMark : View → ℕ → ℕ → ℕ → ℕ → View → Type 0
 RaisesMark v s p m n w = (w ≡ after kinds.Raise unchanged v.seen w.known v) × ((x : Known) → Knows v x
     → Knows w x)

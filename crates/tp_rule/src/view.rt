@@ -22,8 +22,7 @@ pub struct Hand {
     /// The rows of the run below this are born, or given up with a unit that was aborted.
     pub first_draft: u32,
     /// The row of the run that is used next: those from `first_draft` up to it hold the drafts, and the heads
-    /// of the
-    /// `left` rows from it on are empty.
+    /// of the `left` rows from it on are empty.
     pub next: u32,
     /// How many rows of the run are unused.
     pub left: u16,

@@ -44,8 +44,7 @@ pub data Word : Type 0 where
   DrawnWord : Word
 
 -- it is there: its row, its unit or its part is, or it is the mark of the spare rows, and a body has that
--- many words; the
--- counter of drawn blocks always is
+-- many words; the counter of drawn blocks always is
 abbrev pub IsThere : Limits → Word → Type 0
 IsThere l (HeadWord i) = i < rows_of l
 IsThere l (BodyWord i k) = (i < rows_of l) × (k < BODY_WORDS)

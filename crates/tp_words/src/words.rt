@@ -42,8 +42,7 @@ pub enum Claim {
     /// The element was never taken, or the row has none.
     Free,
     /// The unit was the `attempt`-th to take the element in its round. `attempt` is 1 to 7, `unit` at most
-    /// 65534,
-    /// `round` at most 3.
+    /// 65534, `round` at most 3.
     Taken { attempt: u8, unit: u16, round: u8 },
     /// The element was killed after that; attempt and unit are 0 where it was not taken in its round.
     /// `attempt` is at most 7, `unit` at most 65534, `round` at most 3.
