@@ -14,7 +14,7 @@ mod drafting;
 mod drawing;
 mod ending;
 mod error_queue;
-mod families;
+mod family_members;
 mod killing;
 mod manager;
 mod marking;
