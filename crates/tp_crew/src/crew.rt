@@ -8,6 +8,7 @@ ghost use Rattle.tp_rollover.specs.Managed.{IsNewPass};
 ghost use Rattle.tp_workers.specs.Clients.{ClientRan, IsClientJob};
 ghost use Rattle.tp_crew.specs.CrewPasses.{clients_in, crew_passes, desks_in, limits_with};
 ghost use Rattle.tp_crew.specs.CrewPasses.{own_in};
+ghost use Rattle.tp_workers.specs.Asking.{AsksTurns};
 ghost use Rattle.tp_workers.specs.Desks.{DeskRan};
 ghost use Rattle.tp_workers.specs.Drained.{DeskDrained, LastTurn};
 ghost use Rattle.tp_crew.specs.Folds.{BeginsFold};
@@ -94,6 +95,9 @@ fn drain_desks(
     ensures last_turns { (counts : Shift) × (result.nounit ≡ counts.nounit)
         × RanEach (LastTurn behaviour registers pending manager.now order)
         (desks_in (length boxes.old) passes.old) boxes.old counts (desks_in (length boxes.old) passes.new) boxes.new }
+    ensures asked { (counts : Shift) × (result.done ≡ counts.done)
+        × RanEach (AsksTurns behaviour registers pending asked manager.now order)
+        (desks_in (length boxes.old) passes.old) boxes.old counts (desks_in (length boxes.old) passes.new) boxes.new }
     ensures done { result.done + sum_by commits_in (desks_in (length boxes.old) passes.old)
         ≡ sum_by commits_in (desks_in (length boxes.old) passes.new) }
     ensures own { own_in passes.new ≡ own_in passes.old }
@@ -134,6 +138,9 @@ fn shift_all<R: Threads + Sync, G: Gate>(
     ensures each_desk { AreTold (DeskRan behaviour registers pending manager.now plan)
         (desks_in (length boxes.old) passes.old) boxes.old counts.old (desk_part result)
         (desks_in (length boxes.old) passes.new) boxes.new counts.new }
+    ensures asked { RanEach (AsksTurns behaviour registers pending asked manager.now plan.order)
+        (desks_in (length boxes.old) passes.old) boxes.old (desk_part result)
+        (desks_in (length boxes.old) passes.new) boxes.new }
     ensures own { own_in passes.new ≡ own_in passes.old }
     ensures free { All (IsFreePass manager.now) passes.new }
     ensures numbered { numbers passes.new ≡ numbers passes.old }
@@ -233,6 +240,9 @@ impl Crew {
         ensures each_desk { AreTold (DeskRan behaviour registers pending self.old.manager plan)
             (desks_in (length self.old.boxes.items) self.old.passes.items) self.old.boxes.items counts.old (desk_part result)
             (desks_in (length self.old.boxes.items) self.new.passes.items) self.new.boxes.items counts.new }
+        ensures asked { RanEach (AsksTurns behaviour registers pending asked self.old.manager plan.order)
+            (desks_in (length self.old.boxes.items) self.old.passes.items) self.old.boxes.items (desk_part result)
+            (desks_in (length self.old.boxes.items) self.new.passes.items) self.new.boxes.items }
         ensures own { own_in self.new.passes.items ≡ own_in self.old.passes.items }
         ensures keeper { self.new.keeper ≡ self.old.keeper }
         ensures jobs_same { jobs.new ≡ jobs.old }
@@ -269,6 +279,10 @@ impl Crew {
             (desks_in (length self.old.boxes.items) self.new.passes.items) self.new.boxes.items }
         ensures last_turns { (counts : Shift) × (result.nounit ≡ counts.nounit)
             × RanEach (LastTurn behaviour registers pending self.old.manager order)
+            (desks_in (length self.old.boxes.items) self.old.passes.items) self.old.boxes.items counts
+            (desks_in (length self.old.boxes.items) self.new.passes.items) self.new.boxes.items }
+        ensures asked { (counts : Shift) × (result.done ≡ counts.done)
+            × RanEach (AsksTurns behaviour registers pending asked self.old.manager order)
             (desks_in (length self.old.boxes.items) self.old.passes.items) self.old.boxes.items counts
             (desks_in (length self.old.boxes.items) self.new.passes.items) self.new.boxes.items }
         ensures done { result.done + sum_by commits_in (desks_in (length self.old.boxes.items) self.old.passes.items)

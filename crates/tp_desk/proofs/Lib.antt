@@ -1,3 +1,4 @@
+pub mod Asking
 pub mod Serves
 pub mod GivenClaims
 pub mod Keeping

@@ -1,4 +1,5 @@
 pub mod Aside
+pub mod Asking
 pub mod Books
 pub mod Given
 pub mod InHand

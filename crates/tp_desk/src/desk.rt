@@ -3,6 +3,8 @@ ghost use Rattle.std.specs.Prelude.{◌≡◌, None, IfSome, is_some, slice_get}
 ghost use Rattle.tp_manager.specs.Bounds.{abort_steps};
 ghost use Rattle.tp_manager.specs.Calls.{Follows};
 ghost use Rattle.tp_manager.specs.Shown.{IsOf};
+ghost use Rattle.tp_server.specs.Asked.{Asks};
+ghost use Rattle.tp_desk.specs.Asking.{undo_of};
 ghost use Rattle.tp_desk.specs.Serving.{Leaves};
 ghost use Rattle.tp_desk.specs.Turns.{EndsOpen};
 ghost use Rattle.tp_desk.specs.Aside.{SteadyAside};
@@ -108,6 +110,7 @@ impl Drop for Desk<'_, '_, '_> {
         ensures own { IsOf self.entry.manager.now self.exit.1.0.now }
         ensures behaviour { behaviour self.exit.1.1.0.now ≡ behaviour self.entry.server.now }
         ensures registers { registers self.exit.1.1.0.now ≡ registers self.entry.server.now }
+        ensures asked { Asks (undo_of (pending self.entry.server.now)) (asked self.entry.server.now) (asked self.exit.1.1.0.now) }
         ensures adds { EndsOpen self.entry.pass.now.open_unit self.entry.pass.now self.exit.1.0.now }
         ensures turn { self.exit.1.0.now.from ≡ self.entry.pass.now.from }
         ensures follows { IfSome self.entry.pass.now.open_unit (λ _.

@@ -1,10 +1,12 @@
 //! The making of a desk, the parts of its work (claim, prepare, commit or abort), and its end.
 ghost use Rattle.tp_model.specs.declared.types.TheConstants.{MAX_OUTPUTS};
-ghost use Rattle.std.specs.Prelude.{◌≡◌, None, Some, IsSome, IfErr, IfSome, OnOk, OnErr};
+ghost use Rattle.std.specs.Prelude.{◌≡◌, [], ◌∷◌, None, Some, IsSome, IfErr, IfSome, OnOk, OnErr};
 ghost use Rattle.tp_model.specs.Steps.{AreLimits, IsServerStage};
 ghost use Rattle.tp_manager.specs.Shown.{IsOf};
 ghost use Rattle.tp_manager.specs.Calls.{Claims, ClaimsNext, AnswersAbort, Follows};
+ghost use Rattle.tp_server.specs.Asked.{Asks, Prepare};
 ghost use Rattle.tp_server.specs.Behaviour.{IsMade};
+ghost use Rattle.tp_desk.specs.Asking.{settling, undo_of};
 ghost use Rattle.tp_desk.specs.InHand.{work_of};
 ghost use Rattle.tp_desk.specs.Orders.{ClaimsBy, KeepsTurn, steps_by};
 ghost use Rattle.tp_desk.specs.Serving.{Leaves};
@@ -146,6 +148,8 @@ impl<'m, 'p, 's> Desk<'m, 'p, 's> {
             × IsSome (pending self.new.server.now)) }
         ensures free { OnErr result (self.new.work ≡ None) }
         ensures clear { OnErr result (pending self.new.server.now ≡ None) }
+        ensures asked { IfSome self.old.work (λ work. Asks (Prepare work.element (registers self.old.server.now) ∷ [])
+            (asked self.old.server.now) (asked self.new.server.now)) }
         ensures turn { self.new.pass.now.from ≡ self.old.pass.now.from }
         ensures follows { OnErr result (Follows abort_steps self.old.pass.now self.new.pass.now) }
         ensures answer { IfErr result (λ why. IfSome self.old.work (λ work.
@@ -177,6 +181,7 @@ impl<'m, 'p, 's> Desk<'m, 'p, 's> {
         ensures behaviour { behaviour self.new.server.now ≡ behaviour self.old.server.now }
         ensures registers { Some (registers self.new.server.now)
             ≡ registers_left result (registers self.old.server.now) (pending self.old.server.now) }
+        ensures asked { Asks (settling result (pending self.old.server.now)) (asked self.old.server.now) (asked self.new.server.now) }
         ensures clear { pending self.new.server.now ≡ None }
         ensures free { self.new.work ≡ None }
         ensures turn { self.new.pass.now.from ≡ self.old.pass.now.from }
@@ -200,6 +205,7 @@ impl<'m, 'p, 's> Desk<'m, 'p, 's> {
         ensures same { IsSameDesk self.old self.new }
         ensures behaviour { behaviour self.new.server.now ≡ behaviour self.old.server.now }
         ensures registers { registers self.new.server.now ≡ registers self.old.server.now }
+        ensures asked { Asks (undo_of (pending self.old.server.now)) (asked self.old.server.now) (asked self.new.server.now) }
         ensures clear { pending self.new.server.now ≡ None }
         ensures free { self.new.work ≡ None }
         ensures turn { self.new.pass.now.from ≡ self.old.pass.now.from }
@@ -220,6 +226,7 @@ impl<'m, 'p, 's> Desk<'m, 'p, 's> {
         ensures own { IsOf self.entry.manager.now self.exit.1.0.now }
         ensures behaviour { behaviour self.exit.1.1.0.now ≡ behaviour self.entry.server.now }
         ensures registers { registers self.exit.1.1.0.now ≡ registers self.entry.server.now }
+        ensures asked { Asks (undo_of (pending self.entry.server.now)) (asked self.entry.server.now) (asked self.exit.1.1.0.now) }
         ensures adds { EndsOpen self.entry.pass.now.open_unit self.entry.pass.now self.exit.1.0.now }
         ensures turn { self.exit.1.0.now.from ≡ self.entry.pass.now.from }
         ensures follows { IfSome self.entry.pass.now.open_unit (λ _.

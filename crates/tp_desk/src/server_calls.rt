@@ -1,7 +1,9 @@
 //! The calls of a boxed server that change it, each with clauses of its own on the box.
-ghost use Rattle.std.specs.Prelude.{◌≡◌, None, Some, Err, IsSome, IfOk, IfErr, OnOk, OnErr};
+ghost use Rattle.std.specs.Prelude.{◌≡◌, [], ◌∷◌, None, Some, Err, IsSome, IfOk, IfErr, OnOk, OnErr};
+ghost use Rattle.tp_server.specs.Asked.{Asks, Prepare, commit_of};
 ghost use Rattle.tp_server.specs.Behaviour.{Allows, IsMade};
 ghost use Rattle.tp_server.specs.Pending.{registers_of};
+ghost use Rattle.tp_desk.specs.Asking.{settling, undo_of};
 ghost use Rattle.tp_desk.specs.Turns.{registers_left};
 
 use arrayvec::ArrayVec;
@@ -22,6 +24,7 @@ pub(crate) fn prepare(
         (registers server.old) element.now (Err why)) }
     ensures prepared { OnOk result (IsSome (pending server.new)) }
     ensures unprepared { OnErr result (pending server.new ≡ None) }
+    ensures asked { Asks (Prepare element.now (registers server.old) ∷ []) (asked server.old) (asked server.new) }
 {
     server.prepare(element)
 }
@@ -33,6 +36,7 @@ pub(crate) fn settle(server: &mut Box<dyn Server + Send>, outcome: Outcome)
     ensures registers { Some (registers server.new)
         ≡ registers_left outcome (registers server.old) (pending server.old) }
     ensures clear { pending server.new ≡ None }
+    ensures asked { Asks (settling outcome (pending server.old)) (asked server.old) (asked server.new) }
 {
     match outcome {
         Outcome::Committed { .. } => commit(server),
@@ -47,6 +51,7 @@ fn commit(server: &mut Box<dyn Server + Send>)
     ensures behaviour { behaviour server.new ≡ behaviour server.old }
     ensures registers { Some (registers server.new) ≡ registers_of (pending server.old) }
     ensures clear { pending server.new ≡ None }
+    ensures asked { Asks (commit_of (pending server.old)) (asked server.old) (asked server.new) }
 {
     server.commit()
 }
@@ -56,6 +61,7 @@ pub(crate) fn clear(server: &mut Box<dyn Server + Send>)
     ensures behaviour { behaviour server.new ≡ behaviour server.old }
     ensures registers { registers server.new ≡ registers server.old }
     ensures clear { pending server.new ≡ None }
+    ensures asked { Asks (undo_of (pending server.old)) (asked server.old) (asked server.new) }
 {
     if server.is_prepared() {
         server.undo();

@@ -4,6 +4,8 @@ ghost use Rattle.std.specs.Prelude.{◌≡◌, None, Some};
 ghost use Rattle.tp_model.specs.Steps.{AreLimits};
 ghost use Rattle.tp_manager.specs.Bounds.{commit_steps};
 ghost use Rattle.tp_manager.specs.Calls.{Follows};
+ghost use Rattle.tp_server.specs.Asked.{Asks};
+ghost use Rattle.tp_desk.specs.Asking.{turn_asks};
 ghost use Rattle.tp_desk.specs.Orders.{KeepsTurn};
 ghost use Rattle.tp_desk.specs.Steady.{IsSameDesk, SteadyDesk};
 ghost use Rattle.tp_desk.specs.Turns.{Turns, WorksOff, turn_steps};
@@ -28,6 +30,8 @@ impl Desk<'_, '_, '_> {
         ensures answer { Turns Order.LeastFirst self.old.manager.now.limits (behaviour self.old.server.now)
             (registers self.old.server.now)
             self.old.pass.now self.new.pass.now result (registers self.new.server.now) }
+        ensures asked { Asks (turn_asks result self.new.pass.now.seen (registers self.old.server.now)
+            (registers self.new.server.now)) (asked self.old.server.now) (asked self.new.server.now) }
         ensures steady { SteadyDesk behaviour registers pending self.new }
     {
         self.turn_by(Order::LeastFirst)
@@ -46,6 +50,8 @@ impl Desk<'_, '_, '_> {
         ensures answer { Turns Order.InTurn self.old.manager.now.limits (behaviour self.old.server.now)
             (registers self.old.server.now)
             self.old.pass.now self.new.pass.now result (registers self.new.server.now) }
+        ensures asked { Asks (turn_asks result self.new.pass.now.seen (registers self.old.server.now)
+            (registers self.new.server.now)) (asked self.old.server.now) (asked self.new.server.now) }
         ensures steady { SteadyDesk behaviour registers pending self.new }
     {
         self.turn_by(Order::InTurn)
@@ -64,6 +70,8 @@ impl Desk<'_, '_, '_> {
         ensures answer { Turns order self.old.manager.now.limits (behaviour self.old.server.now)
             (registers self.old.server.now)
             self.old.pass.now self.new.pass.now result (registers self.new.server.now) }
+        ensures asked { Asks (turn_asks result self.new.pass.now.seen (registers self.old.server.now)
+            (registers self.new.server.now)) (asked self.old.server.now) (asked self.new.server.now) }
         ensures steady { SteadyDesk behaviour registers pending self.new }
     {
         match self.claim_by(order) {
@@ -86,6 +94,8 @@ impl Desk<'_, '_, '_> {
             self.old.pass.now self.new.pass.now }
         ensures answer { WorksOff (behaviour self.old.server.now) (registers self.old.server.now) work
             self.old.pass.now self.new.pass.now result (registers self.new.server.now) }
+        ensures asked { Asks (turn_asks result self.new.pass.now.seen (registers self.old.server.now)
+            (registers self.new.server.now)) (asked self.old.server.now) (asked self.new.server.now) }
         ensures steady { SteadyDesk behaviour registers pending self.new }
     {
         match self.prepare() {

@@ -1,3 +1,4 @@
+pub mod Asked
 pub mod Behaviour
 pub mod Books
 pub mod Check

@@ -1,5 +1,5 @@
 //! Boxed servers side by side.
-ghost use Rattle.std.specs.Prelude.{◌≡◌, All, None};
+ghost use Rattle.std.specs.Prelude.{◌≡◌, [], ◌∷◌, All, None};
 
 use crate::server::Server;
 
@@ -12,7 +12,8 @@ pub fn three(
     third: Box<dyn Server + Send>,
 ) -> [Box<dyn Server + Send>; 3]
     requires { (pending first ≡ None) × (pending second ≡ None) × (pending third ≡ None) }
-    ensures { All (λ server. pending server ≡ None) result }
+    ensures boxes { result ≡ first ∷ second ∷ third ∷ [] }
+    ensures unprepared { All (λ server. pending server ≡ None) result }
 {
     [first, second, third]
 }

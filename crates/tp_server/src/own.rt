@@ -25,11 +25,14 @@ struct After<const N: usize> {
 }
 
 impl<H: Handler<N>, const N: usize> OwnServer<H, N> {
+    ghost use Rattle.tp_server.specs.Asked.{handled};
+
     /// A server with this handler and these registers, with nothing prepared.
     pub fn new(handler: H, registers: [u64; N]) -> OwnServer<H, N>
         ensures behaviour { ⟦<OwnServer<H, N> as Server>⟧.behaviour result ≡ H.behaviour handler }
         ensures registers { ⟦<OwnServer<H, N> as Server>⟧.registers result ≡ registers.entry }
         ensures unprepared { ⟦<OwnServer<H, N> as Server>⟧.pending result ≡ None }
+        ensures asked { ⟦<OwnServer<H, N> as Server>⟧.asked result ≡ (λ all. H.asked handler (handled all)) }
     {
         OwnServer {
             handler,
@@ -41,6 +44,7 @@ impl<H: Handler<N>, const N: usize> OwnServer<H, N> {
 
 impl<H: Handler<N>, const N: usize> Server for OwnServer<H, N> {
     ghost use Rattle.std.specs.Option.{option_map};
+    ghost use Rattle.tp_server.specs.Asked.{handled};
 
     ghost behaviour = { λ s. H.behaviour s.handler };
 
@@ -50,6 +54,8 @@ impl<H: Handler<N>, const N: usize> Server for OwnServer<H, N> {
       prepared_for = after.element;
       registers = after.registers;
     }) s.prepared };
+
+    ghost asked = { λ s all. H.asked s.handler (handled all) };
 
     fn stage(&self) -> u8 {
         self.handler.stage()

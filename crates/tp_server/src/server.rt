@@ -1,5 +1,5 @@
 //! What a server is to those who use one.
-ghost use Rattle.std.specs.Prelude.{◌≡◌, ◌≤◌, List, ℕ, Option, None, Some, length, IsSome, is_some, IfOk};
+ghost use Rattle.std.specs.Prelude.{◌≡◌, ◌≤◌, List, [], ◌∷◌, ℕ, Bool, true, Option, None, Some, length, IsSome, is_some, IfOk};
 ghost use Rattle.std.specs.Prelude.{IfErr, OnOk, OnErr, Err, slice_get};
 
 use crate::recipe::Declined;
@@ -9,11 +9,12 @@ use tp_model::types::{Draft, Element};
 /// A server does the work of elements one at a time, each in two steps: it prepares the work, and then
 /// commits it or undoes it.
 ///
-/// You may write servers of your own. By the three ghost members a server says what it is: its behaviour,
+/// You may write servers of your own. By three ghost members a server says what it is: its behaviour,
 /// which is the stage whose elements it takes and the effect that one has, as a function of your own; the
 /// registers of its committed work, a list of any length; and its prepared work, if there is any: the element
 /// that it was prepared for, and the registers that a commit would leave. They may be read off its fields in
-/// any way, so it is free to change its registers early or late. What it owes is this:
+/// any way, so it is free to change its registers early or late. A fourth, `asked`, is there for those who
+/// call a server: leave it out. What it owes is this:
 ///
 /// - No call changes the behaviour.
 /// - `prepare` is called only while nothing is prepared. It does as its behaviour says, for some numbers that
@@ -27,6 +28,7 @@ use tp_model::types::{Draft, Element};
 /// - No call takes memory. This is the one point that the contracts below can't say: keep no allocator in a
 /// server.
 pub trait Server: Drop {
+    ghost use Rattle.tp_server.specs.Asked.{Asked, Asks, Prepare, Undo, commit_of};
     ghost use Rattle.tp_server.specs.Behaviour.{Allows, Behaviour, IsMade};
     ghost use Rattle.tp_server.specs.Pending.{Pending, registers_of};
 
@@ -39,6 +41,11 @@ pub trait Server: Drop {
     /// The prepared work, if there is any: the element that it is for, and the registers that a commit would
     /// leave.
     ghost pending: { Self → Option Pending };
+
+    /// What it may have been asked so far, the last call first: a test of lists of calls, which each call
+    /// extends by itself. Who calls a server that it doesn't know can't pass the test by other calls, and so
+    /// promises which ones it made. A server of your own leaves this out.
+    ghost asked: { Self → List Asked → Bool } = { λ _ _. true };
 
     /// The stage whose elements it takes, 1 to 14.
     fn stage(&self) -> u8
@@ -72,19 +79,22 @@ pub trait Server: Drop {
         ensures err { IfErr result (λ why. Allows (behaviour self.old)
             (registers self.old) element.now (Err why)) }
         ensures prepared { OnOk result (IsSome (pending self.new)) }
-        ensures unprepared { OnErr result (pending self.new ≡ None) };
+        ensures unprepared { OnErr result (pending self.new ≡ None) }
+        ensures asked { Asks (Prepare element.now (registers self.old) ∷ []) (asked self.old) (asked self.new) };
 
     /// Makes the prepared work committed work.
     fn commit(&mut self)
         requires { IsSome (pending self.old) }
         ensures behaviour { behaviour self.new ≡ behaviour self.old }
         ensures registers { Some (registers self.new) ≡ registers_of (pending self.old) }
-        ensures pending { pending self.new ≡ None };
+        ensures pending { pending self.new ≡ None }
+        ensures asked { Asks (commit_of (pending self.old)) (asked self.old) (asked self.new) };
 
     /// Calls the prepared work off.
     fn undo(&mut self)
         requires { IsSome (pending self.old) }
         ensures behaviour { behaviour self.new ≡ behaviour self.old }
         ensures registers { registers self.new ≡ registers self.old }
-        ensures pending { pending self.new ≡ None };
+        ensures pending { pending self.new ≡ None }
+        ensures asked { Asks (Undo ∷ []) (asked self.old) (asked self.new) };
 }

@@ -1,7 +1,8 @@
 -- Calls of one worker, and one call more.
-use Rattle.std.proofs.Common.{◌≡◌, ℕ, ◌+◌, List, [], ◌∷◌, ◌++◌, refl, sym, ◌∙◌, ap, ap₂, subst, length, length-append, arith, zero-add}
+use Rattle.std.proofs.Common.{◌≡◌, All, ℕ, ◌+◌, List, [], ◌∷◌, ◌++◌, refl, sym, ◌∙◌, ap, ap₂, subst, length, length-append, arith, zero-add}
+use Rattle.std.proofs.lemmas.List.Elements.{All-cons, All-head, All-nil, All-tail}
 use Rattle.tp_workers.specs.declared.tally.Shift.{Shift}
-use Rattle.tp_workers.specs.Calling.{MadeCalls, Chain, tally}
+use Rattle.tp_workers.specs.Calling.{AllButLast, MadeCalls, Chain, tally}
 use Rattle.tp_workers.specs.Tally.{none, plus, total}
 use Rattle.tp_workers.proofs.Counts.{none_plus, plus_assoc, plus_none, total_plus}
 
@@ -36,6 +37,34 @@ module _ {S A : Type 0} (R : S → A → S → Type 0) (count : A → Shift) whe
   total_tally : ((a : A) → total (count a) ≡ 1) → (xs : List A) → total (tally count xs) ≡ length xs
   total_tally one [] = refl
   total_tally one (a ∷ xs) = total_plus (count a) (tally count xs) ∙ omega (arith, one a, total_tally one xs)
+
+  zero_each : (f : Shift → ℕ) → ((a b : Shift) → f (plus a b) ≡ f a + f b) → (xs : List A) → f (tally count xs) ≡ 0 → All (λ a. f (count a) ≡ 0) xs
+  zero_each f sums [] none = All-nil (λ a. f (count a) ≡ 0)
+  zero_each f sums (a ∷ xs) none =
+      let both : f (count a) + f (tally count xs) ≡ 0 = sym (sums (count a) (tally count xs)) ∙ none in
+      All-cons (λ b. f (count b) ≡ 0) a xs (omega (arith, both)) (zero_each f sums xs (omega (arith, both)))
+
+  -- what no call has counted
+  pub called_zero : (f : Shift → ℕ) → ((a b : Shift) → f (plus a b) ≡ f a + f b) → (n : ℕ) (x y : S) (s : Shift) (h : MadeCalls R count n x s y) → f s ≡ 0 → All (λ a. f (count a) ≡ 0) h.answers
+  called_zero f sums n x y s h none = zero_each f sums h.answers (sym (ap f h.counted) ∙ none)
+
+  pub but_last : (P : A → Type 0) (xs : List A) → All P xs → AllButLast P xs
+  but_last P [] all = tt
+  but_last P (a ∷ []) all = tt
+  but_last P (a ∷ b ∷ xs) all = (All-head P a (b ∷ xs) all, but_last P (b ∷ xs) (All-tail P a (b ∷ xs) all))
+
+  but_one : (P : A → Type 0) (xs : List A) (a : A) → All P xs → AllButLast P (xs ++ a ∷ [])
+  but_one P [] a all = tt
+  but_one P (b ∷ []) a all = (All-head P b [] all, tt)
+  but_one P (b ∷ c ∷ xs) a all = (All-head P b (c ∷ xs) all, but_one P (c ∷ xs) a (All-tail P b (c ∷ xs) all))
+
+  -- one call more, the last
+  pub called_last : (P : A → Type 0) (n : ℕ) (a : A) (x y z : S) (s t u : Shift) (h : MadeCalls R count n x s y) → All P h.answers → R y a z → t ≡ count a → u ≡ plus s t
+      → (m : MadeCalls R count (n + 1) x u z) × AllButLast P m.answers
+  unfolding called_then called_one
+  called_last P n a x y z s t u h all r one both =
+      subst (λ (w : Shift). (m : MadeCalls R count (n + 1) x w z) × AllButLast P m.answers) (sym (both ∙ ap (plus s) one))
+      (called_then n 1 x y z s (count a) h (called_one a y z r), but_one P h.answers a all)
 
   -- each call is counted once
   pub called_total : ((a : A) → total (count a) ≡ 1) → (n : ℕ) (x y : S) (s : Shift) → MadeCalls R count n x s y → total s ≡ n

@@ -42,6 +42,17 @@ plus_swap a b c d =
     let e11 = four a.missing b.missing c.missing d.missing in
     cc
 
+-- workers that ran and ran again
+pub ran_then : {T : Type 0} (R Q S : T → Shift → T → Type 0) → ((x y z : T) (s t : Shift) → R x s y → Q y t z → S x (plus s t) z)
+    → (xs ys zs : List T) (s t : Shift) → RanAll R xs s ys → RanAll Q ys t zs → RanAll S xs (plus s t) zs
+ran_then R Q S both [] [] [] s t h k = ap₂ plus h k
+ran_then R Q S both [] [] (z ∷ zs) s t h k = absurd k
+ran_then R Q S both [] (y ∷ ys) zs s t h k = absurd h
+ran_then R Q S both (x ∷ xs) [] zs s t h k = absurd h
+ran_then R Q S both (x ∷ xs) (y ∷ ys) [] s t h k = absurd k
+ran_then R Q S both (x ∷ xs) (y ∷ ys) (z ∷ zs) s t h k =
+    (plus h.0 k.0, plus h.1 k.1, both x y z h.0 k.0 h.2 k.2, ran_then R Q S both xs ys zs h.1 k.1 h.3 k.3, ap₂ plus h.4 k.4 ∙ plus_swap h.0 h.1 k.0 k.1)
+
 module _ {B : Type 0} (behaviour : B → Behaviour) (registers : B → List ℕ) (pending : B → Option Pending) (m : ManagerShown) (order : Order) where
   abbrev Ready : PassShown × B → Type 0
   Ready x = IsDeskOf behaviour registers pending m x
@@ -92,13 +103,7 @@ module _ {B : Type 0} (behaviour : B → Behaviour) (registers : B → List ℕ)
   }
 
   going_round : (xs ys zs : List (PassShown × B)) (s t : Shift) → RanAll Going xs s ys → RanAll Took ys t zs → RanAll Going xs (plus s t) zs
-  going_round [] [] [] s t h k = ap₂ plus h k
-  going_round [] [] (z ∷ zs) s t h k = absurd k
-  going_round [] (y ∷ ys) zs s t h k = absurd h
-  going_round (x ∷ xs) [] zs s t h k = absurd h
-  going_round (x ∷ xs) (y ∷ ys) [] s t h k = absurd k
-  going_round (x ∷ xs) (y ∷ ys) (z ∷ zs) s t h k =
-      (plus h.0 k.0, plus h.1 k.1, one_round x y z h.0 k.0 h.2 k.2, going_round xs ys zs h.1 k.1 h.3 k.3, ap₂ plus h.4 k.4 ∙ plus_swap h.0 h.1 k.0 k.1)
+  going_round xs ys zs s t h k = ran_then Going Took Going one_round xs ys zs s t h k
 
   abbrev Worked : Plan → PassShown × B → Shift → PassShown × B → Type 0
   Worked plan x s y = DeskWorked behaviour registers pending m plan x s y

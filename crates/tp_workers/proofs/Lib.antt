@@ -11,3 +11,4 @@ pub mod Killers
 pub mod Sums
 pub mod Shifts
 pub mod Drains
+pub mod Asking

@@ -165,10 +165,14 @@ module _ {B : Type 0} (behaviour : B → Behaviour) (registers : B → List ℕ)
   desk_counts : (x : PassShown × B) (s : Shift) (y : PassShown × B) → DeskRan behaviour registers pending m plan x s y → s ≡ desk_part s
   desk_counts x s y r = called_counts _ turn_count (λ t. t ≡ desk_part t) refl (λ a b p q. ap₂ plus p q) turn_part r.turns_taken.taken _ _ s r.turns_taken.calls
 
+  -- desks count nothing else
+  pub all_desk_counts : (xs : List PassShown) (us : List B) (s : Shift) (ys : List PassShown) (vs : List B) → RanEach (DeskRan behaviour registers pending m plan) xs us s ys vs → s ≡ desk_part s
+  all_desk_counts xs us s ys vs h = ran_keeps (DeskRan behaviour registers pending m plan) (λ t. t ≡ desk_part t) refl (λ a b p q. ap₂ plus p q) desk_counts (zip xs us) s (zip ys vs) h.ran
+
   -- the counts of desks stand in the desks' part
   pub desks_part : (xs : List PassShown) (us : List B) (s : Shift) (ys : List PassShown) (vs : List B) → RanEach (DeskRan behaviour registers pending m plan) xs us s ys vs → RanEach (DeskRan behaviour registers pending m plan) xs us (desk_part s) ys vs
   desks_part xs us s ys vs h =
-      subst (λ (t : Shift). RanEach (DeskRan behaviour registers pending m plan) xs us t ys vs) (ran_keeps (DeskRan behaviour registers pending m plan) (λ t. t ≡ desk_part t) refl (λ a b p q. ap₂ plus p q) desk_counts (zip xs us) s (zip ys vs) h.ran) h
+      subst (λ (t : Shift). RanEach (DeskRan behaviour registers pending m plan) xs us t ys vs) (all_desk_counts xs us s ys vs h) h
 
   -- and so is their sum where each is told
   pub desks_told : (xs : List PassShown) (us : List B) (places : List Shift) (s r : Shift) (ys : List PassShown) (vs : List B) (told : List Shift)
@@ -176,8 +180,7 @@ module _ {B : Type 0} (behaviour : B → Behaviour) (registers : B → List ℕ)
       → AreTold (DeskRan behaviour registers pending m plan) xs us places s ys vs told
       → AreTold (DeskRan behaviour registers pending m plan) xs us places r ys vs told
   desks_told xs us places s r ys vs told e h each =
-      let part : s ≡ desk_part s = ran_keeps (DeskRan behaviour registers pending m plan) (λ t. t ≡ desk_part t) refl (λ a b p q. ap₂ plus p q) desk_counts (zip xs us) s (zip ys vs) h.ran in
-      subst (λ (t : Shift). AreTold (DeskRan behaviour registers pending m plan) xs us places t ys vs told) (part ∙ sym e) each
+      subst (λ (t : Shift). AreTold (DeskRan behaviour registers pending m plan) xs us places t ys vs told) (all_desk_counts xs us s ys vs h ∙ sym e) each
 
   desk_turns : (x : PassShown × B) (s : Shift) (y : PassShown × B) → DeskRan behaviour registers pending m plan x s y → s.nounit ≡ 0 → total s ≡ plan.turns
   desk_turns x s y r e = called_total _ turn_count one_turn r.turns_taken.taken _ _ s r.turns_taken.calls ∙ r.turns_taken.all_taken e

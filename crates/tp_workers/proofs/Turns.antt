@@ -1,5 +1,5 @@
 -- What turns add to a pass, and what a desk that took them leaves of it.
-use Rattle.std.proofs.Common.{◌≡◌, ℕ, ◌+◌, ◌≤◌, List, [], ◌∷◌, ◌++◌, Option, Some, None, refl, sym, ◌∙◌, ap, ap₂, subst, ◌⊎◌, inl, inr, ⊎_elim, arith, cond, count_by, zero-add}
+use Rattle.std.proofs.Common.{◌≡◌, All, ℕ, ◌+◌, ◌≤◌, List, [], ◌∷◌, ◌++◌, Option, Some, None, refl, sym, ◌∙◌, ap, ap₂, subst, ◌⊎◌, inl, inr, ⊎_elim, arith, cond, count_by, zero-add}
 use Rattle.std.specs.declared.alloc.Global.{Global}
 use Rattle.std.specs.declared.dyn_box.DynBox.{DynBox}
 use Rattle.tp_model.specs.Drafts.{DraftView}
@@ -25,12 +25,12 @@ use Rattle.tp_desk.specs.Steady.{IsSameDesk, shown}
 use Rattle.tp_desk.specs.Turns.{EndsOpen, Turns, Works, WorksOff}
 use Rattle.tp_workers.specs.declared.plan.Plan.{Plan}
 use Rattle.tp_workers.specs.declared.tally.Shift.{Shift}
-use Rattle.tp_workers.specs.Calling.{MadeCalls, Chain}
-use Rattle.tp_workers.specs.Desks.{DeskRan, DeskWorked, IsDeskOf, IsResting, Place, TakesTurn, TakesTurns, DeskWorksOn, place, place_of}
+use Rattle.tp_workers.specs.Calling.{AllButLast, MadeCalls, Chain}
+use Rattle.tp_workers.specs.Desks.{DeskRan, DeskWorked, HadUnit, HadWork, IsDeskOf, IsResting, Place, TakesTurn, TakesTurns, DeskWorksOn, place, place_of}
 use Rattle.tp_workers.specs.Drained.{TookTurn}
 use Rattle.tp_workers.specs.Gains.{commits_in, is_commit}
 use Rattle.tp_workers.specs.Tally.{claimed, none, plus, total, turn_count}
-use Rattle.tp_workers.proofs.Calling.{called_gains, called_keeps, called_more, called_none, called_total}
+use Rattle.tp_workers.proofs.Calling.{called_gains, called_keeps, called_last, called_more, called_none, called_total, called_zero}
 use Rattle.tp_workers.proofs.Events.{claims_one, counted_one}
 
 -- a turn as this counts its commit, and its claim
@@ -159,6 +159,21 @@ module _ {X : Type 0} {F : X → Type 0} (behaviour : (x : X) × F x → Behavio
     resting = resting;
   }
 
+  -- a turn more, and the last, where each before it was so
+  pub one_last : (P : Turned → Type 0) (order : Order) (n : ℕ) (t : Turned) (x y z : Desk X F) (s u v : Shift) (h : SoFar order n x s y) → All P h.calls.answers
+      → TakesTurn order y.manager.now.limits (of_desk y) t (of_desk z) → u ≡ turn_count t → v ≡ plus s u
+      → (m : MadeCalls (TakesTurn order x.manager.now.limits) turn_count (n + 1) (of_desk x) v (of_desk z)) × AllButLast P m.answers
+  one_last P order n t x y z s u v h all turn is both =
+      called_last (TakesTurn order x.manager.now.limits) turn_count P n t (of_desk x) (of_desk y) (of_desk z) s u v h.calls all
+      (subst (λ k. TakesTurn order k.now.limits (of_desk y) t (of_desk z)) h.same.manager turn) is both
+
+  pub all_had_units : (order : Order) (n : ℕ) (x y : Desk X F) (s : Shift) (h : SoFar order n x s y) → s.nounit ≡ 0 → All HadUnit h.calls.answers
+  all_had_units order n x y s h none = called_zero (TakesTurn order x.manager.now.limits) turn_count (λ (c : Shift). c.nounit) (λ a b. refl) n (of_desk x) (of_desk y) s h.calls none
+
+  pub all_had_work : (order : Order) (n : ℕ) (x y : Desk X F) (s : Shift) (h : SoFar order n x s y) → s.idle + s.nounit ≡ 0 → All HadWork h.calls.answers
+  all_had_work order n x y s h none =
+      called_zero (TakesTurn order x.manager.now.limits) turn_count (λ (c : Shift). c.idle + c.nounit) (λ a b. omega arith) n (of_desk x) (of_desk y) s h.calls none
+
   -- a desk of this pass and this server was made as d, became e by its turns, and left them as y
   pub record Lending (m : ManagerShown) (x : Lent) (d e : Desk X F) (y : Lent) : Type 0 where
     pub manager : d.manager.now ≡ m
@@ -174,24 +189,29 @@ module _ {X : Type 0} {F : X → Type 0} (behaviour : (x : X) × F x → Behavio
     pub left : Leaves (shown behaviour y.1) (shown registers e.first_server.value) (shown registers y.1) e.first_pass.value y.0
     pub ready : IsDeskOf (shown behaviour) (shown registers) (shown pending) m y
 
+  -- a desk with nothing in hand is left as its pass and its server show
+  pub left_as : (e : Desk X F) (y : Lent) → IsResting behaviour registers pending e → EndsOpen e.pass.now.open_unit e.pass.now y.0
+      → shown behaviour y.1 ≡ shown behaviour e.server.now → shown registers y.1 ≡ shown registers e.server.now → of_desk e ≡ at y
+  left_as e y resting ends behaviour_is registers_are =
+      let same : y.0 ≡ e.pass.now = same_when_free e.pass.now.open_unit e.pass.now y.0 (free_of _ e.work _ _ _ _ _ resting.free resting.steady.in_hand) ends in
+      sym (rw (same, behaviour_is, registers_are) refl)
+    where
+      same_when_free : (o : Option ℕ) (p q : PassShown) → o ≡ None → EndsOpen o p q → q ≡ p
+      same_when_free None p q none adds = adds
+      same_when_free (Some u) p q none adds = absurd (no u none)
+        where
+          no : (u : ℕ) → Some u ≡ None → ⊥
+          no u e = cc
+
+      free_of : (pend : Option Pending) (w : Option Work) (drafts : List DraftView) (f p : PassShown) (r : Behaviour) (rs : List ℕ) → w ≡ None → InHand r rs pend w drafts f p → p.open_unit ≡ None
+      free_of pend w drafts f p r rs none h = (subst (λ (o : Option Work). InHand r rs pend o drafts f p) none h).open_unit
+
   module _ (m : ManagerShown) (x : Lent) (d e : Desk X F) (y : Lent) (lending : Lending m x d e y) where
     begun : of_desk d ≡ at x
     begun = ap₂ (λ p s. record { pass = p; behaviour = shown behaviour s; registers = shown registers s }) lending.pass lending.server
 
     ended : of_desk e ≡ at y
-    ended =
-        let same : y.0 ≡ e.pass.now = same_when_free e.pass.now.open_unit e.pass.now y.0 (free_of _ e.work _ _ _ _ _ lending.resting.free lending.resting.steady.in_hand) lending.ends in
-        sym (rw (same, lending.behaviour_is, lending.registers_are) refl)
-      where
-        same_when_free : (o : Option ℕ) (p q : PassShown) → o ≡ None → EndsOpen o p q → q ≡ p
-        same_when_free None p q none adds = adds
-        same_when_free (Some u) p q none adds = absurd (no u none)
-          where
-            no : (u : ℕ) → Some u ≡ None → ⊥
-            no u e = cc
-
-        free_of : (pend : Option Pending) (w : Option Work) (drafts : List DraftView) (f p : PassShown) (r : Behaviour) (rs : List ℕ) → w ≡ None → InHand r rs pend w drafts f p → p.open_unit ≡ None
-        free_of pend w drafts f p r rs none h = (subst (λ (o : Option Work). InHand r rs pend o drafts f p) none h).open_unit
+    ended = left_as e y lending.resting lending.ends lending.behaviour_is lending.registers_are
 
     -- what the turns made of the pass and the server
     lent_as : (R : Place → Place → Type 0) → R (of_desk d) (of_desk e) → R (at x) (at y)
@@ -226,18 +246,15 @@ module _ {X : Type 0} {F : X → Type 0} (behaviour : (x : X) × F x → Behavio
     pub desk_worked : (plan : Plan) (counts : Shift) → DeskWorksOn plan d.manager.now.limits (of_desk d) counts (of_desk e)
         → DeskWorked (shown behaviour) (shown registers) (shown pending) m plan x counts y
     desk_worked plan counts worked =
-        let ran = desk_ran (record plan { turns = worked.taken }) counts (record { taken = worked.taken; calls = worked.calls; at_most = omega arith; all_taken = λ e. refl }) in
+        let now : DeskWorksOn plan m.limits (at x) counts (at y) =
+        subst (λ (k : ManagerShown). DeskWorksOn plan k.limits (at x) counts (at y)) lending.manager (lent_as (λ a b. DeskWorksOn plan d.manager.now.limits a counts b) worked) in
+        let whole : shown behaviour y.1 ≡ shown behaviour x.1 = same_behaviour plan.order now.calls.answers m.limits (at x) (at y) now.calls.each in
         record {
-          turns_taken = record {
-            taken = ran.turns_taken.taken;
-            calls = ran.turns_taken.calls;
-            at_most = omega (arith, ran.turns_taken.at_most, worked.at_most);
-            all_taken = λ e. ran.turns_taken.all_taken (omega (arith, e)) ∙ worked.all_taken e;
-          };
-          done = ran.done;
-          leaves = ran.leaves;
-          behaviour_is = ran.behaviour_is;
-          ready = ran.ready;
+          turns_taken = now;
+          done = turns_commit plan.order m.limits now.taken (at x) (at y) counts now.calls;
+          leaves = lent_leaves whole;
+          behaviour_is = whole;
+          ready = lending.ready;
         }
 
     pub desk_took : (order : Order) (t : Turned) (counts : Shift) → TakesTurn order d.manager.now.limits (of_desk d) t (of_desk e) → AreLimits d.manager.now.limits → counts ≡ turn_count t

@@ -1,5 +1,5 @@
 -- Calls of one worker, one after another.
-use Rattle.std.specs.Prelude.{◌≡◌, ℕ, List, [], ◌∷◌, length}
+use Rattle.std.specs.Prelude.{◌≡◌, ⊤, ℕ, List, [], ◌∷◌, length}
 use Rattle.tp_workers.specs.declared.tally.Shift.{Shift}
 use Rattle.tp_workers.specs.Tally.{none, plus}
 
@@ -7,6 +7,12 @@ use Rattle.tp_workers.specs.Tally.{none, plus}
 abbrev pub Chain : {S A : Type 0} → (S → A → S → Type 0) → S → List A → S → Type 0
 Chain R old [] new = new ≡ old
 Chain {S = S} R old (a ∷ rest) new = (between : S) × R old a between × Chain R between rest new
+
+-- each of these is so, but perhaps the last
+abbrev pub AllButLast : {A : Type 0} → (A → Type 0) → List A → Type 0
+AllButLast P [] = ⊤
+AllButLast P (a ∷ []) = ⊤
+AllButLast P (a ∷ b ∷ rest) = P a × AllButLast P (b ∷ rest)
 
 -- these answers, as counts
 abbrev pub tally : {A : Type 0} → (A → Shift) → List A → Shift

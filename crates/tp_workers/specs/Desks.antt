@@ -14,7 +14,7 @@ use Rattle.tp_desk.specs.Steady.{SteadyDesk, shown}
 use Rattle.tp_desk.specs.Turns.{Turns, turn_steps}
 use Rattle.tp_workers.specs.declared.plan.Plan.{Plan}
 use Rattle.tp_workers.specs.declared.tally.Shift.{Shift}
-use Rattle.tp_workers.specs.Calling.{MadeCalls}
+use Rattle.tp_workers.specs.Calling.{AllButLast, MadeCalls}
 use Rattle.tp_workers.specs.Free.{IsFreePass}
 use Rattle.tp_workers.specs.Gains.{commits_in}
 use Rattle.tp_workers.specs.Tally.{turn_count}
@@ -32,20 +32,29 @@ pub record TakesTurn (order : Order) (l : Limits) (old : Place) (turned : Turned
   pub keeps_turn : KeepsTurn order old.pass new.pass
   pub behaviour_is : new.behaviour ≡ old.behaviour
 
--- at most as many turns as planned were taken there, in the planned order, and fewer only after one that
--- found no unit left
+-- the answer of a turn that found a unit, and of one that claimed an element
+abbrev pub HadUnit : Turned → Type 0
+HadUnit turned = (turn_count turned).nounit ≡ 0
+
+abbrev pub HadWork : Turned → Type 0
+HadWork turned = (turn_count turned).idle + (turn_count turned).nounit ≡ 0
+
+-- At most as many turns as planned were taken there, in the planned order. It stopped with the first one that
+-- found no unit left, and else took all.
 pub record TakesTurns (plan : Plan) (l : Limits) (old : Place) (counts : Shift) (new : Place) : Type 0 where
   pub taken : ℕ
   pub calls : MadeCalls (TakesTurn plan.order l) turn_count taken old counts new
   pub at_most : taken ≤ plan.turns
   pub all_taken : counts.nounit ≡ 0 → taken ≡ plan.turns
+  pub stops : AllButLast HadUnit calls.answers
 
--- the same, and fewer also after one that found nothing to wait
+-- the same, where it stopped also with the first one that found nothing to wait
 pub record DeskWorksOn (plan : Plan) (l : Limits) (old : Place) (counts : Shift) (new : Place) : Type 0 where
   pub taken : ℕ
   pub calls : MadeCalls (TakesTurn plan.order l) turn_count taken old counts new
   pub at_most : taken ≤ plan.turns
   pub all_taken : counts.idle + counts.nounit ≡ 0 → taken ≡ plan.turns
+  pub stops : AllButLast HadWork calls.answers
 
 -- The first three arguments say of a box what its server shows: its behaviour, the registers of its committed
 -- work, and its prepared work.

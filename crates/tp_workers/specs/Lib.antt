@@ -1,3 +1,4 @@
+pub mod Asking
 pub mod Tally
 pub mod Ran
 pub mod Calling

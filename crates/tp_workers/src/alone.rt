@@ -1,6 +1,7 @@
 //! A desk at work on the caller's own thread.
 ghost use Rattle.std.specs.Prelude.{◌≤◌};
-ghost use Rattle.tp_desk.specs.Steady.{IsSameDesk};
+ghost use Rattle.tp_desk.specs.Steady.{IsSameDesk, shown};
+ghost use Rattle.tp_workers.specs.Asking.{AsksTurns};
 ghost use Rattle.tp_workers.specs.Desks.{DeskWorked, IsDeskOf, IsResting, DeskWorksOn, place_of};
 
 use crate::desks::turn_at;
@@ -21,7 +22,9 @@ pub fn work_off(
     plan: Plan,
 ) -> Shift
     requires ready { IsDeskOf behaviour registers pending manager.now (pass.old, server.old) }
-    ensures { DeskWorked behaviour registers pending manager.now plan (pass.old, server.old) result (pass.new, server.new) }
+    ensures worked { DeskWorked behaviour registers pending manager.now plan (pass.old, server.old) result (pass.new, server.new) }
+    ensures asked { AsksTurns behaviour registers pending asked manager.now plan.order
+        (pass.old, server.old) result (pass.new, server.new) }
 {
     let mut desk = Desk::new(manager, pass, server);
     let counts = turns_until_idle(&mut desk, plan);
@@ -34,6 +37,8 @@ fn turns_until_idle(desk: &mut Desk, plan: Plan) -> Shift
     ensures same { IsSameDesk desk.old desk.new }
     ensures turns { DeskWorksOn plan desk.old.manager.now.limits
         (place_of behaviour registers pending desk.old) result (place_of behaviour registers pending desk.new) }
+    ensures asked { AsksTurns (shown behaviour) (shown registers) (shown pending) (shown asked) desk.old.manager.now
+        plan.order (desk.old.pass.now, desk.old.server.now) result (desk.new.pass.now, desk.new.server.now) }
     ensures resting { IsResting behaviour registers pending desk.new }
 {
     let mut counts = Shift::none();

@@ -3,9 +3,12 @@ ghost use Rattle.tp_model.specs.declared.types.TheConstants.{MAX_OUTPUTS};
 ghost use Rattle.std.specs.Prelude.{◌≡◌, ◌≤◌, None, Some};
 ghost use Rattle.tp_manager.specs.Bounds.{commit_steps};
 ghost use Rattle.tp_manager.specs.Calls.{Follows};
+ghost use Rattle.tp_server.specs.Asked.{Asks};
+ghost use Rattle.tp_desk.specs.Asking.{turn_asks};
 ghost use Rattle.tp_desk.specs.Orders.{KeepsTurn};
 ghost use Rattle.tp_desk.specs.Steady.{IsSameDesk, SteadyDesk, shown};
 ghost use Rattle.tp_desk.specs.Turns.{Turns, WorksOff, turn_steps};
+ghost use Rattle.tp_workers.specs.Asking.{AsksTurns};
 ghost use Rattle.tp_workers.specs.Desks.{DeskRan, IsDeskOf, IsResting, TakesTurn, TakesTurns, place_of};
 ghost use Rattle.tp_workers.specs.Drained.{TookTurn};
 ghost use Rattle.tp_workers.specs.Tally.{total};
@@ -29,6 +32,8 @@ pub(crate) fn run_desk<G: Gate>(
 ) -> Shift
     requires ready { IsDeskOf behaviour registers pending manager.now (pass.old, server.old) }
     ensures ran { DeskRan behaviour registers pending manager.now plan (pass.old, server.old) result (pass.new, server.new) }
+    ensures asked { AsksTurns behaviour registers pending asked manager.now plan.order
+        (pass.old, server.old) result (pass.new, server.new) }
     ensures bound { total result ≤ plan.turns }
 {
     let mut desk = Desk::new(manager, pass, server);
@@ -46,6 +51,8 @@ pub(crate) fn take_turn(
 ) -> Shift
     requires ready { IsDeskOf behaviour registers pending manager.now (pass.old, server.old) }
     ensures took { TookTurn behaviour registers pending manager.now order (pass.old, server.old) result (pass.new, server.new) }
+    ensures asked { AsksTurns behaviour registers pending asked manager.now order
+        (pass.old, server.old) result (pass.new, server.new) }
 {
     let mut desk = Desk::new(manager, pass, server);
     let turned = desk.turn_by(order);
@@ -58,6 +65,8 @@ fn take_turns<G: Gate>(desk: &mut Desk, plan: Plan, worker: u32, gate: &G) -> Sh
     ensures same { IsSameDesk desk.old desk.new }
     ensures turns { TakesTurns plan desk.old.manager.now.limits
         (place_of behaviour registers pending desk.old) result (place_of behaviour registers pending desk.new) }
+    ensures asked { AsksTurns (shown behaviour) (shown registers) (shown pending) (shown asked) desk.old.manager.now
+        plan.order (desk.old.pass.now, desk.old.server.now) result (desk.new.pass.now, desk.new.server.now) }
     ensures resting { IsResting behaviour registers pending desk.new }
     ensures bound { total result ≤ plan.turns }
 {
@@ -78,6 +87,8 @@ pub(crate) fn turn_at<G: Gate>(desk: &mut Desk, order: Order, worker: u32, gate:
     ensures same { IsSameDesk desk.old desk.new }
     ensures turn { TakesTurn order desk.old.manager.now.limits
         (place_of behaviour registers pending desk.old) result (place_of behaviour registers pending desk.new) }
+    ensures asked { Asks (turn_asks result desk.new.pass.now.seen (shown registers desk.old.server.now)
+        (shown registers desk.new.server.now)) (shown asked desk.old.server.now) (shown asked desk.new.server.now) }
     ensures resting { IsResting behaviour registers pending desk.new }
 {
     gate.pause(worker, Point::Start);
@@ -97,6 +108,8 @@ fn claim_at<G: Gate>(desk: &mut Desk, order: Order, worker: u32, gate: &G) -> Tu
     ensures answer { Turns order desk.old.manager.now.limits (shown behaviour desk.old.server.now)
         (shown registers desk.old.server.now) desk.old.pass.now desk.new.pass.now result
         (shown registers desk.new.server.now) }
+    ensures asked { Asks (turn_asks result desk.new.pass.now.seen (shown registers desk.old.server.now)
+        (shown registers desk.new.server.now)) (shown asked desk.old.server.now) (shown asked desk.new.server.now) }
     ensures steady { SteadyDesk (shown behaviour) (shown registers) (shown pending) desk.new }
 {
     match desk.claim_by(order) {
@@ -118,6 +131,8 @@ fn work_at<G: Gate>(desk: &mut Desk, work: Work, worker: u32, gate: &G) -> Turne
         desk.old.pass.now desk.new.pass.now }
     ensures answer { WorksOff (shown behaviour desk.old.server.now) (shown registers desk.old.server.now) work
         desk.old.pass.now desk.new.pass.now result (shown registers desk.new.server.now) }
+    ensures asked { Asks (turn_asks result desk.new.pass.now.seen (shown registers desk.old.server.now)
+        (shown registers desk.new.server.now)) (shown asked desk.old.server.now) (shown asked desk.new.server.now) }
     ensures steady { SteadyDesk (shown behaviour) (shown registers) (shown pending) desk.new }
 {
     gate.pause(worker, Point::Claimed);

@@ -1,5 +1,6 @@
 //! Rounds of turns until a whole round claims nothing.
 ghost use Rattle.std.specs.Prelude.{◌≡◌, ◌+◌, ◌*◌, ◌<◌, ◌^◌, None, All, sum_by, length};
+ghost use Rattle.tp_workers.specs.Asking.{AsksTurns};
 ghost use Rattle.tp_workers.specs.Desks.{DeskWorked, IsDeskOf};
 ghost use Rattle.tp_workers.specs.Drained.{DeskDrained, LastTurn, TookTurn};
 ghost use Rattle.tp_workers.specs.Free.{IsFreePass, numbers};
@@ -45,6 +46,8 @@ pub fn drain(
         × RanEach (DeskDrained behaviour registers pending manager.now order) passes.old servers.old counts passes.new servers.new }
     ensures last_turns { (counts : Shift) × (result.nounit ≡ counts.nounit)
         × RanEach (LastTurn behaviour registers pending manager.now order) passes.old servers.old counts passes.new servers.new }
+    ensures asked { (counts : Shift) × (result.done ≡ counts.done)
+        × RanEach (AsksTurns behaviour registers pending asked manager.now order) passes.old servers.old counts passes.new servers.new }
     ensures free { All (IsFreePass manager.now) passes.new }
     ensures clear { All (λ server. pending server ≡ None) servers.new }
     ensures numbered { numbers passes.new ≡ numbers passes.old }
@@ -83,10 +86,14 @@ fn round(
     requires fit { length passes.old < 2 ^ 32 }
     ensures ran { RanEach (TookTurn behaviour registers pending manager.now order)
         passes.old servers.old result passes.new servers.new }
+    ensures asked { RanEach (AsksTurns behaviour registers pending asked manager.now order)
+        passes.old servers.old result passes.new servers.new }
 {
     let run = |pass: &mut Pass, server: &mut Box<dyn Server + Send>, _worker: u32| -> Shift
         requires { IsDeskOf behaviour registers pending manager.now (pass.now, server.now) }
         ensures { TookTurn behaviour registers pending manager.entry.now order
+            (pass.entry.now, server.entry.now) result (pass.exit.now, server.exit.now)
+            × AsksTurns behaviour registers pending asked manager.entry.now order
             (pass.entry.now, server.entry.now) result (pass.exit.now, server.exit.now) }
     { take_turn(manager, pass, server, order) };
     in_turn(&run, 0, passes, servers)
@@ -106,10 +113,14 @@ fn work_off_each(
     requires fit { length passes.old * plan.turns < 2 ^ 32 }
     ensures ran { RanEach (DeskWorked behaviour registers pending manager.now plan)
         passes.old servers.old result passes.new servers.new }
+    ensures asked { RanEach (AsksTurns behaviour registers pending asked manager.now plan.order)
+        passes.old servers.old result passes.new servers.new }
 {
     let run = |pass: &mut Pass, server: &mut Box<dyn Server + Send>, _worker: u32| -> Shift
         requires { IsDeskOf behaviour registers pending manager.now (pass.now, server.now) }
         ensures { DeskWorked behaviour registers pending manager.entry.now plan
+            (pass.entry.now, server.entry.now) result (pass.exit.now, server.exit.now)
+            × AsksTurns behaviour registers pending asked manager.entry.now plan.order
             (pass.entry.now, server.entry.now) result (pass.exit.now, server.exit.now) }
     { work_off(manager, pass, server, plan) };
     in_turn(&run, 0, passes, servers)

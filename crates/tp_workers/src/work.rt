@@ -1,5 +1,6 @@
 //! A shift of desks, clients and killers.
 ghost use Rattle.std.specs.Prelude.{◌≡◌, ◌+◌, ◌-◌, ◌*◌, ◌<◌, ◌≤◌, ◌^◌, None, All, sum_by, length, zip};
+ghost use Rattle.tp_workers.specs.Asking.{AsksTurns};
 ghost use Rattle.tp_workers.specs.Clients.{ClientRan, IsClientJob, IsClientOf};
 ghost use Rattle.tp_workers.specs.Desks.{DeskRan, IsDeskOf};
 ghost use Rattle.tp_workers.specs.Free.{IsFreePass, numbers};
@@ -63,6 +64,8 @@ pub fn shift<R: Threads + Sync, G: Gate>(
         killer_passes.old killers.old (killer_part result) killer_passes.new killers.new }
     ensures each_desk { AreTold (DeskRan behaviour registers pending manager.now plan)
         desk_passes.old servers.old counts.old (desk_part result) desk_passes.new servers.new counts.new }
+    ensures asked { RanEach (AsksTurns behaviour registers pending asked manager.now plan.order)
+        desk_passes.old servers.old (desk_part result) desk_passes.new servers.new }
 
     // All of them can be put to work again.
     ensures desks_free { All (IsFreePass manager.now) desk_passes.new }
@@ -91,6 +94,8 @@ pub fn shift<R: Threads + Sync, G: Gate>(
     let desk = |pass: &mut Pass, server: &mut Box<dyn Server + Send>, worker: u32| -> Shift
         requires { IsDeskOf behaviour registers pending manager.now (pass.now, server.now) }
         ensures { DeskRan behaviour registers pending manager.entry.now plan
+            (pass.entry.now, server.entry.now) result (pass.exit.now, server.exit.now)
+            × AsksTurns behaviour registers pending asked manager.entry.now plan.order
             (pass.entry.now, server.entry.now) result (pass.exit.now, server.exit.now)
             × (total result ≤ plan.turns) }
     { run_desk(manager, pass, server, plan, worker, gate) };

@@ -1,9 +1,10 @@
 use Rattle.std.proofs.Common.{rules}
+use Rattle.tp_workers.proofs.Asking.{lent_asks}
 use Rattle.tp_workers.proofs.Turns.{desk_worked}
 use Rattle.tp_workers.proofs.alone.work_off.Goals as goal
 
-pub returns : goal.returns
-returns g c =
+pub returns-clause-worked : goal.returns-clause-worked
+returns-clause-worked g c =
     desk_worked (λ v. (goal.Server-dyn g v).behaviour v.1) (λ v. (goal.Server-dyn g v).registers v.1) (λ v. (goal.Server-dyn g v).pending v.1) c.args.manager.now (c.args.pass.now, c.args.server.now) c.new-desk.result c.turns_until_idle-counts.new.desk _
     (record {
       manager = c.new-desk.ensures.manager;
@@ -20,3 +21,9 @@ returns g c =
       ready = search rules;
     })
     c.args.plan c.turns_until_idle-counts.result c.turns_until_idle-counts.ensures.turns
+
+pub returns-clause-asked : goal.returns-clause-asked
+returns-clause-asked g c =
+    lent_asks (λ v. (goal.Server-dyn g v).behaviour v.1) (λ v. (goal.Server-dyn g v).registers v.1) (λ v. (goal.Server-dyn g v).pending v.1) (λ v. (goal.Server-dyn g v).asked v.1) c.args.manager.now (c.args.pass.now, c.args.server.now) c.new-desk.result c.turns_until_idle-counts.new.desk _ c.args.plan.order c.turns_until_idle-counts.result
+    c.new-desk.ensures.manager c.new-desk.ensures.pass c.new-desk.ensures.server c.turns_until_idle-counts.ensures.resting
+    (search rules) (search rules) (search rules) c.turns_until_idle-counts.ensures.asked (search rules)

@@ -1,11 +1,12 @@
 use Rattle.std.proofs.Common.{arith, refl}
 use Rattle.tp_workers.specs.Tally.{none, plus}
+use Rattle.tp_workers.proofs.Asking.{each_nothing, each_on}
 use Rattle.tp_workers.proofs.Drains.{all_end, all_last, drained_clear, drained_free, drained_numbers, drained_sum, further_smaller, going_clear, going_few, going_free, going_further, going_none, going_on, round_smaller}
 use Rattle.tp_workers.proofs.Shifts.{each_paired}
 use Rattle.tp_workers.proofs.rounds.drain.Goals as goal
 
 pub rounds-init : goal.rounds-init
-rounds-init g c = record { counts = none; ran = going_none _ _ _ c.args.manager.now c.args.order _ _ c.requires.paired c.requires.free c.requires.clear; counted = refl }
+rounds-init g c = record { counts = none; ran = going_none _ _ _ c.args.manager.now c.args.order _ _ c.requires.paired c.requires.free c.requires.clear; asked = each_nothing _ _ _ _ c.args.manager.now c.args.order _ _; counted = refl }
 
 pub round-counts-requires-clause-paired : goal.round-counts-requires-clause-paired
 round-counts-requires-clause-paired g c = each_paired _ _ _ _ _ _ c.requires.paired c.rounds.invariant.ran
@@ -31,6 +32,10 @@ returns-then-not-has_claimed-clause-desks g c =
 pub returns-then-not-has_claimed-clause-last_turns : goal.returns-then-not-has_claimed-clause-last_turns
 returns-then-not-has_claimed-clause-last_turns g c =
     (c.round-counts.result, omega arith, all_last _ _ _ c.args.manager.now c.args.order _ _ _ _ _ _ _ _ c.rounds.invariant.ran c.round-counts.ensures.ran c.if-not-has_claimed.ensures.unclaimed)
+
+pub returns-then-not-has_claimed-clause-asked : goal.returns-then-not-has_claimed-clause-asked
+returns-then-not-has_claimed-clause-asked g c =
+    (plus c.rounds.invariant.counts c.round-counts.result, omega (arith, c.rounds.invariant.counted), each_on _ _ _ _ c.args.manager.now c.args.order _ _ _ _ _ _ _ _ c.rounds.invariant.asked c.round-counts.ensures.asked)
 
 pub returns-then-not-has_claimed-clause-done : goal.returns-then-not-has_claimed-clause-done
 returns-then-not-has_claimed-clause-done g c =
@@ -77,5 +82,6 @@ pub rounds-preserved : goal.rounds-preserved
 rounds-preserved g c = record {
   counts = plus (plus c.rounds.invariant.counts c.round-counts.result) c.work_off_each-more.result;
   ran = (going_further _ _ _ c.args.manager.now c.args.order _ refl _ _ _ _ _ _ _ _ _ _ _ c.rounds.invariant.ran c.round-counts.ensures.ran c.work_off_each-more.ensures.ran);
+  asked = each_on _ _ _ _ c.args.manager.now c.args.order _ _ _ _ _ _ _ _ (each_on _ _ _ _ c.args.manager.now c.args.order _ _ _ _ _ _ _ _ c.rounds.invariant.asked c.round-counts.ensures.asked) c.work_off_each-more.ensures.asked;
   counted = omega (arith, c.rounds.invariant.counted);
 }

@@ -1,17 +1,18 @@
-use Rattle.std.proofs.Common.{rules, ◌<◌, ◌^◌, refl, arith}
+use Rattle.std.proofs.Common.{rules, ◌<◌, ◌^◌, ◌∙◌, refl, sym, arith}
+use Rattle.tp_workers.specs.Asking.{AsksTurns}
 use Rattle.tp_workers.specs.Clients.{ClientRan, IsClientOf}
 use Rattle.tp_workers.specs.Desks.{DeskRan, IsDeskOf}
 use Rattle.tp_workers.specs.Gains.{commits_in, enqueues_in, kills_in}
 use Rattle.tp_workers.specs.Killers.{IsKillerOf, KillerRan}
 use Rattle.tp_workers.specs.Sums.{calls_of, size_of_range}
 use Rattle.tp_workers.proofs.Ran.{may_run, ran_as}
-use Rattle.tp_workers.proofs.Shifts.{calls_sum, clients_part, clients_fit, const_fits, desks_part, desks_ready, desks_told, each_as, each_counted, each_gains, each_paired, ids_sum, killers_part, killers_ready, passes_free, same_numbers, same_second, servers_clear, sum_second, turns_all}
+use Rattle.tp_workers.proofs.Shifts.{all_desk_counts, calls_sum, clients_part, clients_fit, const_fits, desks_part, desks_ready, desks_told, each_as, each_counted, each_gains, each_paired, ids_sum, killers_part, killers_ready, passes_free, same_numbers, same_second, servers_clear, sum_second, turns_all}
 use Rattle.tp_workers.proofs.Told.{told_weaker}
 use Rattle.tp_workers.proofs.work.shift.Goals as goal
 
 pub fork_three-requires-clause-xs_may : goal.fork_three-requires-clause-xs_may
 fork_three-requires-clause-xs_may g c κs within =
-    may_run _ _ (IsDeskOf _ _ _ c.args.manager.now) (λ d. c.args.plan.turns) (λ p q n ready. (ready, search rules)) (λ p p' q q' n s post. post.1) _ _ c.requires.servers_paired (desks_ready c.args.manager.now _ _ _ _ _ c.requires.servers_paired c.requires.desks_free c.requires.servers_clear) (let e = const_fits c.args.plan.turns _ _ c.requires.servers_paired in omega (arith, e, c.requires.turns_fit))
+    may_run _ _ (IsDeskOf _ _ _ c.args.manager.now) (λ d. c.args.plan.turns) (λ p q n ready. (ready, search rules)) (λ p p' q q' n s post. post.2) _ _ c.requires.servers_paired (desks_ready c.args.manager.now _ _ _ _ _ c.requires.servers_paired c.requires.desks_free c.requires.servers_clear) (let e = const_fits c.args.plan.turns _ _ c.requires.servers_paired in omega (arith, e, c.requires.turns_fit))
 
 pub fork_three-requires-clause-ys_may : goal.fork_three-requires-clause-ys_may
 fork_three-requires-clause-ys_may g c κs within =
@@ -31,6 +32,12 @@ returns-clause-each_desk g c =
     desks_told _ _ _ c.args.manager.now c.args.plan _ _ _ _ _ _ _ _ c.of_kinds.ensures.desks
     (each_as known _ _ _ _ _ c.fork_three.ensures.xs_ran)
     (told_weaker _ _ known _ _ _ _ _ _ _ c.fork_three.ensures.xs_told)
+
+pub returns-clause-asked : goal.returns-clause-asked
+returns-clause-asked g c =
+    let ran = each_as (ran_as _ _ (DeskRan _ _ _ c.args.manager.now c.args.plan) (λ p p' q q' n s post. post.0)) _ _ _ _ _ c.fork_three.ensures.xs_ran in
+    let counted = c.of_kinds.ensures.desks ∙ sym (all_desk_counts _ _ _ c.args.manager.now c.args.plan _ _ _ _ _ ran) in
+    each_counted _ _ _ _ _ _ _ counted (each_as (ran_as _ _ (AsksTurns _ _ _ _ c.args.manager.now c.args.plan.order) (λ p p' q q' n s post. post.1)) _ _ _ _ _ c.fork_three.ensures.xs_ran)
 
 pub returns-clause-clients : goal.returns-clause-clients
 returns-clause-clients g c =
