@@ -308,8 +308,7 @@ impl Crew {
     }
 
     /// Puts another box in the place of the one with this number, counted from 0, and gives that one back.
-    /// The fold of the new
-    /// one's work begins here, and those of the other boxes go on.
+    /// The fold of the new one's work begins here, and those of the other boxes go on.
     pub fn swap(&mut self, k: usize, other: &mut Box<dyn Server + Send>)
         requires steady { IsSteadyCrew behaviour registers pending self.old }
         requires within { k < length self.old.boxes.items }

@@ -48,9 +48,8 @@ impl FoldStart {
         Ok(starts)
     }
 
-    /// The fold of the work of this box, which comes to place `k`, begins here. (The starts aren't lent as
-    /// a slice: the borrow checker
-    /// covers no pointer to an element of a type of no size.)
+    /// The fold of the work of this box, which comes to place `k`, begins here. (The starts aren't lent as a
+    /// slice: the borrow checker covers no pointer to an element of a type of no size.)
     pub(crate) fn begin(
         starts: &mut Vec<FoldStart>,
         k: usize,

@@ -3,9 +3,8 @@ ghost use Rattle.std.specs.Prelude.{◌≡◌, [], ◌∷◌, All, None};
 
 use crate::server::Server;
 
-/// Three servers with nothing prepared, as a crew, a shift or a drain asks for them. Of boxes that were
-/// just made this is known
-/// one at a time, and of an array of them only by a clause such as this.
+/// Three servers with nothing prepared, as a crew, a shift or a drain asks for them. Of boxes that were just
+/// made this is known one at a time, and of an array of them only by a clause such as this.
 pub fn three(
     first: Box<dyn Server + Send>,
     second: Box<dyn Server + Send>,

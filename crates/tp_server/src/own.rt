@@ -7,9 +7,8 @@ use crate::server::Server;
 use arrayvec::ArrayVec;
 use tp_model::types::{Draft, Element};
 
-/// A server with N registers that does what its handler says. It leaves its registers alone as it
-/// prepares, and keeps what they
-/// become until it commits.
+/// A server with N registers that does what its handler says. It leaves its registers alone as it prepares,
+/// and keeps what they become until it commits.
 #[derive(Drop)]
 pub struct OwnServer<H: Handler<N>, const N: usize> {
     handler: H,

@@ -21,8 +21,7 @@ pub record RanEach {T U : Type 0} (R : T × U → Shift → T × U → Type 0)
   pub by_kept : length by_new ≡ length by
 
 -- Each worker of the first list ran, with the counts at its place in the list between them, and became the
--- one at its place
--- in the last list.
+-- one at its place in the last list.
 abbrev pub RanList : {T : Type 0} → (T → Shift → T → Type 0) → List T → List Shift → List T → Type 0
 RanList R [] [] [] = ⊤
 RanList R [] [] (y ∷ ys) = ⊥

@@ -9,8 +9,7 @@ use crate::tally::Shift;
 use std::thread::{Threads, join_mut};
 
 /// Runs each worker on a thread of its own, numbered from `first` on. Where there is a place for each
-/// worker's counts, they
-/// are given one by one, and else only their sum.
+/// worker's counts, they are given one by one, and else only their sum.
 #[cycle(fork)]
 pub(crate) fn fork<R: Threads + Sync, T: Send, U: Send, F: Fn(&mut T, &mut U, u32) -> Shift + Sync>(
     rt: &R,
