@@ -24,7 +24,8 @@
  *
  * No call waits: who finds IDLE or NONE asks again later. Rows and units of work are used once, and what is
  * finished gives none back. So FULL of a submit or a commit, and NO_UNIT of a claim, mean that it is time for
- * covetrivet_roll_over: each thread hands its caller back, one of them rolls over, and each opens one again.
+ * covetrivet_roll_over: each thread hands its caller back, one of them rolls over, and each opens one again. Who
+ * has a unit of work open needn't end it before: it opens the caller of the same number, which has it in hand.
  *
  * Each function answers one of the codes below, but for covetrivet_close and covetrivet_give_up, and for
  * covetrivet_version and covetrivet_size. Each may be called in any state of its handles: what it cannot do has
@@ -36,10 +37,10 @@
 #include <stdint.h>
 
 #define COVETRIVET_VERSION_MAJOR 0
-#define COVETRIVET_VERSION_MINOR 13
+#define COVETRIVET_VERSION_MINOR 17
 #define COVETRIVET_VERSION_PATCH 0
 /* 1000 times the major, plus the minor, then 1000 times that, plus the patch. */
-#define COVETRIVET_VERSION 13000
+#define COVETRIVET_VERSION 17000
 
 #ifdef __cplusplus
 extern "C" {
@@ -138,7 +139,9 @@ typedef struct covetrivet_counts {
 /* One element that a rollover carried over: its id and its root's, in the old manager and in the new one. */
 typedef struct covetrivet_moved {
   uint32_t old_id, new_id, old_root, new_root;
+  uint32_t holder; /* the number of the caller that has it in hand in either; COVETRIVET_NOBODY where none has */
 } covetrivet_moved;
+#define COVETRIVET_NOBODY 65536u
 
 /* ---- the codes ---- */
 
@@ -148,7 +151,7 @@ enum {
   COVETRIVET_OPEN_HANDLE = 2,    /* the handle that is to be opened leads to something */
   COVETRIVET_NO_MEMORY = 3,      /* memory could not be had; nothing has changed */
   COVETRIVET_BAD_LIMITS = 4,     /* a limit is outside its range */
-  COVETRIVET_NO_PART = 5,        /* no caller is at home: all are open */
+  COVETRIVET_NO_PART = 5,        /* no caller is at home: all are open; or not the one of this number */
   COVETRIVET_BAD_STAGE = 6,      /* not a stage of this call; of claim_id: a reply; of collect: no reply */
   COVETRIVET_NOT_THERE = 7,      /* no such element was born */
   COVETRIVET_WAS_CONSUMED = 8,   /* a unit that took the element has committed */
@@ -184,6 +187,9 @@ void covetrivet_give_up(covetrivet_manager *manager);
  * caller is lost), CLOSED_HANDLE of the manager, OPEN_HANDLE of the caller. */
 uint32_t covetrivet_open(covetrivet_manager *manager, covetrivet_caller *caller);
 
+/* The same, of the caller with this number. NO_PART where it isn't at home. */
+uint32_t covetrivet_open_number(covetrivet_manager *manager, uint16_t number, covetrivet_caller *caller);
+
 /* Hands a caller back: it is at home again, in any order, and its handle is closed. It must be of this
  * manager, which nothing tests. NO_MEMORY only where it is not. A unit of work that it has open stays so, and
  * whoever opens the caller next has it. */
@@ -206,18 +212,22 @@ uint32_t covetrivet_account(covetrivet_manager *manager, uint8_t stage, covetriv
 /* All callers look until all have seen one history. NOT_ALL. */
 uint32_t covetrivet_gather(covetrivet_manager *manager);
 
-/* What waits or is parked, replies too, goes on in a new manager with these limits, each element once, and
- * nothing else does. The handle leads to the new manager then, all of whose callers are at home. How many
+/* What waits, is parked or is held, replies too, goes on in a new manager with these limits, each element once,
+ * and nothing else does. The handle leads to the new manager then, all of whose callers are at home. How many
  * elements that are. Their order, bodies, stages, attempts and rounds are as they were, and their ids are not:
- * see covetrivet_moved_at. Where an element's root had been consumed, the new root is one that was made and
- * consumed in the rollover. It took a row and a unit of work, as each such one, and account counts them.
- * NOT_ALL, BUSY (a caller has a unit open), BAD_LIMITS (also where `attempts` differs), FULL (the new limits
- * have not the rows or units), NO_MEMORY: where it is refused the old manager stands as it did. */
+ * see covetrivet_moved_at. What a caller held, the caller of the same number has in hand, in the same attempt,
+ * under a new unit of work; no other has one open. So a unit that another caller had aborted is over: its
+ * commit, which would have answered LOST, answers NO_OPEN. Where an element's root had been consumed, the new
+ * root is one that was made and consumed in the rollover. It took a row and a unit of work, as each such one,
+ * and account counts them.
+ * NOT_ALL, BAD_LIMITS (also where `attempts` differs, or the new limits have no caller of a number that has a
+ * unit open), FULL (they have not the rows or the units), NO_MEMORY: where it is refused the old manager stands
+ * as it did. */
 uint32_t covetrivet_roll_over(covetrivet_manager *manager, const covetrivet_limits *limits, size_t *count);
 
 /* The element that the last rollover carried over in this place, from 0 on, by ascending ids. NONE behind the
  * last. Of one family all have one old root, and one new root: a client whose request is old_root goes on with
- * new_root. A request of which nothing is named has nothing left that waits or is parked. */
+ * new_root. A request of which nothing is named has nothing left that waits, is parked or is held. */
 uint32_t covetrivet_moved_at(covetrivet_manager *manager, size_t place, covetrivet_moved *moved);
 
 /* ---- of a client ---- */

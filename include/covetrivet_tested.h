@@ -12,6 +12,10 @@ static inline void covetrivet_tested_give_up(covetrivet_manager *manager) {
 static inline uint32_t covetrivet_tested_open(covetrivet_manager *manager, covetrivet_caller *caller) {
   return manager && caller ? covetrivet_open(manager, caller) : (uint32_t)COVETRIVET_NULL;
 }
+static inline uint32_t covetrivet_tested_open_number(covetrivet_manager *manager, uint16_t number,
+    covetrivet_caller *caller) {
+  return manager && caller ? covetrivet_open_number(manager, number, caller) : (uint32_t)COVETRIVET_NULL;
+}
 static inline uint32_t covetrivet_tested_hand_back(covetrivet_manager *manager, covetrivet_caller *caller) {
   return manager && caller ? covetrivet_hand_back(manager, caller) : (uint32_t)COVETRIVET_NULL;
 }
@@ -126,6 +130,7 @@ static inline uint32_t covetrivet_tested_meet(covetrivet_caller *first, covetriv
 #define covetrivet_make covetrivet_tested_make
 #define covetrivet_give_up covetrivet_tested_give_up
 #define covetrivet_open covetrivet_tested_open
+#define covetrivet_open_number covetrivet_tested_open_number
 #define covetrivet_hand_back covetrivet_tested_hand_back
 #define covetrivet_close covetrivet_tested_close
 #define covetrivet_get_limits covetrivet_tested_get_limits

@@ -13,6 +13,7 @@ static void handles(void) {
   uint16_t small;
 
   ANSWERS(COVETRIVET_CLOSED_HANDLE, covetrivet_open(&manager, &a));
+  ANSWERS(COVETRIVET_CLOSED_HANDLE, covetrivet_open_number(&manager, 0, &a));
   ANSWERS(COVETRIVET_CLOSED_HANDLE, covetrivet_capacity(&manager, &number));
   ANSWERS(COVETRIVET_CLOSED_HANDLE, covetrivet_get_limits(&manager, &found));
   ANSWERS(COVETRIVET_CLOSED_HANDLE, covetrivet_account(&manager, 0, &counts));
@@ -43,6 +44,10 @@ static void handles(void) {
   ANSWERS(COVETRIVET_OK, covetrivet_meet(&a, &b));
   ANSWERS(COVETRIVET_CLOSED_HANDLE, covetrivet_meet(&a, &c));
   ANSWERS(COVETRIVET_CLOSED_HANDLE, covetrivet_meet(&c, &a));
+  ANSWERS(COVETRIVET_NO_PART, covetrivet_open_number(&manager, 1, &c));
+  ANSWERS(COVETRIVET_NO_PART, covetrivet_open_number(&manager, UINT16_MAX, &c));
+  ANSWERS(COVETRIVET_OPEN_HANDLE, covetrivet_open_number(&manager, 1, &b));
+  SO(c.at == NULL);
   /* in any order, and lent again by number */
   ANSWERS(COVETRIVET_OK, covetrivet_hand_back(&manager, &b));
   ANSWERS(COVETRIVET_OK, covetrivet_hand_back(&manager, &a));
@@ -51,6 +56,15 @@ static void handles(void) {
   ANSWERS(COVETRIVET_OK, covetrivet_open(&manager, &c));
   ANSWERS(COVETRIVET_OK, covetrivet_number(&c, &small));
   SO(small == 0);
+  ANSWERS(COVETRIVET_OK, covetrivet_hand_back(&manager, &c));
+  ANSWERS(COVETRIVET_OK, covetrivet_open_number(&manager, 1, &c));
+  ANSWERS(COVETRIVET_OK, covetrivet_number(&c, &small));
+  SO(small == 1);
+  ANSWERS(COVETRIVET_NO_PART, covetrivet_open_number(&manager, 1, &a));
+  ANSWERS(COVETRIVET_OK, covetrivet_open(&manager, &a));
+  ANSWERS(COVETRIVET_OK, covetrivet_number(&a, &small));
+  SO(small == 0);
+  ANSWERS(COVETRIVET_OK, covetrivet_hand_back(&manager, &a));
   ANSWERS(COVETRIVET_OK, covetrivet_hand_back(&manager, &c));
   /* a closed caller is lost to the account */
   ANSWERS(COVETRIVET_OK, covetrivet_open(&manager, &c));
@@ -177,6 +191,57 @@ static void units(void) {
   covetrivet_close(&me);
 }
 
+/* Of three callers one holds an element, one has lost its own to a kill, and one holds nothing. */
+static void in_hand(void) {
+  covetrivet_limits limits = { 3, 4, 8, 0, 3 }, fewer = { 1, 8, 8, 0, 3 };
+  covetrivet_manager manager = COVETRIVET_CLOSED;
+  covetrivet_caller callers[3] = { COVETRIVET_CLOSED, COVETRIVET_CLOSED, COVETRIVET_CLOSED };
+  const uint64_t one[4] = { 1, 0, 0, 0 }, two[4] = { 2, 0, 0, 0 };
+  covetrivet_draft draft = { { 3, 0, 0, 0 }, COVETRIVET_REPLIES };
+  covetrivet_work work;
+  covetrivet_born born;
+  covetrivet_look look;
+  covetrivet_moved moved;
+  covetrivet_counts counts;
+  uint32_t kept, lost;
+  uint8_t byte;
+  size_t count;
+  int k;
+
+  ANSWERS(COVETRIVET_OK, covetrivet_make(&limits, &manager));
+  for (k = 0; k < 3; k++) ANSWERS(COVETRIVET_OK, covetrivet_open(&manager, &callers[k]));
+  ANSWERS(COVETRIVET_OK, covetrivet_submit(&callers[0], 1, one, &kept));
+  ANSWERS(COVETRIVET_OK, covetrivet_submit(&callers[0], 2, two, &lost));
+  ANSWERS(COVETRIVET_OK, covetrivet_claim(&callers[1], 1, &work));
+  ANSWERS(COVETRIVET_OK, covetrivet_abort(&callers[1]));
+  ANSWERS(COVETRIVET_OK, covetrivet_claim(&callers[1], 1, &work));
+  SO(work.element.id == kept && work.attempt == 2);
+  ANSWERS(COVETRIVET_OK, covetrivet_claim(&callers[2], 2, &work));
+  ANSWERS(COVETRIVET_OK, covetrivet_kill(&callers[0], lost, &byte));
+  for (k = 0; k < 3; k++) ANSWERS(COVETRIVET_OK, covetrivet_hand_back(&manager, &callers[2 - k]));
+  ANSWERS(COVETRIVET_BAD_LIMITS, covetrivet_roll_over(&manager, &fewer, &count));
+  ANSWERS(COVETRIVET_OK, covetrivet_roll_over(&manager, &limits, &count));
+  SO(count == 1);
+  ANSWERS(COVETRIVET_OK, covetrivet_moved_at(&manager, 0, &moved));
+  SO(moved.old_id == kept && moved.old_root == kept && moved.new_root == moved.new_id && moved.holder == 1);
+  ANSWERS(COVETRIVET_OK, covetrivet_account(&manager, 1, &counts));
+  SO(counts.held == 1 && counts.waiting == 0 && counts.parked == 0);
+  for (k = 0; k < 3; k++) {
+    ANSWERS(COVETRIVET_OK, covetrivet_open_number(&manager, (uint16_t)(2 - k), &callers[2 - k]));
+    ANSWERS(COVETRIVET_OK, covetrivet_has_open(&callers[2 - k], &byte));
+    SO(byte == (2 - k == 1));
+  }
+  ANSWERS(COVETRIVET_OK, covetrivet_read(&callers[0], moved.new_id, &look));
+  SO(look.element.body[0] == 1 && look.element.stage == 1 && look.status.kind == COVETRIVET_HELD);
+  SO(look.status.attempts == 2 && look.status.unit / limits.units == 1);
+  ANSWERS(COVETRIVET_NO_OPEN, covetrivet_commit(&callers[2], &draft, 1, &born));
+  ANSWERS(COVETRIVET_OK, covetrivet_commit(&callers[1], &draft, 1, &born));
+  ANSWERS(COVETRIVET_OK, covetrivet_reply(&callers[0], moved.new_root, 0, &kept));
+  SO(kept == born.first && born.count == 1);
+  for (k = 0; k < 3; k++) covetrivet_close(&callers[k]);
+  covetrivet_give_up(&manager);
+}
+
 static void nulls(void) {
   covetrivet_limits limits = { 1, 1, 1, 0, 1 };
   covetrivet_manager manager = COVETRIVET_CLOSED;
@@ -190,6 +255,7 @@ static void nulls(void) {
   ANSWERS(COVETRIVET_NULL, covetrivet_make(&limits, NULL));
   ANSWERS(COVETRIVET_OK, covetrivet_make(&limits, &manager));
   ANSWERS(COVETRIVET_NULL, covetrivet_open(&manager, NULL));
+  ANSWERS(COVETRIVET_NULL, covetrivet_open_number(&manager, 0, NULL));
   ANSWERS(COVETRIVET_OK, covetrivet_open(&manager, &me));
   ANSWERS(COVETRIVET_NULL, covetrivet_submit(&me, 1, NULL, &id));
   ANSWERS(COVETRIVET_NULL, covetrivet_submit(&me, 1, body, NULL));
@@ -209,6 +275,7 @@ static void nulls(void) {
 int main(void) {
   handles();
   units();
+  in_hand();
   nulls();
   SO(covetrivet_version() == COVETRIVET_VERSION);
   puts("misuse: each has its code");

@@ -1,5 +1,5 @@
 /* stress.c: four threads call one manager at random, and go on in the next one by a rollover, ROUNDS times over.
- * After each round every element's status is what the threads were told, and so is the account; after a rollover
+ * What they have in hand goes on in their hands. After each round every element's status is what the threads were told, and so is the account; after a rollover
  * each element that was alive stands as it stood. The word behind ROUNDS seeds the random numbers. */
 #include "check.h"
 #include <pthread.h>
@@ -10,12 +10,15 @@ enum { BORN = 1, CONSUMED = 2, KILLED = 4 };
 
 static const covetrivet_limits limits = { THREADS, ROWS, 1024, SPARE, 3 };
 static covetrivet_caller callers[THREADS];
+/* whether each has a unit of work open, and the element that it claimed */
+static int busy_of[THREADS];
+static uint32_t held_of[THREADS];
 static unsigned char told[IDS];
 /* what was submitted: the body's first word and the stage, once it is told that the element is born */
 static uint64_t bodies[IDS];
 static uint8_t stages[IDS];
 static unsigned seed;
-static long made, rolled, rollovers;
+static long made, rolled, in_hand, rollovers;
 
 static unsigned pick(unsigned *state, unsigned below) { return (unsigned)rand_r(state) % below; }
 
@@ -48,8 +51,8 @@ static void *run(void *at) {
   const int number = (int)(intptr_t)at;
   covetrivet_caller *me = &callers[number];
   unsigned state = seed * 7919u + (unsigned)number;
-  uint32_t held = 0, id, other, killed;
-  int busy = 0, k;
+  uint32_t held = held_of[number], id, other, killed;
+  int busy = busy_of[number], k;
   for (k = 0; k < CALLS; k++) {
     const uint64_t word = (uint64_t)(number * CALLS + k), body[4] = { word, 0, 0, 0 };
     const uint8_t stage = (uint8_t)(1 + pick(&state, 3));
@@ -103,7 +106,7 @@ static void *run(void *at) {
       break;
     }
   }
-  if (busy) covetrivet_abort(me);
+  busy_of[number] = busy, held_of[number] = held;
   return NULL;
 }
 
@@ -121,13 +124,17 @@ static size_t read_all(covetrivet_look *alive, covetrivet_counts *by_stage) {
     SO(look.element.id == id && look.element.body[0] == bodies[id] && look.element.stage == stages[id]);
     SO((look.status.kind == COVETRIVET_CONSUMED) == !!(told[id] & CONSUMED));
     SO((look.status.kind == COVETRIVET_KILLED) == !!(told[id] & KILLED));
-    SO(look.status.kind != COVETRIVET_HELD);
     counts = &by_stage[look.element.stage];
     if (look.status.kind == COVETRIVET_WAITING) counts->waiting++;
+    if (look.status.kind == COVETRIVET_HELD) counts->held++;
     if (look.status.kind == COVETRIVET_CONSUMED) counts->consumed++;
     if (look.status.kind == COVETRIVET_PARKED) counts->parked++;
     if (look.status.kind == COVETRIVET_KILLED) counts->killed++;
-    if (look.status.kind == COVETRIVET_WAITING || look.status.kind == COVETRIVET_PARKED) alive[count++] = look;
+    if (look.status.kind != COVETRIVET_CONSUMED && look.status.kind != COVETRIVET_KILLED) alive[count++] = look;
+    if (look.status.kind == COVETRIVET_HELD) {
+      const int holder = look.status.unit / limits.units;
+      SO(busy_of[holder] && held_of[holder] == id);
+    }
   }
   return count;
 }
@@ -144,27 +151,34 @@ static void account(covetrivet_manager *manager, const covetrivet_counts *by_sta
   for (stage = 1; stage <= 15; stage++) {
     ANSWERS(COVETRIVET_OK, covetrivet_account(manager, stage, &found));
     same_counts(&by_stage[stage], &found);
-    total.waiting += found.waiting, total.consumed += found.consumed;
+    total.waiting += found.waiting, total.held += found.held, total.consumed += found.consumed;
     total.parked += found.parked, total.killed += found.killed;
   }
   ANSWERS(COVETRIVET_OK, covetrivet_account(manager, 0, &found));
   same_counts(&total, &found);
 }
 
-/* What is alive goes on in the next manager: each element once, with its stage, body and status. Whether it had the
- * rows. */
+/* What is alive goes on in the next manager: each element once, with its stage, body and status, and in the same hand.
+ * Whether it had the rows. */
 static int roll(covetrivet_manager *manager, const covetrivet_look *alive, size_t count) {
   static covetrivet_moved moved[IDS];
   static unsigned char was[IDS];
   covetrivet_look look;
   size_t found, k;
   uint32_t id;
+  uint8_t is_open;
   const uint32_t code = covetrivet_succeed(manager, moved, IDS, &found);
   if (code == COVETRIVET_FULL) return 0;
   ANSWERS(COVETRIVET_OK, code);
   SO(found == count);
   ANSWERS(COVETRIVET_NONE, covetrivet_moved_at(manager, found, moved + IDS - 1));
-  for (k = 0; k < THREADS; k++) ANSWERS(COVETRIVET_OK, covetrivet_open(manager, &callers[k]));
+  for (k = 0; k < THREADS; k++) {
+    ANSWERS(COVETRIVET_OK, covetrivet_open_number(manager, (uint16_t)k, &callers[k]));
+    ANSWERS(COVETRIVET_OK, covetrivet_has_open(&callers[k], &is_open));
+    /* (a unit that was lost isn't open any more) */
+    SO(is_open <= busy_of[k]);
+    busy_of[k] = 0;
+  }
   memset(told, 0, sizeof told);
   memset(was, 0, sizeof was);
   for (k = 0; k < count; k++) {
@@ -175,6 +189,14 @@ static int roll(covetrivet_manager *manager, const covetrivet_look *alive, size_
     SO(!memcmp(look.element.body, alive[k].element.body, sizeof look.element.body));
     SO(look.element.stage == alive[k].element.stage && look.status.kind == alive[k].status.kind);
     SO(look.status.attempts == alive[k].status.attempts);
+    SO((moved[k].holder == COVETRIVET_NOBODY) == (look.status.kind != COVETRIVET_HELD));
+    if (look.status.kind == COVETRIVET_HELD) {
+      const uint32_t holder = moved[k].holder;
+      SO(holder == (uint32_t)(alive[k].status.unit / limits.units) && holder == (uint32_t)(look.status.unit / limits.units));
+      ANSWERS(COVETRIVET_OK, covetrivet_has_open(&callers[holder], &is_open));
+      SO(is_open == 1);
+      busy_of[holder] = 1, held_of[holder] = look.element.id, in_hand++;
+    }
     was[look.element.id] = 1;
   }
   /* what else was born there is consumed */
@@ -193,6 +215,7 @@ static void fresh(covetrivet_manager *manager) {
   int k;
   covetrivet_give_up(manager);
   memset(told, 0, sizeof told);
+  memset(busy_of, 0, sizeof busy_of);
   ANSWERS(COVETRIVET_OK, covetrivet_make(&limits, manager));
   for (k = 0; k < THREADS; k++) ANSWERS(COVETRIVET_OK, covetrivet_open(manager, &callers[k]));
 }
@@ -223,8 +246,8 @@ int main(int argc, char **argv) {
   }
   for (k = 0; k < THREADS; k++) covetrivet_close(&callers[k]);
   covetrivet_give_up(&manager);
-  SO(rollovers > 0 || rounds < 10);
-  printf("stress: %d managers, %ld elements made, %ld carried over by %ld rollovers: all as was told\n", rounds, made,
-         rolled, rollovers);
+  SO((rollovers > 0 && in_hand > 0) || rounds < 10);
+  printf("stress: %d managers, %ld elements made, %ld carried over, %ld of them in hand, by %ld rollovers: all as was told\n",
+         rounds, made, rolled, in_hand, rollovers);
   return 0;
 }

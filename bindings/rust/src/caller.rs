@@ -2,7 +2,7 @@
 
 use crate::error::{told, Error};
 use crate::sys::{self, Handle};
-use crate::types::{Body, Element, Look, Released, Room};
+use crate::types::{Body, Element, Look, Released, Room, Status};
 use crate::work::Work;
 
 /// One thread's way to act on a manager. It may go to another thread, and goes on where its manager was given up.
@@ -14,6 +14,8 @@ use crate::work::Work;
 pub struct Caller {
     pub(crate) handle: Handle,
     pub(crate) manager: u64,
+    // (how many units of work each caller of its manager begins at most)
+    units: u16,
 }
 
 /// What the library writes where its code is 0.
@@ -40,8 +42,8 @@ fn found<T: Default>(none: u32, call: impl FnOnce(&mut T) -> u32) -> Result<Opti
 // What threads call most is inlined into other crates: else the copies of its answer cost some 5 nanoseconds.
 impl Caller {
     #[inline]
-    pub(crate) fn of(handle: Handle, manager: u64) -> Caller {
-        Caller { handle, manager }
+    pub(crate) fn of(handle: Handle, manager: u64, units: u16) -> Caller {
+        Caller { handle, manager, units }
     }
 
     /// Puts an element into the queue of a stage, 1 to 14. Its id. `BadStage`, `Full`.
@@ -141,6 +143,18 @@ impl Caller {
     pub fn claim_id(&mut self, id: u32) -> Result<Work<'_>, Error> {
         let work = written(|work| unsafe { sys::covetrivet_claim_id(&mut self.handle, id, work) })?;
         Ok(Work::of(self, &work))
+    }
+
+    /// The unit of work that it has open, where that holds the element with this id: as after a rollover, which names
+    /// the holder of each element ([`Moved::holder`](crate::Moved::holder)). `NotThere`.
+    pub fn in_hand(&mut self, id: u32) -> Result<Option<Work<'_>>, Error> {
+        let look = self.read(id)?;
+        match look.status {
+            Status::Held { unit, attempt } if unit / self.units == self.number() && self.has_open() => {
+                Ok(Some(Work::again(self, look.element, unit, attempt)))
+            }
+            _ => Ok(None),
+        }
     }
 
     /// Gives up the open unit of work, as of [`Work`] that was forgotten. `NoOpen`, `Lost`.

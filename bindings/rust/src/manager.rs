@@ -39,7 +39,16 @@ impl Manager {
         let mut caller = Handle::closed();
         // SAFETY: the lock is held, and the caller's handle is closed.
         told(unsafe { sys::covetrivet_open(&mut self.handle(), &mut caller) }, ())?;
-        Ok(Caller::of(caller, self.id))
+        Ok(Caller::of(caller, self.id, self.limits().units))
+    }
+
+    /// Opens the caller with this number. What it held before a rollover it has in hand: see
+    /// [`Caller::in_hand`]. `NoPart` where it isn't at home, `NoMemory`.
+    pub fn open_number(&self, number: u16) -> Result<Caller, Error> {
+        let mut caller = Handle::closed();
+        // SAFETY: as above.
+        told(unsafe { sys::covetrivet_open_number(&mut self.handle(), number, &mut caller) }, ())?;
+        Ok(Caller::of(caller, self.id, self.limits().units))
     }
 
     /// Takes a caller home again, in any order. It comes back where it is of another manager (`OtherManager`).
@@ -93,15 +102,16 @@ impl Manager {
         told(unsafe { sys::covetrivet_gather(&mut self.handle()) }, ())
     }
 
-    /// What waits or is parked, replies too, goes on in a new manager with these limits, each element once, and nothing
-    /// else does. This is the new manager then, all of whose callers are at home. What was carried over, by ascending
-    /// ids: their order, bodies, stages, attempts and rounds are as they were, and their ids are not.
+    /// What waits, is parked or is held, replies too, goes on in a new manager with these limits, each element once, and
+    /// nothing else does. This is the new manager then, all of whose callers are at home. What was carried over, by
+    /// ascending ids: their order, bodies, stages, attempts and rounds are as they were, and their ids are not. What a
+    /// caller held, the caller of the same number has in hand, in the same attempt; no other has a unit open.
     ///
     /// Where an element's root had been consumed, its new root is one that was made and consumed in the rollover. It
     /// took a row and a unit of work, as each such one, and the account counts them.
     ///
-    /// `NotAll`, `Busy`, `BadLimits` (also where `attempts` differs), `Full`, `NoMemory`, where the old one stands as
-    /// it did.
+    /// `NotAll`, `BadLimits` (also where `attempts` differs, or there is no caller of a number that has a unit open),
+    /// `Full`, `NoMemory`, where the old one stands as it did.
     pub fn roll_over(&self, limits: Limits) -> Result<Vec<Moved>, Error> {
         let mut handle = self.handle();
         let mut count = 0;

@@ -68,6 +68,7 @@ extern "C" {
     pub fn covetrivet_make(limits: &Limits, manager: &mut Handle) -> u32;
     pub fn covetrivet_give_up(manager: &mut Handle);
     pub fn covetrivet_open(manager: &mut Handle, caller: &mut Handle) -> u32;
+    pub fn covetrivet_open_number(manager: &mut Handle, number: u16, caller: &mut Handle) -> u32;
     pub fn covetrivet_hand_back(manager: &mut Handle, caller: &mut Handle) -> u32;
     pub fn covetrivet_close(caller: &mut Handle);
     pub fn covetrivet_get_limits(manager: &mut Handle, limits: &mut Limits) -> u32;

@@ -156,4 +156,12 @@ pub struct Moved {
     pub new: u32,
     pub old_root: u32,
     pub new_root: u32,
+    holder: u32,
+}
+
+impl Moved {
+    /// The number of the caller that has it in hand in either manager, if one has.
+    pub fn holder(&self) -> Option<u16> {
+        u16::try_from(self.holder).ok()
+    }
 }

@@ -28,6 +28,11 @@ impl<'a> Work<'a> {
         }
     }
 
+    /// A unit that was left, and goes on.
+    pub(crate) fn again(caller: &'a mut Caller, element: Element, unit: u16, attempt: u8) -> Work<'a> {
+        Work { caller, element, unit, attempt, is_open: true }
+    }
+
     /// The element that it holds.
     #[inline]
     pub fn element(&self) -> &Element {
@@ -66,6 +71,12 @@ impl<'a> Work<'a> {
         let told = told(code, born.first..born.first + u32::from(born.count));
         self.is_open = matches!(told, Err(Error::TooMany | Error::BadDraft));
         told
+    }
+
+    /// Leaves it open, so that its caller can be handed back while it goes on: over a rollover, say. Who opens that
+    /// caller next has it [in hand](Caller::in_hand).
+    pub fn leave(mut self) {
+        self.is_open = false;
     }
 
     /// Gives it up: the element waits again, or is parked. `Lost` where another caller had aborted it.

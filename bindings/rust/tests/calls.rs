@@ -15,7 +15,7 @@ fn types_go_to_threads() {
     is_sync::<Manager>();
     is_send::<covetrivet::Caller>();
     is_send::<Error>();
-    assert_eq!(covetrivet::version(), 13_000);
+    assert_eq!(covetrivet::version(), 17_000);
 }
 
 #[test]
@@ -122,6 +122,42 @@ fn what_is_alive_goes_on() {
     let mut a = manager.open().unwrap();
     let look = a.read(moved[0].new).unwrap();
     assert_eq!((look.element.body, look.element.stage, look.status), ([2; 4], 2, Status::Waiting { attempts: 1 }));
+}
+
+#[test]
+fn what_is_in_hand_goes_on_in_the_same_hand() {
+    let manager = Manager::new(SMALL).unwrap();
+    let (mut a, mut b) = (manager.open().unwrap(), manager.open().unwrap());
+    let (one, two) = (a.submit(1, [1; 4]).unwrap(), a.submit(2, [2; 4]).unwrap());
+    b.claim_id(two).unwrap().leave();
+    a.claim_id(one).unwrap().leave();
+    assert!(a.has_open() && b.has_open());
+    assert_eq!(manager.open_number(1).err(), Some(Error::NoPart));
+    manager.hand_back(a).ok().unwrap();
+    manager.hand_back(b).ok().unwrap();
+    assert_eq!(manager.roll_over(Limits { parts: 1, ..SMALL }), Err(Error::BadLimits));
+    let moved = manager.succeed().unwrap();
+    let held: Vec<_> = moved.iter().map(|it| (it.old, it.holder())).collect();
+    assert_eq!(held, [(one, Some(0)), (two, Some(1))]);
+    let mut b = manager.open_number(1).unwrap();
+    assert_eq!(b.number(), 1);
+    assert!(b.in_hand(moved[0].new).unwrap().is_none());
+    assert_eq!(b.in_hand(99).err(), Some(Error::NotThere));
+    let work = b.in_hand(moved[1].new).unwrap().unwrap();
+    assert_eq!((work.element().body, work.attempt()), ([2; 4], 1));
+    work.commit(&[Draft::reply([3; 4])]).unwrap();
+    assert_eq!(b.collect_next(moved[1].new_root).unwrap().map(|it| it.body), Some([3; 4]));
+    // a unit that another caller aborts before the rollover is over behind it
+    b.release(moved[0].new).unwrap();
+    manager.hand_back(b).ok().unwrap();
+    let mut a = manager.open_number(0).unwrap();
+    assert!(a.has_open());
+    manager.hand_back(a).ok().unwrap();
+    let again = manager.succeed().unwrap();
+    assert_eq!((again.len(), again[0].holder()), (1, None));
+    a = manager.open_number(0).unwrap();
+    assert!(!a.has_open());
+    assert_eq!(a.abort(), Err(Error::NoOpen));
 }
 
 #[test]

@@ -90,10 +90,15 @@ class Manager(Handle):
         limits = shapes.limits_of("make", Limits(parts, rows, units, attempts, spare))
         refuse("make", self._library.make(limits, self._handle))
 
-    def open(self) -> Caller:
-        """Opens the caller at home with the least number. NoPart where all are open, NoMemory."""
+    def open(self, number: int | None = None) -> Caller:
+        """Opens the caller at home with the least number, or with this one. NoPart where all are open, or
+        that one is; NoMemory.
+        """
         caller = Caller(self)
-        self._ask("open", caller._handle)
+        if number is None:
+            self._ask("open", caller._handle)
+        else:
+            self._ask("open_number", number, caller._handle)
         return caller
 
     def hand_back(self, caller: Caller) -> None:
@@ -129,18 +134,21 @@ class Manager(Handle):
         self._ask("gather")
 
     def rollover(self, limits: Limits | None = None) -> RolledOver:
-        """What waits or is parked, replies too, goes on in a new manager, with the same limits or these. This
-        is the new one then, in which elements and requests have other ids.
+        """What waits, is parked or is held, replies too, goes on in a new manager, with the same limits or
+        these. This is the new one then, in which elements and requests have other ids. What a caller had in
+        hand, the caller of the same number has (`Caller.in_hand`), and no other has a unit open.
 
-        NotAll where not all callers are at home, Busy where one has a unit open, BadLimits also where
-        `attempts` differs, Full where these limits are too small, NoMemory: it stands as it did.
+        NotAll where not all callers are at home, BadLimits also where `attempts` differs or there is no
+        caller of a number that has a unit open, Full where these limits are too small, NoMemory: it stands as
+        it did.
         """
         with self._lock:
             given = shapes.limits_of("roll_over", limits or self.limits())
             count = self._number("roll_over", given)
             moved = [self._ask("moved_at", place) for place in range(count)]
         roots = {it.old_root: it.new_root for it in moved}
-        return RolledOver({it.old_id: it.new_id for it in moved}, roots=roots)
+        holders = {it.holder: it.new_id for it in moved if it.holder != shapes.NOBODY}
+        return RolledOver({it.old_id: it.new_id for it in moved}, roots=roots, holders=holders)
 
     def close(self) -> None:
         """Gives up the manager. Callers that are open go on."""
@@ -255,6 +263,17 @@ class Caller(Handle):
         """Takes the element with this id. NotWaiting, BadStage where it is a reply, Busy, NoUnit."""
         with self._lock:
             return Work(self, self._ask("claim_id", element))
+
+    def in_hand(self, element: int) -> Work | None:
+        """The unit that it has open, where that holds this element: as after a rollover, whose `holders` has
+        the element of each caller. NotThere.
+        """
+        with self._lock:
+            it = self._ask("read", element)
+            is_its = it.status.unit // self.manager.limits().units == self.number()
+            if it.status.kind != shapes.HELD or not is_its or not self.has_open():
+                return None
+            return Work(self, shapes.CWork(it.element, it.status.unit, it.status.attempts))
 
     def _claim(self, call: str, stage: int) -> Work | None:
         with self._lock:

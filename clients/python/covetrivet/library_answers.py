@@ -39,11 +39,12 @@ class OtherManager(Refusal):
 @dataclass(frozen=True)
 class RolledOver(answers.RolledOver):
     """The root of each request of which something is alive too, by its old one. A root that was consumed has
-    another one in its place, which the rollover made and consumed: the account counts it. No caller has
-    anything in hand.
+    another one in its place, which the rollover made and consumed: the account counts it. And by the number
+    of each caller that has an element in hand the id of that one.
     """
 
     roots: dict[int, int] = field(default_factory=dict)
+    holders: dict[int, int] = field(default_factory=dict)
 
 
 # The codes of include/covetrivet.h that are no refusals, and those that are.

@@ -81,7 +81,7 @@ class CCounts(ctypes.Structure):
 
 
 class CMoved(ctypes.Structure):
-    _fields_ = [(it, c_uint32) for it in ("old_id", "new_id", "old_root", "new_root")]
+    _fields_ = [(it, c_uint32) for it in ("old_id", "new_id", "old_root", "new_root", "holder")]
 
 
 # Their sizes are told by the library, by their places here.
@@ -90,12 +90,17 @@ SHAPES: list[type[ctypes.Structure]] = [
 ]  # fmt: skip
 
 
+# The holder of what no caller holds, and the kind of a status that is held.
+NOBODY, HELD = 65_536, 1
+
+
 # ---- calls
 
 # What each call takes besides its handle, and the type that it writes, if it writes. A c_uint8 is a stage, a
 # c_uint16 a part and a c_uint32 an id.
 CALLS: dict[str, tuple[list[Any], Any]] = {
     "open": ([POINTER(CHandle)], None),
+    "open_number": ([c_uint16, POINTER(CHandle)], None),
     "hand_back": ([POINTER(CHandle)], None),
     "get_limits": ([], CLimits),
     "capacity": ([], c_uint32),

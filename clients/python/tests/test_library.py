@@ -261,6 +261,32 @@ class Calls(unittest.TestCase):
             self.assertIsInstance(manager.rollover(Limits(3, 16, 8, 2, 1)), answers.RolledOver)
             self.assertEqual(manager.limits(), Limits(3, 16, 8, 2, 1))
 
+    def test_what_is_in_hand_goes_on(self) -> None:
+        with Manager(parts=2, rows=8, units=8, attempts=1) as manager:
+            first, second = manager.open(), manager.open()
+            one, two = first.submit(1, 1), first.submit(2, 2)
+            worked(second.claim(2))
+            self.assertRaises(NoPart, manager.open, 1)
+            worked(first.claim(1))
+            manager.hand_back(second)
+            manager.hand_back(first)
+            self.assertRaises(refusals.BadLimits, manager.rollover, Limits(1, 8, 8, 1, 0))
+            rolled = manager.rollover()
+            self.assertEqual(rolled.holders, {0: rolled.moved[one], 1: rolled.moved[two]})
+            with manager.open(1) as me:
+                self.assertEqual(me.number(), 1)
+                self.assertIsNone(me.in_hand(rolled.moved[one]))
+                self.assertRaises(refusals.NotThere, me.in_hand, 77)
+                with worked(me.in_hand(rolled.moved[two])) as work:
+                    self.assertEqual((work.words[0], work.attempt), (2, 1))
+                    self.assertEqual(len(work.commit(Draft(15, 3))), 1)
+                # what another caller has aborted before a rollover isn't in hand behind it
+                me.release(rolled.moved[one])
+            self.assertEqual(manager.rollover().holders, {})
+            with manager.open(0) as me:
+                self.assertFalse(me.has_open())
+                self.assertRaises(refusals.NoneOpen, me.commit)
+
     def test_a_request_goes_on(self) -> None:
         with Manager(parts=1, rows=4, units=4) as manager:
             with manager.open() as me:

@@ -4,3 +4,4 @@ pub mod Answered
 pub mod HomeHandles
 pub mod Unmade
 pub mod Uncarried
+pub mod GoingOn

@@ -1,5 +1,5 @@
 -- What making, opening, closing and handing back answer.
-use Rattle.std.specs.Prelude.{◌≡◌, ℕ, ◌∷◌, ◌+◌, Option, Some, None}
+use Rattle.std.specs.Prelude.{◌≡◌, ℕ, ◌+◌, List, Option, Some, None}
 use Rattle.std.specs.Arc.{arc_value}
 use Rattle.tp_model.specs.Steps.{rows_of}
 use Rattle.tp_model.specs.declared.types.Limits.{Limits}
@@ -12,7 +12,9 @@ use Rattle.covetrivet_c.specs.declared.home.Home.{Home}
 use Rattle.covetrivet_c.specs.declared.shapes.RoomOut.{RoomOut}
 use Rattle.covetrivet_c.specs.Callers.{limits_of}
 use Rattle.covetrivet_c.specs.Codes.{code_of}
-use Rattle.covetrivet_c.specs.Homes.{IsNewHome, IsUnlent, IsUnmade, TakesHome, home_limits}
+use Rattle.tp_manager.specs.Shown.{PassShown}
+use Rattle.covetrivet_c.specs.Homes.{IsNewHome, IsNumberUnlent, IsUnlent, IsUnmade, LendsFirst, LendsNumber}
+use Rattle.covetrivet_c.specs.Homes.{TakesHome, home_limits}
 
 -- the handle led to nothing, and leads to a new manager with these limits; or the code says why not, and it
 -- leads where it led
@@ -27,16 +29,25 @@ pub record OnlyPasses (old new : Home) : Type 0 where
   pub keeper : new.keeper ≡ old.keeper
   pub moved : new.moved ≡ old.moved
 
--- The caller's handle led to nothing, and leads to a caller of this manager, with the first pass that was at
--- home. Or the code says why not, and both lead where they led: no pass is lost.
+-- The caller's handle led to nothing, and leads to a caller of this manager, with the pass that is lent of
+-- those that were at home. Or the code says why not, and both lead where they led: no pass is lost.
+abbrev pub OpensBy : (List PassShown → PassShown → List PassShown → Type 0) → (List PassShown → Fault → Type 0)
+    → Option Home → Option Home → Option Caller → Option Caller → ℕ → Type 0
+OpensBy Lends Unlent home home' (Some c) c' code = (home' ≡ home) × (c' ≡ Some c) × (code ≡ 2)
+OpensBy Lends Unlent None home' None c' code = (home' ≡ None) × (c' ≡ None) × (code ≡ 1)
+OpensBy Lends Unlent (Some h) (Some h') None (Some c) code = (code ≡ 0) × OnlyPasses h h'
+    × (arc_value c.manager ≡ arc_value h.manager) × Lends h.passes.items c.pass h'.passes.items
+OpensBy Lends Unlent (Some h) (Some h') None None code = OnlyPasses h h' × (h'.passes.items ≡ h.passes.items)
+    × ((f : Fault) × (code ≡ code_of f) × Unlent h.passes.items f)
+OpensBy Lends Unlent (Some h) None None c' code = ⊥
+
+-- that is the first one
 abbrev pub Opens : Option Home → Option Home → Option Caller → Option Caller → ℕ → Type 0
-Opens home home' (Some c) c' code = (home' ≡ home) × (c' ≡ Some c) × (code ≡ 2)
-Opens None home' None c' code = (home' ≡ None) × (c' ≡ None) × (code ≡ 1)
-Opens (Some h) (Some h') None (Some c) code = (code ≡ 0) × OnlyPasses h h'
-    × (arc_value c.manager ≡ arc_value h.manager) × (h.passes.items ≡ c.pass ∷ h'.passes.items)
-Opens (Some h) (Some h') None None code = OnlyPasses h h' × (h'.passes.items ≡ h.passes.items)
-    × ((f : Fault) × (code ≡ code_of f) × IsUnlent h.passes.items f)
-Opens (Some h) None None c' code = ⊥
+Opens home home' c c' code = OpensBy LendsFirst IsUnlent home home' c c' code
+
+-- that is the one of this number
+abbrev pub OpensNumber : ℕ → Option Home → Option Home → Option Caller → Option Caller → ℕ → Type 0
+OpensNumber n home home' c c' code = OpensBy (LendsNumber n) (IsNumberUnlent n) home home' c c' code
 
 -- the caller is of this manager, where both are open
 abbrev pub IsOfHome : Option Home → Option Caller → Type 0

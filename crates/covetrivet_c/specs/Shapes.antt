@@ -24,13 +24,13 @@ use Rattle.covetrivet_c.specs.declared.shapes.MovedOut.{MovedOut}
 abbrev pub limits_in : PlainLimits → Limits
 limits_in l = record { parts = l.parts; rows = l.rows; units = l.units; attempts = l.attempts; spare = l.spare }
 
--- the unit that made an element, and 65,536 for none
-abbrev pub by_code : Option ℕ → ℕ
-by_code (Some unit) = unit
-by_code None = 65536
+-- the number of a unit or of a pass, and 65,536 for none
+abbrev pub number_code : Option ℕ → ℕ
+number_code (Some number) = number
+number_code None = 65536
 
 abbrev pub element_shape : Element → ElementOut
-element_shape e = record { body = e.body; id = e.id; root = e.root; by = by_code e.by; stage = e.stage }
+element_shape e = record { body = e.body; id = e.id; root = e.root; by = number_code e.by; stage = e.stage }
 
 abbrev pub work_shape : Work → WorkOut
 work_shape w = record { element = element_shape w.element; unit = w.unit; attempt = w.attempt }
@@ -63,4 +63,10 @@ abbrev pub limits_shape : Limits → PlainLimits
 limits_shape l = record { parts = l.parts; rows = l.rows; units = l.units; spare = l.spare; attempts = l.attempts }
 
 abbrev pub moved_shape : Moved → MovedOut
-moved_shape m = record { old_id = m.old; new_id = m.new; old_root = m.old_root; new_root = m.new_root }
+moved_shape m = record {
+  old_id = m.old;
+  new_id = m.new;
+  old_root = m.old_root;
+  new_root = m.new_root;
+  holder = number_code m.holder;
+}

@@ -5,7 +5,7 @@ ghost use Rattle.tp_manager.specs.Shown.{IsKeptBy, IsOf};
 
 use crate::caller::{Caller, pass_of};
 use crate::fault::Fault;
-use crate::places::place_of;
+use crate::places::{place_of, place_with};
 use std::alloc::Global;
 use std::sync::Arc;
 use tp_manager::{Keeper, MakeFault, Manager, Pass};
@@ -24,8 +24,12 @@ pub struct Home {
 }
 
 impl Home {
-    ghost use Rattle.std.specs.Prelude.{◌≡◌, ◌∷◌, IfOk, IfErr, MatchResult};
-    ghost use Rattle.covetrivet_c.specs.Homes.{IsNewHome, IsUnlent, IsUnmade, TakesHome};
+    ghost use Rattle.std.specs.Prelude.{◌≡◌, ◌<◌, IfOk, IfErr, MatchResult, length};
+    ghost use Rattle.std.specs.List.{slice_index_or};
+    ghost use Rattle.tp_model.specs.declared.types.Refusal.TheVariants as refusals;
+    ghost use Rattle.covetrivet_c.specs.declared.fault.Fault.TheVariants as faults;
+    ghost use Rattle.covetrivet_c.specs.Homes.{IsNewHome, IsNumberUnlent, IsUnlent, IsUnmade, LendsFirst};
+    ghost use Rattle.covetrivet_c.specs.Homes.{LendsNumber, LendsPlace, TakesHome};
 
     /// A manager with these limits, all of whose passes are at home.
     pub fn new(alloc: Global, limits: Limits) -> Result<Home, Fault>
@@ -68,31 +72,63 @@ impl Home {
         }
     }
 
+    /// A caller with the pass in this place of those that are at home. `NoMemory`.
+    fn lend_from(&mut self, alloc: Global, place: usize) -> Result<Box<Caller, Global>, Fault>
+        requires inside { place < length self.old.passes.items }
+        ensures same { (self.new.manager ≡ self.old.manager) × (self.new.keeper ≡ self.old.keeper)
+            × (self.new.moved ≡ self.old.moved) }
+        ensures lent { MatchResult result
+            (λ b. (arc_value b.value.manager ≡ arc_value self.old.manager)
+            × LendsPlace place self.old.passes.items b.value.pass self.new.passes.items)
+            (λ f. (self.new.passes.items ≡ self.old.passes.items)
+            × (f ≡ faults.Refused refusals.NoMemory)) }
+        ensures at { IfOk result (λ b.
+            b.value.pass ≡ slice_index_or self.old.passes.items place b.value.pass) }
+    {
+        let Ok(manager) = Arc::try_clone(&self.manager) else {
+            return Err(Fault::Refused(Refusal::NoMemory));
+        };
+        let pass = self.passes.remove(place);
+        match Box::new(alloc, Caller { manager, pass }) {
+            Ok(caller) => Ok(caller),
+            Err(refused) => {
+                let Ok(()) = self.passes.insert(place, pass_of(refused.value)) else {
+                    unreachable!();
+                };
+                Err(Fault::Refused(Refusal::NoMemory))
+            }
+        }
+    }
+
     /// A caller with the first pass that is at home. `NoPart` where none is, `NoMemory`.
     pub fn lend(&mut self, alloc: Global) -> Result<Box<Caller, Global>, Fault>
         ensures same { (self.new.manager ≡ self.old.manager) × (self.new.keeper ≡ self.old.keeper)
             × (self.new.moved ≡ self.old.moved) }
         ensures lent { MatchResult result
             (λ b. (arc_value b.value.manager ≡ arc_value self.old.manager)
-            × (self.old.passes.items ≡ b.value.pass ∷ self.new.passes.items))
+            × LendsFirst self.old.passes.items b.value.pass self.new.passes.items)
             (λ f. (self.new.passes.items ≡ self.old.passes.items) × IsUnlent self.old.passes.items f) }
     {
         if self.passes.len() == 0 {
             return Err(Fault::NoPart);
         }
-        let Ok(manager) = Arc::try_clone(&self.manager) else {
-            return Err(Fault::Refused(Refusal::NoMemory));
+        self.lend_from(alloc, 0)
+    }
+
+    /// A caller with the pass of this number, if that is at home. `NoPart` where it isn't, `NoMemory`.
+    pub fn lend_number(&mut self, alloc: Global, number: u16) -> Result<Box<Caller, Global>, Fault>
+        ensures same { (self.new.manager ≡ self.old.manager) × (self.new.keeper ≡ self.old.keeper)
+            × (self.new.moved ≡ self.old.moved) }
+        ensures lent { MatchResult result
+            (λ b. (arc_value b.value.manager ≡ arc_value self.old.manager)
+            × LendsNumber number self.old.passes.items b.value.pass self.new.passes.items)
+            (λ f. (self.new.passes.items ≡ self.old.passes.items)
+            × IsNumberUnlent number self.old.passes.items f) }
+    {
+        let Some(place) = place_with(&self.passes, number) else {
+            return Err(Fault::NoPart);
         };
-        let pass = self.passes.remove(0);
-        match Box::new(alloc, Caller { manager, pass }) {
-            Ok(caller) => Ok(caller),
-            Err(refused) => {
-                let Ok(()) = self.passes.insert(0, pass_of(refused.value)) else {
-                    unreachable!();
-                };
-                Err(Fault::Refused(Refusal::NoMemory))
-            }
-        }
+        self.lend_from(alloc, place)
     }
 
     /// Takes a caller's pass home again. The caller comes back where there is no room for it, which is where

@@ -1,6 +1,6 @@
 //! What C calls to make, open, close and hand back.
 ghost use Rattle.std.specs.Prelude.{◌≡◌, None};
-ghost use Rattle.covetrivet_c.specs.Makes.{HandsBack, IsOfHome, Makes, Opens, ShowsHome, capacity_of};
+ghost use Rattle.covetrivet_c.specs.Makes.{HandsBack, IsOfHome, Makes, Opens, OpensNumber, ShowsHome, capacity_of};
 ghost use Rattle.covetrivet_c.specs.Homes.{home_limits};
 ghost use Rattle.covetrivet_c.specs.Shapes.{limits_in, limits_shape};
 
@@ -58,6 +58,35 @@ pub extern "C" fn covetrivet_open(
         return CLOSED;
     };
     let answer = home.lend(alloc);
+    manager.set(home);
+    match answer {
+        Ok(inner) => {
+            caller.set(inner);
+            OK
+        }
+        Err(fault) => fault.code(),
+    }
+}
+
+/// Opens the caller of this number, if it is at home. Its handle leads to nothing before.
+#[unsafe(no_mangle)]
+pub extern "C" fn covetrivet_open_number(
+    alloc: Global,
+    manager: &mut HomeHandle,
+    number: u16,
+    caller: &mut CallerHandle,
+) -> u32
+    ensures opened { OpensNumber number
+        manager.old.held manager.new.held caller.old.held caller.new.held result }
+{
+    if let Some(inner) = caller.lift(alloc) {
+        caller.set(inner);
+        return OPEN;
+    }
+    let Some(mut home) = manager.lift(alloc) else {
+        return CLOSED;
+    };
+    let answer = home.lend_number(alloc, number);
     manager.set(home);
     match answer {
         Ok(inner) => {

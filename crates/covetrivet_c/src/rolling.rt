@@ -2,13 +2,13 @@
 ghost use Rattle.std.specs.Prelude.{◌≡◌, All, MatchResult, length};
 ghost use Rattle.tp_manager.specs.Accounts.{AreAll};
 ghost use Rattle.tp_manager.specs.Shown.{IsKeptBy, IsOf};
-ghost use Rattle.covetrivet_c.specs.Homes.{Carries, IsUncarried, StayPut, fault_of};
+ghost use Rattle.covetrivet_c.specs.Homes.{CarriesOver, IsUncarried, StayPut, fault_of};
 
 use crate::fault::Fault;
 use std::alloc::Global;
 use tp_manager::{Keeper, Manager, Pass};
 use tp_model::types::Refusal;
-use tp_rollover::{Moved, RollFault, has_open, roll_over};
+use tp_rollover::{Moved, RollFault, roll_over};
 
 /// Why a rollover was refused.
 fn fault_of(fault: RollFault) -> Fault
@@ -24,8 +24,7 @@ fn fault_of(fault: RollFault) -> Fault
     }
 }
 
-/// The rollover between two managers whose passes are these. `Busy` where one of the old one's has a unit
-/// open: a caller's handle has it in hand.
+/// The rollover between two managers whose passes are these.
 pub(crate) fn carry(
     alloc: Global,
     old: &Manager,
@@ -46,14 +45,11 @@ pub(crate) fn carry(
     ensures old_long { length old_passes.new ≡ length old_passes.old }
     ensures new_long { length new_passes.new ≡ length new_passes.old }
     ensures answer { MatchResult result
-        (λ moved. Carries old.now.limits new.now.limits old_keeper.old old_keeper.new new_keeper.new
-        old_passes.old old_passes.new new_passes.new moved.items)
+        (λ moved. CarriesOver old.now.limits new.now.limits old_keeper.old old_keeper.new new_keeper.new
+        old_passes.old old_passes.new new_passes.old new_passes.new moved.items)
         (λ f. StayPut old_keeper.old old_keeper.new old_passes.old old_passes.new
         × IsUncarried old.now.limits new.now.limits old_passes.old new_passes.old f) }
 {
-    if has_open(old_passes) {
-        return Err(Fault::Busy);
-    }
     match roll_over(
         alloc, old, old_keeper, old_passes, new, new_keeper, new_passes,
     ) {

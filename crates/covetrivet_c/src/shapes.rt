@@ -1,8 +1,8 @@
 //! What crosses between the library and C.
 ghost use Rattle.std.specs.Prelude.{◌≡◌, MatchOption};
-ghost use Rattle.covetrivet_c.specs.Shapes.{IsDraft, by_code, counts_shape, draft_in, element_shape, limits_in};
+ghost use Rattle.covetrivet_c.specs.Shapes.{IsDraft, counts_shape, draft_in, element_shape, limits_in};
 ghost use Rattle.covetrivet_c.specs.Shapes.{limits_shape, look_shape, moved_shape, released_shape, status_shape};
-ghost use Rattle.covetrivet_c.specs.Shapes.{work_shape};
+ghost use Rattle.covetrivet_c.specs.Shapes.{number_code, work_shape};
 
 use tp_model::types::{Body, Counts, Draft, Element, Limits, Look, Released, Status, Work};
 use tp_rollover::Moved;
@@ -90,7 +90,7 @@ pub struct CountsOut {
     pub killed: u32,
 }
 
-/// One element that was carried over, as `Moved`.
+/// One element that was carried over, as `Moved`; `holder` is 65,536 where no pass has it in hand.
 #[repr(C)]
 #[derive(Clone, Copy)]
 pub struct MovedOut {
@@ -98,6 +98,7 @@ pub struct MovedOut {
     pub new_id: u32,
     pub old_root: u32,
     pub new_root: u32,
+    pub holder: u32,
 }
 
 /// An output of a unit of work, before it is born.
@@ -134,11 +135,12 @@ pub(crate) fn limits_out(limits: &Limits) -> PlainLimits
     }
 }
 
-fn by_code(by: Option<u16>) -> u32
-    ensures { result ≡ by_code by }
+/// A number for C, and 65,536 for none.
+fn number_code(number: Option<u16>) -> u32
+    ensures { result ≡ number_code number }
 {
-    match by {
-        Some(unit) => unit as u32,
+    match number {
+        Some(number) => number as u32,
         None => 65_536,
     }
 }
@@ -151,7 +153,7 @@ pub(crate) fn element_out(element: &Element) -> ElementOut
         body: element.body,
         id: element.id,
         root: element.root,
-        by: by_code(element.by),
+        by: number_code(element.by),
         stage: element.stage,
     }
 }
@@ -248,5 +250,6 @@ pub(crate) fn moved_out(moved: &Moved) -> MovedOut
         new_id: moved.new,
         old_root: moved.old_root,
         new_root: moved.new_root,
+        holder: number_code(moved.holder),
     }
 }
