@@ -5,6 +5,9 @@ use Rattle.tp_images.proofs.Resizing.{aborts, aborts_commits, begins, claims, co
 use Rattle.tp_images.proofs.own_calls.resize.Goals as goal
 use Rattle.tp_images.proofs.own_calls.resize.Goals.{in-Committed, in-Lost, in-Full}
 
+pub loop-turn-init : goal.loop-turn-init
+loop-turn-init c = record { free = c.requires.free; resized = omega arith; at_most = omega arith; steady = begins c.args.pass.now c.requires.free.free }
+
 pub loop-turn-preserved : goal.loop-turn-preserved
 loop-turn-preserved c =
     let took = takes_commits _ _ _ _ _ c.in-Work.ensures.answer in
