@@ -29,6 +29,8 @@ impl<P: Prices> Handler<1> for Quotes<P> {
         let price = self.prices.price(question.body[0]);
         quoted(question, given, price)
     }
+
+    fn committed(&mut self, _element: &Element, _registers: &[u64; 1]) {}
 }
 
 /// What a question comes to, where this many quotes were given and this price was heard.

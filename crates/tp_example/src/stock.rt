@@ -26,6 +26,8 @@ impl Handler<2> for Stock {
     fn effect(&mut self, order: &Element, books: &[u64; 2]) -> Result<Effect<2>, Declined> {
         sale(order, books)
     }
+
+    fn committed(&mut self, _element: &Element, _registers: &[u64; 2]) {}
 }
 
 /// What an order comes to, where these are the registers.

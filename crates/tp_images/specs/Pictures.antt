@@ -2,6 +2,7 @@
 -- bytes, its customer and its job.
 use Rattle.std.specs.Prelude.{ℕ, ◌+◌, ◌-◌, ◌/◌, ◌^◌, nat_le, nat_lt, List, [], ◌∷◌, Result, Ok, Err}
 use Rattle.std.specs.Prelude.{if◌then◌else◌, slice_index}
+use Rattle.tp_model.specs.Drafts.{DraftView}
 use Rattle.tp_model.specs.declared.types.Element.{Element}
 use Rattle.tp_server.specs.Behaviour.{Behaviour}
 use Rattle.tp_server.specs.Effect.{Effect}
@@ -39,14 +40,17 @@ validator formats = record { stage = 1; effect = λ registers picture heard. val
 abbrev pub resized_to : Element → ℕ
 resized_to picture = bytes_of picture / 4
 
+abbrev pub smaller : Element → DraftView
+smaller picture = record {
+  stage = 3;
+  body = format_of picture ∷ resized_to picture ∷ slice_index picture.body 2 ∷ slice_index picture.body 3
+      ∷ [];
+}
+
 abbrev pub resized : ℕ → Element → Effect
 resized space picture = record {
   registers = (space - resized_to picture) ∷ [];
-  drafts = record {
-    stage = 3;
-    body = format_of picture ∷ resized_to picture ∷ slice_index picture.body 2 ∷ slice_index picture.body 3
-        ∷ [];
-  } ∷ [];
+  drafts = smaller picture ∷ [];
 }
 
 -- the resizer has one register, the disk space that is left; it declines for its own reason what doesn't fit
@@ -57,6 +61,15 @@ resize other picture = Err NoRegister
 
 abbrev pub resizer : Behaviour
 resizer = record { stage = 2; effect = λ registers picture heard. resize registers picture }
+
+-- a resizer that keeps no space: it makes the smaller picture alone, of each picture that has a byte
+abbrev pub spaceless : Behaviour
+spaceless = record {
+  stage = 2;
+  effect = λ registers picture heard.
+      if nat_lt 0 (bytes_of picture) then Ok (record { registers = []; drafts = smaller picture ∷ [] })
+      else Err (Own 2);
+}
 
 abbrev pub notice : ℕ → ℕ → Element → Effect
 notice count bytes picture = record {

@@ -1,6 +1,8 @@
 //! The resizer's stage by the manager's own calls. This form suits work whose books are kept elsewhere: nothing ties a state of the
 //! worker to what was committed, and in return the worker needs no `Server`.
-ghost use Rattle.std.specs.Prelude.{◌≡◌, ◌+◌, ◌≤◌};
+ghost use Rattle.std.specs.Prelude.{◌≡◌, ◌+◌, ◌≤◌, []};
+ghost use Rattle.tp_desk.specs.Serving.{Serves};
+ghost use Rattle.tp_images.specs.Pictures.{spaceless};
 ghost use Rattle.tp_workers.specs.Free.{IsFreePass};
 ghost use Rattle.tp_workers.specs.Gains.{commits_in};
 
@@ -14,6 +16,7 @@ pub fn resize(manager: &Manager, pass: &mut Pass, turns: u32) -> u32
     ensures free { IsFreePass manager.now pass.new }
     ensures resized { result + commits_in pass.old ≡ commits_in pass.new }
     ensures at_most { result ≤ turns }
+    ensures smaller { Serves spaceless [] [] pass.old pass.new }
 {
     let mut resized = 0;
     for _turn in 0..turns {

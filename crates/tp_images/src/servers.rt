@@ -23,6 +23,8 @@ impl Handler<0> for Validator {
     fn effect(&mut self, picture: &Element, _none: &[u64; 0]) -> Result<Effect<0>, Declined> {
         validated(self.formats, picture)
     }
+
+    fn committed(&mut self, _element: &Element, _registers: &[u64; 0]) {}
 }
 
 /// What a picture comes to, where the validator knows this many formats.
@@ -51,6 +53,8 @@ impl Handler<1> for Resizer {
     fn effect(&mut self, picture: &Element, space: &[u64; 1]) -> Result<Effect<1>, Declined> {
         resized(picture, space)
     }
+
+    fn committed(&mut self, _element: &Element, _registers: &[u64; 1]) {}
 }
 
 /// What a picture comes to, where this is the space that is left.
@@ -86,4 +90,6 @@ impl Handler<2> for Notifier {
         };
         Ok(Effect::new([count, bytes]).output(REPLY_STAGE, picture.body))
     }
+
+    fn committed(&mut self, _element: &Element, _registers: &[u64; 2]) {}
 }

@@ -1,2 +1,3 @@
 pub mod Careers
 pub mod Audits
+mod Submitting

@@ -2,3 +2,4 @@ pub mod Payments
 pub mod Books
 pub mod Ends
 pub mod Audits
+pub mod Submitting

@@ -45,6 +45,8 @@ impl Handler<1> for Validator {
         toil(self.steps);
         validated(self.ceiling, payment, counted)
     }
+
+    fn committed(&mut self, _element: &Element, _registers: &[u64; 1]) {}
 }
 
 /// What a payment comes to, where this is the ceiling.
@@ -76,6 +78,8 @@ impl<B: Bank> Handler<2> for Charger<B> {
         let receipt = self.bank.authorise(payment.body[0]);
         charged(payment, books, receipt)
     }
+
+    fn committed(&mut self, _element: &Element, _registers: &[u64; 2]) {}
 }
 
 /// What a payment comes to, where this receipt was heard of.
@@ -112,4 +116,6 @@ impl Handler<1> for Shipper {
         toil(self.steps);
         count_on(15, payment, shipped)
     }
+
+    fn committed(&mut self, _element: &Element, _registers: &[u64; 1]) {}
 }

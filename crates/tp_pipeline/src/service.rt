@@ -8,6 +8,7 @@ ghost use Rattle.tp_pipeline.specs.Books.{GoesOn, HaveWorked, IsStaffed, charges
 ghost use Rattle.tp_pipeline.specs.Audits.{Agree, payment};
 ghost use Rattle.tp_pipeline.specs.Ends.{AddUp, AreClosed};
 ghost use Rattle.tp_pipeline.specs.Payments.{amount_of, charger, shipper, validator};
+ghost use Rattle.tp_pipeline.specs.Submitting.{SubmitsNext, SubmitsPayment};
 
 use crate::audit::agree;
 use crate::books::Books;
@@ -159,14 +160,15 @@ fn submit_one(crew: &mut Crew, books: &mut Books) -> Result<(), PipelineFault>
     ensures goes_on { OnOk result (GoesOn (shown behaviour) (shown registers) crew.old crew.new) }
     ensures add_up { OnOk result (AddUp books.new) }
     ensures submitted { OnOk result (books.new.submitted ≡ books.old.submitted + 1) }
+    ensures submits { OnOk result (SubmitsPayment crew.old books.old.submitted crew.new) }
 {
     let root = crew.submit(1, body_of(books.submitted))?;
     books.submit(root)?;
     Ok(())
 }
 
-/// The next payments, as many as there is room for.
-fn submit_next(crew: &mut Crew, books: &mut Books, payments: u64) -> Result<(), PipelineFault>
+/// The next payments, as many as there is room for: each with its number, in order.
+pub fn submit_next(crew: &mut Crew, books: &mut Books, payments: u64) -> Result<(), PipelineFault>
     requires steady { IsSteadyCrew (shown behaviour) (shown registers) (shown pending) crew.old }
     requires staffed { IsStaffed crew.old }
     requires add_up { AddUp books.old }
@@ -176,6 +178,7 @@ fn submit_next(crew: &mut Crew, books: &mut Books, payments: u64) -> Result<(), 
     ensures goes_on { OnOk result (GoesOn (shown behaviour) (shown registers) crew.old crew.new) }
     ensures add_up { OnOk result (AddUp books.new) }
     ensures few { OnOk result (books.new.submitted ≤ payments) }
+    ensures submits { OnOk result (SubmitsNext books.old.submitted books.new.submitted crew.old crew.new) }
 {
     for _one in 0..crew.room().rows {
         if books.submitted >= payments {

@@ -1,5 +1,6 @@
-use Rattle.std.proofs.Common.{arith}
-use Rattle.tp_pipeline.proofs.Careers.{goes_further}
+use Rattle.std.proofs.Common.{arith, refl}
+use Rattle.tp_pipeline.proofs.Careers.{goes_further, goes_same}
+use Rattle.tp_pipeline.proofs.Submitting.{submits_more, submits_none}
 use Rattle.tp_pipeline.proofs.service.submit_next.Goals as goal
 
 pub loop-one-preserved : goal.loop-one-preserved
@@ -8,5 +9,16 @@ loop-one-preserved g c = record {
   staffed = c.in_ok-submit_one.ensures.staffed;
   goes_on = goes_further _ _ _ _ _ c.loop-one.invariant.goes_on c.in_ok-submit_one.ensures.goes_on;
   add_up = c.in_ok-submit_one.ensures.add_up;
+  submits = submits_more _ _ _ _ _ _ c.loop-one.invariant.submits c.in_ok-submit_one.ensures.submitted c.in_ok-submit_one.ensures.submits;
   few = omega (arith, c.in_ok-submit_one.ensures.submitted, c.if-books-payments.false);
+}
+
+pub loop-one-init : goal.loop-one-init
+loop-one-init g c = record {
+  steady = c.requires.steady;
+  staffed = c.requires.staffed;
+  goes_on = goes_same _ _ _ _ refl;
+  add_up = c.requires.add_up;
+  few = c.requires.few;
+  submits = submits_none _ _;
 }
