@@ -34,11 +34,8 @@ class Standing:
 class Own:
     """The caller of the relay's own lines."""
 
-    def answered(self, answer: str) -> None:
-        """The relay takes it."""
-
-    def all_taken(self) -> None:
-        """Nothing is left to do."""
+    def answered(self, answers: Sequence[str]) -> None:
+        """The relay takes them."""
 
 
 OWN = Own()
@@ -103,9 +100,7 @@ class LastingRelay(Relay):
             lines.append(it.line.encode("latin-1"))
         if lines:
             self.standing.lines += len(lines)
-            if is_alone and len(lines) == 1 and self.is_free():
-                self.new += lines
-                self.write()
+            if is_alone and len(lines) == 1 and self.is_free() and self.pipe.write_line(lines[0]):
                 self.asked += asked
                 self.rush()
             else:

@@ -52,6 +52,9 @@ class Office:
     def unanswered(self) -> Collection[Asked]:
         return self.waiting.values()
 
+    def note(self) -> None:
+        """All is heard as it is answered."""
+
     async def idle(self, seconds: float) -> bool:
         if self.waiting:
             self.when_idle = self.loop.create_future()
@@ -106,7 +109,10 @@ class Office:
     def answer(self, answers: Sequence[tuple[int, str]]) -> None:
         # (those of a time that is over were dismissed)
         known = [(self.waiting.pop(number), answer) for number, answer in answers if number in self.waiting]
-        hand_out(known, self.hear)
+        now = time.monotonic()
+        hand_out(known)
+        for it, answer in known:
+            self.hear(it, answer, now - it.since)
         self.wake()
 
 

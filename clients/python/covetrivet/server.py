@@ -8,6 +8,7 @@ from collections.abc import Callable, Iterable, Sequence
 from typing import TypeVar
 
 from covetrivet import commands
+from covetrivet.accept import Accept
 from covetrivet.answers import Counts, Depth, Heard
 from covetrivet.commands import Command
 from covetrivet.connection import Connection, Limits
@@ -31,12 +32,9 @@ class Once:
     def __init__(self) -> None:
         self.answer: asyncio.Future[str] = asyncio.get_running_loop().create_future()
 
-    def answered(self, answer: str) -> None:
+    def answered(self, answers: Sequence[str]) -> None:
         if not self.answer.done():
-            self.answer.set_result(answer)
-
-    def all_taken(self) -> None:
-        """Nothing is left to do."""
+            self.answer.set_result(answers[0])
 
 
 class Server:
@@ -58,7 +56,7 @@ class Server:
         self.busy = 0
         self.holders, self.tally = Holders(), Tally()
         self.relay = make(self.hear, self.session_ended)
-        self.orphans = Orphans(self.holders, orphans, self.loop.call_later, self.ask, self.is_named)
+        self.orphans = Orphans(self.holders, orphans, self.later, self.ask, self.is_named)
         self.fault: SessionFault | None = None
         self.again = again
         # how often it was started again, and how often in a row it has ended without an answer
@@ -81,6 +79,7 @@ class Server:
 
     def left(self, connection: Connection) -> None:
         self.connections.discard(connection)
+        self.relay.note()
         for unit in self.holders.of(connection):
             self.orphans.left(unit)
         if not self.connections:
@@ -103,9 +102,18 @@ class Server:
         self.tally.hear(asked, answer, seconds)
         if answer == UNKNOWN:
             return
-        unit = self.holders.hear(asked, answer)
+        unit = self.holders.hear(asked, answer, asked.since + seconds)
         if unit and self.is_gone(unit.caller):
             self.orphans.left(unit)
+
+    def later(self, seconds: float, act: Callable[[], None]) -> None:
+        """Does this so much later, when all that was answered before is noted."""
+
+        def do() -> None:
+            self.relay.note()
+            act()
+
+        self.loop.call_later(seconds, do)
 
     def is_gone(self, caller: Caller) -> bool:
         return caller is self.orphans or isinstance(caller, Connection) and caller.is_gone
@@ -154,13 +162,11 @@ class Server:
             self.loop.add_signal_handler(it, self.is_over.set)
         backlog = max(self.limits.connections, 100)
         answer = Metrics(self.tell).answer
-        servers: list[asyncio.AbstractServer] = []
+        servers: list[asyncio.AbstractServer | Accept] = []
         if metrics:
             bound = metrics.bind()
             servers.append(await asyncio.start_unix_server(answer, sock=bound, limit=LONGEST_REQUEST))
-        bound = place.bind()
-        make = self.loop.create_unix_server(lambda: Connection(self), sock=bound, backlog=backlog)
-        servers.append(await make)
+        servers.append(Accept(place.bind(), backlog, lambda it: Connection(it, self)))
         ticking = self.loop.create_task(self.tick())
         try:
             ready()
@@ -199,6 +205,7 @@ class Server:
 
     async def tell(self) -> str:
         """Returns the counts, and those of the session, which is asked for them."""
+        self.relay.note()
         lines = [*shown("connections", "gauge", {"": len(self.connections)}), *self.tally.lines()]
         in_flight = len(self.relay.unanswered())
         lines += shown("lines_in_flight", "gauge", {"": in_flight})

@@ -32,6 +32,10 @@ MODULES = {
     "ServeEnds": "test_serve_ends",
     "ServeJournals": "test_serve_journals",
     "Relays": "test_serve_journals",
+    "Watches": "test_streams",
+    "Streams": "test_streams",
+    "Accepts": "test_streams",
+    "Runs": "test_streams",
     "ServePlaces": "test_serve_ends",
     "ServeOrphans": "test_serve_ends",
     "Settled": "test_serve_orphans",
@@ -138,9 +142,12 @@ ERRORS = [
         "ServeBounds.test_lines_are_shared",
     ),
     Error(
-        "connection.py", "0 if self.is_behind else ", "", "ServeBounds.test_a_client_that_reads_slowly_stays",
+        "connection.py", "0 if self.stream.is_behind else ", "",
+        "ServeBounds.test_a_client_that_reads_slowly_stays",
     ),
-    Error("connection.py", "if self.unread() > ", "if -1 > ", "ServeBounds.test_a_slow_client_is_let_go"),
+    Error(
+        "connection.py", "if len(stream.waits) > ", "if -1 > ", "ServeBounds.test_a_slow_client_is_let_go",
+    ),
     Error(
         "connection.py",
         'self.let_go("slow")',
@@ -155,8 +162,8 @@ ERRORS = [
     ),
     Error(
         "connection.py",
-        "self.has_said_all = True",
-        "self.has_said_all, self.pending = True, self.pending + b'\\n'",
+        "def all_came(self) -> None:",
+        "def all_came(self) -> None:\n        self.pending += b'\\n'",
         "ServeAnswers.test_a_torn_last_line_is_not_performed",
     ),
     Error(
@@ -188,6 +195,39 @@ ERRORS = [
         "self.f",
         "ServeEnds.test_the_session_is_killed_while_the_server_ends",
     ),
+    Error(
+        "server.py", "self.relay.note()\n        for", "for",
+        "Relays.test_what_comes_alone_is_noted_in_time",
+    ),
+    Error(
+        "server.py", "self.relay.note()\n            act", "act",
+        "ServeOrphans.test_lines_that_come_alone",
+    ),
+    Error(
+        "server.py", "self.relay.note()\n        lines", "lines",
+        "Relays.test_what_comes_alone_is_noted_in_time",
+    ),
+    Error("lines.py", "<= LONGEST_LINE and", "and", "ServeBounds.test_a_line_that_is_too_long"),
+    Error(
+        "loop.py", "events & self.wanted & READ", "events & READ",
+        "Watches.test_what_is_wanted_no_more_is_not_told",
+    ),
+    Error("loop.py", "or self.is_due ", "", "Watches.test_what_is_asked_for_meanwhile_is_done"),
+    Error(
+        "loop.py", "or timeout is not None and timeout <= 0", "",
+        "Watches.test_timers_come_while_a_watch_is_told_all_the_time",
+    ),
+    Error("loop.py", "loop.run_until_complete(cancel_tasks())", "pass", "Runs.test_tasks_that_are_left"),
+    Error("stream.py", "some = some[sent:]", "pass", "Streams.test_all_is_written_before_the_end"),
+    Error(
+        "stream.py", "if not self.waits:\n            self.abort", "if True:\n            self.abort",
+        "Streams",
+    ),
+    Error("stream.py", "if self.is_closing:", "if False:", "Streams.test_all_is_written_before_the_end"),
+    Error("stream.py", "self.is_behind = False\n            ", "", "Streams.test_who_is_behind_catches_up"),
+    Error("stream.py", "if self.may_come and", "if", "Streams.test_what_is_paused_comes_later"),
+    Error("stream.py", "self.watch.loop.call_soon(self.reader.lost)", "self.reader.lost()", "Streams"),
+    Error("accept.py", "self.watch.want(0)\n                self.watch.loop", "self.watch.loop", "Accepts"),
     Error("place.py", "0o777 & ~self.mode", "0o077", "ServeBounds.test_who_may_connect"),
     Error(
         "place.py",

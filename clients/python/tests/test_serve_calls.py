@@ -130,11 +130,13 @@ class ServeCalls(unittest.TestCase):
             it = server.client()
             it.ask("submit 1 5 6", "claim packer", "claim packer", "claim nobody", "kill 9", "x" * 300)
             it.ask("submit 12 5 6", "submit 12 5 6")
+            it.ask("read 0")
             wanted = {'answers_total{command="claim"}': 3, 'answers_total{command="other"}': 1}
             refused = "Busy", "BadName", "NotThere", "TooLong"
             wanted |= {f'refusals_total{{why="{why}"}}': 1 for why in refused}
             wanted |= {'elements{status="held"}': 1, "connections": 1, "connections_total": 1}
             wanted["lines_in_flight"] = 0
+            wanted['answers_total{command="read"}'] = 1
             for stage, state, many in (1, "held", 1), (12, "waiting", 2), (12, "parked", 0):
                 wanted[f'stage_elements{{stage="{stage}",state="{state}"}}'] = many
             self.assertEqual({name: server.counted(name) for name in wanted}, wanted)
