@@ -16,7 +16,7 @@ from covetrivet.lines import UNKNOWN, is_rollover
 from covetrivet.pipe import Pipe
 from covetrivet.refusals import NoMemory
 from covetrivet.relay import Asked, Caller, Hear, OnEnd, Relay, words_of
-from covetrivet.rollovers import Rollovers, Use
+from covetrivet.rollovers import MOST_LINES, Rollovers, Use
 
 NO_ROOM = "refused 1 NoMemory"
 Rolling = Generator[list[str], list[str], str]
@@ -77,6 +77,11 @@ class LastingRelay(Relay):
     def unanswered(self) -> Collection[Asked]:
         roller = [self.roller] if self.roller else []
         return [*self.asked, *roller, *(it for it, _ in self.held)]
+
+    def used(self) -> dict[str, float]:
+        use, most = self.standing.use, self.rollovers.most
+        used = {"elements": use.born / most, "units": use.begun / most, "lines": use.lines / MOST_LINES}
+        return {it: round(part, 4) for it, part in used.items()}
 
     def wake(self) -> None:
         # (between two lines of a rollover none is asked)

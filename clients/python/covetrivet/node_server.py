@@ -66,6 +66,9 @@ class Office:
         if not self.waiting and self.when_idle and not self.when_idle.done():
             self.when_idle.set_result(None)
 
+    def used(self) -> dict[str, float]:
+        return {}
+
     def give_up(self) -> SessionFault:
         return LogLost("lines were not answered in time")
 
@@ -154,6 +157,10 @@ class NodeServer(Server):
     async def count(self) -> tuple[Counts, tuple[Depth, ...]]:
         # (of this node's own session, which may be behind: no record is made for it)
         return await asyncio.to_thread(self.office.member.count)
+
+    async def oldest(self, stages: Sequence[int]) -> dict[int, float]:
+        # (a node that takes the lead hasn't heard of what is there)
+        return {}
 
     def more(self) -> Iterable[str]:
         yield from shown("leads", "gauge", {"": int(self.office.token is not None)})

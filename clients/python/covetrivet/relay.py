@@ -65,6 +65,11 @@ class Performer(Protocol):
     async def idle(self, seconds: float) -> bool:
         """Waits until all is answered. False where it isn't so many seconds later, or never will be."""
 
+    def used(self) -> dict[str, float]:
+        """Returns which part of its elements, units and lines is used of those behind which it rolls over by
+        itself. Nothing where it doesn't.
+        """
+
     def give_up(self) -> SessionFault:
         """Lets go of what doesn't answer. Returns what is to be said of it."""
 
@@ -240,6 +245,9 @@ class Relay:
             await asyncio.wait([self.when_idle], timeout=seconds)
             self.when_idle = None
         return not self.unanswered()
+
+    def used(self) -> dict[str, float]:
+        return {}
 
     def give_up(self) -> SessionEnded:
         """Ends the program."""

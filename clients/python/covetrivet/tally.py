@@ -97,3 +97,9 @@ def shown_depths(depths: Iterable[Depth]) -> Iterable[str]:
         for state in "waiting", "held", "parked":
             values[f'{{stage="{stage}",state="{state}"}}'] = getattr(told, state)
     return shown("stage_elements", "gauge", values)
+
+
+def shown_oldest(ages: dict[int, float]) -> Iterable[str]:
+    """Yields the lines of for how long the oldest that waits in each of these stages has been there."""
+    values = {f'{{stage="{stage}"}}': round(age, 3) for stage, age in ages.items()}
+    return shown("stage_oldest_seconds", "gauge", values)
