@@ -245,6 +245,12 @@ ERRORS = [
         "Heard.test_one_of_which_nothing_was_heard",
     ),
     Error("server.py", "{stage: max(", "{stage: min(", "ServeAges.test_the_oldest_of_each_stage"),
+    Error(
+        "accept.py",
+        "self.watch.loop.call_soon(self.accept)",
+        "self.accept()",
+        "ServeBounds.test_too_many_connections",
+    ),
     Error("place.py", "0o777 & ~self.mode", "0o077", "ServeBounds.test_who_may_connect"),
     Error(
         "place.py",
