@@ -37,6 +37,7 @@ MODULES = {
     "Watches": "test_streams",
     "Streams": "test_streams",
     "Accepts": "test_streams",
+    "Lines": "test_streams",
     "Runs": "test_streams",
     "ServePlaces": "test_serve_ends",
     "ServeOrphans": "test_serve_ends",
@@ -209,7 +210,7 @@ ERRORS = [
         "server.py", "self.relay.note()\n        lines", "lines",
         "Relays.test_what_comes_alone_is_noted_in_time",
     ),
-    Error("lines.py", "<= LONGEST_LINE and", "and", "ServeBounds.test_a_line_that_is_too_long"),
+    Error("lines.py", "<= LONGEST_LINE and", "and", "Lines.test_what_is_one_line"),
     Error(
         "loop.py", "events & self.wanted & READ", "events & READ",
         "Watches.test_what_is_wanted_no_more_is_not_told",

@@ -1,4 +1,4 @@
-"""The event loop of a server, the streams of its clients, and the socket that takes them."""
+"""The event loop of a server, the streams of its clients, the socket that takes them, and lone lines."""
 from __future__ import annotations
 
 import asyncio
@@ -12,6 +12,7 @@ from unittest import mock
 
 from covetrivet import accept
 from covetrivet.accept import Accept
+from covetrivet.lines import is_line
 from covetrivet.loop import READ, Loop, Watch, run
 from covetrivet.stream import BEHIND, Stream
 
@@ -271,6 +272,17 @@ class Full(socket.socket):
             raise OSError(errno.EMFILE, "too many open files")
         found, address = super().accept()
         return found, address
+
+
+class Lines(unittest.TestCase):
+    def test_what_is_one_line(self) -> None:
+        """What goes to the program as it came: whole, one, with an answer, and no longer than a line may be."""
+        for some in b"count\n", b" count \n", b"x" * 208 + b"\n", b"#\x01\n", b"\xff\n":
+            self.assertTrue(is_line(some), some)
+        for some in b"count", b"", b"\n", b"count\ncount\n", b"count\nc", b" \n", b"# c\n":
+            self.assertFalse(is_line(some), some)
+        for some in b"x" * 209, b"#" * 209, b"x" * 16000:
+            self.assertFalse(is_line(some + b"\n"))
 
 
 class Runs(unittest.TestCase):
