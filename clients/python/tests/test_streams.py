@@ -276,7 +276,7 @@ class Full(socket.socket):
 
 class Lines(unittest.TestCase):
     def test_what_is_one_line(self) -> None:
-        """What goes to the program as it came: whole, one, with an answer, and no longer than a line may be."""
+        """What goes to the program as it came: whole, one, with an answer, and no longer than may be."""
         for some in b"count\n", b" count \n", b"x" * 208 + b"\n", b"#\x01\n", b"\xff\n":
             self.assertTrue(is_line(some), some)
         for some in b"count", b"", b"\n", b"count\ncount\n", b"count\nc", b" \n", b"# c\n":
