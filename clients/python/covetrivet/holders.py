@@ -10,6 +10,7 @@ from covetrivet.lines import UNKNOWN
 from covetrivet.relay import Asked, Caller
 
 BEGINS = ("claim", "take", "next")
+ABOUT_UNITS = frozenset([*BEGINS, "commit", "abort", "drop", "prepare"])
 REFUSED = re.compile(r"refused (?:line \d+: )?\d+ (\w+)")
 
 
@@ -33,14 +34,16 @@ class Holders:
         self.units |= {it: Unit(it, caller) for it in names}
         return [self.units[it] for it in names]
 
-    def hear(self, asked: Asked, answer: str) -> Unit | None:
-        """Takes note of an answer. Returns the unit that it says is open from now on."""
+    def hear(self, asked: Asked, answer: str, at: float) -> Unit | None:
+        """Takes note of an answer of this time. Returns the unit that it says is open since then."""
         name = asked.name
+        if asked.verb not in ABOUT_UNITS:
+            return None
         said, _, rest = answer.partition(" ")
         if said != name or REFUSED.match(answer):
             return None
         if asked.verb in BEGINS and rest.startswith("work "):
-            unit = self.units[name] = Unit(name, asked.caller)
+            unit = self.units[name] = Unit(name, asked.caller, at)
             return unit
         if name in self.units and ends(asked.verb, rest):
             del self.units[name]
@@ -104,9 +107,6 @@ class Orphans:
             return
         self.ask(self, [f"abort {unit.name}".encode("ascii")])
 
-    def answered(self, answer: str) -> None:
-        """Counts what was aborted. The holders hear the answer too."""
-        self.aborted += answer != UNKNOWN
-
-    def all_taken(self) -> None:
-        """Nothing is left to do."""
+    def answered(self, answers: Sequence[str]) -> None:
+        """Counts what was aborted. The holders hear the answers too."""
+        self.aborted += len(answers) - answers.count(UNKNOWN)

@@ -16,7 +16,7 @@ from covetrivet.lines import UNKNOWN, is_rollover
 from covetrivet.pipe import Pipe
 from covetrivet.refusals import NoMemory
 from covetrivet.relay import Asked, Caller, Hear, OnEnd, Relay, words_of
-from covetrivet.rollovers import Rollovers, Use
+from covetrivet.rollovers import MOST_LINES, Rollovers, Use
 
 NO_ROOM = "refused 1 NoMemory"
 Rolling = Generator[list[str], list[str], str]
@@ -34,11 +34,8 @@ class Standing:
 class Own:
     """The caller of the relay's own lines."""
 
-    def answered(self, answer: str) -> None:
-        """The relay takes it."""
-
-    def all_taken(self) -> None:
-        """Nothing is left to do."""
+    def answered(self, answers: Sequence[str]) -> None:
+        """The relay takes them."""
 
 
 OWN = Own()
@@ -81,6 +78,11 @@ class LastingRelay(Relay):
         roller = [self.roller] if self.roller else []
         return [*self.asked, *roller, *(it for it, _ in self.held)]
 
+    def used(self) -> dict[str, float]:
+        use, most = self.standing.use, self.rollovers.most
+        used = {"elements": use.born / most, "units": use.begun / most, "lines": use.lines / MOST_LINES}
+        return {it: round(part, 4) for it, part in used.items()}
+
     def wake(self) -> None:
         # (between two lines of a rollover none is asked)
         if self.is_over or not self.rolling:
@@ -103,9 +105,7 @@ class LastingRelay(Relay):
             lines.append(it.line.encode("latin-1"))
         if lines:
             self.standing.lines += len(lines)
-            if is_alone and len(lines) == 1 and self.is_free():
-                self.new += lines
-                self.write()
+            if is_alone and len(lines) == 1 and self.is_free() and self.pipe.write_line(lines[0]):
                 self.asked += asked
                 self.rush()
             else:

@@ -22,7 +22,7 @@ LINES_AT_ONCE = 1000
 UNKNOWN = "unknown"
 # What a server says besides answers begins so. No answer does: a name has at most eight letters.
 NOTICE = "covetrivet: "
-WITHOUT_ANSWER = re.compile(b"#[ -~]*| *")
+MAYBE_WITHOUT, WITHOUT_ANSWER = (b"", b"#", b" "), re.compile(b"#[ -~]*| *")
 
 
 def checked(line: str) -> str:
@@ -47,7 +47,13 @@ def is_asked(line: bytes) -> bool:
     """Whether any bytes between two line ends have an answer, behind the head. A comment has one that is too
     long, or has a byte that no line has: it is refused.
     """
-    return len(line) > LONGEST_LINE or not WITHOUT_ANSWER.fullmatch(line)
+    return line[:1] not in MAYBE_WITHOUT or len(line) > LONGEST_LINE or not WITHOUT_ANSWER.fullmatch(line)
+
+
+def is_line(some: bytes) -> bool:
+    """Whether these bytes are one line with its end, and it has an answer."""
+    length = len(some) - 1
+    return some.find(b"\n") == length <= LONGEST_LINE and is_asked(some[:length])
 
 
 def is_for_logs(line: str) -> bool:

@@ -7,6 +7,7 @@ import ssl
 from collections.abc import Sequence
 from pathlib import Path
 
+from covetrivet import loop
 from covetrivet.etcd import EtcdLog
 from covetrivet.faults import NoProgram, SessionFault
 from covetrivet.lines import checked
@@ -46,7 +47,7 @@ def node(words: Sequence[str]) -> int:
         with contextlib.ExitStack() as stack:
             place = stack.enter_context(place_at(options.socket, options.mode))
             told = stack.enter_context(place_at(options.metrics, options.mode)) if options.metrics else None
-            lost = asyncio.run(run(log, options, head, place, told))
+            lost = loop.run(run(log, options, head, place, told))
     except PlaceTaken as why:
         say(why)
         return NO_PLACE

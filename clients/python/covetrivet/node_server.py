@@ -52,6 +52,9 @@ class Office:
     def unanswered(self) -> Collection[Asked]:
         return self.waiting.values()
 
+    def note(self) -> None:
+        """All is heard as it is answered."""
+
     async def idle(self, seconds: float) -> bool:
         if self.waiting:
             self.when_idle = self.loop.create_future()
@@ -62,6 +65,9 @@ class Office:
     def wake(self) -> None:
         if not self.waiting and self.when_idle and not self.when_idle.done():
             self.when_idle.set_result(None)
+
+    def used(self) -> dict[str, float]:
+        return {}
 
     def give_up(self) -> SessionFault:
         return LogLost("lines were not answered in time")
@@ -106,7 +112,10 @@ class Office:
     def answer(self, answers: Sequence[tuple[int, str]]) -> None:
         # (those of a time that is over were dismissed)
         known = [(self.waiting.pop(number), answer) for number, answer in answers if number in self.waiting]
-        hand_out(known, self.hear)
+        now = time.monotonic()
+        hand_out(known)
+        for it, answer in known:
+            self.hear(it, answer, now - it.since)
         self.wake()
 
 
@@ -148,6 +157,10 @@ class NodeServer(Server):
     async def count(self) -> tuple[Counts, tuple[Depth, ...]]:
         # (of this node's own session, which may be behind: no record is made for it)
         return await asyncio.to_thread(self.office.member.count)
+
+    async def oldest(self, stages: Sequence[int]) -> dict[int, float]:
+        # (a node that takes the lead hasn't heard of what is there)
+        return {}
 
     def more(self) -> Iterable[str]:
         yield from shown("leads", "gauge", {"": int(self.office.token is not None)})

@@ -46,6 +46,19 @@ class Pipe(Wire):
         some = left[: select.PIPE_BUF]
         return super().write(some[: bytes(some).rfind(b"\n") + 1] or some)
 
+    def write_line(self, line: bytes) -> bool:
+        """Writes a line as a whole, where the system takes it at once. What was to be sent to a program that
+        has ended counts as written.
+        """
+        # (no line is longer than the system writes as a whole)
+        try:
+            os.write(self.input, line + b"\n")
+        except BlockingIOError:
+            return False
+        except BrokenPipeError:
+            return True
+        return True
+
     def ended_by(self) -> SessionEnded:
         """Waits until the program has ended, and returns how it did."""
         self.ended = self.end(SECONDS_TO_END)

@@ -15,17 +15,17 @@ from typing import NamedTuple, Protocol
 
 from covetrivet.faults import SessionEnded, SessionFault
 from covetrivet.lines import UNKNOWN
+from covetrivet.loop import READ, WRITE, Watch
 from covetrivet.pipe import Pipe
 
 
 class Caller(Protocol):
     """Whoever sends lines."""
 
-    def answered(self, answer: str) -> None:
-        """Takes the answer to the first line that had none. One of several lines has line ends in it."""
-
-    def all_taken(self) -> None:
-        """Comes behind the answers that came together."""
+    def answered(self, answers: Sequence[str]) -> None:
+        """Takes the answers to its first lines that had none, as many as came together. One of several lines
+        has line ends in it.
+        """
 
 
 class Asked(NamedTuple):
@@ -59,8 +59,16 @@ class Performer(Protocol):
     def unanswered(self) -> Collection[Asked]:
         """Returns the lines that aren't answered."""
 
+    def note(self) -> None:
+        """Has all heard that was answered."""
+
     async def idle(self, seconds: float) -> bool:
         """Waits until all is answered. False where it isn't so many seconds later, or never will be."""
+
+    def used(self) -> dict[str, float]:
+        """Returns which part of its elements, units and lines is used of those behind which it rolls over by
+        itself. Nothing where it doesn't.
+        """
 
     def give_up(self) -> SessionFault:
         """Lets go of what doesn't answer. Returns what is to be said of it."""
@@ -69,23 +77,27 @@ class Performer(Protocol):
         """Performs nothing any more."""
 
 
-def hand_out(answers: Sequence[tuple[Asked, str]], hear: Hear) -> None:
-    """Tells each caller its answers, and then all to `hear`: who waits for one has it so much earlier."""
-    now = time.monotonic()
-    callers: dict[Caller, None] = {}
+def hand_out(answers: Sequence[tuple[Asked, str]]) -> None:
+    """Tells each caller its answers."""
+    if len(answers) == 1:
+        ((it, answer),) = answers
+        it.caller.answered([answer])
+        return
+    told: dict[Caller, list[str]] = {}
     for it, answer in answers:
-        it.caller.answered(answer)
-        callers[it.caller] = None
-    for caller in callers:
-        caller.all_taken()
-    for it, answer in answers:
-        hear(it, answer, now - it.since)
+        if it.caller in told:
+            told[it.caller].append(answer)
+        else:
+            told[it.caller] = [answer]
+    for caller, some in told.items():
+        caller.answered(some)
 
 
 class Relay:
     """The program's input and output, for many callers.
 
-    Each answer is told to `hear` too. `on_end` is told how the program has ended.
+    Each answer is told to `hear` too, once its caller has it. That of a line that came alone is told while
+    the program does the next one, or by `note`. `on_end` is told how the program has ended.
     """
 
     def __init__(self, pipe: Pipe, hear: Hear, on_end: OnEnd) -> None:
@@ -99,13 +111,16 @@ class Relay:
         self.lost, self.has_answered = 0, True
         self.when_idle: asyncio.Future[None] | None = None
         self.last: Caller | None = None
-        self.is_handing_out = False
+        self.is_handing_out = self.is_rushing = False
+        self.unheard: list[tuple[Asked, str, float]] = []
         self.listen()
 
     def listen(self) -> None:
         self.output = select.poll()
         self.output.register(self.pipe.output, select.POLLIN)
-        self.loop.add_reader(self.pipe.output, self.read)
+        self.answers = Watch(self.pipe.output, self.read, lambda: None)
+        self.answers.want(READ)
+        self.input = Watch(self.pipe.input, lambda: None, self.write)
         self.loop.add_reader(self.pipe.errors, self.read_errors)
 
     def ask(self, caller: Caller, lines: Sequence[bytes]) -> None:
@@ -117,9 +132,8 @@ class Relay:
         if self.is_over:
             return
         now = time.monotonic()
-        if caller is self.last and len(lines) == 1 and self.is_free():
-            self.new.append(lines[0])
-            self.write()
+        is_alone = caller is self.last and len(lines) == 1 and self.is_free()
+        if is_alone and self.pipe.write_line(lines[0]):
             # (whose it is is noted while the program is at work)
             self.asked.append(Asked(caller, *words_of(lines[0]), now))
             self.rush()
@@ -141,8 +155,19 @@ class Relay:
 
     def rush(self) -> None:
         """Waits for the answer to the only line, and hands it out."""
-        if not self.left and self.output.poll(MILLISECONDS_TO_RUSH):
-            self.read()
+        self.note()
+        if self.output.poll(MILLISECONDS_TO_RUSH):
+            self.is_rushing = True
+            try:
+                self.read()
+            finally:
+                self.is_rushing = False
+
+    def note(self) -> None:
+        """Has all heard that was answered."""
+        unheard, self.unheard = self.unheard, []
+        for it in unheard:
+            self.hear(*it)
 
     def write(self) -> None:
         """Writes what there is, as far as the program takes it."""
@@ -158,12 +183,12 @@ class Relay:
             self.left = self.left[written:]
             if not written:
                 self.is_blocked = True
-                self.loop.add_writer(self.pipe.input, self.write)
+                self.input.want(WRITE)
                 return
 
     def forget_input(self) -> None:
         if self.is_blocked:
-            self.loop.remove_writer(self.pipe.input)
+            self.input.want(0)
             self.is_blocked = False
 
     def read(self) -> None:
@@ -175,7 +200,7 @@ class Relay:
             goes_on = self.pipe.read()
         except UnicodeDecodeError:
             goes_on, is_wrong = False, True
-        answers = self.pipe.answers.take(self.pipe.answers.whole())
+        answers = self.pipe.answers.take_all()
         known = len(self.asked)
         self.has_answered = self.has_answered or bool(answers)
         self.hand(answers[:known])
@@ -191,11 +216,15 @@ class Relay:
         self.hand_out([(self.asked.popleft(), it) for it in answers])
 
     def hand_out(self, answers: Sequence[tuple[Asked, str]]) -> None:
+        now = time.monotonic()
         self.is_handing_out = True
         try:
-            hand_out(answers, self.hear)
+            hand_out(answers)
         finally:
             self.is_handing_out = False
+        self.unheard += [(it, answer, now - it.since) for it, answer in answers]
+        if not self.is_rushing:
+            self.note()
         self.wake()
 
     def unanswered(self) -> Collection[Asked]:
@@ -216,6 +245,9 @@ class Relay:
             await asyncio.wait([self.when_idle], timeout=seconds)
             self.when_idle = None
         return not self.unanswered()
+
+    def used(self) -> dict[str, float]:
+        return {}
 
     def give_up(self) -> SessionEnded:
         """Ends the program."""
@@ -240,8 +272,9 @@ class Relay:
 
     def leave(self) -> None:
         """Lets go of the streams, which are the session's."""
+        self.note()
         self.is_over = True
         self.wake()
         self.forget_input()
-        self.loop.remove_reader(self.pipe.output)
+        self.answers.want(0)
         self.loop.remove_reader(self.pipe.errors)

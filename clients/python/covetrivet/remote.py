@@ -38,9 +38,9 @@ class Line(Wire):
     def look(self) -> None:
         goes_on = self.read()
         come = self.answers.come
-        if come and come[-1][0].startswith(NOTICE):
+        if come and come[-1].startswith(NOTICE):
             # The last line: what was answered before it counts.
-            self.said = come.pop()[0].removeprefix(NOTICE)
+            self.said = come.pop().removeprefix(NOTICE)
             goes_on = bool(come)
         if not goes_on:
             raise self.ended_by()

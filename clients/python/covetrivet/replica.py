@@ -2,6 +2,7 @@
 from __future__ import annotations
 
 import re
+import time
 from collections.abc import Iterable, Sequence
 
 from covetrivet import commands
@@ -18,11 +19,8 @@ from covetrivet.shared_log import Base, Diverged, LogLost, Record, digest_of
 class Elsewhere:
     """The callers of lines that another node was asked."""
 
-    def answered(self, answer: str) -> None:
+    def answered(self, answers: Sequence[str]) -> None:
         """They were answered there, if at all."""
-
-    def all_taken(self) -> None:
-        """Nothing is left to do."""
 
 
 ELSEWHERE = Elsewhere()
@@ -72,7 +70,7 @@ class Replica(Session):
         for it, line, answer in zip(them, lines, self._exchange_bytes([it.line for it in them])):
             answers.append(told_dump(answer, ids) if it.verb == "dump" else told(it, answer, ids))
             asked = Asked(ELSEWHERE, *words_of(line.encode("latin-1")), 0)
-            self.holders.hear(asked, answers[-1])
+            self.holders.hear(asked, answers[-1], time.monotonic())
             self.use.hear(asked.verb, asked.name, answers[-1])
         self._fold(answers)
         return answers

@@ -1,13 +1,13 @@
 """`covetrivet serve`: a session that many processes of a machine share."""
 from __future__ import annotations
 
-import asyncio
 import contextlib
 import resource
 import sys
 from collections.abc import Iterator, Sequence
 from pathlib import Path
 
+from covetrivet import loop
 from covetrivet.answers import NotUnderstood
 from covetrivet.faults import JournalFault, NoProgram, SessionEnded, SessionFault
 from covetrivet.options import Serving, serving
@@ -64,7 +64,7 @@ def hold(options: Serving, head: Sequence[str], place: Place, metrics: Place | N
     try:
         session = served(head, options.journal, options.rolls_over)
         with session:
-            fault = asyncio.run(run(session, options, place, metrics))
+            fault = loop.run(run(session, options, place, metrics))
             if fault:
                 raise fault
     except NoProgram as why:

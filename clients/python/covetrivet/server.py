@@ -4,10 +4,13 @@ from __future__ import annotations
 import asyncio
 import contextlib
 import signal
+import time
 from collections.abc import Callable, Iterable, Sequence
 from typing import TypeVar
 
 from covetrivet import commands
+from covetrivet.accept import Accept
+from covetrivet.ages import Ages
 from covetrivet.answers import Counts, Depth, Heard
 from covetrivet.commands import Command
 from covetrivet.connection import Connection, Limits
@@ -18,7 +21,7 @@ from covetrivet.metrics import LONGEST_REQUEST, Metrics
 from covetrivet.pipe import Pipe
 from covetrivet.place import Place
 from covetrivet.relay import Asked, Caller, Hear, OnEnd, Performer, Relay
-from covetrivet.tally import Tally, shown, shown_counts, shown_depths, shown_units
+from covetrivet.tally import Tally, shown, shown_counts, shown_depths, shown_oldest, shown_units
 
 T = TypeVar("T")
 SECONDS_TO_ANSWER, SECONDS_TO_READ, SECONDS_TO_COUNT = 10, 5, 1
@@ -31,12 +34,9 @@ class Once:
     def __init__(self) -> None:
         self.answer: asyncio.Future[str] = asyncio.get_running_loop().create_future()
 
-    def answered(self, answer: str) -> None:
+    def answered(self, answers: Sequence[str]) -> None:
         if not self.answer.done():
-            self.answer.set_result(answer)
-
-    def all_taken(self) -> None:
-        """Nothing is left to do."""
+            self.answer.set_result(answers[0])
 
 
 class Server:
@@ -56,9 +56,9 @@ class Server:
         self.loop = asyncio.get_running_loop()
         self.connections: set[Connection] = set()
         self.busy = 0
-        self.holders, self.tally = Holders(), Tally()
+        self.holders, self.tally, self.ages = Holders(), Tally(), Ages()
         self.relay = make(self.hear, self.session_ended)
-        self.orphans = Orphans(self.holders, orphans, self.loop.call_later, self.ask, self.is_named)
+        self.orphans = Orphans(self.holders, orphans, self.later, self.ask, self.is_named)
         self.fault: SessionFault | None = None
         self.again = again
         # how often it was started again, and how often in a row it has ended without an answer
@@ -81,6 +81,7 @@ class Server:
 
     def left(self, connection: Connection) -> None:
         self.connections.discard(connection)
+        self.relay.note()
         for unit in self.holders.of(connection):
             self.orphans.left(unit)
         if not self.connections:
@@ -101,11 +102,21 @@ class Server:
 
     def hear(self, asked: Asked, answer: str, seconds: float) -> None:
         self.tally.hear(asked, answer, seconds)
+        self.ages.hear(asked.verb, answer, asked.since + seconds)
         if answer == UNKNOWN:
             return
-        unit = self.holders.hear(asked, answer)
+        unit = self.holders.hear(asked, answer, asked.since + seconds)
         if unit and self.is_gone(unit.caller):
             self.orphans.left(unit)
+
+    def later(self, seconds: float, act: Callable[[], None]) -> None:
+        """Does this so much later, when all that was answered before is noted."""
+
+        def do() -> None:
+            self.relay.note()
+            act()
+
+        self.loop.call_later(seconds, do)
 
     def is_gone(self, caller: Caller) -> bool:
         return caller is self.orphans or isinstance(caller, Connection) and caller.is_gone
@@ -154,13 +165,11 @@ class Server:
             self.loop.add_signal_handler(it, self.is_over.set)
         backlog = max(self.limits.connections, 100)
         answer = Metrics(self.tell).answer
-        servers: list[asyncio.AbstractServer] = []
+        servers: list[asyncio.AbstractServer | Accept] = []
         if metrics:
             bound = metrics.bind()
             servers.append(await asyncio.start_unix_server(answer, sock=bound, limit=LONGEST_REQUEST))
-        bound = place.bind()
-        make = self.loop.create_unix_server(lambda: Connection(self), sock=bound, backlog=backlog)
-        servers.append(await make)
+        servers.append(Accept(place.bind(), backlog, lambda it: Connection(it, self)))
         ticking = self.loop.create_task(self.tick())
         try:
             ready()
@@ -199,6 +208,7 @@ class Server:
 
     async def tell(self) -> str:
         """Returns the counts, and those of the session, which is asked for them."""
+        self.relay.note()
         lines = [*shown("connections", "gauge", {"": len(self.connections)}), *self.tally.lines()]
         in_flight = len(self.relay.unanswered())
         lines += shown("lines_in_flight", "gauge", {"": in_flight})
@@ -206,11 +216,24 @@ class Server:
         lines += shown("orphans_aborted_total", "counter", {"": self.orphans.aborted})
         lines += shown("session_restarts_total", "counter", {"": self.restarts})
         lines += shown_units(self.holders.units.values())
+        used = {f'{{of="{it}"}}': part for it, part in self.relay.used().items()}
+        lines += shown("rollover_share", "gauge", used)
         # (where that takes too long, or can't be, they are left out)
         with contextlib.suppress(asyncio.TimeoutError, TimeoutError, Unknown):
-            counts, depths = await asyncio.wait_for(self.count(), SECONDS_TO_COUNT)
-            lines += [*shown_counts(counts), *shown_depths(depths)]
+            lines += await asyncio.wait_for(self.elements(), SECONDS_TO_COUNT)
         return "\n".join([*lines, *self.more(), ""])
+
+    async def elements(self) -> list[str]:
+        """Returns what is told of the elements."""
+        counts, depths = await self.count()
+        oldest = await self.oldest([it.stage for it in depths if it.waiting])
+        return [*shown_counts(counts), *shown_depths(depths), *shown_oldest(oldest)]
+
+    async def oldest(self, stages: Sequence[int]) -> dict[int, float]:
+        """Returns for how long the oldest of the first that wait in each of these stages has been there."""
+        first = [(it, await self.answer_to(commands.waiting(it))) for it in stages]
+        now = time.monotonic()
+        return {stage: max(self.ages.of(it, now) for it in ids) for stage, ids in first if ids}
 
     async def count(self) -> tuple[Counts, tuple[Depth, ...]]:
         """Returns the elements by status, and by stage."""

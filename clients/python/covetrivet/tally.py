@@ -19,15 +19,17 @@ VERBS = frozenset(
 
 def refusal_in(answer: str, name: str) -> str | None:
     """Returns the name of the refusal that this is an answer of, to a line with this second word."""
-    found = REFUSED.match(answer)
+    said, _, rest = answer.partition(" ")
+    # (a worker may have this name)
+    found = REFUSED.match(answer) if said == "refused" else None
     if found:
         return found[1]
-    said, *rest = answer.split(" ", 3)
-    if said != name or not rest:
+    if said != name:
         return None
-    if rest[0] == "refused" and len(rest) == 3:
-        return rest[2] if rest[2] in refusals.BY_NAME else "Declined"
-    kind = refusals.BY_WORD.get(rest[0])
+    word, *others = rest.split(" ", 2)
+    if word == "refused" and len(others) == 2:
+        return others[1] if others[1] in refusals.BY_NAME else "Declined"
+    kind = refusals.BY_WORD.get(word)
     return kind.__name__ if kind else None
 
 
@@ -95,3 +97,9 @@ def shown_depths(depths: Iterable[Depth]) -> Iterable[str]:
         for state in "waiting", "held", "parked":
             values[f'{{stage="{stage}",state="{state}"}}'] = getattr(told, state)
     return shown("stage_elements", "gauge", values)
+
+
+def shown_oldest(ages: dict[int, float]) -> Iterable[str]:
+    """Yields the lines of for how long the oldest that waits in each of these stages has been there."""
+    values = {f'{{stage="{stage}"}}': round(age, 3) for stage, age in ages.items()}
+    return shown("stage_oldest_seconds", "gauge", values)

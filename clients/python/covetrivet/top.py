@@ -45,12 +45,15 @@ def of_session(counts: Counts, before: Counts | None, seconds: float, parked: Se
         yield f"parked: {' '.join(map(str, parked[:SHOWN_PARKED]))}{more}"
 
 
-def of_stages(depths: Sequence[Depth]) -> Iterator[str]:
-    """Yields a table of the stages that have any elements."""
+def of_stages(depths: Sequence[Depth], server: Metrics) -> Iterator[str]:
+    """Yields a table of the stages that have any elements, with how old the oldest is that waits."""
     if depths:
-        yield f"{'stage':10}{'waiting':>10}{'held':>10}{'parked':>10}"
+        more = f"{'oldest':>12}" if server else ""
+        yield f"{'stage':10}{'waiting':>10}{'held':>10}{'parked':>10}{more}"
     for it in depths:
-        yield f"{it.stage:<10}{it.waiting:10}{it.held:10}{it.parked:10}"
+        age = server.get(f'stage_oldest_seconds{{stage="{it.stage}"}}')
+        oldest = "" if age is None else f"{age:10.1f} s"
+        yield f"{it.stage:<10}{it.waiting:10}{it.held:10}{it.parked:10}{oldest}"
 
 
 def of_server(now: Metrics, before: Metrics | None, seconds: float) -> Iterator[str]:
@@ -61,6 +64,9 @@ def of_server(now: Metrics, before: Metrics | None, seconds: float) -> Iterator[
     rate = f", {lines / seconds:.0f} lines a second" if before and seconds > 0 else f", {lines:.0f} lines"
     mean = f", {spent / lines * 1e6:.0f} us each" if lines else ""
     yield f"connections {now['connections']:.0f}, lines in flight {now['lines_in_flight']:.0f}{rate}{mean}"
+    used = [f"{it.split(chr(34))[1]} {part:.0%}" for it, part in now.items() if it[:15] == "rollover_share{"]
+    if used:
+        yield f"used up to the next rollover: {', '.join(used)}"
     refused = [(it[16:-2], int(value)) for it, value in now.items() if it.startswith("refusals_total{")]
     if refused:
         yield "refused: " + ", ".join(f"{why.partition(chr(34))[2]} {many}" for why, many in refused)
@@ -83,7 +89,7 @@ def watch(session: Session, metrics: str | None, seconds: float | None) -> None:
         counts, depths, parked = session.count(), session.depth(), session.errors()
         now = metrics_of(metrics) if metrics else None
         at = time.monotonic()
-        lines = [*of_session(counts, counted, at - then, parked), *of_stages(depths)]
+        lines = [*of_session(counts, counted, at - then, parked), *of_stages(depths, now or {})]
         if now:
             lines += of_server(now, heard, at - then)
         show(lines, seconds is not None)

@@ -16,27 +16,46 @@ class Answers:
 
     def __init__(self) -> None:
         self.rest = b""
-        self.come: list[list[str]] = []
+        self.come: list[str] = []
+        # of an answer of several lines those that have come, and how many are due
+        self.part: list[str] = []
         self.due = 0
 
     def add(self, some: bytes) -> None:
-        *lines, self.rest = (self.rest + some).split(b"\n")
-        for line in (it.decode("ascii") for it in lines):
-            if self.due:
-                self.come[-1].append(line)
-                self.due -= 1
+        if not self.rest and some.find(b"\n") == len(some) - 1 >= 0:
+            lines = [some[:-1]]
+        else:
+            *lines, self.rest = (self.rest + some).split(b"\n")
+        for it in lines:
+            line = it.decode("ascii")
+            if not self.due and not line.startswith("dumped "):
+                self.come.append(line)
             else:
-                self.come.append([line])
-                counted = re.fullmatch(r"dumped (\d+)", line) if line.startswith("dumped") else None
-                self.due = int(counted[1]) if counted else 0
+                self.add_part(line)
+
+    def add_part(self, line: str) -> None:
+        """Takes a line of an answer that may have several."""
+        self.part.append(line)
+        if self.due:
+            self.due -= 1
+        else:
+            counted = re.fullmatch(r"dumped (\d+)", line)
+            self.due = int(counted[1]) if counted else 0
+        if not self.due:
+            self.come.append("\n".join(self.part))
+            self.part = []
 
     def whole(self) -> int:
-        return len(self.come) - (self.due > 0)
+        return len(self.come)
 
     def take(self, many: int) -> list[str]:
         """Returns the first answers, in which a line end stands between the lines of one."""
         taken, self.come = self.come[:many], self.come[many:]
-        return ["\n".join(it) for it in taken]
+        return taken
+
+    def take_all(self) -> list[str]:
+        taken, self.come = self.come, []
+        return taken
 
 
 class Wire:
@@ -89,7 +108,7 @@ class Wire:
 
     def refuse_more(self) -> None:
         """NotUnderstood where there are answers that nothing asked for: the next ones would be mistaken."""
-        if self.answers.come or self.answers.rest:
+        if self.answers.come or self.answers.part or self.answers.rest:
             raise NotUnderstood(f"the program has answered what it wasn't asked: {self.answers.take(1)}")
 
     def look(self) -> None:

@@ -8,6 +8,7 @@ import unittest
 from collections.abc import Callable
 from concurrent.futures import ThreadPoolExecutor
 
+from covetrivet import loop
 from covetrivet.connection import Limits
 from covetrivet.node_server import NodeServer
 from covetrivet.place import Place
@@ -73,7 +74,7 @@ def with_nodes(act: Callable[[Nodes], None], orphans: float | None = None) -> No
         with tempfile.TemporaryDirectory() as folder:
             await Nodes(folder, orphans).run(act)
 
-    asyncio.run(run())
+    loop.run(run())
 
 
 class NodeServers(unittest.TestCase):

@@ -113,7 +113,7 @@ class ServeCalls(unittest.TestCase):
                 said = run("top", "--socket", server.path, "--metrics", server.metrics, "--once")
             self.assertEqual((said.returncode, said.stderr), (0, ""))
             self.assertEqual(said.stdout.split()[:4], ["waiting", "1", "held", "1"])
-            self.assertRegex(said.stdout, r"\nstage +waiting +held +parked\n1 +1 +1 +0\n")
+            self.assertRegex(said.stdout, r"\nstage +waiting +held +parked +oldest\n1 +1 +1 +0 +\d+\.\d s\n")
             self.assertRegex(said.stdout, r"(?m)^in hand for \d+\.\d s: packer$")
             self.assertRegex(said.stdout, r"(?m)^refused: Syntax 1$")
             words = [*COMMAND, "top", "--socket", server.path, "--every", "0.1"]
@@ -130,11 +130,13 @@ class ServeCalls(unittest.TestCase):
             it = server.client()
             it.ask("submit 1 5 6", "claim packer", "claim packer", "claim nobody", "kill 9", "x" * 300)
             it.ask("submit 12 5 6", "submit 12 5 6")
+            it.ask("read 0")
             wanted = {'answers_total{command="claim"}': 3, 'answers_total{command="other"}': 1}
             refused = "Busy", "BadName", "NotThere", "TooLong"
             wanted |= {f'refusals_total{{why="{why}"}}': 1 for why in refused}
             wanted |= {'elements{status="held"}': 1, "connections": 1, "connections_total": 1}
             wanted["lines_in_flight"] = 0
+            wanted['answers_total{command="read"}'] = 1
             for stage, state, many in (1, "held", 1), (12, "waiting", 2), (12, "parked", 0):
                 wanted[f'stage_elements{{stage="{stage}",state="{state}"}}'] = many
             self.assertEqual({name: server.counted(name) for name in wanted}, wanted)
@@ -262,7 +264,7 @@ class ServePage(unittest.TestCase):
                 for words, answers in calls:
                     words = words.replace("shop.sock", server.path).replace("shop.metrics", server.metrics)
                     said = run(*shlex.split(words))
-                    shown = re.sub(r"\d+ us", "N us", re.sub(r"for [\d.]+ s", "for N s", said.stdout))
+                    shown = re.sub(r"\d+ us", "N us", re.sub(r"[\d.]+ s$", "N s", said.stdout, flags=re.M))
                     self.assertEqual(shown, textwrap.dedent(answers), words)
                     self.assertEqual(said.returncode, 0)
                 shown = "".join(re.findall(r"(?m)^    (import covetrivet\n(?:(?:    .*)?\n)+)", page))

@@ -271,6 +271,21 @@ class ServeOrphans(unittest.TestCase):
             self.assertRegex(other.ask("commit packer")[0], "packer done 1 ")
             self.assertEqual(server.counted("orphans_aborted_total"), 0)
 
+    def test_lines_that_come_alone(self) -> None:
+        # What their answers say is noted behind them, and is known in time though nothing else comes.
+        with Serving(WORKER, "--orphans", "abort:1") as server:
+            other = server.client()
+            other.ask(*["submit 1 5 5"] * 2)
+            with Client(server.path) as it:
+                self.assertRegex([it.ask(line)[0] for line in ("count", "claim packer")][1], "packer work 0 ")
+            time.sleep(2)
+            self.assertRegex(other.ask("claim packer")[0], "packer work 0 .* attempt 2 ")
+            with Client(server.path) as it:
+                it.ask("claim other")
+            self.assertRegex([other.ask(line)[0] for line in ("count", "commit other")][1], "other done 1 ")
+            time.sleep(2)
+            self.assertEqual(server.counted("orphans_aborted_total"), 1)
+
     def test_workers_that_are_killed(self) -> None:
         # Each order is worked on to its end once, whoever was killed in the midst of it.
         worker = """

@@ -7,14 +7,16 @@ import itertools
 import os
 import random
 import signal
+import socket
 import tempfile
 import threading
 import time
 import unittest
+from collections.abc import Sequence
 from unittest import mock
 
-from covetrivet import Unknown, connect, program, submit
-from covetrivet.connection import Limits
+from covetrivet import Unknown, connect, loop, program, submit
+from covetrivet.connection import Connection, Limits
 from covetrivet.faults import SessionFault
 from covetrivet.pipe import Pipe
 from covetrivet.relay import Relay
@@ -179,7 +181,7 @@ class Relays(unittest.TestCase):
         """Lines that come once the program has ended are written to the next one alone, though a write was
         asked for before.
         """
-        asyncio.run(self.write_late())
+        loop.run(self.write_late())
 
     async def write_late(self) -> None:
         caller = Caller()
@@ -201,7 +203,7 @@ class Relays(unittest.TestCase):
 
     def test_an_end_is_told_once(self) -> None:
         """A program that ends behind an answer which isn't one, while a caller asks for more."""
-        asyncio.run(self.end_badly())
+        loop.run(self.end_badly())
 
     async def end_badly(self) -> None:
         ends: list[SessionFault] = []
@@ -215,9 +217,48 @@ class Relays(unittest.TestCase):
         relay.pipe.let_go()
         self.assertEqual((len(ends), caller.told), (1, ["x", "y"]))
 
+    def test_what_comes_alone_is_noted_in_time(self) -> None:
+        """Each line comes once the one before is answered. What the last answer says is noted before it
+        counts: where its client is gone, where a unit would be aborted, and where metrics are asked for.
+        """
+        with mock.patch("covetrivet.relay.MILLISECONDS_TO_RUSH", 5000):
+            loop.run(self.note())
+
+    async def note(self) -> None:
+        answers = r"s/claim \(.*\)/\1 work 0 unit 1/; s/commit \(.*\)/\1 done 0 unit 1/; s/^count$/unknown/"
+        pipe = Pipe(["sed", "-u", answers])
+        server = Server(lambda hear, on_end: Relay(pipe, hear, on_end), Limits(), 0.1)
+        ours, other = socket.socketpair()
+        Connection(ours, server)
+        other.setblocking(False)
+        open_units = server.holders.units
+        self.assertEqual(await self.asked(other, b"count", b"claim a"), b"a work 0 unit 1\n")
+        self.assertEqual([*open_units], [])
+        server.later(0, lambda: self.assertEqual([*open_units], ["a"]))
+        await asyncio.sleep(0.02)
+        self.assertEqual([*open_units], ["a"])
+        await self.asked(other, b"commit a", b"claim b")
+        self.assertIn('unit_open_seconds{worker="b"}', await server.tell())
+        await self.asked(other, b"commit b", b"claim c")
+        other.close()
+        await asyncio.sleep(0.05)
+        self.assertEqual([*open_units], ["c"])
+        await asyncio.sleep(0.3)
+        self.assertEqual(server.orphans.aborted, 1)
+        server.relay.leave()
+        pipe.let_go()
+
+    async def asked(self, other: socket.socket, *lines: bytes) -> bytes:
+        """Sends each line once the one before is answered, and returns the last answer."""
+        answer = b""
+        for it in lines:
+            other.send(it + b"\n")
+            answer = await asyncio.get_running_loop().sock_recv(other, 1000)
+        return answer
+
     def test_metrics_whose_answers_were_lost(self) -> None:
         """The elements are left out, and all else is told."""
-        asyncio.run(self.tell())
+        loop.run(self.tell())
 
     async def tell(self) -> None:
         pipe = Pipe(["sed", "-u", "s/.*/unknown/"])
@@ -235,11 +276,8 @@ class Caller:
     def __init__(self) -> None:
         self.told: list[str] = []
 
-    def answered(self, answer: str) -> None:
-        self.told.append(answer)
-
-    def all_taken(self) -> None:
-        """Nothing is left to do."""
+    def answered(self, answers: Sequence[str]) -> None:
+        self.told += answers
 
 
 class Eager(Caller):
@@ -249,7 +287,8 @@ class Eager(Caller):
         super().__init__()
         self.relay = relay
 
-    def all_taken(self) -> None:
+    def answered(self, answers: Sequence[str]) -> None:
+        super().answered(answers)
         self.relay.ask(self, [b"more"])
 
 

@@ -5,6 +5,7 @@ import os
 import signal
 import tempfile
 import unittest
+from collections.abc import Sequence
 from unittest import mock
 
 from covetrivet import program
@@ -18,11 +19,8 @@ HEAD = (*WIDE, "limit 7", "server till eager 2 1 add", "worker packer 1", "worke
 class Idle:
     """A caller that takes no answers."""
 
-    def answered(self, answer: str) -> None:
+    def answered(self, answers: Sequence[str]) -> None:
         """Nothing is to be done."""
-
-    def all_taken(self) -> None:
-        """Nothing is left to do."""
 
 
 class Settled(unittest.TestCase):
