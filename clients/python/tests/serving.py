@@ -80,12 +80,14 @@ class Serving:
 
     def begin(self) -> Serving:
         script = f"{self.folder}/program"
-        with open(script, "w", encoding="utf-8") as file:
+        # (a new file in place of one that a program of a server before may just be started from)
+        with open(f"{script}.new", "w", encoding="utf-8") as file:
             found = " ".join(program.find())
             # (a head is tried without the journal first)
             words = 2 if "--journal" in self.options else 0
             file.write(f"#!/bin/sh\n[ $# != {words} ] || echo $$ > {self.folder}/pid\nexec {found} \"$@\"\n")
-        os.chmod(script, 0o755)
+        os.chmod(f"{script}.new", 0o755)
+        os.replace(f"{script}.new", script)
         command = "serve", "--socket", self.path, "--head", f"{self.folder}/head", "--metrics", self.metrics
         self.process = subprocess.Popen(
             [sys.executable, "-m", "covetrivet", *command, *self.options],
