@@ -1,7 +1,7 @@
 """What calls of the C library answer where live sessions have nothing like it: refusals, and dataclasses."""
 from __future__ import annotations
 
-from dataclasses import dataclass
+from dataclasses import dataclass, field
 
 from covetrivet import answers, refusals
 from covetrivet.answers import Counts

@@ -162,6 +162,10 @@ class NodeServer(Server):
         # (a node that takes the lead hasn't heard of what is there)
         return {}
 
+    async def rooms(self) -> Iterable[str]:
+        # (a record would be made for it)
+        return ()
+
     def more(self) -> Iterable[str]:
         yield from shown("leads", "gauge", {"": int(self.office.token is not None)})
         yield from shown("term", "gauge", {"": self.office.token.term if self.office.token else 0})

@@ -21,7 +21,9 @@ from covetrivet.metrics import LONGEST_REQUEST, Metrics
 from covetrivet.pipe import Pipe
 from covetrivet.place import Place
 from covetrivet.relay import Asked, Caller, Hear, OnEnd, Performer, Relay
-from covetrivet.tally import Tally, shown, shown_counts, shown_depths, shown_oldest, shown_units
+from covetrivet.tally import (
+    Tally, shown, shown_counts, shown_depths, shown_oldest, shown_room, shown_units,
+)  # fmt: skip
 
 T = TypeVar("T")
 SECONDS_TO_ANSWER, SECONDS_TO_READ, SECONDS_TO_COUNT = 10, 5, 1
@@ -227,7 +229,11 @@ class Server:
         """Returns what is told of the elements."""
         counts, depths = await self.count()
         oldest = await self.oldest([it.stage for it in depths if it.waiting])
-        return [*shown_counts(counts), *shown_depths(depths), *shown_oldest(oldest)]
+        return [*shown_counts(counts), *shown_depths(depths), *await self.rooms(), *shown_oldest(oldest)]
+
+    async def rooms(self) -> Iterable[str]:
+        """Returns what is told of the rows and units that are left."""
+        return shown_room(await self.answer_to(commands.room()))
 
     async def oldest(self, stages: Sequence[int]) -> dict[int, float]:
         """Returns for how long the oldest of the first that wait in each of these stages has been there."""

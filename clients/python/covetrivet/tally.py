@@ -6,7 +6,7 @@ from collections import Counter
 from collections.abc import Iterable
 
 from covetrivet import refusals
-from covetrivet.answers import Counts, Depth
+from covetrivet.answers import Counts, Depth, Room
 from covetrivet.holders import REFUSED, Unit
 from covetrivet.relay import Asked
 
@@ -97,6 +97,15 @@ def shown_depths(depths: Iterable[Depth]) -> Iterable[str]:
         for state in "waiting", "held", "parked":
             values[f'{{stage="{stage}",state="{state}"}}'] = getattr(told, state)
     return shown("stage_elements", "gauge", values)
+
+
+def shown_room(room: Room) -> Iterable[str]:
+    """Yields the lines of how many rows and units are left to each, and how many spare blocks."""
+    left = {"client": room.client, **room.others}
+    for what in "rows", "units":
+        values: dict[str, float] = {f'{{of="{name}"}}': getattr(it, what) for name, it in left.items()}
+        yield from shown(f"{what}_left", "gauge", values)
+    yield from shown("spare_blocks_left", "gauge", {"": room.spare})
 
 
 def shown_oldest(ages: dict[int, float]) -> Iterable[str]:

@@ -6,7 +6,7 @@ import sys
 import time
 from collections.abc import Iterable, Iterator, Sequence
 
-from covetrivet.answers import Counts, Depth
+from covetrivet.answers import Counts, Depth, Room
 from covetrivet.call import NO_SERVER
 from covetrivet.remote import connect, connected
 from covetrivet.faults import Disconnected, SessionFault
@@ -56,6 +56,13 @@ def of_stages(depths: Sequence[Depth], server: Metrics) -> Iterator[str]:
         yield f"{it.stage:<10}{it.waiting:10}{it.held:10}{it.parked:10}{oldest}"
 
 
+def of_room(room: Room) -> Iterator[str]:
+    """Yields the line about what is left."""
+    all = {"client": room.client, **room.others}
+    told = ", ".join(f"{name} {it.rows}:{it.units}" for name, it in all.items())
+    yield f"rows:units left: {told}; spare blocks {room.spare}"
+
+
 def of_server(now: Metrics, before: Metrics | None, seconds: float) -> Iterator[str]:
     """Yields the lines about the server."""
     count, total = "answer_seconds_count", "answer_seconds_sum"
@@ -86,10 +93,11 @@ def watch(session: Session, metrics: str | None, seconds: float | None) -> None:
     heard: Metrics | None = None
     then = time.monotonic()
     while True:
-        counts, depths, parked = session.count(), session.depth(), session.errors()
+        counts, depths, parked, room = session.count(), session.depth(), session.errors(), session.room()
         now = metrics_of(metrics) if metrics else None
         at = time.monotonic()
         lines = [*of_session(counts, counted, at - then, parked), *of_stages(depths, now or {})]
+        lines += of_room(room)
         if now:
             lines += of_server(now, heard, at - then)
         show(lines, seconds is not None)

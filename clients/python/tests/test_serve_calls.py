@@ -114,15 +114,17 @@ class ServeCalls(unittest.TestCase):
             self.assertEqual((said.returncode, said.stderr), (0, ""))
             self.assertEqual(said.stdout.split()[:4], ["waiting", "1", "held", "1"])
             self.assertRegex(said.stdout, r"\nstage +waiting +held +parked +oldest\n1 +1 +1 +0 +\d+\.\d s\n")
+            left = "client 254:1024, packer 256:1023, other 256:1024; spare blocks 256"
+            self.assertIn(f"\nrows:units left: {left}\n", said.stdout)
             self.assertRegex(said.stdout, r"(?m)^in hand for \d+\.\d s: packer$")
             self.assertRegex(said.stdout, r"(?m)^refused: Syntax 1$")
             words = [*COMMAND, "top", "--socket", server.path, "--every", "0.1"]
             with subprocess.Popen(words, stdout=subprocess.PIPE, text=True) as again:
                 if again.stdout:
-                    shown = [again.stdout.readline().split() for _ in range(15)]
+                    shown = [again.stdout.readline().split() for _ in range(17)]
                 again.send_signal(signal.SIGINT)
                 self.assertEqual(again.wait(SECONDS), 0)
-            self.assertEqual(shown[7], ["waiting", "1", "+0.0/s"])
+            self.assertEqual(shown[8], ["waiting", "1", "+0.0/s"])
         self.assertEqual(run("top", "--socket", server.path, "--once").returncode, 69)
 
     def test_metrics(self) -> None:
@@ -139,6 +141,8 @@ class ServeCalls(unittest.TestCase):
             wanted['answers_total{command="read"}'] = 1
             for stage, state, many in (1, "held", 1), (12, "waiting", 2), (12, "parked", 0):
                 wanted[f'stage_elements{{stage="{stage}",state="{state}"}}'] = many
+            wanted |= {'rows_left{of="client"}': 253, 'rows_left{of="packer"}': 256, "spare_blocks_left": 256}
+            wanted |= {'units_left{of="client"}': 1024, 'units_left{of="packer"}': 1023}
             self.assertEqual({name: server.counted(name) for name in wanted}, wanted)
             self.assertGreater(server.counted("answer_seconds_sum"), 0)
             head, text = server.scraped()
