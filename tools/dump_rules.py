@@ -125,7 +125,7 @@ def restore(run, alive):
     if contradict(alive, run):
         return "refused 14 Unequal", run
     try:
-        answer = f"restored {told(births.all(), births.new)}"
+        answer = f"restored {told(births)}"
     except Full:
         return "refused 7 Full", run
     births.new.notes = notes.behind(births.known())

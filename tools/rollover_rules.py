@@ -175,10 +175,14 @@ class Births:
         return {root: it.root for root, it in self.families.items()} | dict(self.moved)
 
 
-def told(moved, run):
-    """What is said of a rollover or a restore, behind its first words: what was carried over, and what workers have in hand since."""
-    units = [f"{it.name}:{it.item}" for it in run.workers if it.unit is not None]
-    return " ".join([str(len(moved)), *(f"{old}:{new}" for old, new in moved), *(["units", *units] if units else [])])
+def told(births):
+    """What is said of a rollover or a restore, behind its first words: what was carried over, which roots weren't, and what workers have in
+    hand since."""
+    moved = births.all()
+    roots = [f"{root}:{it.root}" for root, it in births.families.items() if root not in dict(moved)]
+    units = [f"{it.name}:{it.item}" for it in births.new.workers if it.unit is not None]
+    pairs = [f"{old}:{new}" for old, new in moved]
+    return " ".join([str(len(moved)), *pairs, *(["roots", *roots] if roots else []), *(["units", *units] if units else [])])
 
 
 def roll_over(run):
@@ -187,7 +191,7 @@ def roll_over(run):
         return "refused 11 Busy", run
     births = Births(described(run), run.afresh())
     try:
-        answer = f"rolled over {told(births.all(), births.new)}"
+        answer = f"rolled over {told(births)}"
     except Full:
         return "refused 7 Full", run
     births.new.notes = run.notes.behind(births.known())

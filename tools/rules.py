@@ -401,6 +401,20 @@ class Run:
     def list(self, stage, start=0):
         return " ".join(map(str, ["list", stage, *[it for it in self.waiting(stage) if it >= start][:200]]))
 
+    def room(self):
+        names = ["client", *(it.name for it in [*self.servers, *self.workers])]
+        left = [f"{name} {it.left}:{self.units - it.begun}" for name, it in zip(names, self.passes)]
+        return " ".join(["room", *left, f"spare {self.spare - self.drawn}"])
+
+    def holders(self):
+        """What `holds` is answered."""
+        told = ["holds"]
+        for it in [*self.servers, *self.workers]:
+            if it.unit is not None:
+                attempt = self.elements[it.item].attempts if self.holds(it) else "lost"
+                told.append(f"{it.name}:{it.item}:{it.unit}:{attempt}")
+        return " ".join(told)
+
     def count(self):
         return " ".join(f"{state} {sum(it.status == state for it in self.elements.values())}" for state in STATES)
 
@@ -422,6 +436,6 @@ class Run:
         call = {
             "submit": self.submit, "kill": self.killed, "cancel": self.cancel, "requeue": self.requeue, "release": self.release,
             "read": self.read, "reply": self.reply, "collect": self.collect, "family": self.family, "depth": self.depth, "list": self.list,
-            "count": self.count, "drain": self.drain,
+            "count": self.count, "drain": self.drain, "room": self.room, "holds": self.holders,
         }
         return call[verb](*numbers)

@@ -124,8 +124,10 @@ class Story:
             text = f"submitted to stage {command[1]} with key {command[2]} and amount {command[3]}{more}"
             self.elements[number] = Element(number, number, int(command[1]), 0, row, text)
         elif verb == "restore" and line[0] == "restored":
-            moved = line[2:line.index("units")] if "units" in line else line[2:]
-            self.restore(row, dict(map(int, it.split(":")) for it in moved))
+            told = line[2:line.index("units")] if "units" in line else line[2:]
+            at = told.index("roots") if "roots" in told else len(told)
+            moved, roots = (dict(map(int, it.split(":")) for it in some) for some in (told[:at], told[at + 1:]))
+            self.restore(row, moved, roots)
         elif verb == "kill" and line[0] == "killed":
             self.kill(row, int(command[1]))
         elif verb == "cancel" and line[0] == "cancelled":
@@ -191,14 +193,14 @@ class Story:
             text = f"an output of {self.servers[lane - 1].name}, " + ("a reply" if stage == 15 else f"for stage {stage}")
             self.elements[first + at] = Element(first + at, element.root, stage, lane, row, text)
 
-    def restore(self, row, moved):
-        """What the head says is alive is there, under new ids. The new id of a root isn't told, unless it is alive: it is negative here."""
+    def restore(self, row, moved, roots):
+        """What the head says is alive is there, under new ids, and so are the roots that aren't alive."""
         for old, new in moved.items():
             attempts, _rounds, output, *root = self.alive[old]
             stage = int(output.split(":")[0])
             text = f"restored, which was element {old} where it was dumped, " + ("a reply" if stage == 15 else f"for stage {stage}")
             of = int(root[0]) if root else old
-            it = self.elements[new] = Element(new, moved.get(of, -1 - of), stage, 0, row, text, past=-int(attempts))
+            it = self.elements[new] = Element(new, moved[of] if of in moved else roots[of], stage, 0, row, text, past=-int(attempts))
             if old in self.holders:
                 # (the attempt in hand is one of them)
                 lane, it.past = self.lane(self.holders[old]), it.past + 1

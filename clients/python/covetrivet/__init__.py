@@ -33,16 +33,16 @@ alone.
 """
 from covetrivet import refusals
 from covetrivet.answers import (
-    Account, Cancelled, Counts, Depth, Done, Draft, Dumped, Heard, Killed, Last, LastWork, Look,
-    Member, NotUnderstood, Received, Released, Reply, Requeued, RolledOver, Sent, Submitted, UnitEnd,
+    Account, Cancelled, Counts, Depth, Done, Draft, Dumped, Heard, Held, Killed, Last, LastWork, Left, Look,
+    Member, NotUnderstood, Received, Released, Reply, Requeued, RolledOver, Room, Sent, Submitted, UnitEnd,
     Work,
 )  # fmt: skip
 from covetrivet.batch import Batch, Later
 from covetrivet.client import Client
 from covetrivet.commands import (
     Command, abort, account, balance, cancel, claim, claim_next, collect, commit, count, depth,
-    drain, drain_next, drop, dump, errors, family, forget, kill, last, last_work, prepare, read,
-    receive, register, release, reply, requeue, rollover, send, submit, take, total, turn, waiting,
+    drain, drain_next, drop, dump, errors, family, forget, holds, kill, last, last_work, prepare, read,
+    receive, register, release, reply, requeue, rollover, room, send, submit, take, total, turn, waiting,
 )  # fmt: skip
 from covetrivet.faults import (
     Disconnected, JournalFault, LogFault, NoProgram, SessionBroken, SessionClosed, SessionEnded,
@@ -54,13 +54,14 @@ from covetrivet.session import Session
 
 __all__ = [
     "Account", "Batch", "Cancelled", "Client", "Command", "Counts", "Depth", "Disconnected", "Done",
-    "Draft", "Dumped", "Heard", "JournalFault", "Killed", "Last", "LastWork", "Later", "LogFault", "Look",
-    "Member", "NoProgram", "NotUnderstood", "Received", "Released", "Reply", "Requeued", "RolledOver",
-    "Sent", "Session", "SessionBroken", "SessionClosed", "SessionEnded", "SessionFault", "Submitted",
-    "UnitEnd", "Unknown", "Work", "abort", "account", "balance", "cancel", "claim", "claim_next",
-    "collect", "commit", "connect", "count", "depth", "drain", "drain_next", "drop", "dump", "errors",
-    "family", "forget", "kill", "last", "last_work", "prepare", "read", "receive", "refusals", "register",
-    "release", "reply", "requeue", "rollover", "send", "submit", "take", "total", "turn", "waiting",
+    "Draft", "Dumped", "Heard", "Held", "JournalFault", "Killed", "Last", "LastWork", "Later", "Left",
+    "LogFault", "Look", "Member", "NoProgram", "NotUnderstood", "Received", "Released", "Reply", "Requeued",
+    "RolledOver", "Room", "Sent", "Session", "SessionBroken", "SessionClosed", "SessionEnded",
+    "SessionFault", "Submitted", "UnitEnd", "Unknown", "Work", "abort", "account", "balance", "cancel",
+    "claim", "claim_next", "collect", "commit", "connect", "count", "depth", "drain", "drain_next", "drop",
+    "dump", "errors", "family", "forget", "holds", "kill", "last", "last_work", "prepare", "read",
+    "receive", "refusals", "register", "release", "reply", "requeue", "rollover", "room", "send", "submit",
+    "take", "total", "turn", "waiting",
 ]  # fmt: skip
 
 __version__ = version()

@@ -20,7 +20,7 @@ Head     rows N  units N  limit N  spare N   (to 256, 1024, 7, 256; these first)
 Client   submit STAGE W0 W1 [W2 [W3]]                   submitted ID
          kill ID  cancel ROOT  requeue ID  release ID   killed ID aborted N ..
          reply ROOT  collect ROOT  family ROOT          replies ROOT ID:W0:W1 ..
-         read ID  errors  list STAGE [FROM]  depth  count  account   one line
+         read ID  errors  list STAGE [FROM]  depth  count  room  holds  account
          send NAME N STAGE W0 W1 ..  receive NAME N [ROOT]   N counts from 1
          register NAME  last NAME  forget NAME          last also of a worker
 Worker   claim NAME         NAME work ID unit U attempt N root R body W0:..:W3

@@ -195,6 +195,36 @@ class Depth:
 
 
 @dataclass(frozen=True)
+class Left:
+    """How many rows and units are left to the client, or to a server or worker."""
+
+    rows: int
+    units: int
+
+
+@dataclass(frozen=True)
+class Room:
+    """What is left: to the client, to each server and worker by its name, and to all of them in spare blocks.
+    """
+
+    client: Left
+    others: dict[str, Left]
+    spare: int
+
+
+@dataclass(frozen=True)
+class Held:
+    """An open unit of a server or worker, and the element that it took. `attempt` is None where another
+    caller has aborted the unit.
+    """
+
+    name: str
+    element: int
+    unit: int
+    attempt: int | None
+
+
+@dataclass(frozen=True)
 class Account:
     """How many elements were born, and how many have each status."""
 
@@ -208,12 +238,14 @@ class Account:
 
 @dataclass(frozen=True)
 class RolledOver:
-    """What is alive, by its id in the old manager, and its id in the new one; and by each worker that has an
-    element in hand the id of that one.
+    """What is alive, by its id in the old manager, and its id in the new one; by each worker that has an
+    element in hand the id of that one; and the root of what is alive where that isn't alive itself, by its
+    old id.
     """
 
     moved: dict[int, int]
     units: dict[str, int] = field(default_factory=dict)
+    roots: dict[int, int] = field(default_factory=dict)
 
 
 @dataclass(frozen=True)
@@ -338,8 +370,14 @@ def words_of(text: str) -> Words:
     return zero, one, two, three
 
 
-def carried_of(listed: list[str]) -> tuple[dict[int, int], dict[str, int]]:
-    """Returns what is listed as OLD:NEW, and behind the word `units` as NAME:NEW."""
-    at = listed.index("units") if "units" in listed else len(listed)
-    moved = {int(old): int(new) for old, new in (it.split(":") for it in listed[:at])}
-    return moved, {name: int(new) for name, new in (it.split(":") for it in listed[at + 1 :])}
+def carried_of(listed: list[str]) -> tuple[dict[int, int], dict[str, int], dict[int, int]]:
+    """Returns what is listed as OLD:NEW, behind `units` as NAME:NEW, and behind `roots` as OLD:NEW."""
+    parts: dict[str, list[list[str]]] = {"moved": [], "roots": [], "units": []}
+    part = parts["moved"]
+    for word in listed:
+        if word in parts:
+            part = parts[word]
+        else:
+            part.append(word.split(":"))
+    moved, roots = ({int(old): int(new) for old, new in parts[it]} for it in ("moved", "roots"))
+    return moved, {name: int(new) for name, new in parts["units"]}, roots

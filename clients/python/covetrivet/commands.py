@@ -311,6 +311,43 @@ def depth() -> Command[tuple[answers.Depth, ...]]:
     return Command("depth", read=read)
 
 
+def room() -> Command[answers.Room]:
+    """How many rows and units are left to the client and to each server and worker, and how many spare
+    blocks.
+    """
+
+    def read(heard: Heard) -> answers.Room:
+        found = heard.formed(r"room client (\d+:\d+)((?: [a-z]+ \d+:\d+)*) spare (\d+)")
+        words = found[2].split()
+        others = {name: left(told) for name, told in zip(words[::2], words[1::2])}
+        return answers.Room(left(found[1]), others, int(found[3]))
+
+    return Command("room", read=read)
+
+
+def left(told: str) -> answers.Left:
+    rows, units = map(int, told.split(":"))
+    return answers.Left(rows, units)
+
+
+def holds() -> Command[tuple[answers.Held, ...]]:
+    """Each open unit: who has it, and the element that it took."""
+
+    def read(heard: Heard) -> tuple[answers.Held, ...]:
+        found = [held.fullmatch(it) for it in heard.listed("holds")]
+        if None in found:
+            raise answers.NotUnderstood(f"{heard.command!r} was answered {heard.text!r}")
+        parts = [it.groups() for it in found if it]
+        ids = heard.elements([element for _, element, _, _ in parts])
+        return tuple(
+            answers.Held(name, element, int(unit), None if attempt == "lost" else int(attempt))
+            for (name, _, unit, attempt), element in zip(parts, ids)
+        )
+
+    held = re.compile(r"([a-z]{1,8}):(\d+):(\d+):(\d+|lost)")
+    return Command("holds", read=read)
+
+
 def waiting(stage: int, start: int = 0) -> Command[tuple[int, ...]]:
     """What waits in a stage, 1 to 15, is listed from an id on (`list`, which is a word of Python), at most
     200 ids. The next list starts at the last one plus 1.
@@ -375,12 +412,13 @@ def dump() -> Command[answers.Dumped]:
 
 @dataclass(frozen=True)
 class Restored:
-    """What a restore made alive: by each id in the head its id from then on; and by each worker that has an
-    element in hand the id of that one.
+    """What a restore made alive: by each id in the head its id from then on; by each worker that has an
+    element in hand the id of that one; and the root of what is alive where that isn't alive itself.
     """
 
     moved: dict[int, int]
     units: dict[str, int]
+    roots: dict[int, int]
 
 
 def restore() -> Command[Restored]:

@@ -10,6 +10,7 @@ import re
 from collections.abc import Callable, Iterable, Mapping
 from dataclasses import dataclass, field
 
+from covetrivet.answers import RolledOver
 from covetrivet.lines import NOBODY
 
 LOW = 0xFFFFFFFF
@@ -74,13 +75,12 @@ class Ids:
         """Returns the lasting id of what a worker has lost and hasn't heard of yet."""
         return self.lost.get(name, self.told(element))
 
-    def after(self, moved: Mapping[int, int], copies: Mapping[int, int], dumped: Iterable[str]) -> Ids:
-        """Returns the ids behind a rollover that moved these. `copies` has the old root, by the id of its
-        copy, where it wasn't alive. `dumped` are the lines of a dump before.
+    def after(self, moved: Mapping[int, int], roots: Mapping[int, int], dumped: Iterable[str]) -> Ids:
+        """Returns the ids behind a rollover that moved these. `roots` has the id of the copy of each root
+        that wasn't alive, by its old id. `dumped` are the lines of a dump before.
         """
-        olds = {**copies, **{new: old for old, new in moved.items()}}
-        told = {new: self.told(old) for new, old in olds.items()}
-        return Ids(self.past + 1, told, self.lost_in(dumped), frozenset(copies))
+        told = {new: self.told(old) for old, new in (*roots.items(), *moved.items())}
+        return Ids(self.past + 1, told, self.lost_in(dumped), frozenset(roots.values()))
 
     def lost_in(self, dumped: Iterable[str]) -> dict[str, int]:
         """Returns what these lines of a dump say is lost, by lasting ids. What was lost before an earlier
@@ -117,20 +117,13 @@ class Ids:
         return None if past is None else Ids(past, lasting, lost)
 
 
-def rolled_over(before: Ids, ids: Ids, moved: Iterable[int], units: Mapping[str, int]) -> str:
-    """Returns the answer to a rollover by lasting ids, which were these before."""
-    kept = sorted(map(before.told, moved))
+def rolled_over(before: Ids, ids: Ids, rolled: RolledOver) -> str:
+    """Returns the answer to a rollover by lasting ids, which were these before and are these now."""
+    kept = sorted(map(before.told, rolled.moved))
+    roots = [f"{it}:{it}" for it in map(before.told, rolled.roots)]
+    named = [f"{name}:{ids.told(it)}" for name, it in rolled.units.items()]
     told = [f"rolled over {len(kept)}", *(f"{it}:{it}" for it in kept)]
-    named = [f"{name}:{ids.told(it)}" for name, it in units.items()]
-    return " ".join([*told, "units", *named] if named else told)
-
-
-def copied_in(moved: Mapping[int, int], dumped: Iterable[str]) -> dict[int, int]:
-    """Returns the roots that aren't alive behind a dump of these lines, each with the new id of one of its
-    family: a look at that tells the id of the root's copy.
-    """
-    roots = roots_of(dumped)
-    return {roots[old]: new for old, new in moved.items() if roots[old] not in moved}
+    return " ".join([*told, *(["roots", *roots] if roots else []), *(["units", *named] if named else [])])
 
 
 def roots_of(dumped: Iterable[str]) -> dict[int, int]:

@@ -17,10 +17,12 @@ OF_ID = re.compile(
     r" *(kill|cancel|requeue|release|read|reply|collect|family|take +[a-z]{1,8}"
     r"|receive +[a-z]{1,8} +\d{1,20}|list +\d{1,20}) +(\d{1,20}) *"
 )
-# Which numbers are ids in the answers that are lists; behind the stage of `list`.
+# Which numbers are ids in the answers that are lists; behind the stage of `list`, and behind the names of
+# `holds`.
 LISTS = {
     **dict.fromkeys(("reply", "collect", "family", "errors"), re.compile(r"(?<= )\d+(?=[ :]|$)")),
     "list": re.compile(r"(?<=\d )\d+"),
+    "holds": re.compile(r"(?<=[a-z]:)\d+"),
 }
 OF_NAME = re.compile(
     r"\w+ (?:work|done|lost|full|already|aborted|refused) (\d+)"

@@ -10,7 +10,7 @@ from dataclasses import dataclass
 
 from covetrivet import commands
 from covetrivet.answers import Heard
-from covetrivet.ids import Ids, copied_in, rolled_over
+from covetrivet.ids import Ids, rolled_over
 from covetrivet.lasting import Sent, dumped_in, sent, told, told_dump
 from covetrivet.lines import UNKNOWN, is_rollover
 from covetrivet.pipe import Pipe
@@ -171,12 +171,9 @@ class LastingRelay(Relay):
         if answer.startswith("refused "):
             return answer
         rolled = commands.rollover().read(Heard(answer, "rollover"))
-        copied = copied_in(rolled.moved, lines)
-        looks = yield [f"read {it}" for it in copied.values()]
-        roots = [commands.read(0).read(Heard(it, "read")).root for it in looks]
-        ids = before.after(rolled.moved, dict(zip(roots, copied)), lines)
+        ids = before.after(rolled.moved, rolled.roots, lines)
         self.standing = Standing(ids, self.standing.lines, Use())
-        return rolled_over(before, ids, rolled.moved, rolled.units)
+        return rolled_over(before, ids, rolled)
 
     # ---- programs that end
 

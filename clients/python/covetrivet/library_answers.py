@@ -1,7 +1,7 @@
 """What calls of the C library answer where live sessions have nothing like it: refusals, and dataclasses."""
 from __future__ import annotations
 
-from dataclasses import dataclass, field
+from dataclasses import dataclass
 
 from covetrivet import answers, refusals
 from covetrivet.answers import Counts
@@ -38,12 +38,10 @@ class OtherManager(Refusal):
 
 @dataclass(frozen=True)
 class RolledOver(answers.RolledOver):
-    """The root of each request of which something is alive too, by its old one. A root that was consumed has
-    another one in its place, which the rollover made and consumed: the account counts it. No caller has
-    anything in hand.
+    """`roots` has the root of each request of which something is alive, by its old one, also where that is
+    alive itself. A root that was consumed has another one in its place, which the rollover made and consumed:
+    the account counts it. No caller has anything in hand.
     """
-
-    roots: dict[int, int] = field(default_factory=dict)
 
 
 # The codes of include/covetrivet.h that are no refusals, and those that are.

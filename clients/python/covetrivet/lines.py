@@ -12,7 +12,8 @@ OF_HEAD = (
 )  # fmt: skip
 # What changes nothing. A log needs none of it.
 QUIET = (
-    "read", "reply", "family", "errors", "count", "depth", "list", "balance", "sum", "account", "last", "dump"
+    "read", "reply", "family", "errors", "count", "depth", "list", "room", "holds", "balance", "sum",
+    "account", "last", "dump",
 )  # fmt: skip
 LONGEST_LINE = 208
 # The greatest id that a line may have. No element has it: there are 10,240 at most.

@@ -15,7 +15,7 @@ from covetrivet.answers import Dumped, Heard
 from covetrivet.batch import Batch, Later
 from covetrivet.commands import Command
 from covetrivet.faults import LogFault, SessionBroken, SessionClosed
-from covetrivet.ids import Ids, copied_in, rolled_over
+from covetrivet.ids import Ids, rolled_over
 from covetrivet.lines import (
     NOBODY, beginning, checked, head_of, is_answered, is_empty, is_for_logs, is_only_head, is_rollover,
     is_to_restore, pieces_of,
@@ -209,7 +209,7 @@ class Session:
         told = {(before.told(old) if before else old): new for old, new in restored.moved.items()}
         self.moved, self.units = told, restored.units
         if self._ids:
-            self._ids = self._ids_after(before or Ids(), restored.moved, head)
+            self._ids = (before or Ids()).after(restored.moved, restored.roots, head)
             self.moved, self.units = {it: it for it in told}, self._lasting(restored.units)
 
     def _roll_over_again(self) -> None:
@@ -335,6 +335,8 @@ class Session:
     forget = asked(commands.forget)
     count = asked(commands.count)
     depth = asked(commands.depth)
+    room = asked(commands.room)
+    holds = asked(commands.holds)
     waiting = asked(commands.waiting)
     balance = asked(commands.balance)
     total = asked(commands.total)
@@ -445,21 +447,12 @@ class Session:
         self.rollovers += 1
         if self._ids is None:
             return answer
-        before, self._ids = self._ids, self._ids_after(self._ids, rolled.moved, dumped)
-        return rolled_over(before, self._ids, rolled.moved, rolled.units)
+        before, self._ids = self._ids, self._ids.after(rolled.moved, rolled.roots, dumped)
+        return rolled_over(before, self._ids, rolled)
 
     def _lasting(self, units: dict[str, int]) -> dict[str, int]:
         """Returns what workers have in hand, by the ids that the session tells."""
         return {name: self._ids.told(it) if self._ids else it for name, it in units.items()}
-
-    def _ids_after(self, ids: Ids, moved: dict[int, int], dumped: Sequence[str]) -> Ids:
-        """Returns the ids behind a rollover that moved these, or a restore of these lines of a dump. A root
-        that isn't alive has a copy, whose id is asked for.
-        """
-        one_of = copied_in(moved, dumped)
-        answers = self._exchange([f"read {it}" for it in one_of.values()])
-        looks = [commands.read(0).read(Heard(it, "read")) for it in answers]
-        return ids.after(moved, {look.root: old for old, look in zip(one_of, looks)}, dumped)
 
     def _shorten_log(self) -> None:
         if self._log is None or self._log_path is None:

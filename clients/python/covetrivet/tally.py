@@ -12,8 +12,8 @@ from covetrivet.relay import Asked
 
 VERBS = frozenset(
     "submit claim take next commit abort turn prepare drop kill cancel requeue release read reply collect"
-    " family errors count depth list balance sum account drain rollover dump restore register send receive"
-    " last forget".split()
+    " family errors count depth list room holds balance sum account drain rollover dump restore register send"
+    " receive last forget".split()
 )
 
 

@@ -310,7 +310,9 @@ ERRORS = [
     Error("ids.py", "self.lost.pop(name)", "self.lost[name]", "Logs.test_a_short_log_with_work_in_hand"),
     Error("ids.py", "self.lost.get(it[1], ", "max(0, ", "Rollovers.test_what_was_lost_is_told_by_its_id"),
     Error("ids.py", "*lasts, *lost]", "*lasts]", "Rollovers.test_what_was_lost_is_told_by_its_id"),
-    Error("ids.py", ", frozenset(copies))", ")", "Rollovers.test_pages_while_all_else_goes_on"),
+    Error("ids.py", ", frozenset(roots.values()))", ")", "Rollovers.test_pages_while_all_else_goes_on"),
+    Error("ids.py", "(*roots.items(), *moved", "(*(), *moved", "Rollovers.test_roots_that_no_answer_told"),
+    Error("lasting.py", "(?<=[a-z]:)", "(?<=[0-9]:)", "LastingLines.test_lines_and_answers"),
     Error(
         "ids.py", "since << 32 <= last < lasting", "last < lasting",
         "Rollovers.test_pages_while_all_else_goes_on",

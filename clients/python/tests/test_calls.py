@@ -6,8 +6,8 @@ import unittest
 from collections.abc import Callable
 
 from covetrivet import (
-    Account, Command, Counts, Depth, Done, Draft, Look, Member, Released, Reply, Session, SessionClosed,
-    SessionEnded, Work, claim, count, depth, kill, refusals, rollover, submit, waiting,
+    Account, Command, Counts, Depth, Done, Draft, Held, Left, Look, Member, Released, Reply, Room, Session,
+    SessionClosed, SessionEnded, Work, claim, count, depth, kill, refusals, rollover, submit, waiting,
 )  # fmt: skip
 
 HEAD = ["rows 8", "units 8", "limit 2", "server till eager 2 1 add", "start till 0 100", "worker packer 1"]
@@ -124,6 +124,31 @@ class Calls(unittest.TestCase):
             self.assertEqual(session.waiting(1, ids[299] + 1), tuple(ids[300:]))
             self.assertEqual([*session.all_waiting(1)], ids)
             self.assertEqual([*session.all_waiting(2)], [])
+
+    def test_what_is_left(self) -> None:
+        head = ["rows 2", "units 8", "spare 2", "server till eager 2 1 add", "worker packer 1"]
+        with Session(head) as session:
+            full = Left(2, 8)
+            self.assertEqual(session.room(), Room(full, {"till": full, "packer": full}, 2))
+            # The third element is in a spare block, of which 7 rows are left.
+            for amount in (1, 2, 3):
+                session.submit(1, 5, amount)
+            session.claim("packer")
+            session.commit("packer", Draft(15, 5))
+            self.assertEqual(session.room(), Room(Left(7, 8), {"till": full, "packer": Left(1, 7)}, 1))
+
+    def test_who_holds_what(self) -> None:
+        session = self.session
+        self.assertEqual(session.holds(), ())
+        for stage in (1, 2):
+            session.submit(stage, 0, 7)
+        session.claim("packer")
+        session.abort("packer")
+        session.claim("packer")
+        session.claim("till")
+        self.assertEqual(session.holds(), (Held("till", 1, 8, 1), Held("packer", 0, 17, 2)))
+        session.kill(0)
+        self.assertEqual(session.holds(), (Held("till", 1, 8, 1), Held("packer", 0, 17, None)))
 
     def test_drains(self) -> None:
         session = self.session

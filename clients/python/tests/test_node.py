@@ -65,6 +65,10 @@ next wa | next wa
   wa work 4 unit 3 attempt 3 root 3 body 3:4:3:4 | wa work 9 unit 3 attempt 3 root 4294967303 body 3:4:3:4
 depth | depth
   depth 3:4:10:3 | depth 3:4:10:3
+room | room
+  room client 3:4 till 4:10 spare 3 | room client 3:4 till 4:10 spare 3
+holds | holds
+  holds till:3:4:3 wa:4:10:lost | holds till:4294967303:4:3 wa:9:10:lost
 list 3 | list 3
   list 3 3 4 10 | list 3 4294967303 9 8589934602
 list 4 | list 4
@@ -169,7 +173,7 @@ class LastingLines(unittest.TestCase):
         self.assertEqual(comments, ["# covetrivet: rollovers 2", *lasts, *lost])
         self.assertEqual(Ids.of(comments), Ids(2, self.IDS.lasting, {"wb": 12, "wc": 9}))
         behind = Ids(3, {0: 4294967303, 1: 2 << 32 | 5, 6: 9}, {"wb": 12, "wc": 9}, frozenset({6}))
-        self.assertEqual(ids.after({3: 0, 5: 1}, {6: 4}, dumped), behind)
+        self.assertEqual(ids.after({3: 0, 5: 1}, {4: 6}, dumped), behind)
 
     def test_ids_that_no_element_has(self) -> None:
         # 3 and 4 are two of the manager's own numbers, and last as others; 5 was born before the rollovers.

@@ -141,8 +141,8 @@ class Commands(unittest.TestCase):
         words = re.findall("[a-z]+", command("--help").stdout)
         wanted = "rows units limit spare server start worker alive submit claim next take prepare commit"
         wanted += " abort drop turn kill cancel requeue release read reply collect family errors count"
-        wanted += " depth list balance sum account drain rollover dump restore register send receive last"
-        wanted += " forget"
+        wanted += " depth list room holds balance sum account drain rollover dump restore register send"
+        wanted += " receive last forget"
         self.assertEqual([it for it in wanted.split() if it not in words], [])
 
     def test_version(self) -> None:

@@ -19,7 +19,8 @@ class Rollovers(unittest.TestCase):
             session.claim("packer")
             self.assertEqual(session.rollover(), RolledOver({0: 0, 1: 1}, {"packer": 0}))
             session.commit("packer", Draft(2, 0, 10), Draft(15, 5, 6))
-            self.assertEqual(session.rollover(), RolledOver({1: 0, 16: 17, 17: 18}))
+            # The copy of 0, which is consumed, is the first in the rows of what it is the root of.
+            self.assertEqual(session.rollover(), RolledOver({1: 0, 16: 17, 17: 18}, roots={0: 16}))
             self.assertEqual(session.reply(16), (Reply(18, (5, 6, 0, 0)),))
             session.claim("till")
             for call in session.rollover, session.dump:

@@ -46,4 +46,11 @@ impl Aside {
     {
         self.work.is_some()
     }
+
+    /// The element in hand, with the unit of work that holds it.
+    pub fn in_hand(&self) -> Option<Work>
+        ensures { result ≡ self.now.work }
+    {
+        self.work
+    }
 }

@@ -13,6 +13,8 @@ use Rattle.tp_perform.specs.Rollover.{renamed}
 use Rattle.tp_script.specs.Fault.{◌<>◌}
 use Rattle.tp_session.specs.Answers.{units_text}
 use Rattle.tp_session.specs.NoteTexts.{note_lines}
+use Rattle.tp_session.specs.Overviews.{names_of}
+use Rattle.tp_session.specs.Roots.{roots_of, roots_text}
 use Rattle.tp_exact.specs.Alive.{alive_of}
 use Rattle.tp_report.specs.declared.answer.Renamed.{Renamed}
 use Rattle.tp_desk.specs.declared.order.Order.{Order}
@@ -30,6 +32,7 @@ use Rattle.tp_script.specs.declared.script.Command.TheVariants.{Client, Desk, Ba
 use Rattle.tp_script.specs.declared.script.DeskAct.{DeskAct}
 use Rattle.tp_session.specs.Dump.{all_starts, drop_lines, drop_of, dump_text, life_text, lost_lines, server_line, server_starts, settings_lines, worker_text}
 use Rattle.tp_session.specs.declared.hand.Holding.{Holding}
+use Rattle.tp_exact.specs.PlainOverviews.{overview_line}
 use Rattle.tp_exact.specs.PlainSession.{Refusals, SessionState, act_step, anew_as, command_by, dump_of, first_refusal, has_desk_open, last_step, line_step, lines_step, other_refusals, rolled_over, unless_refused, worker_step, works_in}
 
 -- what acts go by of a server
@@ -128,6 +131,13 @@ module _ (gs hs : List ServerView) (alike : map strip gs ≡ map strip hs) where
   same_lines : map server_line gs ≡ map server_line hs
   same_lines = lines_stripped gs ∙ (ap (λ (vs : List ServerView). map server_line vs) alike ∙ sym (lines_stripped hs))
 
+  names_stripped : (vs : List ServerView) → map (λ v. v.name) vs ≡ map (λ v. v.name) (map strip vs)
+  names_stripped [] = refl
+  names_stripped (v ∷ vs) = ap (λ z. v.name ∷ z) (names_stripped vs)
+
+  same_names : map (λ v. v.name) gs ≡ map (λ v. v.name) hs
+  same_names = names_stripped gs ∙ (ap (λ (vs : List ServerView). map (λ v. v.name) vs) alike ∙ sym (names_stripped hs))
+
   starts_stripped : (r : Option (List ℕ)) (o : Option ServerView) → server_starts o r ≡ server_starts (option_map strip o) r
   starts_stripped None None = refl
   starts_stripped None (Some v) = refl
@@ -178,7 +188,7 @@ module _ (g h : HeadView) (same : SayTheSame g h) where
   same_anew : (told : List Renamed → List ℕ) (before : List Holding) (left s : SessionState) (o : Option (List Moved × State)) → anew_as told g before left s o ≡ anew_as told h before left s o
   same_anew told before left s None = refl
   same_anew told before left s (Some (moved, manager)) =
-      ap (λ (ws : List WorkerView). (line (told (map renamed moved) <> units_text ws (works_in s moved manager before)), (anew_as told h before left s (Some (moved, manager))).1)) same.workers
+      ap (λ (ws : List WorkerView). (line (told (map renamed moved) <> roots_text (roots_of moved) <> units_text ws (works_in s moved manager before)), (anew_as told h before left s (Some (moved, manager))).1)) same.workers
 
   same_rolled : (s : SessionState) → rolled_over g s ≡ rolled_over h s
   same_rolled s = same_anew rolled_text s.works s s _
@@ -214,6 +224,9 @@ module _ (g h : HeadView) (same : SayTheSame g h) where
   same_act why acts.Dump s is = ap (λ lines. unless_refused (has_desk_open s) why s (dump_text lines, s)) (same_dump s)
   same_act why acts.Restore s is = absurd is
   same_act why (acts.Noted name act) s is = refl
+  same_act why (acts.Overview what) s is =
+      let named : names_of g ≡ names_of h = ap (λ ns. ns ++ map (λ x. x.name) g.workers) (same_names g.servers h.servers same.servers) ∙ ap (λ (ws : List WorkerView). map (λ v. v.name) h.servers ++ map (λ x. x.name) ws) same.workers in
+      ap (λ names. (overview_line names what s.report.manager s.report.desks s.works, s)) named
   same_act why (acts.Last at) s is = ap (λ (ws : List WorkerView). (last_step (slice_get ws at) at s, s)) same.workers
 
   -- ---- lines

@@ -30,6 +30,7 @@ use Rattle.tp_perform.specs.Scenes.{Scene, own_passes, passes_in}
 use Rattle.tp_reference.specs.declared.plain_desk.PlainDesk.{PlainDesk}
 use Rattle.tp_alone.specs.Thread.{AreTogether, not_given, state_of, thread_of}
 use Rattle.tp_alone.proofs.Idle.{alone_idle}
+use Rattle.tp_session.specs.Roots.{roots_of, roots_text}
 use Rattle.tp_session.specs.Answers.{restored_text, units_text}
 use Rattle.tp_session.specs.Carried.{hand_after, held_in, lost_works, works_after}
 use Rattle.tp_session.specs.Dump.{dump_text}
@@ -326,10 +327,10 @@ module _ (head : Head) (old new : Live) (text : List ℕ) (s : SessionState) (is
       ∙ (ap (λ (us : List (Option ℕ)). length us) (sym holds.workers) ∙ length-map scene.racers (λ (p : PassShown). p.open_unit))
 
   abbrev done_with : (List Renamed → List ℕ) → List Moved → State → List Holding → NotesView → List ℕ × SessionState
-  done_with told moved m works notes = (line (told (map renamed moved) <> units_text h.workers works), with_manager m works notes)
+  done_with told moved m works notes = (line (told (map renamed moved) <> roots_text (roots_of moved) <> units_text h.workers works), with_manager m works notes)
 
   made_so : (told : List Renamed → List ℕ) (survivors : List Survivor) (before : List Holding) (left : SessionState) (moved : List Moved) (m : State) → made_anew l l.parts survivors (start l) ≡ Some (moved, m) → works_in s moved m before ≡ new.works → new.notes ≡ notes_in moved old.notes
-      → text ≡ line (told (map renamed moved) <> units_text h.workers new.works) → StandsLive h new (with_manager m new.works new.notes) → IsStep h new text (anew told h survivors before left s)
+      → text ≡ line (told (map renamed moved) <> roots_text (roots_of moved) <> units_text h.workers new.works) → StandsLive h new (with_manager m new.works new.notes) → IsStep h new text (anew told h survivors before left s)
   made_so told survivors before left moved m made works notes text_is stands =
       subst (λ o. IsStep h new text (anew_as told h before left s o)) (sym (ap (λ (z : Limits). made_anew z z.parts survivors (start z)) limits_are ∙ made))
       (subst (λ ws. IsStep h new text (done_with told moved m ws (notes_in moved s.notes))) (sym works)

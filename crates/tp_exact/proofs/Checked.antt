@@ -17,7 +17,7 @@ use Rattle.tp_script.specs.declared.script.TheConstants.{MAX_SERVERS}
 use Rattle.tp_model.specs.declared.types.TheConstants.{MAX_ATTEMPTS, MAX_BLOCKS, MAX_PART_ROWS, MAX_UNITS}
 use Rattle.tp_script.specs.Alive.{AliveWords, alive_at}
 use Rattle.tp_script.specs.Commands.{stage_at}
-use Rattle.tp_script.specs.Grammar.{account_at, act_at, alive_line, dump_at, ends_head, head_keyword, head_words, held_line, in_head, limit_line, lost_line, restore_at, rows_line, setting_at, spare_line, units_line, unless_waiting, waits_for_restore, with_alive, with_lost, worker_line}
+use Rattle.tp_script.specs.Grammar.{account_at, act_at, alive_line, dump_at, ends_head, head_keyword, head_words, held_line, in_head, limit_line, lost_line, overview_at, restore_at, rows_line, setting_at, spare_line, units_line, unless_waiting, waits_for_restore, with_alive, with_lost, worker_line}
 use Rattle.tp_script.specs.Clients.{ClientWords, client_line, client_words, has_request, known_client, note_of, noted_at, nothing_noted, register_line, request_line, with_client, with_registered, with_request}
 use Rattle.tp_script.specs.Ends.{EndWords, end_of, ended_line, ended_words, unended_worker, with_end}
 use Rattle.tp_script.specs.Notes.{NameView}
@@ -308,6 +308,7 @@ keyword_good driver first.Lost ws h t is good = in_good (two ws >>= λ w. lost_l
 keyword_good driver (first.Do v) ws h t is good = ends_good (unless_waiting (waits_for_restore h) (act_at driver v ws h)) h t is good
 keyword_good driver first.Dump ws h t is good = ends_good (unless_waiting (waits_for_restore h) (dump_at ws)) h t is good
 keyword_good driver first.Account ws h t is good = ends_good (unless_waiting (waits_for_restore h) (account_at ws)) h t is good
+keyword_good driver (first.Overview what) ws h t is good = ends_good (unless_waiting (waits_for_restore h) (overview_at what ws)) h t is good
 keyword_good driver first.Client ws h t is good = in_good (client_line ws h) h t is (λ s so. client_good ws h s so good)
 keyword_good driver first.Request ws h t is good = in_good (two ws >>= λ w. request_line w h) h t is (λ s so. let a = went (two ws) (λ w. request_line w h) s so in request_good a.0.0 a.0.1 h s a.2 good)
 keyword_good driver first.Ended ws h t is good = in_good (ended_line ws h) h t is (λ s so. ended_good ws h s so good)

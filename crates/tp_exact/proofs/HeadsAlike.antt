@@ -176,6 +176,7 @@ module _ (g h : HeadView) (same : SameNames g h) where
   same_keyword d first.Restore ws = refl
   same_keyword d first.Dump ws = refl
   same_keyword d first.Account ws = refl
+  same_keyword d (first.Overview what) ws = refl
   same_keyword d (first.Do v) ws = same_act d v ws
 
   same_known : (d : Driver) (o : Option Keyword) (ws : List (List ℕ)) → (known o Syntax >>= λ k. body_keyword d k ws g >>= λ a. Ok (Some a)) ≡ (known o Syntax >>= λ k. body_keyword d k ws h >>= λ a. Ok (Some a))
@@ -274,6 +275,7 @@ module _ (h : HeadView) where
   never_keyword d first.Restore ws = never_ordered (none ws)
   never_keyword d first.Dump ws = never_bound (none ws) _ (λ _. tt)
   never_keyword d first.Account ws = never_bound (none ws) _ (λ _. tt)
+  never_keyword d (first.Overview what) ws = never_bound (none ws) _ (λ _. tt)
   never_keyword d (first.Do v) ws = never_act d v ws
 
   asked : (r : Result Act LineFault) → IsOther r → AsksNoRestore (r >>= λ a. Ok (Some a))
@@ -284,6 +286,7 @@ module _ (h : HeadView) where
   asked (Ok acts.Restore) is = is
   asked (Ok (acts.Noted name act)) is = tt
   asked (Ok (acts.Last at)) is = tt
+  asked (Ok (acts.Overview what)) is = tt
   asked (Err why) is = tt
 
   known_asked : (o : Option Keyword) (ws : List (List ℕ)) → AsksNoRestore (known o Syntax >>= λ k. body_keyword drivers.Session k ws h >>= λ a. Ok (Some a))

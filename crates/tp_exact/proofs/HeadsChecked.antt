@@ -79,6 +79,7 @@ module _ (s : ScriptView) (good : Good s.head) where
   said_kept (Some acts.Restore) t is = act_kept acts.Restore t is
   said_kept (Some (acts.Noted name act)) t is = act_kept (acts.Noted name act) t is
   said_kept (Some (acts.Last worker)) t is = act_kept (acts.Last worker) t is
+  said_kept (Some (acts.Overview what)) t is = act_kept (acts.Overview what) t is
 
   behind_kept : (said : Result (Option Act) LineFault) (t : ScriptView) → behind_account said s ≡ Ok t → Kept t
   behind_kept (Ok None) t is = subst Kept (went_to s t is) good
@@ -272,6 +273,12 @@ keyword_raceless first.Dump ws h c is =
     absurd (other (went_to acts.Dump (acts.Command c) b.2))
   where
     other : acts.Dump ≡ acts.Command c → ⊥
+    other e = cc
+keyword_raceless (first.Overview what) ws h c is =
+    let b = went (none ws) (λ u. Ok (acts.Overview what)) (acts.Command c) is in
+    absurd (other (went_to (acts.Overview what) (acts.Command c) b.2))
+  where
+    other : acts.Overview what ≡ acts.Command c → ⊥
     other e = cc
 
 all_words_raceless : (ws : List (List ℕ)) (h : HeadView) (c : Command) → body_words drivers.Session ws h ≡ Ok (Some (acts.Command c)) → is_race c ≡ false

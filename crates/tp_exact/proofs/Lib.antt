@@ -29,6 +29,7 @@ pub mod Receives
 pub mod NotedActs
 pub mod SessionLines
 pub mod NotedLines
+pub mod Overviews
 pub mod NoteKeeps
 pub mod Repeats
 pub mod Anews

@@ -67,7 +67,7 @@ module _ (head : Head) (old new : Live) (text : List ℕ) (s : SessionState) (is
     gathered : Gathered old.stand.manager old.stand.keeper new.stand.keeper acted new.stand.scene
     gathered = subst (λ (x : Stand). Gathered x.manager x.keeper new.stand.keeper x.scene new.stand.scene) stand gathers.gathered
 
-    client_acts : Acts l old.stand.keeper new.stand.keeper (passes_in scene) (passes_in new.stand.scene) old.stand.keeper.seen new.stand.keeper.seen client scene.client p
+    pub client_acts : Acts l old.stand.keeper new.stand.keeper (passes_in scene) (passes_in new.stand.scene) old.stand.keeper.seen new.stand.keeper.seen client scene.client p
     client_acts = record {
       before = is.stands.together;
       front = [];
@@ -78,7 +78,7 @@ module _ (head : Head) (old new : Live) (text : List ℕ) (s : SessionState) (is
       after = now_together head old new text s is acted new.stand.keeper new.stand.scene refl gathered;
     }
 
-    leaves : (m : State) (n : NotesView) → now ≡ m → done.works ≡ old.works → done.notes ≡ n → StandsLive h new (record s { report = record s.report { manager = m }; notes = n })
+    pub leaves : (m : State) (n : NotesView) → now ≡ m → done.works ≡ old.works → done.notes ≡ n → StandsLive h new (record s { report = record s.report { manager = m }; notes = n })
     leaves m n same works notes = record {
       stands = subst (λ (x : ManagerShown). Stands h.servers x.limits new.stand.keeper new.stand.keeper.seen new.stand.scene (record s.report { manager = m })) (sym (gathers.manager ∙ ap (λ (x : Stand). x.manager) stand))
           (stands_so head old new text s is acted new.stand.keeper new.stand.scene refl gathered m (sym same));

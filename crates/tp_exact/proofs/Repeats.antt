@@ -192,6 +192,7 @@ module _ (name : NameView) (sent received : ℕ) where
       (anew_has restored_text h (lost_works h.lost 0 s.works) (unrestored s) s (made_anew l l.parts (survivors_of h) (start l)) (unrestored_has s has) has)
   act_has h why (acts.Noted other act) s kept has = noted_has other act s.notes s.report.manager (λ e. kept other (ap (λ a. acts.Noted other a) e)) has
   act_has h why (acts.Last at) s kept has = has
+  act_has h why (acts.Overview what) s kept has = has
 
   line_has : (h : HeadView) (n : ℕ) (why : Option RollFault) (r : Result (Option Act) LineFault) (s : SessionState) → ((other : NameView) → r ≡ Ok (Some (acts.Noted other asks.Forget)) → is_named name other ≡ false) → DoneIn s → DoneIn (line_step h n why r s).1
   line_has h n why (Ok None) s kept has = has

@@ -57,6 +57,7 @@ asked_so acts.Dump raceless = refl
 asked_so acts.Restore raceless = refl
 asked_so (acts.Noted name a) raceless = refl
 asked_so (acts.Last at) raceless = refl
+asked_so (acts.Overview what) raceless = refl
 
 acts_are : (head : Head) (raced : ℕ) (all : List Act) (old last : Live) (text : List ℕ) (s : SessionState) → has_race all ≡ false → StandsLive (head_view head) old s → ActsTold head raced all old text last
     → AreSteps (head_view head) last text (λ refusals. acts_step (head_view head) refusals all s)

@@ -11,6 +11,7 @@ use Rattle.tp_exact.specs.PlainSession.{SessionState, command_by}
 use Rattle.tp_exact.specs.Sessions.{ExactLine, IsStep, IsUnforeseen, StandsLive}
 use Rattle.tp_exact.proofs.Anews.{by_dump, by_restore, by_rollover}
 use Rattle.tp_exact.proofs.NotedLines.{by_last, by_noted}
+use Rattle.tp_exact.proofs.Overviews.{by_overview}
 use Rattle.tp_exact.proofs.SessionLines.{by_account, by_command, by_worker}
 
 -- a command, by whether it is a rollover
@@ -28,4 +29,5 @@ exact_line head n (Ok (Some acts.Dump)) old new text s raceless is t = by_dump h
 exact_line head n (Ok (Some acts.Restore)) old new text s raceless is t = by_restore head old new text s is t.holds t
 exact_line head n (Ok (Some (acts.Noted name act))) old new text s raceless is t = (None, tt, by_noted head old new text s is name act t)
 exact_line head n (Ok (Some (acts.Last at))) old new text s raceless is t = (None, tt, by_last head old new text s is at t)
+exact_line head n (Ok (Some (acts.Overview what))) old new text s raceless is t = (None, tt, by_overview head old new text s is what t)
 exact_line head n (Ok (Some (acts.Command c))) old new text s raceless is t = command_so head c (is_rollover c) old new text s raceless is t

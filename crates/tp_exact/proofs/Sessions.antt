@@ -58,6 +58,7 @@ no_race (Ok (Some acts.Dump)) raceless = refl
 no_race (Ok (Some acts.Restore)) raceless = refl
 no_race (Ok (Some (acts.Noted name a))) raceless = refl
 no_race (Ok (Some (acts.Last at))) raceless = refl
+no_race (Ok (Some (acts.Overview what))) raceless = refl
 no_race (Ok (Some (acts.Command c))) raceless = raceless c refl
 
 act_same : (x y : Act) → ◌≡◌ {A = Result (Option Act) LineFault} (Ok (Some x)) (Ok (Some y)) → x ≡ y
@@ -296,6 +297,7 @@ act_unasked h why acts.Dump s none = absurd cc
 act_unasked h why acts.Restore s none = absurd cc
 act_unasked h why (acts.Noted name a) s none = refl
 act_unasked h why (acts.Last at) s none = refl
+act_unasked h why (acts.Overview what) s none = refl
 act_unasked h why (acts.Command c) s none = ap (λ b. command_by b h why c s) none ∙ sym (ap (λ b. command_by b h None c s) none)
 
 line_unasked : (h : HeadView) (n : ℕ) (why : Option RollFault) (said : Result (Option Act) LineFault) (s : SessionState) → asks_refusable said ≡ false → line_step h n why said s ≡ line_step h n None said s

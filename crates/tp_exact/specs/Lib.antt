@@ -7,6 +7,7 @@ pub mod Desks
 pub mod PlainWorkers
 pub mod PlainNotes
 pub mod Alive
+pub mod PlainOverviews
 pub mod PlainSession
 pub mod Repeats
 pub mod Sessions

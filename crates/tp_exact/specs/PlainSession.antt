@@ -34,10 +34,13 @@ use Rattle.tp_session.specs.Lasts.{end_at}
 use Rattle.tp_session.specs.Live.{survivors_of}
 use Rattle.tp_session.specs.Notes.{NotesView, notes_in, notes_of, with_end}
 use Rattle.tp_session.specs.NoteTexts.{last_hand}
+use Rattle.tp_session.specs.Overviews.{names_of}
+use Rattle.tp_session.specs.Roots.{roots_of, roots_text}
 use Rattle.tp_session.specs.declared.hand.Holding.{Holding}
 use Rattle.tp_session.specs.declared.hand.Holding.TheVariants.{Nothing}
 use Rattle.tp_exact.specs.Alive.{alive_of}
 use Rattle.tp_exact.specs.PlainNotes.{NotedAnswered, hand_of, noted_does}
+use Rattle.tp_exact.specs.PlainOverviews.{overview_line}
 use Rattle.tp_exact.specs.PlainWorkers.{worker_does}
 
 -- the manager and the desks, as in a script's run, what each worker has in hand, and what is noted
@@ -112,7 +115,7 @@ abbrev pub anew_as : (List Renamed → List ℕ) → HeadView → List Holding �
     → Option (List Moved × State) → List ℕ × SessionState
 anew_as told h before left s (Some (moved, manager)) =
     let works = works_in s moved manager before in (
-      line (told (map renamed moved) <> units_text h.workers works),
+      line (told (map renamed moved) <> roots_text (roots_of moved) <> units_text h.workers works),
       record {
         report = record s.report { manager = manager };
         works = works;
@@ -175,6 +178,8 @@ act_step h why acts.Dump s = unless_refused (has_desk_open s) why s (dump_text (
 act_step h why acts.Restore s = unless_refused (is_open s) why (unrestored s) (restored h s)
 act_step h why (acts.Noted name act) s = noted_step (noted_does name act s.notes s.report.manager) s
 act_step h why (acts.Last at) s = (last_step (slice_get h.workers at) at s, s)
+act_step h why (acts.Overview what) s =
+    (overview_line (names_of h) what s.report.manager s.report.desks s.works, s)
 
 -- a line after the head, which is the n-th of all lines
 abbrev pub line_step : HeadView → ℕ → Option RollFault → Result (Option Act) LineFault → SessionState

@@ -22,6 +22,7 @@ use Rattle.tp_script.specs.declared.keyword.Verb.TheVariants as verb
 use Rattle.tp_script.specs.declared.notes.ClientNote.{ClientNote}
 use Rattle.tp_script.specs.declared.script.Command.{Command}
 use Rattle.tp_script.specs.declared.script.DeskAct.TheVariants as desk
+use Rattle.tp_script.specs.declared.script.Overview.{Overview}
 use Rattle.tp_script.specs.Alive.{alive_at, alive_words}
 use Rattle.tp_script.specs.Clients.{client_line, client_words, noted_at, register_at, register_line}
 use Rattle.tp_script.specs.Clients.{request_line}
@@ -181,6 +182,10 @@ account_at ws = none ws >>= λ _. Ok act.Account
 abbrev pub dump_at : List (List ℕ) → Result Act LineFault
 dump_at ws = none ws >>= λ _. Ok act.Dump
 
+-- `room` or `holds`
+abbrev pub overview_at : Overview → List (List ℕ) → Result Act LineFault
+overview_at what ws = none ws >>= λ _. Ok (act.Overview what)
+
 -- `restore`
 abbrev pub restore_at : List (List ℕ) → Result Act LineFault
 restore_at ws = none ws >>= λ _. Ok act.Restore
@@ -234,6 +239,7 @@ head_keyword driver (first.Noted v) ws h = ends_head h (unless_waiting (waits_fo
 head_keyword driver (first.Do v) ws h = ends_head h (unless_waiting (waits_for_restore h) (act_at driver v ws h))
 head_keyword driver first.Dump ws h = ends_head h (unless_waiting (waits_for_restore h) (dump_at ws))
 head_keyword driver first.Account ws h = ends_head h (unless_waiting (waits_for_restore h) (account_at ws))
+head_keyword driver (first.Overview what) ws h = ends_head h (unless_waiting (waits_for_restore h) (overview_at what ws))
 head_keyword driver first.Restore ws h = ends_head h (restore_at ws)
 
 -- the words of a line of the head
@@ -272,6 +278,7 @@ body_keyword driver (first.Noted v) ws h = noted_at v ws h
 body_keyword driver first.Restore ws h = out_of_order (none ws)
 body_keyword driver first.Dump ws h = dump_at ws
 body_keyword driver first.Account ws h = account_at ws
+body_keyword driver (first.Overview what) ws h = overview_at what ws
 body_keyword driver (first.Do v) ws h = act_at driver v ws h
 
 -- the words of such a line, which asks for nothing where there are none

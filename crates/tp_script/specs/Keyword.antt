@@ -4,11 +4,12 @@ use Rattle.std.specs.Str.{bytes_eq}
 use Rattle.tp_script.specs.declared.keyword.Keyword.{Keyword}
 use Rattle.tp_script.specs.declared.keyword.Keyword.TheVariants.{Rows, Units, Limit, Spare, Server, Start, Do}
 use Rattle.tp_script.specs.declared.keyword.Keyword.TheVariants.{Worker, Alive, Held, Lost, Restore, Dump}
-use Rattle.tp_script.specs.declared.keyword.Keyword.TheVariants.{Account, Client, Request, Ended}
+use Rattle.tp_script.specs.declared.keyword.Keyword.TheVariants.{Account, Client, Request, Ended, Overview}
 use Rattle.tp_script.specs.declared.keyword.Keyword.TheVariants.{Register, Noted}
 use Rattle.tp_script.specs.declared.keyword.NotedVerb.TheVariants as noted
 use Rattle.tp_script.specs.declared.keyword.Verb.TheVariants as verb
 use Rattle.tp_script.specs.declared.script.DeskAct.TheVariants as desk
+use Rattle.tp_script.specs.declared.script.Overview.TheVariants as overviews
 
 -- how each first word is written, and what its line is
 abbrev pub first_words : List (List ℕ × Keyword)
@@ -60,6 +61,8 @@ first_words =
     ∷ (codes "restore", Restore)
     ∷ (codes "dump", Dump)
     ∷ (codes "account", Account)
+    ∷ (codes "room", Overview overviews.Room)
+    ∷ (codes "holds", Overview overviews.Holds)
     ∷ []
 
 -- what a line of this first word is

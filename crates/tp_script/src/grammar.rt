@@ -8,7 +8,7 @@ ghost use Rattle.tp_script.specs.declared.head.Act.{Act};
 ghost use Rattle.tp_script.specs.Grammar.{account_at, act_at, body_at, body_keyword, body_words, dump_at, given_by};
 ghost use Rattle.tp_script.specs.Grammar.{head_at, head_keyword, head_words, is_comment, limit_line, line_words};
 ghost use Rattle.tp_script.specs.Grammar.{out_of_order, restore_at, rows_line, setting_at, spare_line, units_line};
-ghost use Rattle.tp_script.specs.Grammar.{names_an_id, unless_waiting, waits_for_restore};
+ghost use Rattle.tp_script.specs.Grammar.{names_an_id, overview_at, unless_waiting, waits_for_restore};
 ghost use Rattle.tp_script.specs.Keyword.{keyword};
 ghost use Rattle.tp_script.specs.LineWords.{known, one};
 ghost use Rattle.tp_script.specs.Ranges.{IsActInRange, IsActOf, IsInRange};
@@ -23,7 +23,7 @@ use crate::hands::held_words;
 use crate::head::{Act, Driver, Head};
 use crate::keyword::{Keyword, Verb};
 use crate::line_words::{none, number_at, one, three, two};
-use crate::script::Command;
+use crate::script::{Command, Overview};
 use crate::servers::shape_at;
 use crate::text::words;
 use crate::worker_lines::worker_act;
@@ -110,6 +110,16 @@ fn dump_at(words: &[&[u8]]) -> Result<Act, LineError>
 {
     none(words)?;
     Ok(Act::Dump)
+}
+
+// `room` or `holds`
+fn overview_at(what: Overview, words: &[&[u8]]) -> Result<Act, LineError>
+    ensures gives { Gives (λ a. a) result (overview_at what (map (λ x. x.now) words.now)) }
+    ensures in_range { (driver : Driver) → (servers : ℕ) → (workers : ℕ)
+        → IfOk result (λ a. IsActOf driver servers workers a) }
+{
+    none(words)?;
+    Ok(Act::Overview(what))
 }
 
 // `restore`
@@ -300,6 +310,10 @@ impl Head {
                 let act = self.first_command(driver, account_at(words))?;
                 return Ok(Some(act));
             }
+            Keyword::Overview(what) => {
+                let act = self.first_command(driver, overview_at(what, words))?;
+                return Ok(Some(act));
+            }
             Keyword::Restore => {
                 let act = restore_at(words)?;
                 return Ok(Some(act));
@@ -361,6 +375,7 @@ impl Head {
             Keyword::Do(verb) => self.act_at(alloc, driver, verb, words),
             Keyword::Account => account_at(words),
             Keyword::Dump => dump_at(words),
+            Keyword::Overview(what) => overview_at(what, words),
             Keyword::Rows => late_setting(words),
             Keyword::Units => late_setting(words),
             Keyword::Limit => late_setting(words),

@@ -9,7 +9,7 @@ ghost use Rattle.tp_script.specs.declared.notes.TheConstants.{MAX_CLIENTS};
 ghost use Rattle.tp_script.specs.declared.script.TheConstants.{MAX_SERVERS};
 
 use crate::notes::{ClientNote, EndLine, MAX_CLIENTS, Name, NotedAct, RequestNote};
-use crate::script::{Command, MAX_SERVERS, ScriptServer, Settings};
+use crate::script::{Command, MAX_SERVERS, Overview, ScriptServer, Settings};
 use arrayvec::ArrayVec;
 use std::alloc::Global;
 use std::string::String;
@@ -97,6 +97,8 @@ pub enum Act {
     Worker { worker: usize, act: WorkerAct },
     /// The account is reported.
     Account,
+    /// What is left to all passes is reported, or what they have in hand.
+    Overview(Overview),
     /// The lines are reported that lead to this state.
     Dump,
     /// What the head says is alive again, in hand again, or lost still. It is the first command.

@@ -2,7 +2,7 @@
 ghost use Rattle.std.specs.Prelude.{◌≡◌};
 ghost use Rattle.tp_script.specs.Keyword.{keyword};
 
-use crate::script::DeskAct;
+use crate::script::{DeskAct, Overview};
 
 /// What a line is, by its first word.
 #[derive(Clone, Copy)]
@@ -39,6 +39,8 @@ pub enum Keyword {
     Dump,
     /// The line asks for the account.
     Account,
+    /// The line asks what is left to all passes, or what they have in hand.
+    Overview(Overview),
 }
 
 /// What a command is, by its first word.
@@ -77,7 +79,7 @@ pub enum NotedVerb {
 }
 
 /// The first words that lines may have: how each is written, and what the line is.
-const FIRST_WORDS: [(&str, Keyword); 47] = [
+const FIRST_WORDS: [(&str, Keyword); 49] = [
     ("rows", Keyword::Rows),
     ("units", Keyword::Units),
     ("limit", Keyword::Limit),
@@ -125,6 +127,8 @@ const FIRST_WORDS: [(&str, Keyword); 47] = [
     ("restore", Keyword::Restore),
     ("dump", Keyword::Dump),
     ("account", Keyword::Account),
+    ("room", Keyword::Overview(Overview::Room)),
+    ("holds", Keyword::Overview(Overview::Holds)),
 ];
 
 impl Keyword {

@@ -28,6 +28,8 @@ pub use head::{
 };
 pub use notes::{ClientNote, EndLine, MAX_CLIENTS, Name, NotedAct, RequestNote, UnitEnd};
 pub use parse::read_script;
-pub use script::{ClientAct, Command, DeskAct, Kind, MAX_SERVERS, Race, ScriptServer, Settings};
+pub use script::{
+    ClientAct, Command, DeskAct, Kind, MAX_SERVERS, Overview, Race, ScriptServer, Settings,
+};
 pub use source::{BytesSource, Failed, MAX_READS, MAX_SCRIPT_BYTES, Source, StdSource, read_all};
 pub use whole::Script;

@@ -103,6 +103,15 @@ pub enum DeskAct {
     Drop,
 }
 
+/// What is told of all passes at once: the client's, the servers' and the workers'.
+#[derive(Clone, Copy)]
+pub enum Overview {
+    /// The rows and the units that are left to each, and the spare blocks that are left.
+    Room,
+    /// What each has in hand.
+    Holds,
+}
+
 /// The servers take turns while clients submit and killers kill, each on a thread of its own.
 #[derive(Clone, Copy)]
 pub struct Race {

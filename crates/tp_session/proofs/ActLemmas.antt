@@ -17,8 +17,10 @@ use Rattle.tp_script.specs.declared.head.Head.{Head}
 use Rattle.tp_script.specs.declared.head.WorkerAct.{WorkerAct}
 use Rattle.tp_script.specs.declared.head.WorkerLine.{WorkerLine}
 use Rattle.tp_script.specs.declared.script.Command.{Command}
+use Rattle.tp_script.specs.declared.script.Overview.TheVariants as overviews
 use Rattle.tp_commands.specs.declared.place.Place.{Place}
-use Rattle.tp_commands.specs.Acting.{work_in}
+use Rattle.tp_commands.specs.Acting.{PlaceShown, work_in}
+use Rattle.tp_commands.specs.Asked.{FoundLine}
 use Rattle.tp_perform.specs.Scenes.{Scene}
 use Rattle.tp_perform.specs.Told.{AreReady, IsScene, PerformsAll, units_held}
 use Rattle.tp_perform.proofs.Gatherings.{gathered, held_gathered, ready_gathered}
@@ -32,12 +34,14 @@ use Rattle.tp_session.specs.Clients.{NotedDoes, noting}
 use Rattle.tp_session.specs.Lasts.{HandRead, end_at}
 use Rattle.tp_session.specs.NoteTexts.{last_hand}
 use Rattle.std.specs.Prelude.{string_bytes}
-use Rattle.tp_session.specs.Live.{ClientCounts, CommandTold, IsHeld, IsLive, LastDid, Leads, LiveGathers, NotedDid, TellsAccount, WorkerDid, is_open}
+use Rattle.tp_session.specs.Live.{ClientCounts, CommandTold, IsHeld, IsLive, LastDid, Leads, LiveGathers, NotedDid, OverviewDid, TellsAccount, WorkerDid, is_open}
+use Rattle.tp_session.specs.Overviews.{HoldersRead, held_at, holds_text, in_hands, names_of}
 use Rattle.tp_session.specs.declared.hand.WorkerAnswer.{WorkerAnswer}
 use Rattle.tp_session.specs.Notes.{NotesView, notes_view, with_end}
 use Rattle.tp_session.specs.declared.held.Held.{Held}
 use Rattle.tp_session.proofs.LiveLemmas.{is_live, live_of, live_there}
 use Rattle.tp_session.proofs.OpenLemmas.{live_open}
+use Rattle.tp_session.proofs.OverviewLemmas.{shown_holds}
 use Rattle.tp_session.proofs.PassLemmas.{client_first, held_first, held_set, racers_are, ready_first, ready_set, numbered_set, scene_first, scene_set, worker_there}
 
 -- what is written back as a slice is what was lent
@@ -284,6 +288,30 @@ module _ {X : Type 0} {F : X → Type 0} (behaviour : DynBox X Global F → Beha
             works = refl;
           };
           is = client_there (notes_view new.notes) s.0 refl s.1;
+        }
+
+    -- it read how each element stands that desks and workers have in hand
+    pub client_holds : new.notes ≡ old.notes → (works : List Holding) (n : ℕ) (text : List ℕ) (d : PassShown) → d ≡ get_or old.managed.passes.items 0 d → works ≡ map (λ o. held_at (work_in o.aside)) old.places.items ++ old.works.items → n ≡ length (names_of (head_view head))
+        → FoundLine (HoldersRead old.managed.manager.limits (names_of (head_view head)) works n) holds_text d text p
+        → Leads behaviour registers pending (λ a b. OverviewDid (head_view head) overviews.Holds a text b) old new
+    client_holds notes works n text d d_is works_are many t =
+        let s = scene_now in
+        let names = names_of (head_view head) in
+        let shown : works ≡ in_hands s.0 old.works.items = works_are ∙ ap (λ hs. hs ++ old.works.items) (shown_holds behaviour registers pending _ old.servers.items old.places.items held.ready.lie ∙ ap (map (λ (q : PlaceShown). held_at q.desk.work)) (sym s.1.1)) in
+        record {
+          before = live_of behaviour registers pending old s.0;
+          after = record { stand = record { manager = old.managed.manager; keeper = old.managed.keeper; scene = record s.0 { client = p } }; works = old.works.items; notes = notes_view old.notes };
+          was = is_live behaviour registers pending old s.0 s.1;
+          leads = record {
+            client = p;
+            tells = subst (λ x. FoundLine (HoldersRead old.managed.manager.limits names x (length names)) holds_text s.0.client text p) shown
+                (subst (λ k. FoundLine (HoldersRead old.managed.manager.limits names works k) holds_text s.0.client text p) many
+                (subst (λ x. FoundLine (HoldersRead old.managed.manager.limits names works n) holds_text x text p) (d_is ∙ client_first behaviour registers pending old.managed.passes.items old.servers.items old.places.items s.0 s.1 d) t));
+            stand = refl;
+            works = refl;
+            notes = refl;
+          };
+          is = client_there (notes_view old.notes) s.0 (ap notes_view notes) s.1;
         }
 
     -- it read how an element stands that a worker has in hand

@@ -1,7 +1,7 @@
 -- The first command of a session leaves its head as it is, and says the same behind it.
 use Rattle.std.proofs.Common.{◌≡◌, ℕ, Bool, true, false, List, [], ◌∷◌, Option, Some, None, Result, Ok, Err, ◌∙◌, sym, ap}
 use Rattle.std.proofs.lemmas.Option.{none-some}
-use Rattle.tp_script.specs.Grammar.{account_at, act_at, alive_line, body_at, body_keyword, body_words, dump_at, ends_head, head_at, head_keyword, head_words, held_line, in_head, limit_line, line_words, lost_line, restore_at, rows_line, spare_line, units_line, unless_waiting, waits_for_restore, worker_line}
+use Rattle.tp_script.specs.Grammar.{account_at, act_at, alive_line, body_at, body_keyword, body_words, dump_at, ends_head, head_at, head_keyword, head_words, held_line, in_head, limit_line, line_words, lost_line, overview_at, restore_at, rows_line, spare_line, units_line, unless_waiting, waits_for_restore, worker_line}
 use Rattle.tp_script.specs.Clients.{client_line, noted_at, register_line, request_line}
 use Rattle.tp_script.specs.Ends.{ended_line}
 use Rattle.tp_script.specs.Keyword.{keyword}
@@ -68,6 +68,7 @@ keywords h first.Lost ws = in_it h (two ws >>= λ w. lost_line w h)
 keywords h (first.Do v) ws = ended h (unless_waiting (waits_for_restore h) (act_at drivers.Session v ws h))
 keywords h first.Dump ws = ended h (unless_waiting (waits_for_restore h) (dump_at ws))
 keywords h first.Account ws = ended h (unless_waiting (waits_for_restore h) (account_at ws))
+keywords h (first.Overview what) ws = ended h (unless_waiting (waits_for_restore h) (overview_at what ws))
 keywords h first.Client ws = in_it h (client_line ws h)
 keywords h first.Request ws = in_it h (two ws >>= λ w. request_line w h)
 keywords h first.Ended ws = in_it h (ended_line ws h)
@@ -95,6 +96,7 @@ is_restore act.Account = false
 is_restore act.Dump = false
 is_restore (act.Noted name a) = false
 is_restore (act.Last worker) = false
+is_restore (act.Overview what) = false
 
 -- what is a command here, and no restore, is that command there
 abbrev Meets : Said → Result (Option Act) LineFault → Type 0
@@ -162,6 +164,7 @@ keyword_meets h first.Lost ws = in_meets h (two ws >>= λ w. lost_line w h) (sai
 keyword_meets h (first.Do v) ws = first_meets h (waits_for_restore h) (act_at drivers.Session v ws h)
 keyword_meets h first.Dump ws = first_meets h (waits_for_restore h) (dump_at ws)
 keyword_meets h first.Account ws = first_meets h (waits_for_restore h) (account_at ws)
+keyword_meets h (first.Overview what) ws = first_meets h (waits_for_restore h) (overview_at what ws)
 keyword_meets h first.Client ws = in_meets h (client_line ws h) (said_behind h first.Client ws)
 keyword_meets h first.Request ws = in_meets h (two ws >>= λ w. request_line w h) (said_behind h first.Request ws)
 keyword_meets h first.Ended ws = in_meets h (ended_line ws h) (said_behind h first.Ended ws)

@@ -16,10 +16,12 @@ pub mod NotesLemmas
 pub mod NoteLists
 pub mod ClientLemmas
 pub mod OpenLemmas
+pub mod OverviewLemmas
 pub mod PassLemmas
 pub mod PerformLemmas
 pub mod RaceLemmas
 pub mod ReadingLemmas
+pub mod RootLemmas
 pub mod SessionLemmas
 pub mod SpendLemmas
 pub mod TellLemmas

@@ -82,6 +82,7 @@ works_same head raced act.Dump old new text t = ap length (t.gathers.works ∙ b
 works_same head raced act.Restore old new text t = by_restore (head_view head) old new text t
 works_same head raced (act.Noted name a) old new text t = ap length (t.gathers.works ∙ t.did.works)
 works_same head raced (act.Last at) old new text t = ap length (t.gathers.works ∙ t.did.works)
+works_same head raced (act.Overview what) old new text t = ap length (t.gathers.works ∙ t.did.works)
 
 -- ---- the whole run
 

@@ -6,6 +6,8 @@ pub mod NoteTexts
 pub mod Clients
 pub mod Lasts
 pub mod Dump
+pub mod Overviews
+pub mod Roots
 pub mod Live
 pub mod Left
 pub mod Heard

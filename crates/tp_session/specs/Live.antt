@@ -34,6 +34,8 @@ use Rattle.tp_script.specs.declared.head.WorkerLine.{WorkerLine}
 use Rattle.tp_script.specs.Notes.{NameView}
 use Rattle.tp_script.specs.declared.notes.NotedAct.{NotedAct}
 use Rattle.tp_script.specs.declared.script.Command.{Command}
+use Rattle.tp_script.specs.declared.script.Overview.{Overview}
+use Rattle.tp_script.specs.declared.script.Overview.TheVariants as overviews
 use Rattle.tp_commands.specs.Asked.{FoundLine, TellsCount}
 use Rattle.tp_perform.specs.Restore.{IsUnrestoredIn, Restored}
 use Rattle.tp_perform.specs.Rollover.{IsUnrolled, OnlyLooked, RollRefused, RolledOver, renamed}
@@ -48,6 +50,8 @@ use Rattle.tp_session.specs.Hands.{Hand, WorkerDoes, has_unit, unit_of}
 use Rattle.tp_session.specs.Lasts.{HandRead, end_at}
 use Rattle.tp_session.specs.NoteTexts.{last_hand}
 use Rattle.tp_session.specs.Notes.{NotesView, notes_in, notes_view, with_end}
+use Rattle.tp_session.specs.Overviews.{HoldersRead, holds_text, in_hands, names_of, room_told}
+use Rattle.tp_session.specs.Roots.{roots_of, roots_text}
 use Rattle.tp_session.specs.declared.hand.Holding.{Holding}
 use Rattle.tp_session.specs.declared.hand.Holding.TheVariants.{Nothing}
 use Rattle.tp_session.specs.declared.hand.WorkerAnswer.{WorkerAnswer}
@@ -111,7 +115,8 @@ pub record RolledLive (h : HeadView) (old : Live) (text : List ℕ) (new : Live)
   pub rolled : RolledOver old.stand moved new.stand
   pub works : new.works ≡ works_in new.stand moved old.works
   pub notes : new.notes ≡ notes_in moved old.notes
-  pub text_is : text ≡ line (rolled_text (map renamed moved) <> units_text h.workers new.works)
+  pub text_is : text
+      ≡ line (rolled_text (map renamed moved) <> roots_text (roots_of moved) <> units_text h.workers new.works)
 
 -- it was refused, and nothing has changed, but that this is noted
 pub record RefusedLive (is_due : Scene → RollFault → Type 0) (notes : NotesView) (old : Live) (text : List ℕ)
@@ -213,7 +218,8 @@ pub record RestoredLive (h : HeadView) (old : Live) (text : List ℕ) (new : Liv
   pub restored : Restored (survivors_of h) old.stand moved new.stand
   pub works : new.works ≡ works_in new.stand moved (lost_works h.lost 0 old.works)
   pub notes : new.notes ≡ notes_in moved old.notes
-  pub text_is : text ≡ line (restored_text (map renamed moved) <> units_text h.workers new.works)
+  pub text_is : text
+      ≡ line (restored_text (map renamed moved) <> roots_text (roots_of moved) <> units_text h.workers new.works)
 
 -- or it was refused, and nothing has changed, but that no id goes on that the head has noted
 pub record RestoreTold (h : HeadView) (old : Live) (text : List ℕ) (new : Live) : Type 0 where
@@ -303,6 +309,31 @@ pub record LastTold (workers : List WorkerLine) (at : ℕ) (old : Live) (text : 
   pub did : LastDid workers at old text done
   pub gathers : LiveGathers done new
 
+-- ---- what is told of all passes
+
+-- what is told of what is there, for which the client's pass may read what is in hand
+abbrev pub TellsOverview : HeadView → Overview → Live → List ℕ → PassShown → Type 0
+TellsOverview h overviews.Room old text client =
+    (text ≡ room_told h old.stand.manager.limits (passes_in old.stand.scene)) × (client ≡ old.stand.scene.client)
+TellsOverview h overviews.Holds old text client = let names = names_of h in
+    FoundLine (HoldersRead old.stand.manager.limits names (in_hands old.stand.scene old.works) (length names))
+    holds_text old.stand.scene.client text client
+
+-- so it was, and all else is as it was
+pub record OverviewDid (h : HeadView) (what : Overview) (old : Live) (text : List ℕ) (new : Live) : Type 0 where
+  pub client : PassShown
+  pub tells : TellsOverview h what old text client
+  pub stand : new.stand ≡ record old.stand { scene = record old.stand.scene { client = client } }
+  pub works : new.works ≡ old.works
+  pub notes : new.notes ≡ old.notes
+
+-- each worker has a pass
+pub record OverviewTold (h : HeadView) (what : Overview) (old : Live) (text : List ℕ) (new : Live) : Type 0 where
+  pub each : length h.workers ≤ length old.stand.scene.racers
+  pub done : Live
+  pub did : OverviewDid h what old text done
+  pub gathers : LiveGathers done new
+
 -- ---- all acts
 
 -- the line of what is asked for
@@ -314,6 +345,7 @@ TellsAct head acts.Dump old text new = DumpTold (head_view head) old text new
 TellsAct head acts.Restore old text new = RestoreTold (head_view head) old text new
 TellsAct head (acts.Noted name act) old text new = NotedTold name act old text new
 TellsAct head (acts.Last at) old text new = LastTold head.workers.items at old text new
+TellsAct head (acts.Overview what) old text new = OverviewTold (head_view head) what old text new
 
 -- a race, by the passes behind those of the workers and of the races before it, which took so many
 abbrev pub RaceTold : Head → ℕ → Act → Live → List ℕ → Live → Type 0

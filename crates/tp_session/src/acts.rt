@@ -18,6 +18,7 @@ use crate::dump::dump_told;
 use crate::hand::{Holding, WorkerAnswer, worker_act};
 use crate::held::Held;
 use crate::noted_acts::{last_told, noted_told};
+use crate::overview_acts::overview_told;
 use crate::restoring::restore_told;
 use crate::rolling::rollover_told;
 use std::alloc::{AllocError, Global};
@@ -254,5 +255,6 @@ pub fn act_line(
         Act::Restore => restore_told(alloc, head, held),
         Act::Noted { name, act } => noted_told(alloc, head, held, name, *act),
         Act::Last { worker } => last_told(alloc, head, held, *worker),
+        Act::Overview(what) => overview_told(alloc, head, held, *what),
     }
 }

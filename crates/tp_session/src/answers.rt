@@ -7,8 +7,10 @@ ghost use Rattle.tp_script.specs.Script.{worker_view};
 ghost use Rattle.tp_perform.specs.Rollover.{renamed};
 ghost use Rattle.tp_session.specs.Answers.{body_text, refused_line, restored_text, took_line, unit_text};
 ghost use Rattle.tp_session.specs.Answers.{unit_texts, units_text, worker_line};
+ghost use Rattle.tp_session.specs.Roots.{roots_of, roots_text};
 
 use crate::hand::{Holding, WorkerAnswer};
+use crate::roots::{AllRoots, roots_of};
 use std::alloc::{AllocError, Global};
 use std::fmt;
 use std::string::String;
@@ -150,13 +152,17 @@ pub(crate) fn rolled_line(
 ) -> Result<String, AllocError>
     requires each { length workers.now ≤ length works.now }
     ensures { IfOk result (λ s. string_bytes s ≡ line (rolled_text (map renamed moved.now)
-        <> units_text (map worker_view workers.now) works.now)) }
+        <> roots_text (roots_of moved.now) <> units_text (map worker_view workers.now) works.now)) }
 {
     let elements = all_renamed(alloc, moved)?;
     let texts = units_text(alloc, workers, works)?;
     let units = texts.as_str();
+    let found = roots_of(alloc, moved)?;
+    let roots = AllRoots {
+        roots: found.as_slice(),
+    };
     let answer = Answer::RolledOver(&elements);
-    let text = format!(in alloc; "{answer}{units}")?;
+    let text = format!(in alloc; "{answer}{roots}{units}")?;
     as_line(alloc, text.as_str())
 }
 
@@ -169,7 +175,7 @@ pub(crate) fn restored_line(
 ) -> Result<String, AllocError>
     requires each { length workers.now ≤ length works.now }
     ensures { IfOk result (λ s. string_bytes s ≡ line (restored_text (map renamed moved.now)
-        <> units_text (map worker_view workers.now) works.now)) }
+        <> roots_text (roots_of moved.now) <> units_text (map worker_view workers.now) works.now)) }
 {
     let elements = all_renamed(alloc, moved)?;
     let texts = units_text(alloc, workers, works)?;
@@ -177,6 +183,10 @@ pub(crate) fn restored_line(
     let all = AllRestored {
         elements: elements.as_slice(),
     };
-    let text = format!(in alloc; "{all}{units}")?;
+    let found = roots_of(alloc, moved)?;
+    let roots = AllRoots {
+        roots: found.as_slice(),
+    };
+    let text = format!(in alloc; "{all}{roots}{units}")?;
     as_line(alloc, text.as_str())
 }

@@ -36,3 +36,9 @@ returns-in-Last-clause-tells g c = rw c.in-Last.is c.last_told.ensures.tells
 
 pub returns-in-Last-clause-went : goal.returns-in-Last-clause-went
 returns-in-Last-clause-went g c = reach_same (λ b. (goal.Server-dyn g (b.vtable, b.value)).behaviour b.value) (λ b. (goal.Server-dyn g (b.vtable, b.value)).registers b.value) (λ b. (goal.Server-dyn g (b.vtable, b.value)).pending b.value) c.args.head.now c.args.held.now c.last_told.new.held _ c.requires.held c.last_told.ensures.began
+
+pub returns-in-Overview-clause-tells : goal.returns-in-Overview-clause-tells
+returns-in-Overview-clause-tells g c = rw c.in-Overview.is c.overview_told.ensures.tells
+
+pub returns-in-Overview-clause-went : goal.returns-in-Overview-clause-went
+returns-in-Overview-clause-went g c = reach_same (λ b. (goal.Server-dyn g (b.vtable, b.value)).behaviour b.value) (λ b. (goal.Server-dyn g (b.vtable, b.value)).registers b.value) (λ b. (goal.Server-dyn g (b.vtable, b.value)).pending b.value) c.args.head.now c.args.held.now c.overview_told.new.held _ c.requires.held c.overview_told.ensures.began

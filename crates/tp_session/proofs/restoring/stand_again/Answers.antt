@@ -6,6 +6,7 @@ use Rattle.tp_perform.specs.Rollover.{RollRefused, renamed, roll_refused_text}
 use Rattle.tp_report.specs.Answer.{line}
 use Rattle.tp_script.specs.Fault.{◌<>◌}
 use Rattle.tp_script.specs.Script.{head_view}
+use Rattle.tp_session.specs.Roots.{roots_of, roots_text}
 use Rattle.tp_session.specs.Answers.{restored_text, units_text}
 use Rattle.tp_session.specs.Carried.{lost_works}
 use Rattle.tp_session.specs.Live.{works_in}
@@ -34,7 +35,7 @@ returns-in-Ok-clause-tells g c =
         restored = subst (λ s. Restored s a.stand c.in-Ok.moved.items b.stand) c.requires.described done.1.0;
         works = done.1.1;
         notes = done.2;
-        text_is = is ∙ ap (λ ws. line (restored_text (map renamed c.in-Ok.moved.items) <> units_text (head_view c.args.head.now).workers ws)) (sym at.works);
+        text_is = is ∙ ap (λ ws. line (restored_text (map renamed c.in-Ok.moved.items) <> roots_text (roots_of c.in-Ok.moved.items) <> units_text (head_view c.args.head.now).workers ws)) (sym at.works);
       });
     }) (carried_noted (λ b. (goal.Server-dyn g (b.vtable, b.value)).behaviour b.value) (λ b. (goal.Server-dyn g (b.vtable, b.value)).registers b.value) (λ b. (goal.Server-dyn g (b.vtable, b.value)).pending b.value) (λ x y us vs. Restored c.args.survivors.now x c.in-Ok.moved.items y × (vs ≡ works_in y c.in-Ok.moved.items (lost_works c.args.head.now.lost.items 0 us))) (notes_in c.in-Ok.moved.items) c.args.held.now c.restore_held.new.held c.notes_go_on.new.held c.in-Ok.ensures.restored (rw c.as_slice.ensures.value at c.notes_go_on.ensures.goes_on))) (rw (c.as_slice-in-Ok.ensures.value, c.as_slice-in-Ok-2.ensures.value, c.as_slice-in-Ok-3.ensures.value) at c.restored_line.ensures)
 

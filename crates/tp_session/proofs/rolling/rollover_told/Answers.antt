@@ -5,6 +5,7 @@ use Rattle.tp_session.specs.Live.{works_in}
 use Rattle.tp_report.specs.Answer.{line, rolled_text}
 use Rattle.tp_script.specs.Fault.{◌<>◌}
 use Rattle.tp_script.specs.Script.{head_view}
+use Rattle.tp_session.specs.Roots.{roots_of, roots_text}
 use Rattle.tp_session.specs.Answers.{units_text}
 use Rattle.tp_session.proofs.LeftLemmas.{reach_lead}
 use Rattle.tp_session.specs.Notes.{notes_in}
@@ -24,7 +25,7 @@ pub returns-in-Ok-clause-tells : goal.returns-in-Ok-clause-tells
 returns-in-Ok-clause-tells g c =
     IfOk-weaker c.rolled_line.result _ _ (λ text is. leads_is (λ b. (goal.Server-dyn g (b.vtable, b.value)).behaviour b.value) (λ b. (goal.Server-dyn g (b.vtable, b.value)).registers b.value) (λ b. (goal.Server-dyn g (b.vtable, b.value)).pending b.value) _ _ c.args.held.now c.notes_go_on.new.held (λ a b was at done. record {
       holds = done.0;
-      told = inl (record { moved = c.in-Ok.moved.items; rolled = done.1.0; works = done.1.1; notes = done.2; text_is = is ∙ ap (λ ws. line (rolled_text (map renamed c.in-Ok.moved.items) <> units_text (head_view c.args.head.now).workers ws)) (sym at.works) });
+      told = inl (record { moved = c.in-Ok.moved.items; rolled = done.1.0; works = done.1.1; notes = done.2; text_is = is ∙ ap (λ ws. line (rolled_text (map renamed c.in-Ok.moved.items) <> roots_text (roots_of c.in-Ok.moved.items) <> units_text (head_view c.args.head.now).workers ws)) (sym at.works) });
     }) (carried_noted (λ b. (goal.Server-dyn g (b.vtable, b.value)).behaviour b.value) (λ b. (goal.Server-dyn g (b.vtable, b.value)).registers b.value) (λ b. (goal.Server-dyn g (b.vtable, b.value)).pending b.value) (λ x y us vs. RolledOver x c.in-Ok.moved.items y × (vs ≡ works_in y c.in-Ok.moved.items us)) (notes_in c.in-Ok.moved.items) c.args.held.now c.roll_over_held.new.held c.notes_go_on.new.held c.in-Ok.ensures.rolled (rw c.as_slice.ensures.value at c.notes_go_on.ensures.goes_on))) (rw (c.as_slice-in-Ok.ensures.value, c.as_slice-in-Ok-2.ensures.value, c.as_slice-in-Ok-3.ensures.value) at c.rolled_line.ensures)
 
 pub returns-in-Err-clause-tells : goal.returns-in-Err-clause-tells
