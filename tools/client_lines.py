@@ -35,7 +35,7 @@ def chosen(chance, run, commands):
         verb = "register"
     count = 0 if it is None else it.sends if verb == "send" else it.receives
     if verb in ("send", "receive"):
-        words = [max(1, count + chance.choice([1] * 6 + [0, 0, -1, -9, 2]))]
+        words = [max(1, count + chance.choice([1] * 6 + [0, 0, -1, -1, -9, 2]))]
     if verb == "send":
         stage = commands.mostly([1, 1, 2, 3], chance.choice([0, 1, 14, 15]))
         words += [stage, chance.choice([0, 0, 1]), *chance.choices(AMOUNTS, k=chance.choice([1, 2, 3]))]
