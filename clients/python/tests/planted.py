@@ -95,12 +95,7 @@ ERRORS = [
     ),
     Error("ids.py", " and element not in self.lasting", "", "Lasting.test_an_id_that_no_answer_told"),
     Error("session.py", "if is_rollover(piece[0]):", "if False:", "Lasting.test_lines_with_rollovers"),
-    Error(
-        "ids.py",
-        "int(it[4] if len(it) == 6 else it[0])",
-        "int(it[0])",
-        "Lasting.test_outputs_of_lines_keep_their_root",
-    ),
+    Error("ids.py", "int(it[4] if len(it) == 6 else it[0])", "int(it[0])", "Dumps.test_ids_last"),
     Error("answers.py", "raise kind(self.command, name,", 'raise kind("", name,', "Told"),
     Error("log.py", "os.truncate(descriptor, len(whole) + 1)", "pass", "Logs.test_a_torn_last_line"),
     Error("log.py", "fcntl.LOCK_EX |", "fcntl.LOCK_SH |", "Logs.test_a_log_is_no_other_sessions"),

@@ -198,10 +198,13 @@ class ServeBounds(unittest.TestCase):
             self.assertTrue(comes(lambda: server.counted("connections") == 2))
             kept.append(server.client())
             self.assertEqual([it.ask("count") for it in kept], [[COUNTED]] * 3)
-            # One that has ended makes room for the next one at once.
-            for _ in range(100):
+            # One that has ended makes room for the next one at once, also where both are heard of together.
+            for _ in range(3):
+                server.signal(signal.SIGSTOP)
+                time.sleep(0.1)
                 kept.pop(0).close()
                 kept.append(server.client())
+                server.signal(signal.SIGCONT)
                 self.assertEqual(kept[-1].ask("count"), [COUNTED])
 
     def test_a_thousand_connections_of_which_fifty_are_stuck(self) -> None:
