@@ -15,7 +15,8 @@ fn types_go_to_threads() {
     is_sync::<Manager>();
     is_send::<covetrivet::Caller>();
     is_send::<Error>();
-    assert_eq!(covetrivet::version(), 17_000);
+    let parts = env!("CARGO_PKG_VERSION").split('.').map(|it| it.parse::<u32>().unwrap());
+    assert_eq!(covetrivet::version(), parts.fold(0, |so_far, part| 1_000 * so_far + part));
 }
 
 #[test]

@@ -1,5 +1,5 @@
 -- Between two looks together.
-use Rattle.std.proofs.Common.{◌≡◌, ◌⊎◌, ℕ, suc, ◌+◌, ◌<◌, ◌≤◌, ◌==◌, None, List, [], ◌∷◌, ◌++◌, length, map, refl, sym, ◌∙◌, ap, subst, inl, inr, ⊎_elim, append_assoc, arith}
+use Rattle.std.proofs.Common.{◌≡◌, ◌⊎◌, ℕ, suc, ◌+◌, ◌<◌, ◌≤◌, ◌==◌, None, Option, Some, List, [], ◌∷◌, ◌++◌, length, map, refl, sym, ◌∙◌, ap, subst, inl, inr, ⊎_elim, append_assoc, arith}
 use Rattle.std.proofs.lemmas.List.{append_cancel_left}
 use Rattle.std.proofs.lemmas.List.Elements.{filter-append}
 use Rattle.std.specs.List.{AllZip}
@@ -7,12 +7,14 @@ use mathlib.Core.List.{IsPrefix}
 use Rattle.tp_model.specs.declared.types.Limits.{Limits}
 use Rattle.tp_model.specs.declared.event.Event.{Event}
 use Rattle.tp_model.specs.declared.event.Event.TheVariants.{Abort}
-use Rattle.tp_model.specs.History.{Committed, In, IsUnborn, element_of, events_by, here, pass_of, there}
-use Rattle.tp_model.specs.Passes.{IsOwnOpen, IsRun}
+use Rattle.tp_model.specs.History.{Committed, In, IsClaim, IsUnborn, UnitClaim, UnitEnd, claim_of, element_of, end_of, events_by, here, pass_of, there}
+use Rattle.tp_model.specs.Passes.{AreEnded, IsOwnOpen, IsRun}
 use Rattle.tp_model.specs.Steps.{IsLegal, MayUse}
 use Rattle.tp_model.proofs.Bridges.{append_nil, begins_trans, claim_later, end_stays, in_cons, in_either, in_left, in_none, in_right}
 use Rattle.tp_model.proofs.Histories.{element_of-append}
 use Rattle.tp_model.proofs.Lists.{option_or-none}
+use Rattle.tp_model.proofs.Takings.{own_claim}
+use Rattle.tp_manager.proofs.Claims.UnitsChosen.{unused_mine}
 use Rattle.tp_manager.specs.Accounts.{AreNumberedFrom}
 use Rattle.tp_manager.specs.Shown.{KeeperShown, PassShown}
 use Rattle.tp_alone.specs.Middle.{AloneMiddle, Between, as_seen}
@@ -37,6 +39,25 @@ squeezed d a m b low high same =
     sym (filter-append (λ e. pass_of e == d) a (low.0 ++ high.0)) ∙ (ap (events_by d) (sym (append_assoc a low.0 high.0) ∙ (ap (λ z. z ++ high.0) low.1 ∙ high.1)) ∙ (same ∙ sym (append_nil (events_by d a))))) in
     let first : events_by d low.0 ≡ [] = nil_left (events_by d low.0) (events_by d high.0) (sym (filter-append (λ e. pass_of e == d) low.0 high.0) ∙ whole) in
     sym (ap (events_by d) low.1) ∙ (filter-append (λ e. pass_of e == d) a low.0 ∙ (ap (λ z. events_by d a ++ z) first ∙ append_nil (events_by d a)))
+
+-- a unit that hasn't ended hadn't before
+open_before : (a b : List Event) → IsPrefix a b → (u : ℕ) → end_of b u ≡ None → end_of a u ≡ None
+open_before a b begins u none = go (end_of a u) refl
+  where
+    go : (was : Option UnitEnd) → end_of a u ≡ was → end_of a u ≡ None
+    go None is = is
+    go (Some how) is = let later = end_stays a b u how begins is in absurd cc
+
+-- a unit that a pass took was taken before, if the pass has made no event since
+claim_before : (a b : List Event) → IsPrefix a b → (c u i n : ℕ) → events_by c b ≡ events_by c a → IsClaim b c u i n → IsClaim a c u i n
+claim_before a b begins c u i n same claim = go (claim_of a u) refl
+  where
+    taken : UnitClaim
+    taken = record { pass = c; item = i; attempt = n }
+
+    go : (was : Option UnitClaim) → claim_of a u ≡ was → claim_of a u ≡ Some taken
+    go None is = let own = own_claim b u taken claim in let gone = unused_mine c u a is in let e = ap (λ g. claim_of g u) same in absurd cc
+    go (Some t) is = is ∙ (sym (claim_later a b begins t.pass u t.item t.attempt is) ∙ claim)
 
 module _ (l : Limits) (h m h' : List Event) (low : IsPrefix h m) (high : IsPrefix m h') (legal : IsLegal l m) (drawn : ℕ) where
   may_sooner : (c i : ℕ) → MayUse l h' c i → MayUse l m c i
@@ -82,6 +103,9 @@ module _ (l : Limits) (h m h' : List Event) (low : IsPrefix h m) (high : IsPrefi
                 uncommitted = λ f k e. o'.uncommitted f k (end_stays m h' u (Committed f k) high e);
                 kept = λ e. o'.kept (in_prefix m h' (Abort p.number u) high e);
               });
+          ended = λ u i n claim not none.
+              subst (λ z. AreEnded z p.number p.open_unit) was.seen was.shows.ended u i n
+              (claim_before h m low p.number u i n (squeezed p.number h m h' low high (sym mine_later ∙ mine)) claim) not (open_before h m low u none);
         };
       }
 

@@ -121,8 +121,8 @@ module _ {X : Type 0} {F : X → Type 0} (behaviour : (x : X) × F x → Behavio
 -- ---- what is done
 
 -- what a pass and its server show of a desk
-abbrev pub place_of : DeskShown → workers.Place
-place_of d = record { pass = d.pass; behaviour = d.behaviour; registers = d.registers }
+abbrev pub place_of_desk : DeskShown → workers.Place
+place_of_desk d = record { pass = d.pass; behaviour = d.behaviour; registers = d.registers }
 
 -- the server is as it was
 abbrev pub IsSameServer : DeskShown → DeskShown → Type 0
@@ -131,7 +131,7 @@ IsSameServer old new = (new.behaviour ≡ old.behaviour) × (new.registers ≡ o
 -- a turn
 abbrev pub TellsTurn : Limits → DeskShown → ServerAnswer → DeskShown → Type 0
 TellsTurn l old (told.Turned turned) new =
-    (old.work ≡ None) × TakesTurn orders.LeastFirst l (place_of old) turned (place_of new) × (new.work ≡ None)
+    (old.work ≡ None) × TakesTurn orders.LeastFirst l (place_of_desk old) turned (place_of_desk new) × (new.work ≡ None)
 TellsTurn l old told.Busy new = IsSome old.work × (new ≡ old)
 TellsTurn l old other new = ⊥
 
@@ -281,7 +281,7 @@ is_free p = not p.is_dropped && not (is_some p.desk.work)
 
 -- the desk took a turn, whose claim was in this order, and has nothing in hand
 pub record TurnsAt (order : Order) (l : Limits) (turned : Turned) (old new : PlaceShown) : Type 0 where
-  pub turn : TakesTurn order l (place_of old.desk) turned (place_of new.desk)
+  pub turn : TakesTurn order l (place_of_desk old.desk) turned (place_of_desk new.desk)
   pub limits : new.desk.pass.limits ≡ l
   pub none_left : new.desk.work ≡ None
   pub began : new.began ≡ old.began

@@ -5,7 +5,7 @@ ghost use Rattle.tp_manager.specs.Shown.{IsOf};
 ghost use Rattle.tp_desk.specs.Steady.{IsSameDesk, SteadyDesk, shown};
 ghost use Rattle.tp_commands.specs.Acting.{Does, DoesAt, DoesIn, DropsAt, TellsAbort, TellsClaim, TellsCommit};
 ghost use Rattle.tp_commands.specs.Acting.{TellsDrop, TellsPrepare, TellsTake, TellsTurn, desk_shown};
-ghost use Rattle.tp_commands.specs.Acting.{StaysIn, TurnsAt, TurnsIn, place_of, place_shown, places_shown};
+ghost use Rattle.tp_commands.specs.Acting.{StaysIn, TurnsAt, TurnsIn, place_of_desk, place_shown, places_shown};
 ghost use Rattle.tp_commands.specs.Places.{AllLie, Lies, first_of, firsts, is_free_at};
 ghost use Rattle.tp_workers.specs.Desks.{TakesTurn};
 ghost use Rattle.tp_report.specs.Answer.{line, named_text};
@@ -14,45 +14,44 @@ ghost use Rattle.tp_report.specs.declared.answer.ServerAnswer.{ServerAnswer};
 ghost use Rattle.tp_report.specs.declared.answer.ServerAnswer.TheVariants as told;
 
 use crate::lines::server_line;
+use crate::means::Means;
 use crate::place::Place;
-use std::alloc::{AllocError, Global};
+use std::alloc::AllocError;
 use std::string::String;
 use tp_desk::{Desk, Order, Turned};
 use tp_manager::{Manager, Pass};
 use tp_model::types::{Claimed, Ended, Refusal, Work};
 use tp_report::ServerAnswer;
-use tp_script::{DeskAct, ScriptServer};
+use tp_script::DeskAct;
 use tp_server::Server;
 
 /// Has the desk of a server do what is asked, and answers the line of its answer.
 pub fn desk_line(
-    alloc: Global,
-    named: &[ScriptServer],
-    manager: &Manager,
+    means: &Means,
     passes: &mut [Pass],
     servers: &mut [Box<dyn Server + Send>],
     places: &mut [Place],
     server: usize,
     act: DeskAct,
 ) -> Result<String, AllocError>
-    requires own { All (IsOf manager.now) passes.old }
+    requires own { All (IsOf means.now.manager.now) passes.old }
     requires lie { AllLie behaviour registers pending passes.old servers.old places.old }
-    requires as_many { length places.old ≡ length named.now }
-    requires in_range { server < length named.now }
-    ensures own { All (IsOf manager.now) passes.new }
+    requires as_many { length places.old ≡ length means.now.head.now.servers.items }
+    requires in_range { server < length means.now.head.now.servers.items }
+    ensures own { All (IsOf means.now.manager.now) passes.new }
     ensures lie { AllLie behaviour registers pending passes.new servers.new places.new }
     ensures as_many { length places.new ≡ length places.old }
     ensures began { firsts places.new ≡ firsts places.old }
     ensures tells { IfOk result (λ text. (answer : ServerAnswer)
-        × DoesIn manager.now.limits act server
+        × DoesIn means.now.manager.now.limits act server
         (places_shown behaviour registers pending passes.old servers.old places.old) answer
         (places_shown behaviour registers pending passes.new servers.new places.new)
-        × IfSome (slice_get named.now server)
+        × IfSome (slice_get means.now.head.now.servers.items server)
         (λ it. string_bytes text ≡ line (named_text (string_bytes it.name) answer))) }
     ensures line { IfOk result (λ text. IsLine (string_bytes text)) }
 {
-    let answer = act_in(manager, passes, servers, places, server, act);
-    server_line(alloc, named, server, answer)
+    let answer = act_in(means.manager, passes, servers, places, server, act);
+    server_line(means.alloc, means.head.servers.as_slice(), server, answer)
 }
 
 /// Has the desk at one of the places take a turn whose claim is in this order, or answers `None` where it isn't
@@ -126,8 +125,8 @@ fn turn_by(desk: &mut Desk, order: Order) -> Turned
     ensures same { IsSameDesk desk.old desk.new }
     ensures steady { SteadyDesk (shown behaviour) (shown registers) (shown pending) desk.new }
     ensures turn { TakesTurn order desk.old.manager.now.limits
-        (place_of (desk_shown behaviour registers pending desk.old)) result
-        (place_of (desk_shown behaviour registers pending desk.new)) }
+        (place_of_desk (desk_shown behaviour registers pending desk.old)) result
+        (place_of_desk (desk_shown behaviour registers pending desk.new)) }
     ensures free { desk.new.work ≡ None }
 {
     desk.turn_by(order)

@@ -28,7 +28,7 @@ use Rattle.tp_workers.specs.declared.tally.Shift.{Shift}
 use Rattle.tp_manager.specs.Calls.{Follows}
 use Rattle.tp_crew.specs.Crew.{IsSteadyCrew, OwnCall, folds}
 use Rattle.tp_crew.specs.Folds.{BeginsFold}
-use Rattle.tp_crew.specs.CrewPasses.{HasServed, HaveServed, Shows, clients_in, desks_in, own_in}
+use Rattle.tp_crew.specs.CrewPasses.{HasServed, HaveServed, ShowsAsPass, clients_in, desks_in, own_in}
 use Rattle.tp_workers.specs.Desks.{DeskRan}
 use Rattle.tp_workers.specs.Drained.{DeskDrained}
 use Rattle.tp_workers.specs.Free.{IsFreePass, numbers}
@@ -201,11 +201,11 @@ module _ {B : Type 0} (behaviour : B → Behaviour) (registers : B → List ℕ)
           All-cons (λ p. IsPassView p.limits (view_in p)) q qs (All-head IsNewPass q qs each).shows (all_show qs (All-tail IsNewPass q qs each))
 
   -- nor by passes that are new
-  pub served_new : (ps : List PassShown) (us : List B) → All Shows ps → HaveServed behaviour registers (zip (desks_in (length us) ps) us) ps us
-  served_new ps us all = all_none (desks_in (length us) ps) us (All-take Shows (length us) (drop 1 ps) (All-drop Shows 1 ps all))
+  pub served_new : (ps : List PassShown) (us : List B) → All ShowsAsPass ps → HaveServed behaviour registers (zip (desks_in (length us) ps) us) ps us
+  served_new ps us all = all_none (desks_in (length us) ps) us (All-take ShowsAsPass (length us) (drop 1 ps) (All-drop ShowsAsPass 1 ps all))
 
   -- a pass that did nothing but look has served nothing more
-  stayed : (u : B) (p q : PassShown) → Stays p q → Shows q → Served (p, u) (q, u)
+  stayed : (u : B) (p q : PassShown) → Stays p q → ShowsAsPass q → Served (p, u) (q, u)
   stayed u p q s shows = record {
     leaves = record {
       shows = shows;
@@ -223,19 +223,19 @@ module _ {B : Type 0} (behaviour : B → Behaviour) (registers : B → List ℕ)
       none_is : (v : ℕ) (t : UnitClaim) → claim_of [] v ≡ Some t → ⊥
       none_is v t e = cc
 
-  all_stayed : (ps qs : List PassShown) (us : List B) → AllZip Stays ps qs → All Shows qs → AllZip Served (zip ps us) (zip qs us)
+  all_stayed : (ps qs : List PassShown) (us : List B) → AllZip Stays ps qs → All ShowsAsPass qs → AllZip Served (zip ps us) (zip qs us)
   all_stayed [] [] us a shows = tt
   all_stayed [] (q ∷ qs) us a shows = absurd a
   all_stayed (p ∷ ps) [] us a shows = absurd a
   all_stayed (p ∷ ps) (q ∷ qs) [] a shows = tt
   all_stayed (p ∷ ps) (q ∷ qs) (u ∷ us) a shows =
-      (stayed u p q a.0 (All-head Shows q qs shows), all_stayed ps qs us a.1 (All-tail Shows q qs shows))
+      (stayed u p q a.0 (All-head ShowsAsPass q qs shows), all_stayed ps qs us a.1 (All-tail ShowsAsPass q qs shows))
 
   pub served_stays : (begun : List (PassShown × B)) (ps : List PassShown) (us : List B) (qs : List PassShown)
-      → HaveServed behaviour registers begun ps us → AllZip Stays ps qs → All Shows qs → HaveServed behaviour registers begun qs us
+      → HaveServed behaviour registers begun ps us → AllZip Stays ps qs → All ShowsAsPass qs → HaveServed behaviour registers begun qs us
   served_stays begun ps us qs s a shows =
       let n = length us in
-      all_then _ _ _ s (all_stayed (desks_in n ps) (desks_in n qs) us (some_stay n (drop 1 ps) (drop 1 qs) (rest_stay ps qs a)) (All-take Shows n (drop 1 qs) (All-drop Shows 1 qs shows)))
+      all_then _ _ _ s (all_stayed (desks_in n ps) (desks_in n qs) us (some_stay n (drop 1 ps) (drop 1 qs) (rest_stay ps qs a)) (All-take ShowsAsPass n (drop 1 qs) (All-drop ShowsAsPass 1 qs shows)))
 
 module _ (n : ℕ) (h : List Event) where
   pub attend_stay : (ps qs : List PassShown) → AllZip (Attends n h) ps qs → AllZip Stays ps qs
@@ -244,11 +244,11 @@ module _ (n : ℕ) (h : List Event) where
   attend_stay (p ∷ ps) [] a = absurd a
   attend_stay (p ∷ ps) (q ∷ qs) a = (quiet_stays n p q a.0.follows a.0.quiet a.0.turn, attend_stay ps qs a.1)
 
-  pub attend_show : (ps qs : List PassShown) → AllZip (Attends n h) ps qs → All Shows qs
-  attend_show [] [] a = All-nil Shows
+  pub attend_show : (ps qs : List PassShown) → AllZip (Attends n h) ps qs → All ShowsAsPass qs
+  attend_show [] [] a = All-nil ShowsAsPass
   attend_show [] (q ∷ qs) a = absurd a
   attend_show (p ∷ ps) [] a = absurd a
-  attend_show (p ∷ ps) (q ∷ qs) a = All-cons Shows q qs a.0.follows.shows (attend_show ps qs a.1)
+  attend_show (p ∷ ps) (q ∷ qs) a = All-cons ShowsAsPass q qs a.0.follows.shows (attend_show ps qs a.1)
 
 -- such passes are free afterwards
 pub looked_free : (m : ManagerShown) (n : ℕ) (h : List Event) (ps qs : List PassShown) → AllZip (Attends n h) ps qs → All (IsFreePass m) ps → All (IsOf m) qs → All (IsFreePass m) qs
@@ -314,7 +314,7 @@ module _ {X : Type 0} {F : X → Type 0} (behaviour : DynBox X Global F → Beha
   pub stayed_steady : (old new : Crew X F) (qs : List PassShown) → IsSteadyCrew behaviour registers pending old
       → new.manager ≡ old.manager → new.clients ≡ old.clients → new.starts ≡ old.starts → new.boxes ≡ old.boxes → new.passes.items ≡ qs
       → IsKeptBy old.manager new.keeper → AreAll new.keeper qs → length qs ≡ length old.passes.items → All (IsFreePass old.manager) qs
-      → AllZip Stays old.passes.items qs → All Shows qs
+      → AllZip Stays old.passes.items qs → All ShowsAsPass qs
       → IsSteadyCrew behaviour registers pending new
   stayed_steady old new qs h manager clients starts boxes passes kept all long free stays shows =
       next_steady old new qs old.boxes.items h manager clients starts passes (ap (λ v. v.items) boxes) kept all long free refl h.clear

@@ -22,7 +22,7 @@ use Rattle.tp_rollover.specs.declared.moved.RollFault.TheVariants.{BadLimits, Bu
 use Rattle.tp_workers.specs.Free.{IsFreePass}
 use Rattle.tp_crew.specs.declared.crew.Crew.{Crew}
 use Rattle.tp_crew.specs.Crew.{IsSteadyCrew, folds}
-use Rattle.tp_crew.specs.CrewPasses.{Shows, desks_in}
+use Rattle.tp_crew.specs.CrewPasses.{ShowsAsPass, desks_in}
 use Rattle.tp_crew.specs.Rolling.{IsCrewFault, RefusedSteps}
 use Rattle.tp_rollover.specs.Answers.{Rolls}
 use Rattle.tp_rollover.specs.declared.moved.Moved.{Moved}
@@ -41,14 +41,14 @@ pub both_all : (m : ManagerShown) (ps : List PassShown) → All (IsOf m) ps → 
 both_all m ps own free = λ k d less. record { own = own k d less; free = free k d less }
 
 -- passes that are together show what every pass shows
-pub show_each : (l : Limits) (keeper : KeeperShown) (ps : List PassShown) (h : List Event) → AreTogether l keeper ps h → All Shows ps
+pub show_each : (l : Limits) (keeper : KeeperShown) (ps : List PassShown) (h : List Event) → AreTogether l keeper ps h → All ShowsAsPass ps
 show_each l keeper ps h t = go ps t.each
   where
-    go : (qs : List PassShown) → ((p : PassShown) → In p qs → HasSeen l h p) → All Shows qs
-    go [] each = All-nil Shows
+    go : (qs : List PassShown) → ((p : PassShown) → In p qs → HasSeen l h p) → All ShowsAsPass qs
+    go [] each = All-nil ShowsAsPass
     go (q ∷ qs) each =
         let at = each q here in
-        All-cons Shows q qs (subst (λ (k : Limits). IsPassView k (view_in q)) (sym at.limits) at.shows) (go qs (λ p later. each p (there later)))
+        All-cons ShowsAsPass q qs (subst (λ (k : Limits). IsPassView k (view_in q)) (sym at.limits) at.shows) (go qs (λ p later. each p (there later)))
 
 -- passes that were free and did nothing but look are free
 pub stays_free : (m : ManagerShown) (ps qs : List PassShown) → AllZip Stays ps qs → All (IsFreePass m) ps → All (IsOf m) qs → All (IsFreePass m) qs

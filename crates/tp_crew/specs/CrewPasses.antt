@@ -34,8 +34,8 @@ abbrev pub clients_in : ℕ → List PassShown → List PassShown
 clients_in boxes passes = drop boxes (drop 1 passes)
 
 -- the pass shows what every pass shows between calls
-abbrev pub Shows : PassShown → Type 0
-Shows p = IsPassView p.limits (view_in p)
+abbrev pub ShowsAsPass : PassShown → Type 0
+ShowsAsPass p = IsPassView p.limits (view_in p)
 
 module _ {B : Type 0} (behaviour : B → Behaviour) (registers : B → List ℕ) where
   -- The registers of the box's committed work are those that its effects led to, over the elements that its

@@ -7,10 +7,10 @@ use Rattle.tp_model.specs.declared.types.Limits.{Limits}
 use Rattle.tp_manager.specs.Bounds.{gather_steps}
 use Rattle.tp_manager.specs.Shown.{KeeperShown, PassShown}
 use Rattle.tp_plain.specs.OneThread.{start}
-use Rattle.tp_alone.specs.Thread.{Stays}
+use Rattle.tp_alone.specs.Thread.{Stays, thread_of}
 use Rattle.tp_rollover.specs.Answers.{Rolls}
 use Rattle.tp_rollover.specs.Bounds.{AllMake, alive_after, survey_steps}
-use Rattle.tp_rollover.specs.Carries.{WouldNotFit}
+use Rattle.tp_rollover.specs.Carries.{Carries, WouldNotFit}
 use Rattle.tp_rollover.specs.declared.moved.Moved.{Moved}
 use Rattle.tp_rollover.specs.declared.moved.RollFault.{RollFault}
 use Rattle.tp_rollover.specs.declared.moved.RollFault.TheVariants.{Full, NoMemory, Unequal}
@@ -27,14 +27,16 @@ RefusedSteps l point keeper olds keeper' news =
 
 module _ {X : Type 0} {F : X → Type 0} where
   -- The crew has another manager, of the same limits, and all its passes. From what its passes had done before
-  -- the rollover went to what the new ones have seen. The folds of all boxes' work begin there. The old
-  -- manager's keeper and passes showed these at the last.
+  -- the rollover went to what the new ones have seen, and what was alive was made anew as it is computed. The
+  -- folds of all boxes' work begin there. The old manager's keeper and passes showed these at the last.
   pub record CrewRolls (old new : Crew X F) (moved : List Moved) : Type 0 where
     pub last_keeper : KeeperShown
     pub last_passes : List PassShown
     pub given : last_keeper.given ≡ old.keeper.given
     pub rolls : Rolls old.manager.limits new.manager.limits last_keeper new.keeper old.passes.items last_passes
         new.passes.items moved
+    pub carries : let l = old.manager.limits in
+        Carries l old.passes.items l.parts (start l) moved (thread_of l new.passes.items new.keeper.seen)
     pub begun : folds new ≡ zip (desks_in (length new.boxes.items) new.passes.items) new.boxes.items
 
   -- it is the same crew, with the same boxes, and its passes have done nothing but look

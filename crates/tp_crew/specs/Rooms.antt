@@ -10,8 +10,8 @@ abbrev pub units_left : Limits → PassShown → ℕ
 units_left l p = l.units - claims_in p.mine
 
 -- how many rows are left to it before it draws a spare block
-abbrev pub rows_left : PassShown → ℕ
-rows_left p = p.left
+abbrev pub part_rows_left : PassShown → ℕ
+part_rows_left p = p.left
 
 -- n is the least of what the passes among the first k have
 pub record IsLeastOf (measure : PassShown → ℕ) (passes : List PassShown) (k n : ℕ) : Type 0 where
@@ -21,17 +21,17 @@ pub record IsLeastOf (measure : PassShown → ℕ) (passes : List PassShown) (k 
   pub has : (d : PassShown) → n ≡ measure (slice_index_or passes at d)
 
 -- the least of what all passes have
-abbrev pub IsLeast : (PassShown → ℕ) → List PassShown → ℕ → Type 0
-IsLeast measure passes n = IsLeastOf measure passes (length passes) n
+abbrev pub IsLeastOfAll : (PassShown → ℕ) → List PassShown → ℕ → Type 0
+IsLeastOfAll measure passes n = IsLeastOf measure passes (length passes) n
 
 module _ {X : Type 0} {F : X → Type 0} where
   -- one of the crew's passes has the fewest rows left, and one the fewest units: so many
   pub record HasLeft (rows units : ℕ) (c : Crew X F) : Type 0 where
-    pub rows_are : IsLeast rows_left c.passes.items rows
-    pub units_are : IsLeast (units_left c.manager.limits) c.passes.items units
+    pub rows_are : IsLeastOfAll part_rows_left c.passes.items rows
+    pub units_are : IsLeastOfAll (units_left c.manager.limits) c.passes.items units
 
   -- each has as many rows and units left, or more
-  pub record HasRoom (rows units : ℕ) (c : Crew X F) : Type 0 where
+  pub record CrewHasRoom (rows units : ℕ) (c : Crew X F) : Type 0 where
     pub least_rows : ℕ
     pub least_units : ℕ
     pub left : HasLeft least_rows least_units c

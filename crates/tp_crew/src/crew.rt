@@ -112,37 +112,43 @@ fn drain_desks(
     drain(manager, desks, boxes, order)
 }
 
+/// What a shift is run with: its threads, the manager, what is planned, and what holds workers at their points.
+#[derive(Drop)]
+struct ShiftMeans<'r, 'm, 'g, R: Threads + Sync, G: Gate> {
+    rt: &'r R,
+    manager: &'m Manager,
+    plan: Plan,
+    gate: &'g G,
+}
+
 /// Has the desks and the clients of a crew with these passes work, each on a thread of its own.
 fn shift_all<R: Threads + Sync, G: Gate>(
-    rt: &R,
-    manager: &Manager,
+    with: &ShiftMeans<R, G>,
     passes: &mut [Pass],
     boxes: &mut [Box<dyn Server + Send>],
     jobs: &mut [ClientJob],
-    plan: Plan,
     counts: &mut [Shift],
-    gate: &G,
 ) -> Shift
     requires enough { 1 + length boxes.old + length jobs.old ≡ length passes.old }
-    requires free { All (IsFreePass manager.now) passes.old }
+    requires free { All (IsFreePass with.now.manager.now) passes.old }
     requires clear { All (λ server. pending server ≡ None) boxes.old }
     requires jobs { All IsClientJob jobs.old }
-    requires turns_fit { plan.turns * length boxes.old < 2 ^ 32 }
+    requires turns_fit { with.now.plan.turns * length boxes.old < 2 ^ 32 }
     requires counts_fit { sum_by calls_of jobs.old < 2 ^ 32 }
-    ensures desks { RanEach (DeskRan behaviour registers pending manager.now plan)
+    ensures desks { RanEach (DeskRan behaviour registers pending with.now.manager.now with.now.plan)
         (desks_in (length boxes.old) passes.old) boxes.old (desk_part result)
         (desks_in (length boxes.old) passes.new) boxes.new }
-    ensures clients { RanEach (ClientRan manager.now)
+    ensures clients { RanEach (ClientRan with.now.manager.now)
         (clients_in (length boxes.old) passes.old) jobs.old (client_part result)
         (clients_in (length boxes.old) passes.new) jobs.new }
-    ensures each_desk { AreTold (DeskRan behaviour registers pending manager.now plan)
+    ensures each_desk { AreTold (DeskRan behaviour registers pending with.now.manager.now with.now.plan)
         (desks_in (length boxes.old) passes.old) boxes.old counts.old (desk_part result)
         (desks_in (length boxes.old) passes.new) boxes.new counts.new }
-    ensures asked { RanEach (AsksTurns behaviour registers pending asked manager.now plan.order)
+    ensures asked { RanEach (AsksTurns behaviour registers pending asked with.now.manager.now with.now.plan.order)
         (desks_in (length boxes.old) passes.old) boxes.old (desk_part result)
         (desks_in (length boxes.old) passes.new) boxes.new }
     ensures own { own_in passes.new ≡ own_in passes.old }
-    ensures free { All (IsFreePass manager.now) passes.new }
+    ensures free { All (IsFreePass with.now.manager.now) passes.new }
     ensures numbered { numbers passes.new ≡ numbers passes.old }
     ensures clear { All (λ server. pending server ≡ None) boxes.new }
     ensures kept { length boxes.new ≡ length boxes.old }
@@ -152,23 +158,23 @@ fn shift_all<R: Threads + Sync, G: Gate>(
     ensures submitted { result.submitted + sum_by enqueues_in (clients_in (length boxes.old) passes.old)
         ≡ sum_by enqueues_in (clients_in (length boxes.old) passes.new) }
     ensures all_turns { result.nounit ≡ 0
-        → result.done + result.refused + result.lost + result.full + result.idle ≡ plan.turns * length boxes.old }
+        → result.done + result.refused + result.lost + result.full + result.idle ≡ with.now.plan.turns * length boxes.old }
     ensures all_calls { result.submitted + result.submit_full ≡ sum_by calls_of jobs.old }
 {
     let (_own, others) = passes.split_at_mut(1);
     let (desks, clients) = others.split_at_mut(boxes.len());
     shift(
-        rt,
-        manager,
+        with.rt,
+        with.manager,
         desks,
         boxes,
         clients,
         jobs,
         &mut [],
         &mut [],
-        plan,
+        with.plan,
         counts,
-        gate,
+        with.gate,
     )
 }
 
@@ -255,16 +261,13 @@ impl Crew {
             → result.done + result.refused + result.lost + result.full + result.idle ≡ plan.turns * length self.old.boxes.items }
         ensures all_calls { result.submitted + result.submit_full ≡ sum_by calls_of jobs.old }
     {
-        shift_all(
+        let with = ShiftMeans {
             rt,
-            &self.manager,
-            &mut self.passes,
-            &mut self.boxes,
-            jobs,
+            manager: &self.manager,
             plan,
-            counts,
             gate,
-        )
+        };
+        shift_all(&with, &mut self.passes, &mut self.boxes, jobs, counts)
     }
 
     /// Has the boxes' desks take turns on the caller's thread, one turn each in a round, whose claims are in

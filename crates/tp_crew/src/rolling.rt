@@ -6,12 +6,14 @@ ghost use Rattle.tp_model.specs.declared.event.Event.{Event};
 ghost use Rattle.tp_model.specs.Steps.{AreLimits};
 ghost use Rattle.tp_manager.specs.Accounts.{AreAll};
 ghost use Rattle.tp_manager.specs.Shown.{IsKeptBy, IsOf};
-ghost use Rattle.tp_alone.specs.Thread.{Stays};
+ghost use Rattle.tp_plain.specs.OneThread.{start};
+ghost use Rattle.tp_alone.specs.Thread.{Stays, thread_of};
 ghost use Rattle.tp_rollover.specs.Answers.{Rolls};
+ghost use Rattle.tp_rollover.specs.Carries.{Carries};
 ghost use Rattle.tp_rollover.specs.Bounds.{made_by_all, most_successor_steps, successor_steps};
 ghost use Rattle.tp_rollover.specs.Managed.{IsManaged};
 ghost use Rattle.tp_workers.specs.Free.{IsFreePass};
-ghost use Rattle.tp_crew.specs.CrewPasses.{Shows};
+ghost use Rattle.tp_crew.specs.CrewPasses.{ShowsAsPass};
 ghost use Rattle.tp_crew.specs.Rolling.{IsCrewFault, RefusedSteps};
 
 use crate::crew::Crew;
@@ -42,8 +44,11 @@ fn succeed_or_gather(
     ensures new_free { IfOk result (λ next. All (IsFreePass next.managed.manager) next.managed.passes.items) }
     ensures rolls { IfOk result (λ next. Rolls old.now.limits next.managed.manager.limits old_keeper.new
         next.managed.keeper old_passes.old old_passes.new next.managed.passes.items next.moved.items) }
+    ensures carries { IfOk result (λ next. let l = old.now.limits in
+        Carries l old_passes.old l.parts (start l) next.moved.items
+        (thread_of l next.managed.passes.items next.managed.keeper.seen)) }
     ensures stays { IfErr result (λ fault. AllZip Stays old_passes.old old_passes.new) }
-    ensures shows { IfErr result (λ fault. All Shows old_passes.new) }
+    ensures shows { IfErr result (λ fault. All ShowsAsPass old_passes.new) }
     ensures fault { IfErr result (IsCrewFault old.now.limits old_passes.old) }
     ensures steps { IfOk result (λ next. made_by_all next.managed.keeper next.managed.passes.items
         ≤ most_successor_steps old.now.limits (length next.moved.items)) }

@@ -3,7 +3,7 @@ ghost use Rattle.std.specs.Prelude.{◌≡◌, ◌≤◌, All, IfErr, IfOk, IfSo
 ghost use Rattle.tp_manager.specs.Shown.{IsOf};
 ghost use Rattle.tp_rollover.specs.Bounds.{made_by_all, most_successor_steps, successor_steps};
 ghost use Rattle.tp_crew.specs.Rolling.{IsCrewFault};
-ghost use Rattle.tp_crew.specs.Rooms.{IsLeast, rows_left, units_left};
+ghost use Rattle.tp_crew.specs.Rooms.{IsLeastOfAll, part_rows_left, units_left};
 
 use crate::crew::Crew;
 use std::alloc::Global;
@@ -14,8 +14,8 @@ use tp_rollover::{Moved, RollFault};
 fn least_room(manager: &Manager, passes: &[Pass]) -> Room
     requires own { All (IsOf manager.now) passes.now }
     requires some { 1 ≤ length passes.now }
-    ensures rows { IsLeast rows_left passes.now result.rows }
-    ensures units { IsLeast (units_left manager.now.limits) passes.now result.units }
+    ensures rows { IsLeastOfAll part_rows_left passes.now result.rows }
+    ensures units { IsLeastOfAll (units_left manager.now.limits) passes.now result.units }
 {
     let mut least = manager.room(&passes[0]);
     for place in 1..passes.len() {
@@ -29,14 +29,14 @@ fn least_room(manager: &Manager, passes: &[Pass]) -> Room
 impl Crew {
     ghost use Rattle.tp_crew.specs.Crew.{IsSteadyCrew};
     ghost use Rattle.tp_crew.specs.Rolling.{CrewRolls, CrewStays, RefusedWithin};
-    ghost use Rattle.tp_crew.specs.Rooms.{HasRoom, LacksRoom};
+    ghost use Rattle.tp_crew.specs.Rooms.{CrewHasRoom, LacksRoom};
 
     /// The fewest rows, and the fewest units, that are left to one of the crew's passes. Spare blocks, which
     /// any pass may draw, aren't counted.
     pub fn room(&self) -> Room
         requires steady { IsSteadyCrew behaviour registers pending self.now }
-        ensures rows { IsLeast rows_left self.now.passes.items result.rows }
-        ensures units { IsLeast (units_left self.now.manager.limits) self.now.passes.items result.units }
+        ensures rows { IsLeastOfAll part_rows_left self.now.passes.items result.rows }
+        ensures units { IsLeastOfAll (units_left self.now.manager.limits) self.now.passes.items result.units }
     {
         least_room(&self.manager, &self.passes)
     }
@@ -54,7 +54,7 @@ impl Crew {
         ensures boxes { self.new.boxes ≡ self.old.boxes }
         ensures clients { self.new.clients ≡ self.old.clients }
         ensures limits { self.new.manager.limits ≡ self.old.manager.limits }
-        ensures enough { result ≡ Ok None → (self.new ≡ self.old) × HasRoom rows units self.old }
+        ensures enough { result ≡ Ok None → (self.new ≡ self.old) × CrewHasRoom rows units self.old }
         ensures moved { IfOk result (λ answer. IfSome answer (λ moved. LacksRoom rows units self.old
             × CrewRolls self.old self.new moved.items)) }
         ensures refused { IfErr result (λ fault. LacksRoom rows units self.old

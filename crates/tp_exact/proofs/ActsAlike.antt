@@ -33,7 +33,7 @@ use Rattle.tp_script.specs.declared.script.DeskAct.{DeskAct}
 use Rattle.tp_session.specs.Dump.{all_starts, drop_lines, drop_of, dump_text, life_text, lost_lines, server_line, server_starts, settings_lines, worker_text}
 use Rattle.tp_session.specs.declared.hand.Holding.{Holding}
 use Rattle.tp_exact.specs.PlainOverviews.{overview_line}
-use Rattle.tp_exact.specs.PlainSession.{Refusals, SessionState, act_step, anew_as, command_by, dump_of, first_refusal, has_desk_open, last_step, line_step, lines_step, other_refusals, rolled_over, unless_refused, worker_step, works_in}
+use Rattle.tp_exact.specs.PlainSession.{Refusals, SessionState, session_act_step, anew_as, command_by, dump_of, first_refusal, session_desk_open, last_step, line_step, lines_step, other_refusals, rolled_over, unless_refused, worker_step, session_works_in}
 
 -- what acts go by of a server
 abbrev pub strip : ServerView → ServerView
@@ -188,7 +188,7 @@ module _ (g h : HeadView) (same : SayTheSame g h) where
   same_anew : (told : List Renamed → List ℕ) (before : List Holding) (left s : SessionState) (o : Option (List Moved × State)) → anew_as told g before left s o ≡ anew_as told h before left s o
   same_anew told before left s None = refl
   same_anew told before left s (Some (moved, manager)) =
-      ap (λ (ws : List WorkerView). (line (told (map renamed moved) <> roots_text (roots_of moved) <> units_text ws (works_in s moved manager before)), (anew_as told h before left s (Some (moved, manager))).1)) same.workers
+      ap (λ (ws : List WorkerView). (line (told (map renamed moved) <> roots_text (roots_of moved) <> units_text ws (session_works_in s moved manager before)), (anew_as told h before left s (Some (moved, manager))).1)) same.workers
 
   same_rolled : (s : SessionState) → rolled_over g s ≡ rolled_over h s
   same_rolled s = same_anew rolled_text s.works s s _
@@ -212,16 +212,16 @@ module _ (g h : HeadView) (same : SayTheSame g h) where
           ++ lost_lines workers (1 + n) s.works alive (length workers) ++ note_lines workers s.notes alive ++ (codes "restore" ∷ drops)
 
   same_by : (b : Bool) (why : Option RollFault) (c : Command) (s : SessionState) → command_by b g why c s ≡ command_by b h why c s
-  same_by true why c s = ap (λ done. unless_refused (has_desk_open s) why s done) (same_rolled s)
+  same_by true why c s = ap (λ done. unless_refused (session_desk_open s) why s done) (same_rolled s)
   same_by false why c s = ap (λ (step : List ℕ × ReportState). (step.0, record s { report = step.1 })) (same_step g.servers h.servers same.servers c s.report)
 
-  same_act : (why : Option RollFault) (act : Act) (s : SessionState) → IsNoRestore act → act_step g why act s ≡ act_step h why act s
+  same_act : (why : Option RollFault) (act : Act) (s : SessionState) → IsNoRestore act → session_act_step g why act s ≡ session_act_step h why act s
   same_act why (acts.Command c) s is = same_by (is_rollover c) why c s
   same_act why (acts.Worker at act) s is =
       ap (λ (ws : List WorkerView). worker_step (slice_get ws at) act at (1 + length g.servers + at) s) same.workers
       ∙ ap (λ n. worker_step (slice_get h.workers at) act at (1 + n + at) s) servers_many
   same_act why acts.Account s is = refl
-  same_act why acts.Dump s is = ap (λ lines. unless_refused (has_desk_open s) why s (dump_text lines, s)) (same_dump s)
+  same_act why acts.Dump s is = ap (λ lines. unless_refused (session_desk_open s) why s (dump_text lines, s)) (same_dump s)
   same_act why acts.Restore s is = absurd is
   same_act why (acts.Noted name act) s is = refl
   same_act why (acts.Overview what) s is =

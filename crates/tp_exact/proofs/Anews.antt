@@ -41,7 +41,7 @@ use Rattle.tp_session.specs.Notes.{NotesView, notes_in}
 use Rattle.tp_session.specs.declared.hand.Holding.{Holding}
 use Rattle.tp_exact.specs.Alive.{alive_of}
 use Rattle.tp_exact.specs.Dumps.{DumpComputed}
-use Rattle.tp_exact.specs.PlainSession.{SessionState, anew, anew_as, dump_of, has_desk_open, is_open, restored, rolled_over, unless_refused, works_in, unrestored}
+use Rattle.tp_exact.specs.PlainSession.{SessionState, session_anew, anew_as, dump_of, session_desk_open, session_is_open, session_restored, rolled_over, unless_refused, session_works_in, unrestored}
 use Rattle.tp_exact.specs.Sessions.{IsStep, IsUnforeseen, StandsLive}
 use Rattle.tp_exact.specs.Stands.{IsFor, IsServedBy}
 use Rattle.tp_exact.proofs.Described.{described_so}
@@ -190,21 +190,21 @@ module _ (head : Head) (old new : Live) (text : List ℕ) (s : SessionState) (is
   k = s.report.manager.limits
 
   -- the program's own passes are free just where no desk has a unit open
-  none_at_own : AreFree (own_passes scene) → has_desk_open s ≡ false
+  none_at_own : AreFree (own_passes scene) → session_desk_open s ≡ false
   none_at_own free = sym (desk_open_is head old new text s is) ∙ none_at_desks scene.places s.report.desks is.stands.desks (All-tail Free scene.client (passes scene.places) free)
 
-  own_none : has_desk_open s ≡ false → AreFree (own_passes scene)
+  own_none : session_desk_open s ≡ false → AreFree (own_passes scene)
   own_none none = All-cons Free scene.client (passes scene.places) holds.client (desks_free scene.places s.report.desks is.stands.desks (desk_open_is head old new text s is ∙ none))
 
   -- and all passes just where no unit is open
-  none_open : AreFree (passes_in scene) → is_open s ≡ false
+  none_open : AreFree (passes_in scene) → session_is_open s ≡ false
   none_open free =
       let others = free_parts (passes scene.places) scene.racers (All-tail Free scene.client (passes scene.places ++ scene.racers) free) in
       let hands = none_in_hand scene.racers old.works holds.workers others.1 in
       let desks = none_at_desks scene.places s.report.desks is.stands.desks others.0 in
       sym (open_is head old new text s is) ∙ (ap (λ b. b || list_any (λ (p : PlaceShown). is_some p.desk.work) scene.places) hands ∙ desks)
 
-  open_none : is_open s ≡ false → AreFree (passes_in scene)
+  open_none : session_is_open s ≡ false → AreFree (passes_in scene)
   open_none none =
       let parts = either_false (list_any has_unit old.works) (list_any (λ (p : PlaceShown). is_some p.desk.work) scene.places) (open_is head old new text s is ∙ none) in
       All-cons Free scene.client (passes scene.places ++ scene.racers) holds.client
@@ -235,9 +235,9 @@ module _ (head : Head) (old new : Live) (text : List ℕ) (s : SessionState) (is
 
   -- these find no room in another manager, and so it is computed
   no_room : (b : Bool) (told : List Renamed → List ℕ) (survivors : List Survivor) (before : List Holding) (left : SessionState) → made_anew l l.parts survivors (start l) ≡ None → b ≡ false → text ≡ line (roll_refused_text faults.Full) → StandsLive h new left
-      → Answered b left (anew told h survivors before left s)
+      → Answered b left (session_anew told h survivors before left s)
   no_room b told survivors before left full none text_is stands =
-      answered b left (anew told h survivors before left s) none
+      answered b left (session_anew told h survivors before left s) none
       (subst (λ o. IsStep h new text (anew_as told h before left s o)) (sym (ap (λ (z : Limits). made_anew z z.parts survivors (start z)) limits_are ∙ full)) (text_is, stands))
 
   unfit : WouldNotFit l (passes_in scene) l.parts (start l) → made_anew l l.parts (alive_of s.report.manager) (start l) ≡ None
@@ -246,21 +246,21 @@ module _ (head : Head) (old new : Live) (text : List ℕ) (s : SessionState) (is
       let alive : w.survivors ≡ alive_of s.report.manager = described_so l w.keeper.seen w.survivors w.together.legal w.found ∙ ap alive_of same in
       subst (λ ss. made_anew l l.parts ss (start l) ≡ None) alive w.full
 
-  unrolled_for : (why : RollFault) → IsUnrolledFor l (own_passes scene) (passes_in scene) why → text ≡ line (roll_refused_text why) → StandsLive h new s → Answered (has_desk_open s) s (rolled_over h s)
-  unrolled_for faults.NoMemory due text_is stands = failed (has_desk_open s) s (rolled_over h s) faults.NoMemory tt (none_at_own due) text_is stands
+  unrolled_for : (why : RollFault) → IsUnrolledFor l (own_passes scene) (passes_in scene) why → text ≡ line (roll_refused_text why) → StandsLive h new s → Answered (session_desk_open s) s (rolled_over h s)
+  unrolled_for faults.NoMemory due text_is stands = failed (session_desk_open s) s (rolled_over h s) faults.NoMemory tt (none_at_own due) text_is stands
   unrolled_for faults.BadLimits due text_is stands = absurd due
   unrolled_for faults.NoPass due text_is stands = absurd due
-  unrolled_for faults.Busy due text_is stands = busy (has_desk_open s) (has_desk_open s) (own_passes scene) s (rolled_over h s) refl due own_none text_is stands
-  unrolled_for faults.Full due text_is stands = no_room (has_desk_open s) rolled_text (alive_of s.report.manager) s.works s (unfit due.1) (none_at_own due.0) text_is stands
-  unrolled_for faults.Unequal due text_is stands = failed (has_desk_open s) s (rolled_over h s) faults.Unequal tt (none_at_own due) text_is stands
+  unrolled_for faults.Busy due text_is stands = busy (session_desk_open s) (session_desk_open s) (own_passes scene) s (rolled_over h s) refl due own_none text_is stands
+  unrolled_for faults.Full due text_is stands = no_room (session_desk_open s) rolled_text (alive_of s.report.manager) s.works s (unfit due.1) (none_at_own due.0) text_is stands
+  unrolled_for faults.Unequal due text_is stands = failed (session_desk_open s) s (rolled_over h s) faults.Unequal tt (none_at_own due) text_is stands
 
-  unrestored_for : (why : RollFault) → IsUnrestoredFor l (survivors_of h) (passes_in scene) why → text ≡ line (roll_refused_text why) → StandsLive h new (unrestored s) → Answered (is_open s) (unrestored s) (restored h s)
-  unrestored_for faults.NoMemory due text_is stands = failed (is_open s) (unrestored s) (restored h s) faults.NoMemory tt (none_open due) text_is stands
+  unrestored_for : (why : RollFault) → IsUnrestoredFor l (survivors_of h) (passes_in scene) why → text ≡ line (roll_refused_text why) → StandsLive h new (unrestored s) → Answered (session_is_open s) (unrestored s) (session_restored h s)
+  unrestored_for faults.NoMemory due text_is stands = failed (session_is_open s) (unrestored s) (session_restored h s) faults.NoMemory tt (none_open due) text_is stands
   unrestored_for faults.BadLimits due text_is stands = absurd due
   unrestored_for faults.NoPass due text_is stands = absurd due
-  unrestored_for faults.Busy due text_is stands = busy (is_open s) (is_open s) (passes_in scene) (unrestored s) (restored h s) refl due open_none text_is stands
-  unrestored_for faults.Full due text_is stands = no_room (is_open s) restored_text (survivors_of h) (lost_works h.lost 0 s.works) (unrestored s) due.1 (none_open due.0) text_is stands
-  unrestored_for faults.Unequal due text_is stands = failed (is_open s) (unrestored s) (restored h s) faults.Unequal tt (none_open due) text_is stands
+  unrestored_for faults.Busy due text_is stands = busy (session_is_open s) (session_is_open s) (passes_in scene) (unrestored s) (session_restored h s) refl due open_none text_is stands
+  unrestored_for faults.Full due text_is stands = no_room (session_is_open s) restored_text (survivors_of h) (lost_works h.lost 0 s.works) (unrestored s) due.1 (none_open due.0) text_is stands
+  unrestored_for faults.Unequal due text_is stands = failed (session_is_open s) (unrestored s) (session_restored h s) faults.Unequal tt (none_open due) text_is stands
 
   unsurveyed_for : (b : Bool) (done : List ℕ × SessionState) (why : RollFault) → IsUnsurveyed why → b ≡ false → text ≡ line (roll_refused_text why) → StandsLive h new s → Answered b s done
   unsurveyed_for b done faults.NoMemory due none text_is stands = failed b s done faults.NoMemory tt none text_is stands
@@ -302,7 +302,7 @@ module _ (head : Head) (old new : Live) (text : List ℕ) (s : SessionState) (is
 
   -- what the workers have in hand is computed
   pub works_here : (m : State) (moved : List Moved) (before : List Holding) → m ≡ m_new → AllZip BeginsAgain scene.places next.places → length next.racers ≡ length before
-      → works_in s moved m before ≡ lives.works_in new.stand moved before
+      → session_works_in s moved m before ≡ lives.works_in new.stand moved before
   works_here m moved before same again long =
       let n : ℕ = length next.places in
       let zs : List PassState = not_given new.stand.manager.limits (length (passes_in next)) in
@@ -317,7 +317,7 @@ module _ (head : Head) (old new : Live) (text : List ℕ) (s : SessionState) (is
       ∙ works_alone moved (1 + n) (units_of next.racers) (held_units zs) before all)))
 
   works_so : (m : State) (moved : List Moved) (before : List Holding) → m ≡ m_new → AllZip BeginsAgain scene.places next.places → length next.racers ≡ length before → new.works ≡ lives.works_in new.stand moved before
-      → works_in s moved m before ≡ new.works
+      → session_works_in s moved m before ≡ new.works
   works_so m moved before same again long works = works_here m moved before same again long ∙ sym works
 
   -- as many as there are passes of them
@@ -329,14 +329,14 @@ module _ (head : Head) (old new : Live) (text : List ℕ) (s : SessionState) (is
   abbrev done_with : (List Renamed → List ℕ) → List Moved → State → List Holding → NotesView → List ℕ × SessionState
   done_with told moved m works notes = (line (told (map renamed moved) <> roots_text (roots_of moved) <> units_text h.workers works), with_manager m works notes)
 
-  made_so : (told : List Renamed → List ℕ) (survivors : List Survivor) (before : List Holding) (left : SessionState) (moved : List Moved) (m : State) → made_anew l l.parts survivors (start l) ≡ Some (moved, m) → works_in s moved m before ≡ new.works → new.notes ≡ notes_in moved old.notes
-      → text ≡ line (told (map renamed moved) <> roots_text (roots_of moved) <> units_text h.workers new.works) → StandsLive h new (with_manager m new.works new.notes) → IsStep h new text (anew told h survivors before left s)
+  made_so : (told : List Renamed → List ℕ) (survivors : List Survivor) (before : List Holding) (left : SessionState) (moved : List Moved) (m : State) → made_anew l l.parts survivors (start l) ≡ Some (moved, m) → session_works_in s moved m before ≡ new.works → new.notes ≡ notes_in moved old.notes
+      → text ≡ line (told (map renamed moved) <> roots_text (roots_of moved) <> units_text h.workers new.works) → StandsLive h new (with_manager m new.works new.notes) → IsStep h new text (session_anew told h survivors before left s)
   made_so told survivors before left moved m made works notes text_is stands =
       subst (λ o. IsStep h new text (anew_as told h before left s o)) (sym (ap (λ (z : Limits). made_anew z z.parts survivors (start z)) limits_are ∙ made))
       (subst (λ ws. IsStep h new text (done_with told moved m ws (notes_in moved s.notes))) (sym works)
       (subst (λ n. IsStep h new text (done_with told moved m new.works n)) (notes ∙ ap (notes_in moved) (sym is.notes)) (text_is, stands)))
 
-  rolled : RolledLive h old text new → Answered (has_desk_open s) s (rolled_over h s)
+  rolled : RolledLive h old text new → Answered (session_desk_open s) s (rolled_over h s)
   rolled t =
       let r = t.rolled in
       let c = r.carries in
@@ -347,26 +347,26 @@ module _ (head : Head) (old new : Live) (text : List ℕ) (s : SessionState) (is
       let stands = stands_anew m m_is r.rolls.new_together r.free r.places in
       let long : length next.racers ≡ length s.works = r.racers ∙ (sym works_long ∙ ap (λ (ws : List Holding). length ws) (sym is.works)) in
       let works = works_so m t.moved s.works m_is r.places long (t.works ∙ ap (lives.works_in new.stand t.moved) (sym is.works)) in
-      answered (has_desk_open s) s (rolled_over h s) (none_at_own r.idle)
-      (subst (λ ss. IsStep h new text (anew rolled_text h ss s.works s s)) alive (made_so rolled_text c.survivors s.works s t.moved m c.made works t.notes t.text_is stands))
+      answered (session_desk_open s) s (rolled_over h s) (none_at_own r.idle)
+      (subst (λ ss. IsStep h new text (session_anew rolled_text h ss s.works s s)) alive (made_so rolled_text c.survivors s.works s t.moved m c.made works t.notes t.text_is stands))
 
-  pub by_rollover : RolloverTold h old text new → Answered (has_desk_open s) s (rolled_over h s)
+  pub by_rollover : RolloverTold h old text new → Answered (session_desk_open s) s (rolled_over h s)
   by_rollover t = elim t.told [
     | inl r ↦ rolled r
     | inr r ↦ unrolled_for r.refused.why r.refused.due r.refused.text_is (stands_on (IsUnrolled l) s.notes r.works (is.notes ∙ sym r.noted) r.refused)
   ]
 
-  again : RestoredLive h old text new → Answered (is_open s) (unrestored s) (restored h s)
+  again : RestoredLive h old text new → Answered (session_is_open s) (unrestored s) (session_restored h s)
   again t =
       let r = t.restored in
       let made = subst (λ (z : Limits). made_anew z z.parts (survivors_of h) (start z) ≡ Some (t.moved, m_new)) r.limits r.anew in
       let before : List Holding = lost_works h.lost 0 s.works in
       let long : length next.racers ≡ length before = r.racers ∙ (sym works_long ∙ (ap (λ (ws : List Holding). length ws) (sym is.works) ∙ sym (lost_long h.lost 0 s.works))) in
       let works = works_so m_new t.moved before refl r.places long (t.works ∙ ap (λ ws. lives.works_in new.stand t.moved (lost_works h.lost 0 ws)) (sym is.works)) in
-      answered (is_open s) (unrestored s) (restored h s) (none_open r.idle)
+      answered (session_is_open s) (unrestored s) (session_restored h s) (none_open r.idle)
       (made_so restored_text (survivors_of h) before (unrestored s) t.moved m_new made works t.notes t.text_is (stands_anew m_new refl r.restores.together r.free r.places))
 
-  pub by_restore : RestoreTold h old text new → Answered (is_open s) (unrestored s) (restored h s)
+  pub by_restore : RestoreTold h old text new → Answered (session_is_open s) (unrestored s) (session_restored h s)
   by_restore t = elim t.told [
     | inl r ↦ again r
     | inr r ↦ unrestored_for r.refused.why r.refused.due r.refused.text_is (stands_on (IsUnrestoredIn l (survivors_of h)) (notes_in [] s.notes) r.works (ap (notes_in []) is.notes ∙ sym r.noted) r.refused)
@@ -377,12 +377,12 @@ module _ (head : Head) (old new : Live) (text : List ℕ) (s : SessionState) (is
   abbrev lines_told : List ℕ × SessionState
   lines_told = (dump_text (dump_of h s), s)
 
-  dumped : (b : Bool) → has_desk_open s ≡ b → DumpComputed b h s text → StandsLive h new s → Answered (has_desk_open s) s lines_told
-  dumped true same told stands = (None, tt, with_open (has_desk_open s) true None s lines_told same (told, stands))
+  dumped : (b : Bool) → session_desk_open s ≡ b → DumpComputed b h s text → StandsLive h new s → Answered (session_desk_open s) s lines_told
+  dumped true same told stands = (None, tt, with_open (session_desk_open s) true None s lines_told same (told, stands))
   dumped false same told stands = elim told [
-    | inl lines ↦ answered (has_desk_open s) s lines_told same (lines, stands)
-    | inr why ↦ unsurveyed_for (has_desk_open s) lines_told why.why why.due same why.text_is stands
+    | inl lines ↦ answered (session_desk_open s) s lines_told same (lines, stands)
+    | inr why ↦ unsurveyed_for (session_desk_open s) lines_told why.why why.due same why.text_is stands
   ]
 
-  pub by_dump : DumpTold h old text new → Answered (has_desk_open s) s lines_told
-  by_dump t = let d = exact_dump head old new text s is t in dumped (has_desk_open s) refl d.0 d.1
+  pub by_dump : DumpTold h old text new → Answered (session_desk_open s) s lines_told
+  by_dump t = let d = exact_dump head old new text s is t in dumped (session_desk_open s) refl d.0 d.1

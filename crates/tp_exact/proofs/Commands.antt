@@ -25,7 +25,7 @@ use Rattle.tp_reference.specs.PlainReport as plain
 use Rattle.tp_reference.specs.PlainReport.{ReportState, balance_at, command_step, with_manager}
 use Rattle.tp_alone.specs.Thread.{AreTogether, Stays, thread_of}
 use Rattle.tp_exact.specs.Acts.{Acts}
-use Rattle.tp_exact.specs.Stands.{IsFor, IsServedBy, OnlyLooks, OnlyLooksAt, Stands}
+use Rattle.tp_exact.specs.Stands.{IsFor, IsServedBy, SceneOnlyLooks, OnlyLooksAt, StandsAsComputed}
 use Rattle.tp_exact.proofs.Clients.{exact_client}
 use Rattle.tp_exact.proofs.Parts.{idle}
 
@@ -54,7 +54,7 @@ place_passes (p ∷ ps) [] a = absurd a
 place_passes (p ∷ ps) (q ∷ qs) a = (a.0.pass, place_passes ps qs a.1)
 
 -- so have those of a scene
-pub scene_passes : (old new : Scene) → OnlyLooks old new → AllZip Stays (passes_in old) (passes_in new)
+pub scene_passes : (old new : Scene) → SceneOnlyLooks old new → AllZip Stays (passes_in old) (passes_in new)
 scene_passes old new looks = (looks.client, zip_append Stays (map (λ p. p.desk.pass) old.places) (map (λ p. p.desk.pass) new.places) old.racers new.racers (place_passes old.places new.places looks.places) looks.racers)
 
 -- a desk is still the one at its place
@@ -99,8 +99,8 @@ nothing (x ∷ xs) none = absurd (omega (arith, none))
 
 -- ---- the client and its scene
 
-module _ (servers : List ServerView) (l : Limits) (keeper keeper' : KeeperShown) (h h' : List Event) (old new next : Scene) (s : ReportState) (stands : Stands servers l keeper h old s) (places : new.places ≡ old.places) (racers : new.racers ≡ old.racers)
-    (looks : OnlyLooks new next) (after : AreTogether l keeper' (passes_in next) h') where
+module _ (servers : List ServerView) (l : Limits) (keeper keeper' : KeeperShown) (h h' : List Event) (old new next : Scene) (s : ReportState) (stands : StandsAsComputed servers l keeper h old s) (places : new.places ≡ old.places) (racers : new.racers ≡ old.racers)
+    (looks : SceneOnlyLooks new next) (after : AreTogether l keeper' (passes_in next) h') where
   abbrev behind : List PassShown
   behind = map (λ p. p.desk.pass) old.places ++ old.racers
 
@@ -119,7 +119,7 @@ module _ (servers : List ServerView) (l : Limits) (keeper keeper' : KeeperShown)
 
   -- a client's command
   abbrev Leads : List ℕ → List ℕ × ReportState → Type 0
-  Leads text step = (text ≡ step.0) × Stands servers l keeper' h' next step.1
+  Leads text step = (text ≡ step.0) × StandsAsComputed servers l keeper' h' next step.1
 
   pub by_client : (act : ClientAct) (text : List ℕ) → TellsClient l act old.client text new.client → Leads text (with_manager s (client_step act s.manager))
   by_client act text tells =
@@ -129,7 +129,7 @@ module _ (servers : List ServerView) (l : Limits) (keeper keeper' : KeeperShown)
       subst (λ r. Leads text (with_manager s r)) now (refl, record { together = after; manager = refl; desks = desks; served = served })
 
   -- nothing was done
-  pub idles : new.client ≡ old.client → Stands servers l keeper' h' next s
+  pub idles : new.client ≡ old.client → StandsAsComputed servers l keeper' h' next s
   idles same = record {
     together = after;
     manager = stands.manager ∙ sym (idle l keeper keeper' (passes_in old) (passes_in next) h h' client old.client new.client acts same);

@@ -13,15 +13,15 @@ use Rattle.tp_perform.specs.Scenes.{Gathered, Scene}
 use Rattle.tp_perform.specs.Told.{Performs}
 use Rattle.tp_reference.specs.PlainReport.{ReportState, balance_at, command_step}
 use Rattle.tp_exact.specs.Commands.{ExactCommand}
-use Rattle.tp_exact.specs.Stands.{IsFor, Stands}
+use Rattle.tp_exact.specs.Stands.{IsFor, StandsAsComputed}
 use Rattle.tp_exact.proofs.Commands.{by_client, idles, racers_kept, summed_so, told_so, zip_at}
 use Rattle.tp_exact.proofs.Drains.{drained}
 use Rattle.tp_exact.proofs.Places.{at_desk}
 use Rattle.tp_exact.proofs.Scenes.{looks, together}
 
-module _ (m : ManagerShown) (head : HeadView) (raced : ℕ) (keeper keeper' : KeeperShown) (old done next : Scene) (text : List ℕ) (s : ReportState) (stands : Stands head.servers m.limits keeper keeper.seen old s) (g : Gathered m keeper keeper' done next) where
+module _ (m : ManagerShown) (head : HeadView) (raced : ℕ) (keeper keeper' : KeeperShown) (old done next : Scene) (text : List ℕ) (s : ReportState) (stands : StandsAsComputed head.servers m.limits keeper keeper.seen old s) (g : Gathered m keeper keeper' done next) where
   abbrev Leads : Command → Type 0
-  Leads c = let step = command_step head.servers c s in (text ≡ step.0) × Stands head.servers m.limits keeper' keeper'.seen next step.1
+  Leads c = let step = command_step head.servers c s in (text ≡ step.0) × StandsAsComputed head.servers m.limits keeper' keeper'.seen next step.1
 
   -- a command that is no drain and no race
   single : (c : Command) → is_race c ≡ false → Performs m head c raced old text done → Leads c

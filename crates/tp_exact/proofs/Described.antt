@@ -14,7 +14,7 @@ use Rattle.tp_model.proofs.Later.{births_inside}
 use Rattle.tp_rollover.specs.Survivors.{AreSurvivors, Ascending, IsLiving, IsStanding, IsSurvivor}
 use Rattle.tp_rollover.specs.declared.survivors.Survivor.{Survivor}
 use Rattle.tp_rollover.specs.Hands.{holder_of}
-use Rattle.tp_exact.specs.Alive.{if_alive, is_alive, standing, with_root}
+use Rattle.tp_exact.specs.Alive.{if_alive, is_alive, alive_standing, with_root}
 
 alive_is : (x : Status) → IsLiving x → is_alive x ≡ true
 alive_is (status.Waiting n) living = refl
@@ -40,7 +40,7 @@ killable_lives status.Killed killable = absurd killable
 -- ---- how it is described, computed
 
 module _ (l : Limits) where
-  unheld_so : (x : Status) → IsKillable x → standing l x ≡ (x, None)
+  unheld_so : (x : Status) → IsKillable x → alive_standing l x ≡ (x, None)
   unheld_so (status.Waiting n) killable = refl
   unheld_so (status.Parked n) killable = refl
   unheld_so (status.Held u n) killable = absurd killable
@@ -50,11 +50,11 @@ module _ (l : Limits) where
   abbrev both : Status → Option ℕ → Status × Option ℕ
   both x holder = (x, holder)
 
-  standing_so : (is x : Status) (holder : Option ℕ) → IsStanding l is x holder → standing l is ≡ (x, holder)
-  standing_so is x None a = ap (standing l) a.0 ∙ unheld_so x a.1
+  standing_so : (is x : Status) (holder : Option ℕ) → IsStanding l is x holder → alive_standing l is ≡ (x, holder)
+  standing_so is x None a = ap (alive_standing l) a.0 ∙ unheld_so x a.1
   standing_so is x (Some c) (u, n, held, waits, by) =
       let back : (n + 1) - 1 ≡ n = omega arith in
-      ap (standing l) held
+      ap (alive_standing l) held
       ∙ (ap (λ m. both (status.Waiting m) (Some (holder_of l u))) back
       ∙ (ap (λ z. both z (Some (holder_of l u))) (sym waits) ∙ ap (λ d. both x (Some d)) (sym by)))
 
@@ -88,7 +88,7 @@ module _ (l : Limits) (h : List Event) where
       let now : Status = status_of limit h s.id in
       let alive : is_alive now ≡ true = alive_is now (standing_lives l now s.status s.holder is.stands) in
       ap (if_alive l h s.id) is.born
-      ∙ (ap (λ b. if b then with_root (standing l now) h s.id is.item (element_of h is.item.root) else []) alive
+      ∙ (ap (λ b. if b then with_root (alive_standing l now) h s.id is.item (element_of h is.item.root) else []) alive
       ∙ (ap (λ z. with_root z h s.id is.item (element_of h is.item.root)) (standing_so l now s.status s.holder is.stands)
       ∙ (ap (with_root (s.status, s.holder) h s.id is.item) (ap (element_of h) is.root ∙ is.began)
       ∙ (ap (λ r. made s.id r is.item.stage is.item.body s.status s.holder (rounds h s.id) is.request.stage is.request.body) is.root
@@ -109,7 +109,7 @@ module _ (l : Limits) (h : List Event) where
       by_status x found true alive =
           let same : x.id ≡ id = element_of-id h id x found in
           inr (x, is_born h id x found, subst (λ i. IsLiving (status_of limit h i)) (sym same) (living_is (status_of limit h id) alive), same)
-      by_status x found false alive = inl (ap (if_alive l h id) found ∙ ap (λ b. if b then with_root (standing l (status_of limit h id)) h id x (element_of h x.root) else []) alive)
+      by_status x found false alive = inl (ap (if_alive l h id) found ∙ ap (λ b. if b then with_root (alive_standing l (status_of limit h id)) h id x (element_of h x.root) else []) alive)
 
       by_item : (o : Option Element) → element_of h id ≡ o → (at id ≡ []) ⊎ Alive id
       by_item None found = inl (ap (if_alive l h id) found)

@@ -21,7 +21,7 @@ use Rattle.tp_report.specs.declared.answer.Answer.TheVariants as answer
 use Rattle.tp_report.specs.declared.answer.ServerAnswer.TheVariants as told
 use Rattle.tp_script.specs.Script.{ServerView}
 use Rattle.tp_commands.specs.Acting.{PlaceShown, is_free}
-use Rattle.tp_perform.specs.Drains.{Drains, NoTurn, Round, RoundsClaim, TurnTaken, TurnsBelow, has_claimed}
+use Rattle.tp_perform.specs.Drains.{Drains, NoTurn, Round, RoundsClaim, TurnTaken, TurnsBelow, turn_claimed}
 use Rattle.tp_perform.specs.Scenes.{Scene, passes_in}
 use Rattle.tp_reference.specs.declared.plain_desk.PlainDesk.{PlainDesk}
 use Rattle.tp_reference.specs.PlainDesks as desks
@@ -30,7 +30,7 @@ use Rattle.tp_reference.specs.PlainReport as plain
 use Rattle.tp_reference.specs.PlainReport.{ReportState, drain_of, most_rounds, round_below, round_of, round_turn, rounds, with_acted, worker}
 use Rattle.tp_reference.proofs.DrainEnds.{drains_end, no_more, none_yet, one_more}
 use Rattle.tp_alone.specs.Thread.{not_given, state_of, thread_of}
-use Rattle.tp_exact.specs.Stands.{IsFor, IsForDesk, IsServedBy, Stands}
+use Rattle.tp_exact.specs.Stands.{IsFor, IsForDesk, IsServedBy, StandsAsComputed}
 use Rattle.tp_exact.proofs.Commands.{zip_at}
 use Rattle.tp_exact.proofs.Desks.{pass_here}
 use Rattle.tp_exact.proofs.Places.{acts_at, at_worker, kept_turned, leads_at, parted, pass_at_place, passes}
@@ -38,7 +38,7 @@ use Rattle.tp_exact.proofs.Scenes.{looks, together}
 use Rattle.tp_exact.proofs.Turns.{turned_so}
 
 -- what is claimed is told alike
-same_claimed : (t : Turned) → has_claimed t ≡ plain.has_claimed (told.Turned t)
+same_claimed : (t : Turned) → turn_claimed t ≡ plain.has_claimed (told.Turned t)
 same_claimed turneds.Idle = refl
 same_claimed turneds.NoUnit = refl
 same_claimed (turneds.Done unit element first count) = refl
@@ -78,7 +78,7 @@ module _ (servers : List ServerView) (order : Order) (m : ManagerShown) where
   l = m.limits
 
   abbrev Is : KeeperShown → Scene → ReportState → Type 0
-  Is keeper scene s = Stands servers l keeper keeper.seen scene s
+  Is keeper scene s = StandsAsComputed servers l keeper keeper.seen scene s
 
   -- ---- a turn
 

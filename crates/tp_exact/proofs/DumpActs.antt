@@ -17,9 +17,9 @@ use Rattle.tp_session.specs.declared.hand.Holding.{Holding}
 use Rattle.tp_session.specs.Live.{FoundAlive, Live, LiveGathers, LiveLooks, TellsDump, lines_of}
 use Rattle.tp_exact.specs.Alive.{alive_of}
 use Rattle.tp_exact.specs.Dumps.{DumpComputed, ExactDump}
-use Rattle.tp_exact.specs.PlainSession.{SessionState, dump_of, has_desk_open}
+use Rattle.tp_exact.specs.PlainSession.{SessionState, dump_of, session_desk_open}
 use Rattle.tp_exact.specs.Sessions.{StandsLive}
-use Rattle.tp_exact.specs.Stands.{IsFor, Stands}
+use Rattle.tp_exact.specs.Stands.{IsFor, StandsAsComputed}
 use Rattle.tp_exact.proofs.Commands.{served_all, still_all}
 use Rattle.tp_exact.proofs.Described.{described_so}
 use Rattle.tp_exact.proofs.Scenes.{each_stays, looks_apart, together}
@@ -64,7 +64,7 @@ module _ (head : Head) (old : Live) (s : SessionState) (is : StandsLive (head_vi
     still places works notes =
         let apart = looks_apart old.stand.scene.places new.stand.scene.places old.stand.scene.racers new.stand.scene.racers places stay.1 in
         record {
-          stands = subst (λ (m : ManagerShown). Stands h.servers m.limits new.stand.keeper new.stand.keeper.seen new.stand.scene s.report) (sym manager) (record {
+          stands = subst (λ (m : ManagerShown). StandsAsComputed h.servers m.limits new.stand.keeper new.stand.keeper.seen new.stand.scene s.report) (sym manager) (record {
             together = after;
             manager = sym same;
             desks = still_all old.stand.scene.places new.stand.scene.places s.report.desks apart.0 is.stands.desks;
@@ -120,4 +120,4 @@ module _ (head : Head) (old : Live) (s : SessionState) (is : StandsLive (head_vi
 
 pub exact_dump : ExactDump
 exact_dump head old new text s is t =
-    tells_so head old s is new text t.done t.gathers (has_desk_open s) (subst (λ b. TellsDump (head_view head) b old text t.done) (desk_open_is head old new text s is) t.tells)
+    tells_so head old s is new text t.done t.gathers (session_desk_open s) (subst (λ b. TellsDump (head_view head) b old text t.done) (desk_open_is head old new text s is) t.tells)

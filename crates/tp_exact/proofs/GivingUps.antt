@@ -5,11 +5,11 @@ use Rattle.tp_plain.specs.OneThread as thread
 use Rattle.tp_manager.specs.Shown.{KeeperShown, ManagerShown}
 use Rattle.tp_script.specs.Script.{ServerView}
 use Rattle.tp_commands.specs.Acting.{PlaceShown}
-use Rattle.tp_perform.specs.GivingUp.{GiveUpBelow, GivesUp}
+use Rattle.tp_perform.specs.GivingUp.{GiveUpBelow, DeskGivesUp}
 use Rattle.tp_perform.specs.Scenes.{Scene, passes_in}
 use Rattle.tp_reference.specs.PlainDesks.{given_up}
 use Rattle.tp_reference.specs.PlainReport.{ReportState, ended_below, worker}
-use Rattle.tp_exact.specs.Stands.{IsFor, IsServedBy, Stands}
+use Rattle.tp_exact.specs.Stands.{IsFor, IsServedBy, StandsAsComputed}
 use Rattle.tp_exact.proofs.Commands.{served_all, still_all, zip_at}
 use Rattle.tp_exact.proofs.Desks.{gives_up}
 use Rattle.tp_exact.proofs.Places.{acts_at, zip_beside}
@@ -23,9 +23,9 @@ with_state s manager = record { manager = manager; desks = s.desks }
 
 module _ (servers : List ServerView) (m : ManagerShown) where
   abbrev Is : KeeperShown → Scene → ReportState → Type 0
-  Is keeper z s = Stands servers m.limits keeper keeper.seen z s
+  Is keeper z s = StandsAsComputed servers m.limits keeper keeper.seen z s
 
-  gives : (at : ℕ) (keeper keeper' : KeeperShown) (old new : Scene) (s : ReportState) → Is keeper old s → GivesUp m at keeper old keeper' new
+  gives : (at : ℕ) (keeper keeper' : KeeperShown) (old new : Scene) (s : ReportState) → Is keeper old s → DeskGivesUp m at keeper old keeper' new
       → Is keeper' new (with_state s (given_up s.manager (worker at)))
   gives at keeper keeper' old new s stands t =
       let p : PlaceShown = t.gives_up.old in

@@ -3,7 +3,7 @@ use Rattle.std.proofs.Common.{◌≡◌, ◌∙◌, ◌<◌, ◌≤◌, ◌+◌,
 use Rattle.std.specs.List.{list_any}
 use Rattle.std.proofs.lemmas.Bool.Decides.{eqb_tells}
 use Rattle.tp_model.specs.History.{In, UnitClaim, claim_by, claim_of, here, status_of, there}
-use Rattle.tp_model.specs.Steps.{IsLegal, IsOpen, IsUnitOf, Step}
+use Rattle.tp_model.specs.Steps.{IsLegal, IsOpen, Step}
 use Rattle.tp_model.specs.declared.event.Event.{Event}
 use Rattle.tp_model.specs.declared.event.Event.TheVariants.{Enqueue, Claim, Commit, Abort, Kill, Requeue}
 use Rattle.tp_model.specs.declared.types.Limits.{Limits}
@@ -16,7 +16,7 @@ use Rattle.tp_plain.proofs.UnitEnds.{held_undecided}
 use Rattle.tp_rollover.specs.Hands.{holder_of}
 use Rattle.tp_rollover.specs.Survivors.{Ascending, IsStanding, IsSurvivor}
 use Rattle.tp_rollover.specs.declared.survivors.Survivor.{Survivor}
-use Rattle.tp_rollover.proofs.Standing.{own_unit}
+use Rattle.tp_rollover.proofs.Standing.{unit_pass}
 use Rattle.tp_script.specs.Holders.{is_holder}
 use Rattle.tp_session.specs.Dump.{holds_one}
 use Rattle.tp_exact.proofs.Described.{no_less}
@@ -64,14 +64,6 @@ one_open l h legal = by_steps l OneOpen (λ u v s t first. absurd (let claimed =
         ]
 
 -- ---- and so holds one element
-
-within : (m u k : ℕ) → m ≤ u → u < m + k → (m + (u - m) ≡ u) × (u - m < k)
-within m u k low high = (omega (arith, low), omega (arith, low, high))
-
-unit_pass : (l : Limits) (c u : ℕ) → IsUnitOf l c u → holder_of l u ≡ c
-unit_pass l c u unit =
-    let in_it = within (c * l.units) u l.units unit.1 unit.2 in
-    ap (holder_of l) (sym in_it.0) ∙ sym (own_unit l c (u - c * l.units) in_it.1)
 
 some_claim : (s t : UnitClaim) → Some s ≡ Some t → s ≡ t
 some_claim s t e = cc

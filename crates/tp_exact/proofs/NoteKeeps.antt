@@ -6,12 +6,12 @@ use Rattle.std.proofs.lemmas.List.Folds.{find-append, find-set, find_at}
 use Rattle.std.proofs.lemmas.Option.{slice_get_within}
 use Rattle.tp_script.specs.Notes.{NameView}
 use Rattle.tp_script.specs.declared.notes.ClientNote.{ClientNote}
-use Rattle.tp_session.specs.Notes.{is_named}
+use Rattle.tp_session.specs.Notes.{has_name}
 use Rattle.tp_exact.proofs.Cuts.{le_true}
 
 module _ (name : NameView) (sent received : ℕ) where
   abbrev pub p : ClientNote → Bool
-  p c = is_named name c.name
+  p c = has_name name c.name
 
   -- it was found, and has done so much
   pub record Found (o : Option ClientNote) : Type 0 where

@@ -21,7 +21,7 @@ use Rattle.tp_script.specs.declared.notes.TheConstants.{MAX_CLIENTS}
 use Rattle.tp_script.specs.declared.notes.UnitEnd.{UnitEnd}
 use Rattle.tp_exact.specs.NoteReads.{AreNotes, IsClientName, IsFitEnd, IsFitNote, NoteLinesRead}
 use Rattle.tp_rollover.specs.declared.survivors.Survivor.{Survivor}
-use Rattle.tp_session.specs.Notes.{NotesView, end_at, ends_at}
+use Rattle.tp_session.specs.Notes.{NotesView, noted_end, ends_at}
 use Rattle.tp_session.specs.NoteTexts.{client_text, ended_lines, is_root, note_lines, request_lines, request_text}
 use Rattle.tp_exact.proofs.LostReads.{AreTaken, any_parts, taken_more, taken_told}
 use Rattle.tp_exact.proofs.SessionLines.{either_false}
@@ -214,7 +214,7 @@ ends_are first before [] [] same none = refl
 ends_are first before [] (e ∷ ends) same none = absurd (omega (arith, same))
 ends_are first before (w ∷ works) [] same none = absurd (omega (arith, same))
 ends_are first before (w ∷ works) (None ∷ ends) same none =
-    let here_is : end_at first (before ++ told_ends (suc first) ends) ≡ None = ap (option_map (λ (line : EndLine). line.end)) (found_behind first before (told_ends (suc first) ends) (none first (omega arith)) ∙ none_told first (suc first) ends (omega arith)) in
+    let here_is : noted_end first (before ++ told_ends (suc first) ends) ≡ None = ap (option_map (λ (line : EndLine). line.end)) (found_behind first before (told_ends (suc first) ends) (none first (omega arith)) ∙ none_told first (suc first) ends (omega arith)) in
     let rest = ends_are (suc first) before works ends (omega (arith, same)) (λ k low. none k (omega (arith, low))) in
     let next : first + 1 ≡ suc first = omega arith in
     ap (λ z. z ∷ ends_at (before ++ told_ends (suc first) ends) (first + 1) works) here_is ∙ (ap (λ n. None ∷ ends_at (before ++ told_ends (suc first) ends) n works) next ∙ ap (λ z. None ∷ z) rest)
@@ -222,7 +222,7 @@ ends_are first before (w ∷ works) (Some how ∷ ends) same none =
     let mine : EndLine = record { worker = first; end = how } in
     let all : List EndLine = before ++ mine ∷ told_ends (suc first) ends in
     let found : find (λ line. line.worker == first) (mine ∷ told_ends (suc first) ends) ≡ Some mine = ap (λ b. cond b (Some mine) (find (λ line. line.worker == first) (told_ends (suc first) ends))) (same_number first) in
-    let here_is : end_at first all ≡ Some how = ap (option_map (λ (line : EndLine). line.end)) (found_behind first before (mine ∷ told_ends (suc first) ends) (none first (omega arith)) ∙ found) in
+    let here_is : noted_end first all ≡ Some how = ap (option_map (λ (line : EndLine). line.end)) (found_behind first before (mine ∷ told_ends (suc first) ends) (none first (omega arith)) ∙ found) in
     let none_so : (k : ℕ) → suc first ≤ k → None_of k (before ++ mine ∷ []) = λ k low. any_parts (is_end_of k) before (mine ∷ []) (none k (omega (arith, low))) (ap (λ b. b || false) (other_number first k (λ e. omega (arith, low, e)))) in
     let rest = ends_are (suc first) (before ++ mine ∷ []) works ends (omega (arith, same)) none_so in
     let same_ends : (before ++ mine ∷ []) ++ told_ends (suc first) ends ≡ all = append_assoc before (mine ∷ []) (told_ends (suc first) ends) in

@@ -24,13 +24,13 @@ use Rattle.tp_script.specs.declared.notes.ClientNote.{ClientNote}
 use Rattle.tp_script.specs.declared.notes.NotedAct.{NotedAct}
 use Rattle.tp_script.specs.declared.notes.NotedAct.TheVariants as acts
 use Rattle.tp_script.specs.declared.notes.TheConstants.{MAX_CLIENTS}
-use Rattle.tp_session.specs.Clients.{JustTells, NextReceive, NotedDoes, Noting, NowNotes, OfClient, ReceiveBy, Receives, RegisterBy, SendBy, Sends, Telling, gap_text, is_its_own, noting, send_text, sent_by}
-use Rattle.tp_session.specs.NoteTexts.{forgotten_text, id_text, last_text, received_text, reply_text, registered_text, sent_text}
-use Rattle.tp_session.specs.Notes.{NotesView, place_of, standing, with_client, without_client}
+use Rattle.tp_session.specs.Clients.{JustTells, NextReceive, NotedDoes, Noting, NowNotes, OfClient, ReceiveBy, ReceivesNoted, RegisterBy, SendBy, Sends, ClientTelling, gap_text, is_its_own, noting, send_text, sent_by}
+use Rattle.tp_session.specs.NoteTexts.{forgotten_text, id_text, last_text, received_text, last_reply_text, registered_text, sent_text}
+use Rattle.tp_session.specs.Notes.{NotesView, client_place, number_standing, with_new_client, without_client}
 use Rattle.tp_session.specs.declared.notes.Standing.{Standing}
 use Rattle.tp_session.specs.declared.notes.Standing.TheVariants.{Next, Again, Earlier, Later}
 use Rattle.tp_exact.specs.Acts.{Acts}
-use Rattle.tp_exact.specs.PlainNotes.{NotedAnswered, by_note, just, next_receive, noted_does, of_client, receive_by, receives, register_by, send_by, sends, taken_of}
+use Rattle.tp_exact.specs.PlainNotes.{NotedAnswered, by_note, just, next_receive, noted_does, of_client, receive_by, receives, register_by, send_by, sends, reply_taken}
 use Rattle.tp_exact.specs.PlainNotes as plain
 use Rattle.tp_exact.proofs.Parts.{idle, whole}
 use Rattle.tp_exact.proofs.Receives.{received_is}
@@ -45,7 +45,7 @@ module _ (l : Limits) (keeper keeper' : KeeperShown) (olds news : List PassShown
   abbrev So : NotedAnswered → Type 0
   So d = (text ≡ d.text) × (n' ≡ d.notes) × (is ≡ d.manager)
 
-  abbrev Told : Telling → Type 0
+  abbrev Told : ClientTelling → Type 0
   Told T = T (noting old n) text (noting new n')
 
   abbrev refused_there : List ℕ
@@ -81,8 +81,8 @@ module _ (l : Limits) (keeper keeper' : KeeperShown) (olds news : List PassShown
 
   -- ---- receives
 
-  receives_so : (name : NameView) (root : Option ℕ) (place : ℕ) (c : ClientNote) (number : ℕ) → Told (Receives l name root place c number)
-      → So (receives name place c number n (taken_of (plain.first_below (λ r. asks_for n.requests name root r) was (rows_of l)) was))
+  receives_so : (name : NameView) (root : Option ℕ) (place : ℕ) (c : ClientNote) (number : ℕ) → Told (ReceivesNoted l name root place c number)
+      → So (receives name place c number n (reply_taken (plain.first_below (λ r. asks_for n.requests name root r) was (rows_of l)) was))
   receives_so name root place c number t =
       let law = received_is l (λ r. asks_for n.requests name root r) keeper keeper' olds news h h' old new a t.found t.takes in
       subst (λ z. So (receives name place c number n z)) law (t.text_is, t.notes, refl)
@@ -93,7 +93,7 @@ module _ (l : Limits) (keeper keeper' : KeeperShown) (olds news : List PassShown
 
   receive_so : (st : Standing) (name : NameView) (root : Option ℕ) (number place : ℕ) (c : ClientNote) → Told (ReceiveBy st l name root number place c) → So (receive_by st name root number place c n was)
   receive_so Next name root number place c t = next_so (is_its_own n.requests name root) name root number place c t
-  receive_so Again name root number place c t = just_so (received_text name number (reply_text c)) t
+  receive_so Again name root number place c t = just_so (received_text name number (last_reply_text c)) t
   receive_so Earlier name root number place c t = just_so (received_text name number (codes "done")) t
   receive_so Later name root number place c t = just_so gap_text t
 
@@ -101,22 +101,22 @@ module _ (l : Limits) (keeper keeper' : KeeperShown) (olds news : List PassShown
 
   register_so : (o : Option ℕ) (room : Bool) (name : NameView) → Told (RegisterBy o room name) → So (register_by o room name n was)
   register_so (Some place) room name t = just_so (registered_text name) t
-  register_so None true name t = now_so (registered_text name) (with_client name n) t
+  register_so None true name t = now_so (registered_text name) (with_new_client name n) t
   register_so None false name t = just_so (answer_text (answer.Refused refusals.Full)) t
 
-  client_so : (o : Option ℕ) (T : ℕ → ClientNote → Telling) (does : ℕ → ClientNote → NotesView → State → NotedAnswered) → ((place : ℕ) (c : ClientNote) → Told (T place c) → So (does place c n was)) → Told (OfClient o T) → So (of_client o does n was)
+  client_so : (o : Option ℕ) (T : ℕ → ClientNote → ClientTelling) (does : ℕ → ClientNote → NotesView → State → NotedAnswered) → ((place : ℕ) (c : ClientNote) → Told (T place c) → So (does place c n was)) → Told (OfClient o T) → So (of_client o does n was)
   client_so None T does so t = just_so refused_there t
   client_so (Some place) T does so t = subst (λ z. So (by_note z (does place) n was)) (sym t.1) (so place t.0 t.2)
 
   pub noted_so : (name : NameView) (act : NotedAct) → Told (NotedDoes l name act) → So (noted_does name act n was)
-  noted_so name acts.Register t = register_so (place_of name n.clients) (nat_lt (length n.clients) MAX_CLIENTS) name t
+  noted_so name acts.Register t = register_so (client_place name n.clients) (nat_lt (length n.clients) MAX_CLIENTS) name t
   noted_so name (acts.Send number stage body) t =
-      client_so (place_of name n.clients) (λ place c. SendBy (standing number c.sent) l name stage body number place c) (λ place c. send_by (standing number c.sent) name stage body number place c)
-      (λ place c told. send_so (standing number c.sent) name stage body number place c told) t
+      client_so (client_place name n.clients) (λ place c. SendBy (number_standing number c.sent) l name stage body number place c) (λ place c. send_by (number_standing number c.sent) name stage body number place c)
+      (λ place c told. send_so (number_standing number c.sent) name stage body number place c told) t
   noted_so name (acts.Receive number root) t =
-      client_so (place_of name n.clients) (λ place c. ReceiveBy (standing number c.received) l name root number place c) (λ place c. receive_by (standing number c.received) name root number place c)
-      (λ place c told. receive_so (standing number c.received) name root number place c told) t
-  noted_so name acts.Last t = client_so (place_of name n.clients) (λ place c. JustTells (last_text c)) (λ place c. just (last_text c))
+      client_so (client_place name n.clients) (λ place c. ReceiveBy (number_standing number c.received) l name root number place c) (λ place c. receive_by (number_standing number c.received) name root number place c)
+      (λ place c told. receive_so (number_standing number c.received) name root number place c told) t
+  noted_so name acts.Last t = client_so (client_place name n.clients) (λ place c. JustTells (last_text c)) (λ place c. just (last_text c))
       (λ place c told. just_so (last_text c) told) t
-  noted_so name acts.Forget t = client_so (place_of name n.clients) (λ place c o. NowNotes (forgotten_text name) (without_client name o.notes) o) (λ place c m. just (forgotten_text name) (without_client name m))
+  noted_so name acts.Forget t = client_so (client_place name n.clients) (λ place c o. NowNotes (forgotten_text name) (without_client name o.notes) o) (λ place c m. just (forgotten_text name) (without_client name m))
       (λ place c told. now_so (forgotten_text name) (without_client name n) told) t

@@ -22,10 +22,10 @@ use Rattle.tp_session.specs.NoteTexts.{last_hand}
 use Rattle.tp_session.specs.declared.hand.Holding.{Holding}
 use Rattle.tp_session.specs.declared.hand.Holding.TheVariants.{Nothing, Open, Lost}
 use Rattle.tp_exact.specs.Acts.{Acts}
-use Rattle.tp_exact.specs.PlainNotes.{NotedAnswered, hand_of, noted_does}
-use Rattle.tp_exact.specs.PlainSession.{SessionState, act_step, last_step}
+use Rattle.tp_exact.specs.PlainNotes.{NotedAnswered, work_told, noted_does}
+use Rattle.tp_exact.specs.PlainSession.{SessionState, session_act_step, last_step}
 use Rattle.tp_exact.specs.Sessions.{IsStep, StandsLive}
-use Rattle.tp_exact.specs.Stands.{Stands}
+use Rattle.tp_exact.specs.Stands.{StandsAsComputed}
 use Rattle.tp_exact.proofs.Commands.{scene_passes}
 use Rattle.tp_exact.proofs.NotedActs.{noted_so}
 use Rattle.tp_exact.proofs.Parts.{idle}
@@ -35,7 +35,7 @@ use Rattle.tp_exact.proofs.SessionLines.{got_map, got_or, now_together, only, st
 
 -- what a worker has in hand
 hands_so : (l : Limits) (keeper keeper' : KeeperShown) (olds news : List PassShown) (h h' : List Event) (old new : PassShown) → Acts l keeper keeper' olds news h h' client old new → (work : Holding) (hand : List ℕ) → HandRead l work old hand new
-    → (hand ≡ hand_of work (thread_of l olds h)) × (thread_of l news h' ≡ thread_of l olds h)
+    → (hand ≡ work_told work (thread_of l olds h)) × (thread_of l news h' ≡ thread_of l olds h)
 hands_so l keeper keeper' olds news h h' old new a Nothing hand t = (t.0, idle l keeper keeper' olds news h h' client old new a t.1)
 hands_so l keeper keeper' olds news h h' old new a (Lost element) hand t = (t.0, idle l keeper keeper' olds news h h' client old new a t.1)
 hands_so l keeper keeper' olds news h h' old new a (Open unit element) hand t =
@@ -80,7 +80,7 @@ module _ (head : Head) (old new : Live) (text : List ℕ) (s : SessionState) (is
 
     pub leaves : (m : State) (n : NotesView) → now ≡ m → done.works ≡ old.works → done.notes ≡ n → StandsLive h new (record s { report = record s.report { manager = m }; notes = n })
     leaves m n same works notes = record {
-      stands = subst (λ (x : ManagerShown). Stands h.servers x.limits new.stand.keeper new.stand.keeper.seen new.stand.scene (record s.report { manager = m })) (sym (gathers.manager ∙ ap (λ (x : Stand). x.manager) stand))
+      stands = subst (λ (x : ManagerShown). StandsAsComputed h.servers x.limits new.stand.keeper new.stand.keeper.seen new.stand.scene (record s.report { manager = m })) (sym (gathers.manager ∙ ap (λ (x : Stand). x.manager) stand))
           (stands_so head old new text s is acted new.stand.keeper new.stand.scene refl gathered m (sym same));
       works = is.works ∙ sym (gathers.works ∙ works);
       notes = sym (gathers.notes ∙ notes);
@@ -99,7 +99,7 @@ module _ (head : Head) (old new : Live) (text : List ℕ) (s : SessionState) (is
         subst So same (noted_so l old.stand.keeper new.stand.keeper (passes_in scene) (passes_in new.stand.scene) old.stand.keeper.seen new.stand.keeper.seen scene.client t.did.client
         (client_acts t.done t.did.client t.did.stand t.gathers) old.notes t.done.notes text name act t.did.does)
 
-    pub by_noted : IsStep h new text (act_step h None (acts.Noted name act) s)
+    pub by_noted : IsStep h new text (session_act_step h None (acts.Noted name act) s)
     by_noted =
         let d : NotedAnswered = noted_does name act s.notes s.report.manager in
         (so.0, leaves t.done t.did.client t.did.stand t.gathers d.manager d.notes so.2 t.did.works so.1)
@@ -107,7 +107,7 @@ module _ (head : Head) (old new : Live) (text : List ℕ) (s : SessionState) (is
   -- ---- a worker's last unit
 
   module _ (at : ℕ) (t : LastTold head.workers.items at old text new) where
-    hand_is : (t.did.hand ≡ hand_of t.did.work was) × (now ≡ was)
+    hand_is : (t.did.hand ≡ work_told t.did.work was) × (now ≡ was)
     hand_is = hands_so l old.stand.keeper new.stand.keeper (passes_in scene) (passes_in new.stand.scene) old.stand.keeper.seen new.stand.keeper.seen scene.client t.did.client
         (client_acts t.done t.did.client t.did.stand t.gathers) t.did.work t.did.hand t.did.reads
 
@@ -118,10 +118,10 @@ module _ (head : Head) (old new : Live) (text : List ℕ) (s : SessionState) (is
     text_is =
         let work : slice_index_or s.works at Nothing ≡ t.did.work = got_or s.works at t.did.work Nothing (ap (λ ws. slice_get ws at) is.works ∙ t.did.work_is) in
         t.did.text_is
-        ∙ (ap (λ x. told x (end_at old.notes.ends at)) (hand_is.0 ∙ (ap (hand_of t.did.work) (sym is.stands.manager) ∙ ap (λ w. hand_of w s.report.manager) (sym work)))
-        ∙ ap (λ (n : NotesView). told (hand_of (slice_index_or s.works at Nothing) s.report.manager) (end_at n.ends at)) (sym is.notes))
+        ∙ (ap (λ x. told x (end_at old.notes.ends at)) (hand_is.0 ∙ (ap (work_told t.did.work) (sym is.stands.manager) ∙ ap (λ w. work_told w s.report.manager) (sym work)))
+        ∙ ap (λ (n : NotesView). told (work_told (slice_index_or s.works at Nothing) s.report.manager) (end_at n.ends at)) (sym is.notes))
 
-    pub by_last : IsStep h new text (act_step h None (acts.Last at) s)
+    pub by_last : IsStep h new text (session_act_step h None (acts.Last at) s)
     by_last =
         let named : slice_get h.workers at ≡ Some (worker_view t.did.it) = got_map worker_view head.workers.items at t.did.it t.did.named in
         let stays = leaves t.done t.did.client t.did.stand t.gathers s.report.manager s.notes (hand_is.1 ∙ sym is.stands.manager) t.did.works (t.did.notes ∙ sym is.notes) in

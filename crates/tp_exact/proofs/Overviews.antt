@@ -24,13 +24,13 @@ use Rattle.tp_reference.specs.PlainClient.{client}
 use Rattle.tp_reference.specs.declared.plain_desk.PlainDesk.{PlainDesk}
 use Rattle.tp_alone.specs.Thread.{HasSeen, drawn_of, not_given, state_of, thread_of}
 use Rattle.tp_session.specs.Live.{Live, OverviewTold, TellsOverview}
-use Rattle.tp_session.specs.Overviews.{HolderRead, HoldersRead, held_at, holder_text, holds_text, in_hands, left_text, left_texts, names_of, pass_names, room_of}
+use Rattle.tp_session.specs.Overviews.{HolderRead, HoldersRead, desk_holding, holder_text, holds_text, in_hands, left_text, left_texts, names_of, pass_names, room_of}
 use Rattle.tp_session.specs.declared.hand.Holding.{Holding}
 use Rattle.tp_session.specs.declared.hand.Holding.TheVariants.{Nothing, Open, Lost}
 use Rattle.tp_exact.specs.Acts.{Acts}
-use Rattle.tp_exact.specs.PlainOverviews.{desks_hold, holder_of, holders_of, overview_line}
+use Rattle.tp_exact.specs.PlainOverviews.{desks_hold, holder_told, holders_of, overview_line}
 use Rattle.tp_exact.specs.PlainOverviews as plain
-use Rattle.tp_exact.specs.PlainSession.{SessionState, act_step}
+use Rattle.tp_exact.specs.PlainSession.{SessionState, session_act_step}
 use Rattle.tp_exact.specs.Sessions.{IsStep, StandsLive}
 use Rattle.tp_exact.specs.Stands.{IsFor}
 use Rattle.tp_exact.proofs.NotedLines.{client_acts, leaves}
@@ -42,33 +42,33 @@ use Rattle.tp_exact.proofs.SessionLines.{append_long, passes_long, zip_long}
 -- ---- what is left
 
 -- what is left to the first of them, is what is left to the computed ones
-left_there : (l : Limits) (ps : List PassShown) (zs : List PassState) (i : ℕ) → i < length ps → slice_get (map (room_of l) ps) i ≡ slice_get (map (plain.room_of l) (map state_of ps ++ zs)) i
+left_there : (l : Limits) (ps : List PassShown) (zs : List PassState) (i : ℕ) → i < length ps → slice_get (map (room_of l) ps) i ≡ slice_get (map (plain.plain_room l) (map state_of ps ++ zs)) i
 left_there l [] zs i inside = absurd (omega (arith, inside))
 left_there l (p ∷ ps) zs zero inside = refl
 left_there l (p ∷ ps) zs (suc i) inside = left_there l ps zs i (omega (arith, inside))
 
-left_so : (l : Limits) (ps : List PassShown) (zs : List PassState) (names : List (List ℕ)) (n : ℕ) → n ≤ length ps → left_texts names (map (room_of l) ps) n ≡ left_texts names (map (plain.room_of l) (map state_of ps ++ zs)) n
+left_so : (l : Limits) (ps : List PassShown) (zs : List PassState) (names : List (List ℕ)) (n : ℕ) → n ≤ length ps → left_texts names (map (room_of l) ps) n ≡ left_texts names (map (plain.plain_room l) (map state_of ps ++ zs)) n
 left_so l ps zs names zero few = refl
 left_so l ps zs names (suc n) few =
     ap (λ text. text <> left_text (slice_get names n) (slice_get (map (room_of l) ps) n)) (left_so l ps zs names n (omega (arith, few)))
-    ∙ ap (λ o. left_texts names (map (plain.room_of l) (map state_of ps ++ zs)) n <> left_text (slice_get names n) o) (left_there l ps zs n (omega (arith, few)))
+    ∙ ap (λ o. left_texts names (map (plain.plain_room l) (map state_of ps ++ zs)) n <> left_text (slice_get names n) o) (left_there l ps zs n (omega (arith, few)))
 
 -- ---- what is in hand
 
-work_of : (o : Option ℕ) (a b : Option Work) → (if is_some o then a else None) ≡ b → held_at (if is_some o then a else None) ≡ held_at b
-work_of o a b is = ap held_at is
+work_of : (o : Option ℕ) (a b : Option Work) → (if is_some o then a else None) ≡ b → desk_holding (if is_some o then a else None) ≡ desk_holding b
+work_of o a b is = ap desk_holding is
 
-desks_so : (ps : List PlaceShown) (ds : List PlainDesk) (rs : List PassShown) (zs : List PassState) → AllZip IsFor ps ds → map (λ p. held_at p.desk.work) ps ≡ desks_hold ds (map state_of (passes ps ++ rs) ++ zs)
+desks_so : (ps : List PlaceShown) (ds : List PlainDesk) (rs : List PassShown) (zs : List PassState) → AllZip IsFor ps ds → map (λ p. desk_holding p.desk.work) ps ≡ desks_hold ds (map state_of (passes ps ++ rs) ++ zs)
 desks_so [] [] rs zs a = refl
 desks_so [] (d ∷ ds) rs zs a = absurd a
 desks_so (p ∷ ps) [] rs zs a = absurd a
 desks_so (p ∷ ps) (d ∷ ds) rs zs a =
-    ap (λ h. h ∷ map (λ (q : PlaceShown). held_at q.desk.work) ps) (sym (work_of p.desk.pass.open_unit d.taken p.desk.work a.0.desk.work))
-    ∙ ap (λ hs. held_at (if is_some p.desk.pass.open_unit then d.taken else None) ∷ hs) (desks_so ps ds rs zs a.1)
+    ap (λ h. h ∷ map (λ (q : PlaceShown). desk_holding q.desk.work) ps) (sym (work_of p.desk.pass.open_unit d.taken p.desk.work a.0.desk.work))
+    ∙ ap (λ hs. desk_holding (if is_some p.desk.pass.open_unit then d.taken else None) ∷ hs) (desks_so ps ds rs zs a.1)
 
 -- one read
 holder_so : (l : Limits) (keeper keeper' : KeeperShown) (olds news : List PassShown) (h h' : List Event) (old new : PassShown) → Acts l keeper keeper' olds news h h' client old new → (name : Option (List ℕ)) (work : Option Holding) (text : List ℕ)
-    → HolderRead l name work old text new → (text ≡ holder_of (thread_of l olds h) name work) × (thread_of l news h' ≡ thread_of l olds h)
+    → HolderRead l name work old text new → (text ≡ holder_told (thread_of l olds h) name work) × (thread_of l news h' ≡ thread_of l olds h)
 holder_so l keeper keeper' olds news h h' old new a (Some name) (Some (Open unit element)) text t =
     let read = read_answers l keeper keeper' olds news h h' old new a element t.0 t.1 in
     (t.2 ∙ ap (holder_text name unit element) read.0, read.1)
@@ -106,7 +106,7 @@ module _ (l : Limits) (names : List (List ℕ)) (works : List Holding) (keeper :
       let mids : List PassShown = middle l keeper keeper' olds news h h' client old mid new a go.0 go.1 on in
       let before = holders_are n keeper mids mid.seen t.0 mid (first_part l keeper keeper' olds news h h' client old mid new a go.0 go.1 on) t.3 in
       let one = holder_so l keeper keeper' mids news mid.seen h' mid new (last_part l keeper keeper' olds news h h' client old mid new a go.0 go.1 on) (slice_get names n) (slice_get works n) t.2 t.4 in
-      let is : t.2 ≡ holder_of s (slice_get names n) (slice_get works n) = one.0 ∙ ap (λ (m : State). holder_of m (slice_get names n) (slice_get works n)) before.1 in (
+      let is : t.2 ≡ holder_told s (slice_get names n) (slice_get works n) = one.0 ∙ ap (λ (m : State). holder_told m (slice_get names n) (slice_get works n)) before.1 in (
         t.5 ∙ (ap (λ x. x <> t.2) before.0 ∙ ap (λ x. holders_of s names works n <> x) is),
         one.1 ∙ before.1,
       )
@@ -160,7 +160,7 @@ module _ (head : Head) (old new : Live) (text : List ℕ) (s : SessionState) (is
         holders.1,
       )
 
-  pub by_overview : IsStep h new text (act_step h None (acts.Overview what) s)
+  pub by_overview : IsStep h new text (session_act_step h None (acts.Overview what) s)
   by_overview =
       let r = told what t.did.client acts_so t.did.tells in (
         r.0 ∙ ap (λ (m : State). overview_line (names_of h) what m s.report.desks s.works) (sym is.stands.manager),

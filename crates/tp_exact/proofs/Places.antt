@@ -38,8 +38,8 @@ use Rattle.tp_reference.specs.PlainDesks.{DeskAnswered, abort_work, aborted_as, 
 use Rattle.tp_reference.specs.PlainReport.{ReportState, command_step, desk_at, with_acted, worker}
 use Rattle.tp_alone.specs.Thread.{AreTogether, Stays, thread_of}
 use Rattle.tp_exact.specs.Acts.{Acts}
-use Rattle.tp_exact.specs.Desks.{IsServer}
-use Rattle.tp_exact.specs.Stands.{IsFor, IsServedBy, OnlyLooks, Stands}
+use Rattle.tp_exact.specs.Desks.{FollowsRecipe}
+use Rattle.tp_exact.specs.Stands.{IsFor, IsServedBy, SceneOnlyLooks, StandsAsComputed}
 use Rattle.tp_exact.proofs.Commands.{racers_kept, scene_passes, served_all, still_all, zip_at}
 use Rattle.tp_exact.proofs.DeskActs.{exact_desk}
 use Rattle.tp_exact.proofs.Parts.{idle}
@@ -193,7 +193,7 @@ passes_long [] = refl
 passes_long (p ∷ ps) = ap suc (passes_long ps)
 
 -- what such a command is served by
-as_server : (act : DeskAct) (p : PlaceShown) (server : ServerView) → IsServedBy p server → IsServer act server.recipe p.desk.behaviour
+as_server : (act : DeskAct) (p : PlaceShown) (server : ServerView) → IsServedBy p server → FollowsRecipe act server.recipe p.desk.behaviour
 as_server acts.Turn p server is = is.behaviour
 as_server acts.Prepare p server is = is.behaviour
 as_server acts.Commit p server is = is.behaviour
@@ -211,8 +211,8 @@ pub at_worker : (old : Scene) (at : ℕ) (p : PlaceShown) (parts : Parted old.pl
 at_worker old at p parts = let e : length (passes parts.front) ≡ at = passes_long parts.front ∙ parts.long in omega arith
 
 -- one place went on from p to q, and the passes of all others have done nothing but look
-module _ (servers : List ServerView) (l : Limits) (keeper keeper' : KeeperShown) (h h' : List Event) (old new next : Scene) (s : ReportState) (at : ℕ) (p q : PlaceShown) (stands : Stands servers l keeper h old s) (there : slice_get old.places at ≡ Some p)
-    (places : new.places ≡ slice_set old.places at q) (client : new.client ≡ old.client) (racers : new.racers ≡ old.racers) (looks : OnlyLooks new next) (after : AreTogether l keeper' (passes_in next) h') where
+module _ (servers : List ServerView) (l : Limits) (keeper keeper' : KeeperShown) (h h' : List Event) (old new next : Scene) (s : ReportState) (at : ℕ) (p q : PlaceShown) (stands : StandsAsComputed servers l keeper h old s) (there : slice_get old.places at ≡ Some p)
+    (places : new.places ≡ slice_set old.places at q) (client : new.client ≡ old.client) (racers : new.racers ≡ old.racers) (looks : SceneOnlyLooks new next) (after : AreTogether l keeper' (passes_in next) h') where
   abbrev parts : Parted old.places at p
   parts = parted old.places at p there
 
@@ -242,7 +242,7 @@ module _ (servers : List ServerView) (l : Limits) (keeper keeper' : KeeperShown)
 
   -- what is computed of this desk, and what it leaves
   pub leads_at : (server : ServerView) (d : PlainDesk) (done : DeskAnswered) → slice_get servers at ≡ Some server → slice_get s.desks at ≡ Some d → q.desk.behaviour ≡ p.desk.behaviour → IsServedBy p server
-      → thread_of l (passes_in next) h' ≡ done.manager → IsFor q done.desk → Stands servers l keeper' h' next (with_acted s at done)
+      → thread_of l (passes_in next) h' ≡ done.manager → IsFor q done.desk → StandsAsComputed servers l keeper' h' next (with_acted s at done)
   leads_at server d done named here same served manager is = record {
     together = after;
     manager = sym manager;
@@ -275,9 +275,9 @@ module _ (servers : List ServerView) (l : Limits) (keeper keeper' : KeeperShown)
       (subst (Answers answer) (ap (λ m. does server.recipe act (worker at) m d) (sym stands.manager) ∙ sym computed) so, behaves l act p.desk q.desk answer did.0)
 
 -- a command on a desk, and its line
-pub at_desk : (m : ManagerShown) (head : HeadView) (act : DeskAct) (at raced : ℕ) (keeper keeper' : KeeperShown) (h h' : List Event) (old new next : Scene) (text : List ℕ) (s : ReportState) → Stands head.servers m.limits keeper h old s
-    → Performs m head (command.Desk at act) raced old text new → OnlyLooks new next → AreTogether m.limits keeper' (passes_in next) h'
-    → let step = command_step head.servers (command.Desk at act) s in (text ≡ step.0) × Stands head.servers m.limits keeper' h' next step.1
+pub at_desk : (m : ManagerShown) (head : HeadView) (act : DeskAct) (at raced : ℕ) (keeper keeper' : KeeperShown) (h h' : List Event) (old new next : Scene) (text : List ℕ) (s : ReportState) → StandsAsComputed head.servers m.limits keeper h old s
+    → Performs m head (command.Desk at act) raced old text new → SceneOnlyLooks new next → AreTogether m.limits keeper' (passes_in next) h'
+    → let step = command_step head.servers (command.Desk at act) s in (text ≡ step.0) × StandsAsComputed head.servers m.limits keeper' h' next step.1
 at_desk m head act at raced keeper keeper' h h' old new next text s stands performs looks after =
     let t = performs.tells in
     let p : PlaceShown = t.does.old in
@@ -291,7 +291,7 @@ at_desk m head act at raced keeper keeper' h h' old new next text s stands perfo
     let done : DeskAnswered = does_unless_dropped t.server.recipe act (worker at) s.manager d.0 in
     let computed : command_step head.servers (command.Desk at act) s ≡ (line (named_text t.server.name done.answer), with_acted s at done)
     = ap (λ o. desk_at o (slice_get s.desks at) at act s) t.named ∙ ap (λ o. desk_at (Some t.server) o at act s) d.1 in
-    subst (λ (r : List ℕ × ReportState). (text ≡ r.0) × Stands head.servers m.limits keeper' h' next r.1) (sym computed) (
+    subst (λ (r : List ℕ × ReportState). (text ≡ r.0) × StandsAsComputed head.servers m.limits keeper' h' next r.1) (sym computed) (
       t.text_is ∙ ap (λ x. line (named_text t.server.name x)) so.0.0,
       leads_at head.servers m.limits keeper keeper' h h' old new next s at p q stands t.does.there t.does.others t.others.client racers looks after t.server d.0 done t.named d.1 so.1 is_served so.0.1 so.0.2,
     )

@@ -12,8 +12,8 @@ use Rattle.tp_reference.specs.PlainReport as plain
 use Rattle.tp_reference.specs.PlainReport.{ReportState, command_step, new_desk, reports}
 use Rattle.tp_reference.specs.Whole.{is_other}
 use Rattle.tp_session.specs.Conversed.{limits_of}
-use Rattle.tp_exact.specs.PlainScript.{account_line, acts_step, closed, desks_closed, end_lines, workers_closed, written_by}
-use Rattle.tp_exact.specs.PlainSession.{Refusals, SessionState, act_step, begin, command_by, first_refusal, other_refusals}
+use Rattle.tp_exact.specs.PlainScript.{script_account_line, acts_step, closed, desks_closed, end_lines, workers_closed, written_by}
+use Rattle.tp_exact.specs.PlainSession.{Refusals, SessionState, session_act_step, session_begin, command_by, first_refusal, other_refusals}
 use Rattle.tp_exact.specs.Programs.{ComputedOfScript, SamePlain}
 use Rattle.tp_exact.specs.Sessions.{is_refusable}
 use Rattle.tp_exact.proofs.SessionLines.{either_false}
@@ -25,12 +25,12 @@ acts_unasked : (h : HeadView) (refusals : Refusals) (all : List Act) (s : Sessio
 acts_unasked h refusals [] s none = refl
 acts_unasked h refusals (a ∷ others) s none =
     let parts = either_false (is_refusable a) (list_any is_refusable others) none in
-    let step : List ℕ × SessionState = act_step h None a s in
+    let step : List ℕ × SessionState = session_act_step h None a s in
     ap (then_told (λ z. acts_step h (other_refusals refusals) others z)) (act_unasked h (first_refusal refusals) a s parts.0)
     ∙ ap (λ (rest : List ℕ × SessionState). (step.0 ++ rest.0, rest.1)) (acts_unasked h (other_refusals refusals) others step.1 parts.1)
 
 pub computed_of_script : ComputedOfScript
-computed_of_script s refusals none = ap (written_by s.head s.account) (acts_unasked s.head refusals s.acts (begin s.head) none)
+computed_of_script s refusals none = ap (written_by s.head s.account) (acts_unasked s.head refusals s.acts (session_begin s.head) none)
 
 -- ---- the report of the run of one thread
 
@@ -46,7 +46,7 @@ module _ (h : HeadView) (account : Bool) where
       let kinds = either_false (is_race c) (is_rollover c) parts.0 in
       let step : List ℕ × ReportState = command_step h.servers c s.report in
       let next : SessionState = record s { report = step.1 } in
-      let this : act_step h None (acts.Command c) s ≡ (step.0, next) = ap (λ b. command_by b h None c s) kinds.1 in
+      let this : session_act_step h None (acts.Command c) s ≡ (step.0, next) = ap (λ b. command_by b h None c s) kinds.1 in
       ap (λ t. step.0 ++ t) (acts_same others next parts.1)
       ∙ (sym (append_assoc step.0 (acts_step h [] others next).0 (behind (acts_step h [] others next).1))
       ∙ ap (λ (r : List ℕ × SessionState). r.0 ++ behind r.1) (sym (ap (then_told (λ z. acts_step h [] others z)) this)))
@@ -58,7 +58,7 @@ module _ (h : HeadView) (account : Bool) where
   acts_same (acts.Last at ∷ others) s none = absurd cc
   acts_same (acts.Overview what ∷ others) s none = absurd cc
 
-  account_same : (asked : Bool) (s : SessionState) → plain.account_line asked (length h.servers) s.report ≡ account_line asked (desks_closed (length h.servers) s)
+  account_same : (asked : Bool) (s : SessionState) → plain.account_line asked (length h.servers) s.report ≡ script_account_line asked (desks_closed (length h.servers) s)
   account_same true s = refl
   account_same false s = refl
 
@@ -75,7 +75,7 @@ same_plain s covered =
     let parts = either_false (not (length h.workers == 0)) (list_any is_other s.acts) covered in
     let none : length h.workers ≡ 0 = no_workers h.workers parts.0 in
     let limits : limits_of h 0 ≡ plain.limits_of h = ap (with_parts h) (omega (arith, none)) in
-    let first : SessionState = begin h in
+    let first : SessionState = session_begin h in
     let done : List ℕ × SessionState = acts_step h [] s.acts first in
     let end : closed h done.1 ≡ desks_closed (length h.servers) done.1 = ap (λ n. workers_closed h n (desks_closed (length h.servers) done.1)) none in
     let finals : List ℕ = plain.finals_below h.servers done.1.report.desks (length h.servers) in

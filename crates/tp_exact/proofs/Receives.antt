@@ -26,7 +26,7 @@ use Rattle.tp_commands.specs.Asked.{Called, TellsRead}
 use Rattle.tp_commands.specs.Received.{FindsFirst, MissesReply, PassesOver, TellsReceived, reply_in}
 use Rattle.tp_reference.specs.PlainClient.{client, read_as}
 use Rattle.tp_exact.specs.Acts.{Acts}
-use Rattle.tp_exact.specs.PlainNotes.{first_below, taken_of}
+use Rattle.tp_exact.specs.PlainNotes.{first_below, reply_taken}
 use Rattle.tp_exact.proofs.Counted.{by_read}
 use Rattle.tp_exact.proofs.Parts.{Went, first_part, idle, last_part, middle, old_shows, seen_by, went_by, went_none, went_on, whole}
 
@@ -110,7 +110,7 @@ module _ (l : Limits) (asked : ℕ → Bool) (keeper keeper' : KeeperShown) (old
   is = thread_of l news h'
 
   abbrev computed : Option Element × State
-  computed = taken_of (first_below asked was (rows_of l)) was
+  computed = reply_taken (first_below asked was (rows_of l)) was
 
   -- the first one was found, and a collect of it answered this
   module _ (e : Element) (mid : PassShown) (finds : FindsFirst l asked e old mid) (called : Called l collect_steps mid new) (run : new.blocks ≡ mid.blocks) where
@@ -136,7 +136,7 @@ module _ (l : Limits) (asked : ℕ → Bool) (keeper keeper' : KeeperShown) (old
         let law = alone_collect e.id l keeper keeper' mids news mid.seen h' collect_steps client mid new r
         (whole l keeper keeper' mids news mid.seen h' client collect_steps mid new (last_part l keeper keeper' olds news h h' client old mid new a find_goes.0 find_goes.1 on) called) called.turn says in
         let now : (r, is) ≡ collect_of was client finds.look.element.id = law ∙ (ap (λ (m : State). collect_of m client e.id) first.1 ∙ ap (λ (x : Element). collect_of was client x.id) (sym finds.shows)) in
-        ap (λ (p : Result Element Refusal × State). (result_ok p.0, p.1)) now ∙ ap (λ o. taken_of o was) (sym first.0)
+        ap (λ (p : Result Element Refusal × State). (result_ok p.0, p.1)) now ∙ ap (λ o. reply_taken o was) (sym first.0)
 
   -- so what was received is computed
   pub received_is : (o : Option Element) → TellsReceived l asked old o new → (o, is) ≡ computed
@@ -146,7 +146,7 @@ module _ (l : Limits) (asked : ℕ → Bool) (keeper keeper' : KeeperShown) (old
       over : PassesOver l asked (rows_of l) old new → (None, is) ≡ computed
       over p =
           let r = passed_over l asked keeper olds h old (rows_of l) keeper' news h' new a p in
-          ap (λ m. (None, m)) r.1 ∙ ap (λ o. taken_of o was) (sym r.0)
+          ap (λ m. (None, m)) r.1 ∙ ap (λ o. reply_taken o was) (sym r.0)
 
       missed : (e : Element) × (mid : PassShown) × FindsFirst l asked e old mid × MissesReply l e.id mid new → (None, is) ≡ computed
       missed p = collected p.0 p.1 p.2 p.3.called (still p.3.why p.3.fails) (Err p.3.why) p.3.fails

@@ -31,14 +31,14 @@ use Rattle.tp_session.specs.Carried.{lost_works}
 use Rattle.tp_session.specs.Clients.{is_its_own}
 use Rattle.tp_session.specs.Dump.{dump_text}
 use Rattle.tp_session.specs.Live.{survivors_of}
-use Rattle.tp_session.specs.NoteTexts.{id_text, received_text, reply_text, sent_text}
-use Rattle.tp_session.specs.Notes.{NotesView, client_in, is_named, new_client, place_of, standing}
+use Rattle.tp_session.specs.NoteTexts.{id_text, received_text, last_reply_text, sent_text}
+use Rattle.tp_session.specs.Notes.{NotesView, client_in, has_name, new_client, client_place, number_standing}
 use Rattle.tp_session.specs.declared.hand.Holding.{Holding}
 use Rattle.tp_session.specs.declared.notes.Standing.{Standing}
 use Rattle.tp_session.specs.declared.notes.Standing.TheVariants.{Next, Again, Earlier, Later}
 use Rattle.tp_exact.specs.Alive.{alive_of}
-use Rattle.tp_exact.specs.PlainNotes.{NotedAnswered, by_note, first_below, next_receive, noted_does, of_client, receive_by, receives, register_by, send_by, sends, taken_of}
-use Rattle.tp_exact.specs.PlainSession.{Refusals, SessionState, act_step, anew_as, command_by, dump_of, first_refusal, has_desk_open, is_open, line_step, lines_step, noted_step, other_refusals, restored, rolled_over, unless_refused, unrestored, worker_step}
+use Rattle.tp_exact.specs.PlainNotes.{NotedAnswered, by_note, first_below, next_receive, noted_does, of_client, receive_by, receives, register_by, send_by, sends, reply_taken}
+use Rattle.tp_exact.specs.PlainSession.{Refusals, SessionState, session_act_step, anew_as, command_by, dump_of, first_refusal, session_desk_open, session_is_open, line_step, lines_step, noted_step, other_refusals, session_restored, rolled_over, unless_refused, unrestored, worker_step}
 use Rattle.tp_exact.specs.Repeats.{DoneForGood, LeavesNote, ReceivesAgain, ReceivesOnce, SendsAgain, SendsOnce, note_of}
 use Rattle.tp_exact.proofs.NoteKeeps.{Has, filter_has, map_has, more_has, passes, placed, set_has}
 
@@ -47,7 +47,7 @@ use Rattle.tp_exact.proofs.NoteKeeps.{Has, filter_has, map_has, more_has, passes
 abbrev stands_by : Bool → Bool → Bool → Standing
 stands_by same less one = if same then Again else if less then Earlier else if one then Next else Later
 
-next_is : (number count : ℕ) → standing number count ≡ Next → number ≡ count + 1
+next_is : (number count : ℕ) → number_standing number count ≡ Next → number ≡ count + 1
 next_is number count is = by (number == count) (nat_lt number count) (number - count == 1) refl refl refl is
   where
     by : (a b c : Bool) → (number == count) ≡ a → nat_lt number count ≡ b → (number - count == 1) ≡ c → stands_by a b c ≡ Next → number ≡ count + 1
@@ -56,7 +56,7 @@ next_is number count is = by (number == count) (nat_lt number count) (number - c
     by false false true x y z k = grind arith
     by false false false x y z k = absurd cc
 
-again_is : (number count : ℕ) → standing number count ≡ Again → number ≡ count
+again_is : (number count : ℕ) → number_standing number count ≡ Again → number ≡ count
 again_is number count is = by (number == count) (nat_lt number count) (number - count == 1) refl is
   where
     by : (a b c : Bool) → (number == count) ≡ a → stands_by a b c ≡ Again → number ≡ count
@@ -65,14 +65,14 @@ again_is number count is = by (number == count) (nat_lt number count) (number - 
     by false false true x k = absurd cc
     by false false false x k = absurd cc
 
-other_is : (number count : ℕ) → (standing number count ≡ Again → ⊥) → number ≡ count → ⊥
+other_is : (number count : ℕ) → (number_standing number count ≡ Again → ⊥) → number ≡ count → ⊥
 other_is number count other same = other (by (number == count) refl)
   where
     by : (a : Bool) → (number == count) ≡ a → stands_by a (nat_lt number count) (number - count == 1) ≡ Again
     by true x = refl
     by false x = absurd (grind arith)
 
-same_again : (number count : ℕ) → count ≡ number → standing number count ≡ Again
+same_again : (number count : ℕ) → count ≡ number → number_standing number count ≡ Again
 same_again number count same = by (number == count) refl
   where
     by : (a : Bool) → (number == count) ≡ a → stands_by a (nat_lt number count) (number - count == 1) ≡ Again
@@ -90,7 +90,7 @@ module _ (name : NameView) (sent received : ℕ) where
   sends_has place number c other n (Ok id) m at up has = set_has name sent received n.clients place c (record c { sent = number; element = Some id }) at refl up (omega arith) has
   sends_has place number c other n (Err why) m at up has = has
 
-  send_has : (st : Standing) (other : NameView) (stage : ℕ) (body : List ℕ) (number place : ℕ) (c : ClientNote) (n : NotesView) (m : State) → standing number c.sent ≡ st → slice_get n.clients place ≡ Some c → Done n.clients
+  send_has : (st : Standing) (other : NameView) (stage : ℕ) (body : List ℕ) (number place : ℕ) (c : ClientNote) (n : NotesView) (m : State) → number_standing number c.sent ≡ st → slice_get n.clients place ≡ Some c → Done n.clients
       → Done (send_by st other stage body number place c n m).notes.clients
   send_has Next other stage body number place c n m is at has =
       let submitted = submit_of m client stage body in
@@ -106,11 +106,11 @@ module _ (name : NameView) (sent received : ℕ) where
 
   next_has : (own : Bool) (other : NameView) (root : Option ℕ) (number place : ℕ) (c : ClientNote) (n : NotesView) (m : State) → slice_get n.clients place ≡ Some c → c.received ≤ number → Done n.clients → Done (next_receive own other root number place c n m).notes.clients
   next_has true other root number place c n m at up has =
-      let taken = taken_of (first_below (λ r. asks_for n.requests other root r) m (rows_of m.limits)) m in
+      let taken = reply_taken (first_below (λ r. asks_for n.requests other root r) m (rows_of m.limits)) m in
       receives_has place number c other n taken.0 taken.1 at up has
   next_has false other root number place c n m at up has = has
 
-  receive_has : (st : Standing) (other : NameView) (root : Option ℕ) (number place : ℕ) (c : ClientNote) (n : NotesView) (m : State) → standing number c.received ≡ st → slice_get n.clients place ≡ Some c → Done n.clients
+  receive_has : (st : Standing) (other : NameView) (root : Option ℕ) (number place : ℕ) (c : ClientNote) (n : NotesView) (m : State) → number_standing number c.received ≡ st → slice_get n.clients place ≡ Some c → Done n.clients
       → Done (receive_by st other root number place c n m).notes.clients
   receive_has Next other root number place c n m is at has = next_has (is_its_own n.requests other root) other root number place c n m at (omega (arith, next_is number c.received is)) has
   receive_has Again other root number place c n m is at has = has
@@ -133,10 +133,10 @@ module _ (name : NameView) (sent received : ℕ) where
   register_has None false other n m has = has
 
   -- another client that is forgotten
-  stays : (other : NameView) → is_named name other ≡ false → (c : ClientNote) → is_named name c.name ≡ true → not (is_named other c.name) ≡ true
-  stays other apart c mine = by (is_named other c.name) refl
+  stays : (other : NameView) → has_name name other ≡ false → (c : ClientNote) → has_name name c.name ≡ true → not (has_name other c.name) ≡ true
+  stays other apart c mine = by (has_name other c.name) refl
     where
-      by : (b : Bool) → is_named other c.name ≡ b → not b ≡ true
+      by : (b : Bool) → has_name other c.name ≡ b → not b ≡ true
       by false is = refl
       by true is =
           let one : c.name.letters ≡ name.letters = (bytes_eq-Decides c.name.letters name.letters).0 mine in
@@ -144,15 +144,15 @@ module _ (name : NameView) (sent received : ℕ) where
           let same : bytes_eq other.letters name.letters ≡ true = subst (λ x. bytes_eq x name.letters ≡ true) two mine in
           absurd cc
 
-  noted_has : (other : NameView) (act : NotedAct) (n : NotesView) (m : State) → (act ≡ asks.Forget → is_named name other ≡ false) → Done n.clients → Done (noted_does other act n m).notes.clients
-  noted_has other asks.Register n m kept has = register_has (place_of other n.clients) (nat_lt (length n.clients) MAX_CLIENTS) other n m has
+  noted_has : (other : NameView) (act : NotedAct) (n : NotesView) (m : State) → (act ≡ asks.Forget → has_name name other ≡ false) → Done n.clients → Done (noted_does other act n m).notes.clients
+  noted_has other asks.Register n m kept has = register_has (client_place other n.clients) (nat_lt (length n.clients) MAX_CLIENTS) other n m has
   noted_has other (asks.Send number stage body) n m kept has =
-      client_has (place_of other n.clients) (λ place c. send_by (standing number c.sent) other stage body number place c) n m (λ place c at. send_has (standing number c.sent) other stage body number place c n m refl at has) has
+      client_has (client_place other n.clients) (λ place c. send_by (number_standing number c.sent) other stage body number place c) n m (λ place c at. send_has (number_standing number c.sent) other stage body number place c n m refl at has) has
   noted_has other (asks.Receive number root) n m kept has =
-      client_has (place_of other n.clients) (λ place c. receive_by (standing number c.received) other root number place c) n m (λ place c at. receive_has (standing number c.received) other root number place c n m refl at has) has
-  noted_has other asks.Last n m kept has = client_has (place_of other n.clients) _ n m (λ place c at. has) has
+      client_has (client_place other n.clients) (λ place c. receive_by (number_standing number c.received) other root number place c) n m (λ place c at. receive_has (number_standing number c.received) other root number place c n m refl at has) has
+  noted_has other asks.Last n m kept has = client_has (client_place other n.clients) _ n m (λ place c at. has) has
   noted_has other asks.Forget n m kept has =
-      client_has (place_of other n.clients) _ n m (λ place c at. filter_has name sent received (λ c. not (is_named other c.name)) (stays other (kept refl)) n.clients has) has
+      client_has (client_place other n.clients) _ n m (λ place c at. filter_has name sent received (λ c. not (has_name other c.name)) (stays other (kept refl)) n.clients has) has
 
   -- ---- each act
 
@@ -178,23 +178,23 @@ module _ (name : NameView) (sent received : ℕ) where
   command_has : (b : Bool) (h : HeadView) (why : Option RollFault) (c : _) (s : SessionState) → DoneIn s → DoneIn (command_by b h why c s).1
   command_has true h why c s has =
       let l = s.report.manager.limits in
-      unless_has (has_desk_open s) why s (rolled_over h s) has (anew_has rolled_text h s.works s s (made_anew l l.parts (alive_of s.report.manager) (start l)) has has)
+      unless_has (session_desk_open s) why s (rolled_over h s) has (anew_has rolled_text h s.works s s (made_anew l l.parts (alive_of s.report.manager) (start l)) has has)
   command_has false h why c s has = has
 
-  act_has : (h : HeadView) (why : Option RollFault) (act : Act) (s : SessionState) → ((other : NameView) → act ≡ acts.Noted other asks.Forget → is_named name other ≡ false) → DoneIn s → DoneIn (act_step h why act s).1
+  act_has : (h : HeadView) (why : Option RollFault) (act : Act) (s : SessionState) → ((other : NameView) → act ≡ acts.Noted other asks.Forget → has_name name other ≡ false) → DoneIn s → DoneIn (session_act_step h why act s).1
   act_has h why (acts.Command c) s kept has = command_has (is_rollover c) h why c s has
   act_has h why (acts.Worker at act) s kept has = worker_has h (slice_get h.workers at) at (1 + length h.servers + at) act s has
   act_has h why acts.Account s kept has = has
-  act_has h why acts.Dump s kept has = unless_has (has_desk_open s) why s (dump_text (dump_of h s), s) has has
+  act_has h why acts.Dump s kept has = unless_has (session_desk_open s) why s (dump_text (dump_of h s), s) has has
   act_has h why acts.Restore s kept has =
       let l = s.report.manager.limits in
-      unless_has (is_open s) why (unrestored s) (restored h s) (unrestored_has s has)
+      unless_has (session_is_open s) why (unrestored s) (session_restored h s) (unrestored_has s has)
       (anew_has restored_text h (lost_works h.lost 0 s.works) (unrestored s) s (made_anew l l.parts (survivors_of h) (start l)) (unrestored_has s has) has)
   act_has h why (acts.Noted other act) s kept has = noted_has other act s.notes s.report.manager (λ e. kept other (ap (λ a. acts.Noted other a) e)) has
   act_has h why (acts.Last at) s kept has = has
   act_has h why (acts.Overview what) s kept has = has
 
-  line_has : (h : HeadView) (n : ℕ) (why : Option RollFault) (r : Result (Option Act) LineFault) (s : SessionState) → ((other : NameView) → r ≡ Ok (Some (acts.Noted other asks.Forget)) → is_named name other ≡ false) → DoneIn s → DoneIn (line_step h n why r s).1
+  line_has : (h : HeadView) (n : ℕ) (why : Option RollFault) (r : Result (Option Act) LineFault) (s : SessionState) → ((other : NameView) → r ≡ Ok (Some (acts.Noted other asks.Forget)) → has_name name other ≡ false) → DoneIn s → DoneIn (line_step h n why r s).1
   line_has h n why (Ok None) s kept has = has
   line_has h n why (Ok (Some act)) s kept has = act_has h why act s (λ other e. kept other (ap (λ a. Ok (Some a)) e)) has
   line_has h n why (Err fault) s kept has = has
@@ -212,21 +212,21 @@ done_for_good h past refusals lines s name sent received kept done =
 -- ---- what is done once
 
 -- the client's own note is asked
-own : (name : NameView) (n : NotesView) (m : State) (c : ClientNote) (does : ℕ → ClientNote → NotesView → State → NotedAnswered) → find (λ c. is_named name c.name) n.clients ≡ Some c
-    → (place : ℕ) × (slice_get n.clients place ≡ Some c) × (position (λ c. is_named name c.name) n.clients ≡ Some place)
-    × ((y : ClientNote) → is_named name y.name ≡ true → find (λ c. is_named name c.name) (slice_set n.clients place y) ≡ Some y) × (of_client (place_of name n.clients) does n m ≡ does place c n m)
+own : (name : NameView) (n : NotesView) (m : State) (c : ClientNote) (does : ℕ → ClientNote → NotesView → State → NotedAnswered) → find (λ c. has_name name c.name) n.clients ≡ Some c
+    → (place : ℕ) × (slice_get n.clients place ≡ Some c) × (position (λ c. has_name name c.name) n.clients ≡ Some place)
+    × ((y : ClientNote) → has_name name y.name ≡ true → find (λ c. has_name name c.name) (slice_set n.clients place y) ≡ Some y) × (of_client (client_place name n.clients) does n m ≡ does place c n m)
 own name n m c does is =
-    let at = placed (λ c. is_named name c.name) n.clients c is in
+    let at = placed (λ c. has_name name c.name) n.clients c is in
     (at.0, at.2, at.1, at.3, ap (λ o. of_client o does n m) at.1 ∙ ap (λ o. by_note o (does at.0) n m) at.2)
 
 pub sends_once : SendsOnce
 sends_once h why s name number stage body note noted other =
     let n = s.notes in
     let m = s.report.manager in
-    let is = own name n m note (λ place c. send_by (standing number c.sent) name stage body number place c) noted in
-    ap (λ d. (noted_step d s).1) is.4 ∙ by is.0 (standing number note.sent) refl
+    let is = own name n m note (λ place c. send_by (number_standing number c.sent) name stage body number place c) noted in
+    ap (λ d. (noted_step d s).1) is.4 ∙ by is.0 (number_standing number note.sent) refl
   where
-    by : (place : ℕ) (st : Standing) → standing number note.sent ≡ st → (noted_step (send_by st name stage body number place note s.notes s.report.manager) s).1 ≡ s
+    by : (place : ℕ) (st : Standing) → number_standing number note.sent ≡ st → (noted_step (send_by st name stage body number place note s.notes s.report.manager) s).1 ≡ s
     by place Next is = absurd (other (next_is number note.sent is))
     by place Again is = refl
     by place Earlier is = refl
@@ -236,10 +236,10 @@ pub receives_once : ReceivesOnce
 receives_once h why s name number root note noted other =
     let n = s.notes in
     let m = s.report.manager in
-    let is = own name n m note (λ place c. receive_by (standing number c.received) name root number place c) noted in
-    ap (λ d. (noted_step d s).1) is.4 ∙ by is.0 (standing number note.received) refl
+    let is = own name n m note (λ place c. receive_by (number_standing number c.received) name root number place c) noted in
+    ap (λ d. (noted_step d s).1) is.4 ∙ by is.0 (number_standing number note.received) refl
   where
-    by : (place : ℕ) (st : Standing) → standing number note.received ≡ st → (noted_step (receive_by st name root number place note s.notes s.report.manager) s).1 ≡ s
+    by : (place : ℕ) (st : Standing) → number_standing number note.received ≡ st → (noted_step (receive_by st name root number place note s.notes s.report.manager) s).1 ≡ s
     by place Next is = absurd (other (next_is number note.received is))
     by place Again is = refl
     by place Earlier is = refl
@@ -253,32 +253,32 @@ one_note {c} {d} a b = let same : Some c ≡ Some d = sym a ∙ b in cc
 
 module _ (h : HeadView) (why : Option RollFault) (name : NameView) (number : ℕ) where
   send_again : (s : SessionState) (stage : ℕ) (body : List ℕ) (note : ClientNote) → note_of name s ≡ Some note → note.sent ≡ number
-      → act_step h why (acts.Noted name (asks.Send number stage body)) s ≡ (line (sent_text name number (id_text note.element)), s)
+      → session_act_step h why (acts.Noted name (asks.Send number stage body)) s ≡ (line (sent_text name number (id_text note.element)), s)
   send_again s stage body note noted same =
       let n = s.notes in
       let m = s.report.manager in
-      let is = own name n m note (λ place c. send_by (standing number c.sent) name stage body number place c) noted in
+      let is = own name n m note (λ place c. send_by (number_standing number c.sent) name stage body number place c) noted in
       ap (λ d. noted_step d s) is.4 ∙ ap (λ st. noted_step (send_by st name stage body number is.0 note n m) s) (same_again number note.sent same)
 
   receive_again : (s : SessionState) (root : Option ℕ) (note : ClientNote) → note_of name s ≡ Some note → note.received ≡ number
-      → act_step h why (acts.Noted name (asks.Receive number root)) s ≡ (line (received_text name number (reply_text note)), s)
+      → session_act_step h why (acts.Noted name (asks.Receive number root)) s ≡ (line (received_text name number (last_reply_text note)), s)
   receive_again s root note noted same =
       let n = s.notes in
       let m = s.report.manager in
-      let is = own name n m note (λ place c. receive_by (standing number c.received) name root number place c) noted in
+      let is = own name n m note (λ place c. receive_by (number_standing number c.received) name root number place c) noted in
       ap (λ d. noted_step d s) is.4 ∙ ap (λ st. noted_step (receive_by st name root number is.0 note n m) s) (same_again number note.received same)
 
 -- what was told first is what the note then says, where it is of this number
 module _ (name : NameView) (number : ℕ) (s : SessionState) (c : ClientNote) (place : ℕ) (noted : note_of name s ≡ Some c)
-    (sets : (y : ClientNote) → is_named name y.name ≡ true → find (λ c. is_named name c.name) (slice_set s.notes.clients place y) ≡ Some y) where
-  named : is_named name c.name ≡ true
-  named = passes (λ c. is_named name c.name) s.notes.clients c noted
+    (sets : (y : ClientNote) → has_name name y.name ≡ true → find (λ c. has_name name c.name) (slice_set s.notes.clients place y) ≡ Some y) where
+  named : has_name name c.name ≡ true
+  named = passes (λ c. has_name name c.name) s.notes.clients c noted
 
   abbrev SentIs : List ℕ × SessionState → Type 0
   SentIs step = (note : ClientNote) → note_of name step.1 ≡ Some note → note.sent ≡ number → step.0 ≡ line (sent_text name number (id_text note.element))
 
   abbrev ReceivedIs : List ℕ × SessionState → Type 0
-  ReceivedIs step = (note : ClientNote) → note_of name step.1 ≡ Some note → note.received ≡ number → step.0 ≡ line (received_text name number (reply_text note))
+  ReceivedIs step = (note : ClientNote) → note_of name step.1 ≡ Some note → note.received ≡ number → step.0 ≡ line (received_text name number (last_reply_text note))
 
   sent_count : (note : ClientNote) → note_of name s ≡ Some note → note.sent ≡ number → c.sent ≡ number
   sent_count note is same = ap (λ (z : ClientNote). z.sent) (one_note noted is) ∙ same
@@ -292,7 +292,7 @@ module _ (name : NameView) (number : ℕ) (s : SessionState) (c : ClientNote) (p
       ap (λ (z : ClientNote). line (sent_text name number (id_text z.element))) (one_note (sets made named) is)
   sends_first (Err why) m next note is same = absurd (omega (arith, next, sent_count note is same))
 
-  send_first : (stage : ℕ) (body : List ℕ) (st : Standing) → standing number c.sent ≡ st → SentIs (noted_step (send_by st name stage body number place c s.notes s.report.manager) s)
+  send_first : (stage : ℕ) (body : List ℕ) (st : Standing) → number_standing number c.sent ≡ st → SentIs (noted_step (send_by st name stage body number place c s.notes s.report.manager) s)
   send_first stage body Next stands note is same = sends_first (submit_of s.report.manager client stage body).0 (submit_of s.report.manager client stage body).1 (next_is number c.sent stands) note is same
   send_first stage body Again stands note is same = ap (λ (z : ClientNote). line (sent_text name number (id_text z.element))) (one_note noted is)
   send_first stage body Earlier stands note is same = let e : Earlier ≡ Again = sym stands ∙ same_again number c.sent (sent_count note is same) in absurd cc
@@ -301,34 +301,34 @@ module _ (name : NameView) (number : ℕ) (s : SessionState) (c : ClientNote) (p
   receives_first : (o : Option Element) (m : State) → number ≡ c.received + 1 → ReceivedIs (noted_step (receives name place c number s.notes (o, m)) s)
   receives_first (Some e) m next note is same =
       let made : ClientNote = record c { received = number; reply = Some e.id; root = Some e.root; body = e.body } in
-      ap (λ (z : ClientNote). line (received_text name number (reply_text z))) (one_note (sets made named) is)
+      ap (λ (z : ClientNote). line (received_text name number (last_reply_text z))) (one_note (sets made named) is)
   receives_first None m next note is same = absurd (omega (arith, next, received_count note is same))
 
   next_first : (own : Bool) (root : Option ℕ) → number ≡ c.received + 1 → ReceivedIs (noted_step (next_receive own name root number place c s.notes s.report.manager) s)
   next_first true root next note is same =
       let m = s.report.manager in
-      let taken = taken_of (first_below (λ r. asks_for s.notes.requests name root r) m (rows_of m.limits)) m in
+      let taken = reply_taken (first_below (λ r. asks_for s.notes.requests name root r) m (rows_of m.limits)) m in
       receives_first taken.0 taken.1 next note is same
   next_first false root next note is same = absurd (omega (arith, next, received_count note is same))
 
-  receive_first : (root : Option ℕ) (st : Standing) → standing number c.received ≡ st → ReceivedIs (noted_step (receive_by st name root number place c s.notes s.report.manager) s)
+  receive_first : (root : Option ℕ) (st : Standing) → number_standing number c.received ≡ st → ReceivedIs (noted_step (receive_by st name root number place c s.notes s.report.manager) s)
   receive_first root Next stands note is same = next_first (is_its_own s.notes.requests name root) root (next_is number c.received stands) note is same
-  receive_first root Again stands note is same = ap (λ (z : ClientNote). line (received_text name number (reply_text z))) (one_note noted is)
+  receive_first root Again stands note is same = ap (λ (z : ClientNote). line (received_text name number (last_reply_text z))) (one_note noted is)
   receive_first root Earlier stands note is same = let e : Earlier ≡ Again = sym stands ∙ same_again number c.received (received_count note is same) in absurd cc
   receive_first root Later stands note is same = let e : Later ≡ Again = sym stands ∙ same_again number c.received (received_count note is same) in absurd cc
 
 pub sends_again : SendsAgain
 sends_again h why why' s name number stage stage' body body' before note noted is same =
-    let first = act_step h why (acts.Noted name (asks.Send number stage body)) s in
-    let at = own name s.notes s.report.manager before (λ place c. send_by (standing number c.sent) name stage body number place c) noted in
-    let told = send_first name number s before at.0 noted at.3 stage body (standing number before.sent) refl in
+    let first = session_act_step h why (acts.Noted name (asks.Send number stage body)) s in
+    let at = own name s.notes s.report.manager before (λ place c. send_by (number_standing number c.sent) name stage body number place c) noted in
+    let told = send_first name number s before at.0 noted at.3 stage body (number_standing number before.sent) refl in
     let text : first.0 ≡ line (sent_text name number (id_text note.element)) = subst (λ d. SentIs name number s before at.0 noted at.3 (noted_step d s)) (sym at.4) told note is same in
     send_again h why' name number first.1 stage' body' note is same ∙ ap (λ t. (t, first.1)) (sym text)
 
 pub receives_again : ReceivesAgain
 receives_again h why why' s name number root root' before note noted is same =
-    let first = act_step h why (acts.Noted name (asks.Receive number root)) s in
-    let at = own name s.notes s.report.manager before (λ place c. receive_by (standing number c.received) name root number place c) noted in
-    let told = receive_first name number s before at.0 noted at.3 root (standing number before.received) refl in
-    let text : first.0 ≡ line (received_text name number (reply_text note)) = subst (λ d. ReceivedIs name number s before at.0 noted at.3 (noted_step d s)) (sym at.4) told note is same in
+    let first = session_act_step h why (acts.Noted name (asks.Receive number root)) s in
+    let at = own name s.notes s.report.manager before (λ place c. receive_by (number_standing number c.received) name root number place c) noted in
+    let told = receive_first name number s before at.0 noted at.3 root (number_standing number before.received) refl in
+    let text : first.0 ≡ line (received_text name number (last_reply_text note)) = subst (λ d. ReceivedIs name number s before at.0 noted at.3 (noted_step d s)) (sym at.4) told note is same in
     receive_again h why' name number first.1 root' note is same ∙ ap (λ t. (t, first.1)) (sym text)

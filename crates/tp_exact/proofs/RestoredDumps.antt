@@ -23,7 +23,7 @@ use Rattle.tp_commands.specs.Acting.{PlaceShown}
 use Rattle.tp_perform.specs.Scenes.{Scene, passes_in}
 use Rattle.tp_reference.specs.declared.plain_desk.PlainDesk.{PlainDesk}
 use Rattle.tp_session.specs.Dump.{attempts_of}
-use Rattle.tp_session.specs.Live.{FoundAlive, Live, status_at, status_in, survivor_of, survivors_of}
+use Rattle.tp_session.specs.Live.{FoundAlive, Live, status_at, status_before, survivor_of, survivors_of}
 use Rattle.tp_exact.specs.Dumps.{AreHeldFrom, HeldByWorkers, RestoredDump, line_of, tries_of}
 use Rattle.tp_exact.specs.Stands.{IsFor, IsServedBy}
 use Rattle.tp_exact.proofs.Drains.{beside_long}
@@ -40,7 +40,7 @@ status_again limit (Consumed u) alive fit = absurd alive
 status_again limit Killed alive fit = absurd alive
 
 -- so it is whether a pass holds it or not
-standing_again : (l : Limits) (is status : Status) (holder : Option ℕ) (first : ℕ) → IsStanding l is status holder → Fits l.attempts is → status_in l.attempts (option_map (λ pass. pass - first) holder) (tries_of status holder) ≡ status
+standing_again : (l : Limits) (is status : Status) (holder : Option ℕ) (first : ℕ) → IsStanding l is status holder → Fits l.attempts is → status_before l.attempts (option_map (λ pass. pass - first) holder) (tries_of status holder) ≡ status
 standing_again l is status None first a fit = status_again l.attempts status a.1 (subst (Fits l.attempts) a.0 fit)
 standing_again l is status (Some c) first (u, n, held, waits, by) fit =
     let back : (n + 1) - 1 ≡ n = omega arith in

@@ -33,10 +33,10 @@ use Rattle.tp_exact.specs.Alive.{alive_of}
 use Rattle.tp_exact.specs.Dumps.{AreHeldFrom, all_lost, line_of}
 use Rattle.tp_exact.specs.HeadReads.{started}
 use Rattle.tp_exact.specs.NoteReads.{alive_notes}
-use Rattle.tp_exact.specs.PlainSession.{Refusals, SessionState, anew_as, begin, lines_step, restored, rolled_over, unrestored, works_in}
+use Rattle.tp_exact.specs.PlainSession.{Refusals, SessionState, anew_as, session_begin, lines_step, session_restored, rolled_over, unrestored, session_works_in}
 use Rattle.tp_exact.specs.Sessions.{AreUnforeseen, StandsLive}
 use Rattle.tp_exact.specs.Stands.{IsFor}
-use Rattle.tp_exact.specs.WholeDumps.{AnswersGoOn, AreAlike, IsDumped, RestoredStands, SaysAll, registers_of}
+use Rattle.tp_exact.specs.WholeDumps.{AnswersGoOn, AreAlike, IsDumped, RestoredStands, SaysAll, session_registers}
 use Rattle.tp_exact.proofs.Anews.{lost_long, works_here, works_long}
 use Rattle.tp_exact.proofs.DumpActs.{alive_so, dropped_are, registers_are}
 use Rattle.tp_exact.proofs.RestoredDumps.{described_again, held_by_workers}
@@ -134,7 +134,7 @@ all_for (p ∷ ps) (d ∷ ds) (e ∷ es) all held dropped none = (
 
 module _ (source : Head) (old done : Live) (survivors : List Survivor) (s : SessionState) (head : Head) (begun : Live) (text : List ℕ) (new : Live)
     (it : IsDumped (head_view source) old done survivors s) (says : SaysAll (head_view source) (head_view head) old survivors) (limits : old.stand.manager.limits ≡ limits_of (head_view source) 0) (as_said : begun.stand.manager.limits ≡ limits_of (head_view head) 0)
-    (stands : StandsLive (head_view head) begun (begin (head_view head))) (holds : HoldsUnits begun) (t : RestoredLive (head_view head) begun text new) where
+    (stands : StandsLive (head_view head) begun (session_begin (head_view head))) (holds : HoldsUnits begun) (t : RestoredLive (head_view head) begun text new) where
   abbrev h : HeadView
   h = head_view source
 
@@ -142,7 +142,7 @@ module _ (source : Head) (old done : Live) (survivors : List Survivor) (s : Sess
   g = head_view head
 
   abbrev b : SessionState
-  b = begin g
+  b = session_begin g
 
   abbrev moved : List Moved
   moved = t.moved
@@ -152,7 +152,7 @@ module _ (source : Head) (old done : Live) (survivors : List Survivor) (s : Sess
 
   -- as many servers and workers
   servers_long : length g.servers ≡ length h.servers
-  servers_long = ap (λ (vs : List ServerView). length vs) says.servers ∙ started_long h.servers (registers_of old) it.registers.each
+  servers_long = ap (λ (vs : List ServerView). length vs) says.servers ∙ started_long h.servers (session_registers old) it.registers.each
 
   workers_long : length g.workers ≡ length h.workers
   workers_long = ap (λ (ws : List WorkerView). length ws) says.workers
@@ -197,10 +197,10 @@ module _ (source : Head) (old done : Live) (survivors : List Survivor) (s : Sess
   before = lost_works g.lost 0 b.works
 
   abbrev by_restore : SessionState
-  by_restore = record { report = record b.report { manager = m }; works = works_in b moved m before; notes = notes_in moved b.notes }
+  by_restore = record { report = record b.report { manager = m }; works = session_works_in b moved m before; notes = notes_in moved b.notes }
 
   abbrev by_rollover : SessionState
-  by_rollover = record { report = record s.report { manager = m }; works = works_in s moved m s.works; notes = notes_in moved s.notes }
+  by_rollover = record { report = record s.report { manager = m }; works = session_works_in s moved m s.works; notes = notes_in moved s.notes }
 
   b_limits : b.report.manager.limits ≡ old.stand.manager.limits
   b_limits = same_limits ∙ sym limits
@@ -208,7 +208,7 @@ module _ (source : Head) (old done : Live) (survivors : List Survivor) (s : Sess
   s_limits : s.report.manager.limits ≡ old.stand.manager.limits
   s_limits = ap (λ (z : State). z.limits) it.stands.stands.manager
 
-  restored_is : (restored g b).1 ≡ by_restore
+  restored_is : (session_restored g b).1 ≡ by_restore
   restored_is =
       ap (λ o. (anew_as restored_text g before (unrestored b) b o).1)
       (ap (λ ss. made_anew b.report.manager.limits b.report.manager.limits.parts ss (start b.report.manager.limits)) described
@@ -242,7 +242,7 @@ module _ (source : Head) (old done : Live) (survivors : List Survivor) (s : Sess
   racers_are : (ws : List Holding) → length ws ≡ length begun.works → length new.stand.scene.racers ≡ length ws
   racers_are ws same = t.restored.racers ∙ (begun_racers ∙ sym same)
 
-  restored_works : works_in b moved m before ≡ new.works
+  restored_works : session_works_in b moved m before ≡ new.works
   restored_works =
       works_here head begun new text b stands holds m moved before refl t.restored.places (racers_are before (lost_long g.lost 0 b.works ∙ ap (λ (ws : List Holding). length ws) stands.works))
       ∙ (ap (λ ws. lives.works_in new.stand moved (lost_works g.lost 0 ws)) stands.works ∙ sym t.works)
@@ -253,10 +253,10 @@ module _ (source : Head) (old done : Live) (survivors : List Survivor) (s : Sess
       length-map g.servers new_desk ∙ (servers_long
       ∙ (sym it.registers.each ∙ (length-map old.stand.scene.places (λ p. p.desk.registers) ∙ zip_long IsFor old.stand.scene.places s.report.desks it.stands.stands.desks)))
 
-  rolled_works : works_in s moved m s.works ≡ new.works
+  rolled_works : session_works_in s moved m s.works ≡ new.works
   rolled_works =
       ap (λ k. works_at k s.works) (sym desks_long)
-      ∙ (ap (λ ws. works_in b moved m ws) it.stands.works
+      ∙ (ap (λ ws. session_works_in b moved m ws) it.stands.works
       ∙ (works_here head begun new text b stands holds m moved old.works refl t.restored.places (racers_are old.works (sym begun_works)) ∙ sym same_hands))
     where
       works_at : ℕ → List Holding → List Holding
@@ -276,7 +276,7 @@ module _ (source : Head) (old done : Live) (survivors : List Survivor) (s : Sess
   same_registers : map (λ d. d.registers) b.report.desks ≡ map (λ d. d.registers) s.report.desks
   same_registers =
       ap (λ (vs : List ServerView). map (λ d. d.registers) (map new_desk vs)) says.servers
-      ∙ (started_held h.servers (registers_of old) it.registers.each ∙ registers_are old.stand.scene.places s.report.desks it.stands.stands.desks)
+      ∙ (started_held h.servers (session_registers old) it.registers.each ∙ registers_are old.stand.scene.places s.report.desks it.stands.stands.desks)
 
   -- ---- desks
 
@@ -293,7 +293,7 @@ module _ (source : Head) (old done : Live) (survivors : List Survivor) (s : Sess
   names place v is = (
     (it.head.servers v (in_list h.servers place v is)).named,
     ap (λ (vs : List ServerView). position (λ (u : ServerView). bytes_eq u.name v.name) vs) says.servers
-        ∙ (same_places v.name h.servers (registers_of old) it.registers.each ∙ found_at (λ (u : ServerView). bytes_eq u.name v.name) h.servers place v is (same_bytes v.name) (it.head.server_names v.name)),
+        ∙ (same_places v.name h.servers (session_registers old) it.registers.each ∙ found_at (λ (u : ServerView). bytes_eq u.name v.name) h.servers place v is (same_bytes v.name) (it.head.server_names v.name)),
     ap (λ (ws : List WorkerView). position (λ (w : WorkerView). bytes_eq w.name v.name) ws) says.workers ∙ it.head.apart v (in_list h.servers place v is),
   )
 
@@ -336,15 +336,15 @@ module _ (source : Head) (old done : Live) (survivors : List Survivor) (s : Sess
     alike : AreAlike last by_rollover
     alike = record { manager = refl; works = restored_works ∙ sym rolled_works; notes = same_notes; registers = last_registers; dropped = last_dropped }
 
-    pub stands_so : AreAlike (lines_step g past [] drops (restored g b).1).1 (rolled_over h s).1
+    pub stands_so : AreAlike (lines_step g past [] drops (session_restored g b).1).1 (rolled_over h s).1
     stands_so =
         subst (λ z. AreAlike (lines_step g past [] drops z).1 (rolled_over h s).1) (sym restored_is)
         (subst (λ z. AreAlike (lines_step g past [] drops by_restore).1 z) (sym rolled_is) (subst (λ z. AreAlike z by_rollover) (sym last_is) alike))
 
     -- ---- what stands for the one stands for the other
 
-    module _ (first : Live) (is : StandsLive g first (lines_step g past [] drops (restored g b).1).1) where
-      a_is : (lines_step g past [] drops (restored g b).1).1 ≡ last
+    module _ (first : Live) (is : StandsLive g first (lines_step g past [] drops (session_restored g b).1).1) where
+      a_is : (lines_step g past [] drops (session_restored g b).1).1 ≡ last
       a_is = ap (λ z. (lines_step g past [] drops z).1) restored_is ∙ last_is
 
       as_last : StandsLive g first last
@@ -392,17 +392,17 @@ module _ (source : Head) (old done : Live) (survivors : List Survivor) (s : Sess
   say_the_same : SayTheSame g h
   say_the_same = record {
     settings = says.settings;
-    servers = ap (λ (vs : List ServerView). map strip vs) says.servers ∙ stripped h.servers (registers_of old) it.registers.each;
+    servers = ap (λ (vs : List ServerView). map strip vs) says.servers ∙ stripped h.servers (session_registers old) it.registers.each;
     workers = says.workers;
   }
 
   same_names : SameNames g h
   same_names = record {
-    servers = λ name. ap (λ (vs : List ServerView). position (λ (v : ServerView). bytes_eq v.name name) vs) says.servers ∙ same_places name h.servers (registers_of old) it.registers.each;
+    servers = λ name. ap (λ (vs : List ServerView). position (λ (v : ServerView). bytes_eq v.name name) vs) says.servers ∙ same_places name h.servers (session_registers old) it.registers.each;
     workers = says.workers;
   }
 
-  pub goes_on : (past n : ℕ) (first : Live) (lines : List (List ℕ)) (told : List ℕ) (end : Live) → StandsLive g first (lines_step g past [] (drop_lines h.servers bs (length h.servers)) (restored g b).1).1 → BodyLines head n lines first told end
+  pub goes_on : (past n : ℕ) (first : Live) (lines : List (List ℕ)) (told : List ℕ) (end : Live) → StandsLive g first (lines_step g past [] (drop_lines h.servers bs (length h.servers)) (session_restored g b).1).1 → BodyLines head n lines first told end
       → (refusals : Refusals) × AreUnforeseen refusals × (told ≡ (lines_step h n refusals lines (rolled_over h s).1).0)
   goes_on past n first lines told end is answered =
       let a = lines_are head n lines first end told (rolled_over h s).1 (rolled_stands past first is) answered in

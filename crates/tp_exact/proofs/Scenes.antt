@@ -10,7 +10,7 @@ use Rattle.tp_commands.specs.Acting.{PlaceShown}
 use Rattle.tp_perform.specs.Scenes.{Gathered, GatheredIn, OnlyPass, Scene, passes_in}
 use Rattle.tp_alone.specs.Thread.{AreTogether, Stays}
 use Rattle.tp_alone.proofs.Gatherings.{gathered_together}
-use Rattle.tp_exact.specs.Stands.{OnlyLooks, OnlyLooksAt}
+use Rattle.tp_exact.specs.Stands.{SceneOnlyLooks, OnlyLooksAt}
 
 pub all_at : {A : Type 0} (P : A → Type 0) (xs : List A) (x : A) → All P xs → In x xs → P x
 all_at P [] x all q = absurd (in_none q)
@@ -44,7 +44,7 @@ module _ (m : ManagerShown) (keeper keeper' : KeeperShown) (old new : Scene) (g 
   pub each_stays : AllZip Stays (passes_in old) (passes_in new)
   each_stays = gathers_in (gather_steps m.limits (length (passes_in old))) m keeper keeper' old new g
 
-  pub looks : OnlyLooks old new
+  pub looks : SceneOnlyLooks old new
   looks =
       let apart = looks_apart old.places new.places old.racers new.racers g.places each_stays.1 in
       record { client = each_stays.0; places = apart.0; racers = apart.1 }

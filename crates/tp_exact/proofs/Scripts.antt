@@ -30,12 +30,12 @@ use Rattle.tp_reference.specs.PlainReport.{ended_below, finals_below}
 use Rattle.tp_session.specs.Answers.{worker_line}
 use Rattle.tp_session.specs.Conversed.{LiveBegins, finals_of}
 use Rattle.tp_session.specs.Live.{Live, TellsAct, TellsRaced}
-use Rattle.tp_session.specs.Performed.{ActsTold, Closes, Counts as CountsLive, DesksClose, LiveCounts, Ran, RanFront, Report, ReportFront, ReportPart, WorkerCloses, WorkersBelow, closing_text}
-use Rattle.tp_exact.specs.PlainScript.{account_line, acts_step, closed, desks_closed, end_lines, report_of_read, script_of, workers_closed}
-use Rattle.tp_exact.specs.PlainSession.{Refusals, SessionState, act_step, begin, first_refusal, other_refusals}
+use Rattle.tp_session.specs.Performed.{ActsTold, SessionCloses, Counts as CountsLive, DesksClose, LiveCounts, Ran, RanFront, Report, ReportFront, ReportPart, WorkerCloses, WorkersBelow, closing_text}
+use Rattle.tp_exact.specs.PlainScript.{script_account_line, acts_step, closed, desks_closed, end_lines, script_report_of_read, script_of, workers_closed}
+use Rattle.tp_exact.specs.PlainSession.{Refusals, SessionState, session_act_step, session_begin, first_refusal, other_refusals}
 use Rattle.tp_exact.specs.Programs.{ExactProgram, IsChecked, IsCovered, WritesAs, exit_of}
 use Rattle.tp_exact.specs.Sessions.{AreUnforeseen, IsUnforeseen, StandsLive, asks_race}
-use Rattle.tp_exact.specs.Stands.{IsServedBy, Stands}
+use Rattle.tp_exact.specs.Stands.{IsServedBy, StandsAsComputed}
 use Rattle.tp_exact.proofs.Accounts.{exact_account}
 use Rattle.tp_exact.proofs.Begins.{no_racers}
 use Rattle.tp_exact.proofs.Drains.{beside_long}
@@ -67,7 +67,7 @@ acts_are head raced (a ∷ others) old last text s raceless is (first, rest, bet
     let parts = either_false (races a) (has_race others) raceless in
     let told : TellsAct head a old first between = subst (λ b. TellsRaced b head raced a old first between) parts.0 one in
     let x = exact_line head 0 (Ok (Some a)) old between first s (asked_so a parts.0) is told in
-    let step : List ℕ × SessionState = act_step h x.0 a s in
+    let step : List ℕ × SessionState = session_act_step h x.0 a s in
     let y = acts_are head (raced + racers_of a) others between last rest step.1 parts.1 x.2.1 more in
     (x.0 ∷ y.0, All-cons IsUnforeseen x.0 y.0 x.1 y.1, (whole ∙ (ap (λ t. t ++ rest) x.2.0 ∙ ap (λ t. step.0 ++ t) y.2.0), y.2.1))
 
@@ -76,7 +76,7 @@ acts_fewer : (h : HeadView) (refusals : Refusals) (n : ℕ) (all : List Act) (s 
 acts_fewer h refusals zero all s = ((acts_step h refusals all s).0, refl)
 acts_fewer h refusals (suc n) [] s = ([], refl)
 acts_fewer h refusals (suc n) (a ∷ others) s =
-    let step : List ℕ × SessionState = act_step h (first_refusal refusals) a s in
+    let step : List ℕ × SessionState = session_act_step h (first_refusal refusals) a s in
     let more = acts_fewer h (other_refusals refusals) n others step.1 in
     (more.0, ap (λ t. step.0 ++ t) more.1 ∙ sym (append_assoc step.0 (acts_step h (other_refusals refusals) (take n others) step.1).0 more.0))
 
@@ -99,13 +99,13 @@ module _ (head : Head) where
       let long : length h.servers ≡ length old.stand.scene.places = beside_long IsServedBy old.stand.scene.places h.servers is.stands.served in
       let all = below h.servers l (length old.stand.scene.places) old.stand.keeper new.stand.keeper old.stand.scene new.stand.scene s.report is.stands t.gives_up in
       record {
-        stands = subst (λ (m : ManagerShown). Stands h.servers m.limits new.stand.keeper new.stand.keeper.seen new.stand.scene (with_state s.report (ended_below s.report.manager (length h.servers)))) (sym t.manager)
-            (subst (λ n. Stands h.servers l.limits new.stand.keeper new.stand.keeper.seen new.stand.scene (with_state s.report (ended_below s.report.manager n))) (sym long) all);
+        stands = subst (λ (m : ManagerShown). StandsAsComputed h.servers m.limits new.stand.keeper new.stand.keeper.seen new.stand.scene (with_state s.report (ended_below s.report.manager (length h.servers)))) (sym t.manager)
+            (subst (λ n. StandsAsComputed h.servers l.limits new.stand.keeper new.stand.keeper.seen new.stand.scene (with_state s.report (ended_below s.report.manager n))) (sym long) all);
         works = is.works ∙ sym t.works;
         notes = is.notes ∙ sym t.notes;
       }
 
-  worker_so : (at : ℕ) (old new : Live) (s : SessionState) → StandsLive h old s → WorkerCloses head.workers.items at old new → StandsLive h new (act_step h None (acts.Worker at Abort) s).1
+  worker_so : (at : ℕ) (old new : Live) (s : SessionState) → StandsLive h old s → WorkerCloses head.workers.items at old new → StandsLive h new (session_act_step h None (acts.Worker at Abort) s).1
   worker_so at old new s is t =
       (by_worker head old new (worker_line (string_bytes t.it.name) t.answer) s is at Abort
       (record { it = t.it; named = t.named; answer = t.answer; done = t.done; did = t.did; text_is = refl; gathers = t.gathers })).1
@@ -114,7 +114,7 @@ module _ (head : Head) where
   workers_so zero old new s is same = subst (λ z. StandsLive h z s) (sym same) is
   workers_so (suc n) old new s is t = worker_so n t.0 new (workers_closed h n s) (workers_so n old t.0 s is t.1) t.2
 
-  closes_so : (old new : Live) (s : SessionState) → StandsLive h old s → Closes head old new → StandsLive h new (closed h s)
+  closes_so : (old new : Live) (s : SessionState) → StandsLive h old s → SessionCloses head old new → StandsLive h new (closed h s)
   closes_so old new s is t =
       let long : length head.workers.items ≡ length h.workers = sym (length-map head.workers.items worker_view) in
       subst (λ n. StandsLive h new (workers_closed h n (desks_closed (length h.servers) s))) long
@@ -131,7 +131,7 @@ module _ (head : Head) where
       let same = subst (λ (x : ManagerShown). s.report.manager ≡ thread_of x.limits (passes_in new.stand.scene) new.stand.keeper.seen) t.manager stands.stands.manager in
       (stands, ap (λ (a : Account). a.total) t.account_is ∙ (total ∙ ap counts_of (sym same)))
 
-  counts_so : (asked : Bool) (old : Live) (account : Option Account) (new : Live) (s : SessionState) → StandsLive h old s → CountsLive asked old account new → StandsLive h new s × (closing_text account ≡ account_line asked s)
+  counts_so : (asked : Bool) (old : Live) (account : Option Account) (new : Live) (s : SessionState) → StandsLive h old s → CountsLive asked old account new → StandsLive h new s × (closing_text account ≡ script_account_line asked s)
   counts_so false old account new s is t = (subst (λ z. StandsLive h z s) (sym t.1) is, ap closing_text t.0)
   counts_so true old None new s is t = absurd t
   counts_so true old (Some account) new s is t =
@@ -147,7 +147,7 @@ module _ (s : Script) (raceless : has_race s.acts.items ≡ false) (checked : Al
   abbrev h' : HeadView
   h' = v.head
 
-  first_so : (first : Live) → LiveBegins h' (racing s.acts.items) first → StandsLive h' first (begin h')
+  first_so : (first : Live) → LiveBegins h' (racing s.acts.items) first → StandsLive h' first (session_begin h')
   first_so first begins = begins_live s.head (racing s.acts.items) (no_racers s.acts.items raceless) first begins checked
 
   abbrev TellsSome : Type 0
@@ -155,8 +155,8 @@ module _ (s : Script) (raceless : has_race s.acts.items ≡ false) (checked : Al
 
   pub report_so : Report s Told → TellsSome
   report_so r =
-      let body = acts_are s.head 0 s.acts.items r.first r.last r.text (begin h') raceless (first_so r.first r.begins) r.acts in
-      let done : List ℕ × SessionState = acts_step h' body.0 s.acts.items (begin h') in
+      let body = acts_are s.head 0 s.acts.items r.first r.last r.text (session_begin h') raceless (first_so r.first r.begins) r.acts in
+      let done : List ℕ × SessionState = acts_step h' body.0 s.acts.items (session_begin h') in
       let end : SessionState = closed h' done.1 in
       let close = closes_so s.head r.last r.ends.closed done.1 body.2.1 r.ends.closes in
       let count = counts_so s.head s.account r.ends.closed r.account r.ends.counted end close r.ends.counts in
@@ -170,10 +170,10 @@ module _ (s : Script) (raceless : has_race s.acts.items ≡ false) (checked : Al
   part_so r =
       let h = head_view s.head in
       let some : List Act = take r.acts.many s.acts.items in
-      let body = acts_are s.head 0 some r.first r.last r.acts.text (begin h) (race_fewer r.acts.many s.acts.items raceless) (first_so s raceless checked (AppendsFront before after) r.first r.begins) r.acts.acts in
-      let few = acts_fewer h body.0 r.acts.many s.acts.items (begin h) in
-      let all : List ℕ × SessionState = acts_step h body.0 s.acts.items (begin h) in
-      let first : List ℕ = (acts_step h body.0 some (begin h)).0 in
+      let body = acts_are s.head 0 some r.first r.last r.acts.text (session_begin h) (race_fewer r.acts.many s.acts.items raceless) (first_so s raceless checked (AppendsFront before after) r.first r.begins) r.acts.acts in
+      let few = acts_fewer h body.0 r.acts.many s.acts.items (session_begin h) in
+      let all : List ℕ × SessionState = acts_step h body.0 s.acts.items (session_begin h) in
+      let first : List ℕ = (acts_step h body.0 some (session_begin h)).0 in
       let behind : List ℕ = end_lines h s.account (closed h all.1) in
       let is : script_of body.0 (script_view s) ≡ first ++ (few.0 ++ behind) = ap (λ t. t ++ behind) few.1 ∙ append_assoc first few.0 behind in
       (body.0, body.1, subst (AppendsFront before after) (sym is) (front_longer before after first (few.0 ++ behind) (subst (AppendsFront before after) body.2.0 r.acts.told)))
@@ -187,7 +187,7 @@ module _ (s : Script) (raceless : has_race s.acts.items ≡ false) (checked : Al
 
 module _ (bytes : List ℕ) (before after : Option (List ℕ)) where
   abbrev Writes : Result Exit Fault → Result ScriptView Refused → Type 0
-  Writes outcome said = (refusals : Refusals) × AreUnforeseen refusals × WritesAs outcome (exit_of said) (report_of_read refusals said) before after
+  Writes outcome said = (refusals : Refusals) × AreUnforeseen refusals × WritesAs outcome (exit_of said) (script_report_of_read refusals said) before after
 
   ran_front : (v : ScriptView) → script bytes ≡ Ok v → has_race v.acts ≡ false → RanFront v before after → (refusals : Refusals) × AreUnforeseen refusals × AppendsFront before after (script_of refusals v)
   ran_front v read raceless (inl none) = ([], All-nil IsUnforeseen, front_longer before after [] (script_of [] v) none)

@@ -19,7 +19,7 @@ use Rattle.tp_script.specs.declared.head.Driver.TheVariants as drivers
 use Rattle.tp_script.specs.declared.notes.ClientNote.{ClientNote}
 use Rattle.tp_script.specs.declared.script.TheConstants.{MAX_SERVERS}
 use Rattle.tp_session.specs.Dump.{kind_text, output_text, server_line}
-use Rattle.tp_exact.specs.HeadReads.{IsServer, ServerLinesRead, unstarted}
+use Rattle.tp_exact.specs.HeadReads.{IsHeadServer, ServerLinesRead, unstarted}
 use Rattle.tp_exact.proofs.LineReads.{bind_ok, line_ok, number_ok}
 use Rattle.tp_exact.proofs.Cuts.{and_true, le_true}
 use Rattle.tp_exact.proofs.HeadReads.{no_place}
@@ -58,7 +58,7 @@ module _ (v : ServerView) where
       ∙ (ap (λ z. codes "server " ++ (v.name ++ (32 ∷ (kind_text v.kind ++ (32 ∷ (decimal v.recipe.stage ++ (32 ∷ z))))))) (append_assoc (decimal v.recipe.registers) (32 ∷ last_word) more)
       ∙ ap (λ z. codes "server " ++ (v.name ++ (32 ∷ (kind_text v.kind ++ (32 ∷ (decimal v.recipe.stage ++ (32 ∷ (decimal v.recipe.registers ++ (32 ∷ z))))))))) (sym (tail_is last_word outs)))))
 
-  module _ (it : IsServer v) where
+  module _ (it : IsHeadServer v) where
     s64 : v.recipe.stage < 2 ^ 64
     s64 = let s = it.stage in omega (arith, s)
 
@@ -154,7 +154,7 @@ module _ (h : HeadView) (no_workers : h.workers ≡ []) (no_clients : h.clients 
   abbrev with_servers : List ServerView → HeadView
   with_servers vs = record h { servers = map unstarted vs }
 
-  servers_taken : (before vs : List ServerView) → length (before ++ vs) ≤ MAX_SERVERS → ((v : ServerView) → In v vs → IsServer v)
+  servers_taken : (before vs : List ServerView) → length (before ++ vs) ≤ MAX_SERVERS → ((v : ServerView) → In v vs → IsHeadServer v)
       → ((k : List ℕ) → count_by (λ (u : ServerView). bytes_eq u.name k) (before ++ vs) ≤ 1)
       → AreTaken (map server_line vs) (with_servers before) (with_servers (before ++ vs))
   servers_taken before [] few fit once = ap with_servers (append_nil before)

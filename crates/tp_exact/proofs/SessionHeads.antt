@@ -7,10 +7,10 @@ use Rattle.tp_script.specs.declared.head.Act.{Act}
 use Rattle.tp_session.specs.Answers.{refused_line}
 use Rattle.tp_session.specs.Conversed.{IsCommand}
 use Rattle.tp_session.specs.Told.{HeadLine, HeadLines}
-use Rattle.tp_exact.specs.PlainSession.{HeadRead, read_head, read_line, with_text}
+use Rattle.tp_exact.specs.PlainSession.{ReadHead, read_head, read_line, with_text}
 use Rattle.tp_model.proofs.Bridges.{append_nil}
 
-abbrev pub read_as : List ℕ → HeadView → ℕ → Option Act → List (List ℕ) → HeadRead
+abbrev pub read_as : List ℕ → HeadView → ℕ → Option Act → List (List ℕ) → ReadHead
 read_as text head past command behind = record { text = text; head = head; past = past; command = command; behind = behind }
 
 -- lines of the head are told, and then the others are read
@@ -23,10 +23,10 @@ head_more past (line ∷ others) rest h h' text (first, second, between, one, mo
     go (read_head (past + 1) (others ++ rest)) (head_more (past + 1) others rest between h' second more) (head_at line h) refl one
     ∙ (ap (λ n. with_text (first ++ second) (read_head n rest h')) e ∙ ap (λ t. with_text t (read_head (past + suc (length others)) rest h')) (sym is))
   where
-    abbreviated : List ℕ → HeadRead
+    abbreviated : List ℕ → ReadHead
     abbreviated t = with_text t (read_head (past + 1 + length others) rest h')
 
-    go : (next : HeadView → HeadRead) → next between ≡ abbreviated second → (said : Result (HeadView × Option Act) LineFault) → head_at line h ≡ said → HeadLine (past + 1) said h first between
+    go : (next : HeadView → ReadHead) → next between ≡ abbreviated second → (said : Result (HeadView × Option Act) LineFault) → head_at line h ≡ said → HeadLine (past + 1) said h first between
         → read_line past line (others ++ rest) h next (head_at line h) ≡ abbreviated (first ++ second)
     go next after (Ok (taken, None)) at (none, same) =
         ap (read_line past line (others ++ rest) h next) at

@@ -26,14 +26,14 @@ use Rattle.tp_session.specs.Answers.{worker_line}
 use Rattle.tp_session.specs.Live as lives
 use Rattle.tp_session.specs.Hands.{Hand, has_unit}
 use Rattle.tp_session.specs.Live.{AccountTold, CommandTold, Live, TellsAccount, WorkerTold}
-use Rattle.tp_session.specs.Notes.{with_end}
+use Rattle.tp_session.specs.Notes.{with_unit_end}
 use Rattle.tp_session.specs.declared.hand.Holding.{Holding}
 use Rattle.tp_session.specs.declared.hand.Holding.TheVariants.{Nothing}
 use Rattle.tp_exact.specs.Acts.{Acts}
-use Rattle.tp_exact.specs.PlainSession.{SessionState, account_line, act_step, command_by, has_desk_open, is_open, worker_step}
+use Rattle.tp_exact.specs.PlainSession.{SessionState, session_account_line, session_act_step, command_by, session_desk_open, session_is_open, worker_step}
 use Rattle.tp_exact.specs.PlainWorkers.{WorkerAnswered, worker_does}
 use Rattle.tp_exact.specs.Sessions.{IsStep, StandsLive}
-use Rattle.tp_exact.specs.Stands.{IsFor, IsServedBy, OnlyLooks, Stands}
+use Rattle.tp_exact.specs.Stands.{IsFor, IsServedBy, SceneOnlyLooks, StandsAsComputed}
 use Rattle.tp_exact.proofs.Commands.{scene_passes, served_all, still_all}
 use Rattle.tp_exact.proofs.Counted.{counts_are}
 use Rattle.tp_exact.proofs.Covered.{exact_command}
@@ -108,7 +108,7 @@ module _ (head : Head) (old new : Live) (text : List ℕ) (s : SessionState) (is
       let one = exact_command c raceless old.stand.manager (head_view head) 0 old.stand.keeper new.stand.keeper scene new.stand.scene text s.report is.stands t.performs in (
         one.0,
         record {
-          stands = subst (λ (m : ManagerShown). Stands h.servers m.limits new.stand.keeper new.stand.keeper.seen new.stand.scene (command_step h.servers c s.report).1) (sym t.manager) one.1;
+          stands = subst (λ (m : ManagerShown). StandsAsComputed h.servers m.limits new.stand.keeper new.stand.keeper.seen new.stand.scene (command_step h.servers c s.report).1) (sym t.manager) one.1;
           works = is.works ∙ sym t.works;
           notes = is.notes ∙ sym t.notes;
         },
@@ -120,10 +120,10 @@ module _ (head : Head) (old new : Live) (text : List ℕ) (s : SessionState) (is
     pub now_together : AreTogether l keeper' (passes_in next) keeper'.seen
     now_together = together old.stand.manager old.stand.keeper keeper' middle next g
 
-    pub only : OnlyLooks middle next
+    pub only : SceneOnlyLooks middle next
     only = looks old.stand.manager old.stand.keeper keeper' middle next g
 
-    pub stands_so : (m : State) → m ≡ thread_of l (passes_in next) keeper'.seen → Stands h.servers l keeper' keeper'.seen next (record s.report { manager = m })
+    pub stands_so : (m : State) → m ≡ thread_of l (passes_in next) keeper'.seen → StandsAsComputed h.servers l keeper' keeper'.seen next (record s.report { manager = m })
     stands_so m same = record {
       together = now_together;
       manager = same;
@@ -202,27 +202,27 @@ module _ (head : Head) (old new : Live) (text : List ℕ) (s : SessionState) (is
         ap (λ m. worker_does act t.it.stage c m before.work) (sym is.stands.manager) ∙ ap (λ w. worker_does act t.it.stage c s.report.manager w) (sym hand_is) in
         subst So same (exact_worker act l t.it.stage old.stand.keeper new.stand.keeper (passes_in scene) (passes_in new.stand.scene) old.stand.keeper.seen new.stand.keeper.seen c before after t.answer acts_so t.did.does)
 
-    pub by_worker : Leads (act_step h None (acts.Worker at act) s)
+    pub by_worker : Leads (session_act_step h None (acts.Worker at act) s)
     by_worker =
         let named : slice_get h.workers at ≡ Some (worker_view t.it) = got_map worker_view head.workers.items at t.it t.named in
         subst (λ o. Leads (worker_step o act at c s)) (sym named) (
           t.text_is ∙ ap (λ x. worker_line (string_bytes t.it.name) x) so.0,
           record {
-            stands = subst (λ (m : ManagerShown). Stands h.servers m.limits new.stand.keeper new.stand.keeper.seen new.stand.scene (record s.report { manager = done.manager })) (sym manager_same)
+            stands = subst (λ (m : ManagerShown). StandsAsComputed h.servers m.limits new.stand.keeper new.stand.keeper.seen new.stand.scene (record s.report { manager = done.manager })) (sym manager_same)
                 (stands_so middle new.stand.keeper new.stand.scene refl gathered done.manager (sym so.1));
             works = ap (λ ws. slice_set ws at done.work) is.works ∙ (ap (λ w. slice_set old.works at w) (sym so.2) ∙ sym (t.gathers.works ∙ t.did.works));
-            notes = ap (λ w. with_end w done.answer at s.notes) hand_is ∙ (ap (λ a. with_end before.work a at s.notes) (sym so.0) ∙ (ap (with_end before.work t.answer at) is.notes ∙ sym (t.gathers.notes ∙ t.did.notes)));
+            notes = ap (λ w. with_unit_end w done.answer at s.notes) hand_is ∙ (ap (λ a. with_unit_end before.work a at s.notes) (sym so.0) ∙ (ap (with_unit_end before.work t.answer at) is.notes ∙ sym (t.gathers.notes ∙ t.did.notes)));
           },
         )
 
   -- ---- the account
 
-  pub desk_open_is : lives.has_desk_open old ≡ has_desk_open s
+  pub desk_open_is : lives.has_desk_open old ≡ session_desk_open s
   desk_open_is =
       desks_open scene.places s.report.desks scene.racers (not_given l (length (passes_in scene))) is.stands.desks
       ∙ ap (λ (m : State). list_any (λ q. is_some q.holding) (take (length s.report.desks) (drop 1 m.passes))) (sym is.stands.manager)
 
-  pub open_is : lives.is_open old ≡ is_open s
+  pub open_is : lives.has_unit_open old ≡ session_is_open s
   open_is =
       ap (λ (ws : List Holding). list_any has_unit ws || list_any (λ (p : PlaceShown). is_some p.desk.work) scene.places) (sym is.works)
       ∙ ap (λ b. list_any has_unit s.works || b) desk_open_is
@@ -247,13 +247,13 @@ module _ (head : Head) (old new : Live) (text : List ℕ) (s : SessionState) (is
 
     leaves : thread_of l (passes_in new.stand.scene) new.stand.keeper.seen ≡ was → StandsLive h new s
     leaves same = record {
-      stands = subst (λ (m : ManagerShown). Stands h.servers m.limits new.stand.keeper new.stand.keeper.seen new.stand.scene s.report) (sym (t.gathers.manager ∙ ap (λ (x : Stand). x.manager) t.counts.stand))
+      stands = subst (λ (m : ManagerShown). StandsAsComputed h.servers m.limits new.stand.keeper new.stand.keeper.seen new.stand.scene s.report) (sym (t.gathers.manager ∙ ap (λ (x : Stand). x.manager) t.counts.stand))
           (stands_so counted new.stand.keeper new.stand.scene refl all_gathered s.report.manager (is.stands.manager ∙ sym same));
       works = is.works ∙ sym (t.gathers.works ∙ t.counts.works);
       notes = is.notes ∙ sym (t.gathers.notes ∙ t.counts.notes);
     }
 
-    go : (b : Bool) → is_open s ≡ b → TellsAccount old.stand.manager b scene.client text t.counts.client → Leads (account_line s, s)
+    go : (b : Bool) → session_is_open s ≡ b → TellsAccount old.stand.manager b scene.client text t.counts.client → Leads (session_account_line s, s)
     go true at tells = (
       tells.0 ∙ sym (ap (λ (b : Bool). line (if b then answer_text answer.Busy else account_text (counts_of s.report.manager))) at),
       leaves (idle l old.stand.keeper new.stand.keeper (passes_in scene) (passes_in new.stand.scene) old.stand.keeper.seen new.stand.keeper.seen client scene.client t.counts.client client_acts tells.1),
@@ -266,5 +266,5 @@ module _ (head : Head) (old new : Live) (text : List ℕ) (s : SessionState) (is
           leaves r.1,
         )
 
-    pub by_account : Leads (act_step h None acts.Account s)
-    by_account = go (is_open s) refl (subst (λ b. TellsAccount old.stand.manager b scene.client text t.counts.client) open_is t.counts.tells)
+    pub by_account : Leads (session_act_step h None acts.Account s)
+    by_account = go (session_is_open s) refl (subst (λ b. TellsAccount old.stand.manager b scene.client text t.counts.client) open_is t.counts.tells)

@@ -34,8 +34,8 @@ use Rattle.tp_session.proofs.NoteLists.{ends_alike}
 use Rattle.tp_session.specs.Notes.{NotesView}
 use Rattle.tp_session.specs.declared.hand.Holding.{Holding}
 use Rattle.tp_session.specs.declared.hand.Holding.TheVariants.{Nothing}
-use Rattle.tp_session.specs.Told.{BodyLines, HeadLines, HeadTold, LinesFrom}
-use Rattle.tp_exact.specs.PlainSession.{HeadRead, Refusals, SessionState, act_step, begin, command_by, first_refusal, line_step, lines_from, lines_step, other_refusals, read_head, session_by, session_of}
+use Rattle.tp_session.specs.Told.{BodyLines, HeadLines, HeadLinesTold, LinesFrom}
+use Rattle.tp_exact.specs.PlainSession.{ReadHead, Refusals, SessionState, session_act_step, session_begin, command_by, first_refusal, line_step, lines_from, lines_step, other_refusals, read_head, session_by, session_of}
 use Rattle.tp_exact.specs.Programs.{IsChecked}
 use Rattle.tp_exact.specs.Sessions.{AreUnforeseen, ComputedOfBytes, ExactSession, ExactSessionFront, IsStep, IsUnforeseen, StandsLive, asks_race, asks_refusable, has_refusable_in, is_refusable}
 use Rattle.tp_exact.proofs.Begins.{desks_first, served_first}
@@ -84,7 +84,7 @@ from_command : (head : Head) (past : ℕ) (line : List ℕ) (act : Act) (lines :
 from_command head past line act lines old last text s command is (first, rest, between, one, more, whole) =
     let h : HeadView = head_view head in
     let a = exact_line head (past + 1) (Ok (Some act)) old between first s (no_race (Ok (Some act)) raceless) is one in
-    let step : List ℕ × SessionState = act_step h a.0 act s in
+    let step : List ℕ × SessionState = session_act_step h a.0 act s in
     let b = lines_are head (past + 1) lines between last rest step.1 a.2.1 more in
     (a.0 ∷ b.0, All-cons IsUnforeseen a.0 b.0 a.1 b.1, (whole ∙ (ap (λ t. t ++ rest) a.2.0 ∙ ap (λ t. step.0 ++ t) b.2.0), b.2.1))
   where
@@ -162,7 +162,7 @@ module _ (head : Head) (racers : ℕ) (none : racers ≡ 0) (first : Live) (begi
   abbrev noted_with : List (Option UnitEnd) → NotesView
   noted_with es = record { clients = h.clients; requests = h.requests; ends = es }
 
-  pub begins_live : StandsLive h first (begin h)
+  pub begins_live : StandsLive h first (session_begin h)
   begins_live = record {
     stands = record {
       together = together_first;
@@ -182,7 +182,7 @@ finals_are h last registers s is ends = exact_finals h registers s.report.desks 
 -- ---- a whole session
 
 -- the servers of what was read of the head have no fault
-abbrev IsCoveredRead : HeadRead → Type 0
+abbrev IsCoveredRead : ReadHead → Type 0
 IsCoveredRead read = All IsChecked read.head.servers
 
 covers : (bytes : List ℕ) → IsCoveredRead (read_head 0 (heard bytes) no_head)
@@ -198,9 +198,9 @@ module _ (bytes : List ℕ) (Told : List ℕ → Type 0) (t : Session bytes Told
 
   -- this was read, and the answers behind the head are the computed ones
   told_so : (refusals : Refusals) (command : Option Act) (lines : List (List ℕ)) → read_head 0 (heard bytes) no_head ≡ read_as t.head_text whole_head (length t.taken) command lines
-      → IsStep whole_head t.last t.text (lines_from command whole_head (length t.taken) refusals lines (begin whole_head)) → Told (session_of refusals bytes)
+      → IsStep whole_head t.last t.text (lines_from command whole_head (length t.taken) refusals lines (session_begin whole_head)) → Told (session_of refusals bytes)
   told_so refusals command lines read is =
-      let all : List ℕ × SessionState = lines_from command whole_head (length t.taken) refusals lines (begin whole_head) in
+      let all : List ℕ × SessionState = lines_from command whole_head (length t.taken) refusals lines (session_begin whole_head) in
       subst Told (ap (λ x. t.head_text ++ (x ++ finals_of whole_head t.registers)) is.0 ∙ (ap (λ x. t.head_text ++ (all.0 ++ x)) (finals_are whole_head t.last t.registers all.1 is.1 t.ends) ∙ sym (ap (session_by refusals) read))) t.told
 
   covered_so : (command : Option Act) (lines : List (List ℕ)) → read_head 0 (heard bytes) no_head ≡ read_as t.head_text whole_head (length t.taken) command lines → All IsChecked whole_head.servers
@@ -209,10 +209,10 @@ module _ (bytes : List ℕ) (Told : List ℕ → Type 0) (t : Session bytes Told
   by_body : (behind : List (List ℕ)) → heard bytes ≡ t.taken ++ behind → CommandLines t.head (length t.taken) behind t.first t.text t.last → TellsSome bytes Told
   by_body [] are (none, same) =
       let read = ap (λ lines. read_head 0 lines no_head) are ∙ head_alone t.taken no_head whole_head t.head_text t.heads in
-      ([], All-nil IsUnforeseen, told_so [] None [] read (none, subst (λ z. StandsLive whole_head z (begin whole_head)) (sym same) (begins_live t.head 0 refl t.first t.begins (covered_so None [] read))))
+      ([], All-nil IsUnforeseen, told_so [] None [] read (none, subst (λ z. StandsLive whole_head z (session_begin whole_head)) (sym same) (begins_live t.head 0 refl t.first t.begins (covered_so None [] read))))
   by_body (line ∷ others) are (act, command, body) =
       let read = ap (λ lines. read_head 0 lines no_head) are ∙ head_is t.taken line others act no_head whole_head t.head_text t.heads command in
-      let from = from_command t.head (length t.taken) line act others t.first t.last t.text (begin whole_head) command (begins_live t.head 0 refl t.first t.begins (covered_so (Some act) others read)) body in
+      let from = from_command t.head (length t.taken) line act others t.first t.last t.text (session_begin whole_head) command (begins_live t.head 0 refl t.first t.begins (covered_so (Some act) others read)) body in
       (from.0, from.1, told_so from.0 (Some act) others read from.2)
 
   pub whole_is : TellsSome bytes Told
@@ -239,7 +239,7 @@ fewer h past refusals (line ∷ lines) others s =
 fewer_from : (h : HeadView) (past : ℕ) (refusals : Refusals) (act : Act) (lines others : List (List ℕ)) (s : SessionState)
     → (rest : List ℕ) × ((lines_from (Some act) h past refusals (lines ++ others) s).0 ≡ (lines_from (Some act) h past refusals lines s).0 ++ rest)
 fewer_from h past refusals act lines others s =
-    let step : List ℕ × SessionState = act_step h (first_refusal refusals) act s in
+    let step : List ℕ × SessionState = session_act_step h (first_refusal refusals) act s in
     let more = fewer h (past + 1) (other_refusals refusals) lines others step.1 in
     (more.0, ap (λ t. step.0 ++ t) more.1 ∙ sym (append_assoc step.0 (lines_step h (past + 1) (other_refusals refusals) lines step.1).0 more.0))
 
@@ -248,12 +248,12 @@ module _ (bytes : List ℕ) (before after : Option (List ℕ)) where
   by_head : (taken rest : List (List ℕ)) (h : HeadView) (text : List ℕ) → heard bytes ≡ taken ++ rest → HeadLines 0 taken no_head text h → AppendsFront before after text → TellsSome bytes (AppendsFront before after)
   by_head taken rest h text are lines told =
       let read = ap (λ lines. read_head 0 lines no_head) are ∙ head_more 0 taken rest no_head h text lines in
-      let others : HeadRead = read_head (0 + length taken) rest h in
-      let all : List ℕ × SessionState = lines_from others.command others.head others.past [] others.behind (begin others.head) in
+      let others : ReadHead = read_head (0 + length taken) rest h in
+      let all : List ℕ × SessionState = lines_from others.command others.head others.past [] others.behind (session_begin others.head) in
       let finals : List ℕ = finals_below others.head.servers all.1.report.desks (length others.head.servers) in
       ([], All-nil IsUnforeseen, subst (AppendsFront before after) (sym (ap (session_by []) read ∙ append_assoc text others.text (all.0 ++ finals))) (front_longer before after text (others.text ++ (all.0 ++ finals)) told))
 
-  head_front : (head : HeadView) → HeadTold (HearsFront (Some bytes)) no_head head (AppendsFront before after) → TellsSome bytes (AppendsFront before after)
+  head_front : (head : HeadView) → HeadLinesTold (HearsFront (Some bytes)) no_head head (AppendsFront before after) → TellsSome bytes (AppendsFront before after)
   head_front head t = by_head t.taken t.heard.0 head t.text t.heard.1 t.lines t.told
 
   module _ (t : SessionPart bytes (AppendsFront before after)) where
@@ -266,11 +266,11 @@ module _ (bytes : List ℕ) (before after : Option (List ℕ)) where
     by_part (line ∷ lines) are (act, command, body) =
         let read = ap (λ all. read_head 0 all no_head) are ∙ head_is t.taken line (lines ++ t.others) act no_head part_head t.head_text t.heads command in
         let servers : All IsChecked part_head.servers = subst IsCoveredRead read (covers bytes) in
-        let told = from_command t.head (length t.taken) line act lines t.first t.last t.text (begin part_head) command (begins_live t.head 0 refl t.first t.begins servers) body in
-        let few = fewer_from part_head (length t.taken) told.0 act lines t.others (begin part_head) in
-        let all : List ℕ × SessionState = lines_from (Some act) part_head (length t.taken) told.0 (lines ++ t.others) (begin part_head) in
+        let told = from_command t.head (length t.taken) line act lines t.first t.last t.text (session_begin part_head) command (begins_live t.head 0 refl t.first t.begins servers) body in
+        let few = fewer_from part_head (length t.taken) told.0 act lines t.others (session_begin part_head) in
+        let all : List ℕ × SessionState = lines_from (Some act) part_head (length t.taken) told.0 (lines ++ t.others) (session_begin part_head) in
         let finals : List ℕ = finals_below part_head.servers all.1.report.desks (length part_head.servers) in
-        let first : List ℕ = (lines_from (Some act) part_head (length t.taken) told.0 lines (begin part_head)).0 in
+        let first : List ℕ = (lines_from (Some act) part_head (length t.taken) told.0 lines (session_begin part_head)).0 in
         let is : session_of told.0 bytes ≡ (t.head_text ++ first) ++ (few.0 ++ finals) =
         ap (session_by told.0) read ∙ (ap (λ x. t.head_text ++ (x ++ finals)) few.1 ∙ (ap (λ x. t.head_text ++ x) (append_assoc first few.0 finals) ∙ sym (append_assoc t.head_text first (few.0 ++ finals)))) in
         (told.0, told.1, subst (AppendsFront before after) (sym is) (front_longer before after (t.head_text ++ first) (few.0 ++ finals) (subst (λ x. AppendsFront before after (t.head_text ++ x)) told.2.0 t.told)))
@@ -290,7 +290,7 @@ exact_session_front bytes before after t =
 
 -- ---- where nothing can be refused so
 
-pub act_unasked : (h : HeadView) (why : Option RollFault) (act : Act) (s : SessionState) → is_refusable act ≡ false → act_step h why act s ≡ act_step h None act s
+pub act_unasked : (h : HeadView) (why : Option RollFault) (act : Act) (s : SessionState) → is_refusable act ≡ false → session_act_step h why act s ≡ session_act_step h None act s
 act_unasked h why (acts.Worker at act) s none = refl
 act_unasked h why acts.Account s none = refl
 act_unasked h why acts.Dump s none = absurd cc
@@ -321,12 +321,12 @@ from_unasked : (command : Option Act) (h : HeadView) (past : ℕ) (refusals : Re
     → lines_from command h past refusals lines s ≡ lines_from command h past [] lines s
 from_unasked None h past refusals lines s first none = lines_unasked h past refusals lines s none
 from_unasked (Some act) h past refusals lines s first none =
-    let step : List ℕ × SessionState = act_step h None act s in
+    let step : List ℕ × SessionState = session_act_step h None act s in
     ap (then_told (λ z. lines_step h (past + 1) (other_refusals refusals) lines z)) (act_unasked h (first_refusal refusals) act s first)
     ∙ ap (λ (rest : List ℕ × SessionState). (step.0 ++ rest.0, rest.1)) (lines_unasked h (past + 1) (other_refusals refusals) lines step.1 none)
 
 pub computed_of_bytes : ComputedOfBytes
 computed_of_bytes bytes refusals unasked =
-    let read : HeadRead = read_head 0 (heard bytes) no_head in
+    let read : ReadHead = read_head 0 (heard bytes) no_head in
     ap (λ (body : List ℕ × SessionState). read.text ++ (body.0 ++ finals_below read.head.servers body.1.report.desks (length read.head.servers)))
-    (from_unasked read.command read.head read.past refusals read.behind (begin read.head) unasked.0 unasked.1)
+    (from_unasked read.command read.head read.past refusals read.behind (session_begin read.head) unasked.0 unasked.1)

@@ -33,7 +33,7 @@ use Rattle.tp_desk.specs.Turns.{Works, WorksOff, turn_steps}
 use Rattle.tp_report.specs.declared.answer.ServerAnswer.{ServerAnswer}
 use Rattle.tp_report.specs.declared.answer.ServerAnswer.TheVariants as told
 use Rattle.tp_workers.specs.Desks.{TakesTurn}
-use Rattle.tp_commands.specs.Acting.{DeskShown, PreparesAt, TellsCommit, TellsPrepare, TellsTurn, WorksOffAt, place_of}
+use Rattle.tp_commands.specs.Acting.{DeskShown, PreparesAt, TellsCommit, TellsPrepare, TellsTurn, WorksOffAt, place_of_desk}
 use Rattle.tp_reference.specs.declared.plain_desk.PlainDesk.{PlainDesk}
 use Rattle.tp_reference.specs.PlainDesks.{DeskAnswered, claim_by, commit_step, commit_work, committed_as, in_hand, nothing_done, prepare_step, prepare_with, prepare_work, settle, settle_with, settled_as, turn_as, turn_by, turn_step}
 use Rattle.tp_alone.specs.Thread.{Alone, HasSeen, thread_of}
@@ -254,7 +254,7 @@ module _ (recipe : Recipe) (l : Limits) (keeper keeper' : KeeperShown) (olds new
         subst (So (told.Turned turned)) (sym (ap (λ r. turn_as recipe c r d) (sym claim) ∙ off))
         (refl, refl, emptied (off_shut old.behaviour old.registers w.work w.between new.pass turned new.registers w.off) none (settled_as turned t new.registers d).desk refl)
 
-    pub turned_so : (order : Order) (turned : Turned) → old.work ≡ None → TakesTurn order l (place_of old) turned (place_of new) → new.work ≡ None → So (told.Turned turned) (turn_by order recipe c s d)
+    pub turned_so : (order : Order) (turned : Turned) → old.work ≡ None → TakesTurn order l (place_of_desk old) turned (place_of_desk new) → new.work ≡ None → So (told.Turned turned) (turn_by order recipe c s d)
     turned_so order turneds.Idle none f none_left =
         subst (So (told.Turned turneds.Idle)) (ap (λ r. turn_as recipe c r d) (claim_law order (turn_steps order l) news keeper' h' new.pass claimeds.Idle a limits f.follows f.keeps_turn f.answer.0))
         (refl, refl, claims_none recipe l keeper keeper' olds news h h' c old new d a limits is (still_shut order none f.answer.0) none_left f.answer.1)

@@ -20,9 +20,9 @@ use Rattle.tp_session.specs.Told.{HeadLine, HeadLines}
 use Rattle.tp_exact.specs.AliveReads.{AreNamed, lines_between}
 use Rattle.tp_exact.specs.Dumps.{all_lost, line_of}
 use Rattle.tp_exact.specs.HeadReads.{HasRegisters, IsWorker, started, unstarted}
-use Rattle.tp_exact.specs.NoteReads.{AreNotes, alive_notes, with_notes}
+use Rattle.tp_exact.specs.NoteReads.{AreNotes, alive_notes, head_with_notes}
 use Rattle.tp_exact.specs.PlainSession.{SessionState, read_head, read_line}
-use Rattle.tp_exact.specs.WholeDumps.{IsDumped, WholeDumpRead, registers_of}
+use Rattle.tp_exact.specs.WholeDumps.{IsDumped, WholeDumpRead, session_registers}
 use Rattle.tp_exact.proofs.LineReads.{bind_ok}
 use Rattle.tp_exact.proofs.ClientReads.{by_words}
 use Rattle.tp_exact.proofs.Cuts.{le_true}
@@ -94,7 +94,7 @@ in_list (y ∷ xs) (suc i) x is = there (in_list xs i x is)
 
 module _ (h : HeadView) (old done : Live) (survivors : List Survivor) (s : SessionState) (it : IsDumped h old done survivors s) where
   abbrev regs : List (List ℕ)
-  regs = registers_of old
+  regs = session_registers old
 
   abbrev g1 : HeadView
   g1 = record no_head { settings = h.settings }
@@ -150,7 +150,7 @@ module _ (h : HeadView) (old done : Live) (survivors : List Survivor) (s : Sessi
 
   -- the head that has read all of it
   abbrev g6 : HeadView
-  g6 = with_notes g5 (alive_notes survivors old.notes) ends
+  g6 = head_with_notes g5 (alive_notes survivors old.notes) ends
 
   abbrev settled : List (List ℕ)
   settled = settings_lines h.settings

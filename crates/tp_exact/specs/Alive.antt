@@ -18,9 +18,9 @@ abbrev pub is_alive : Status → Bool
 is_alive status = is_waiting status || (is_parked status || is_held status)
 
 -- how it is described, and the pass that holds it: one that is held, as it waited before
-abbrev pub standing : Limits → Status → Status × Option ℕ
-standing l (Held unit attempt) = (Waiting (attempt - 1), Some (holder_of l unit))
-standing l other = (other, None)
+abbrev pub alive_standing : Limits → Status → Status × Option ℕ
+alive_standing l (Held unit attempt) = (Waiting (attempt - 1), Some (holder_of l unit))
+alive_standing l other = (other, None)
 
 -- an element with this id and this root, which stands so
 abbrev pub with_root : Status × Option ℕ → List Event → ℕ → Element → Option Element → List Survivor
@@ -41,7 +41,7 @@ with_root stands h id item (Some root) = record {
 abbrev pub if_alive : Limits → List Event → ℕ → Option Element → List Survivor
 if_alive l h id None = []
 if_alive l h id (Some item) = let status = status_of l.attempts h id in
-    if is_alive status then with_root (standing l status) h id item (element_of h item.root) else []
+    if is_alive status then with_root (alive_standing l status) h id item (element_of h item.root) else []
 
 -- all that is alive, by ascending ids
 abbrev pub alive_of : State → List Survivor

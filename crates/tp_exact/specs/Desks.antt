@@ -17,11 +17,11 @@ use Rattle.tp_exact.specs.Acts.{Acts}
 use Rattle.tp_exact.specs.Stands.{IsForDesk}
 
 -- the server does what the recipe says; where no work is done, it is enough that it is of the recipe's stage
-abbrev pub IsServer : DeskAct → Recipe → Behaviour → Type 0
-IsServer acts.Turn recipe behaviour = behaviour ≡ behaviour_of recipe
-IsServer acts.Prepare recipe behaviour = behaviour ≡ behaviour_of recipe
-IsServer acts.Commit recipe behaviour = behaviour ≡ behaviour_of recipe
-IsServer other recipe behaviour = behaviour.stage ≡ recipe.stage
+abbrev pub FollowsRecipe : DeskAct → Recipe → Behaviour → Type 0
+FollowsRecipe acts.Turn recipe behaviour = behaviour ≡ behaviour_of recipe
+FollowsRecipe acts.Prepare recipe behaviour = behaviour ≡ behaviour_of recipe
+FollowsRecipe acts.Commit recipe behaviour = behaviour ≡ behaviour_of recipe
+FollowsRecipe other recipe behaviour = behaviour.stage ≡ recipe.stage
 
 -- pass c of a desk, whose server is the recipe's, did so between two gatherings: the answer is the computed
 -- one, and so are the state and the desk that are left
@@ -30,7 +30,7 @@ ExactDesk =
     (act : DeskAct) (recipe : Recipe) (l : Limits) (keeper keeper' : KeeperShown)
     (olds news : List PassShown) (h h' : List Event) (c : ℕ) (old new : DeskShown) (answer : ServerAnswer)
     (d : PlainDesk)
-    → IsServerStage recipe.stage → IsServer act recipe old.behaviour → new.pass.limits ≡ l
+    → IsServerStage recipe.stage → FollowsRecipe act recipe old.behaviour → new.pass.limits ≡ l
     → Acts l keeper keeper' olds news h h' c old.pass new.pass → IsForDesk old d → Does l act old answer new
     → let done = does recipe act c (thread_of l olds h) d in
     (answer ≡ done.answer) × (thread_of l news h' ≡ done.manager) × IsForDesk new done.desk

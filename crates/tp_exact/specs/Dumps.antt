@@ -24,7 +24,7 @@ use Rattle.tp_session.specs.Live.{DumpTold, FoundAlive, HoldsUnits, Live, Restor
 use Rattle.tp_session.specs.Live.{survivors_of}
 use Rattle.tp_session.specs.Live.{works_in}
 use Rattle.tp_session.specs.declared.hand.Holding.{Holding}
-use Rattle.tp_exact.specs.PlainSession.{SessionState, dump_of, has_desk_open}
+use Rattle.tp_exact.specs.PlainSession.{SessionState, dump_of, session_desk_open}
 use Rattle.tp_exact.specs.Sessions.{StandsLive}
 
 -- With a unit of work open at a desk the answer is that it is. Else it is the computed lines, unless what is
@@ -38,7 +38,7 @@ abbrev pub ExactDump : Type 0
 ExactDump =
     (head : Head) (old new : Live) (text : List ℕ) (s : SessionState)
     → StandsLive (head_view head) old s → DumpTold (head_view head) old text new
-    → DumpComputed (has_desk_open s) (head_view head) s text × StandsLive (head_view head) new s
+    → DumpComputed (session_desk_open s) (head_view head) s text × StandsLive (head_view head) new s
 
 -- ---- and what is made of these lines
 

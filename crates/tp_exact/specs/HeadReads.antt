@@ -64,7 +64,7 @@ pub record IsFitOutput (o : Output) : Type 0 where
   pub amount : IsFitAmount o.amount
 
 -- a server of a head: a good recipe, whose line isn't too long, as that of a head was
-pub record IsServer (v : ServerView) : Type 0 where
+pub record IsHeadServer (v : ServerView) : Type 0 where
   pub named : is_name v.name ≡ true
   pub stage : v.recipe.stage ≤ 255
   pub registers : v.recipe.registers ≤ 255
@@ -83,7 +83,7 @@ unstarted v = record v { registers = replicate v.recipe.registers 0 }
 abbrev pub ServerLinesRead : Type 0
 ServerLinesRead =
     (servers : List ServerView) (h : HeadView) (past : ℕ)
-    → ((v : ServerView) → In v servers → IsServer v)
+    → ((v : ServerView) → In v servers → IsHeadServer v)
     → ((name : List ℕ) → count_by (λ (v : ServerView). bytes_eq v.name name) servers ≤ 1)
     → length servers ≤ MAX_SERVERS → h.servers ≡ [] → h.workers ≡ [] → h.clients ≡ []
     → HeadLines past (map server_line servers) h [] (record h { servers = map unstarted servers })

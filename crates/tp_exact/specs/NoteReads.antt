@@ -65,8 +65,8 @@ abbrev pub alive_notes : List Survivor → NotesView → NotesView
 alive_notes survivors n = record n { requests = filter (λ r. is_root survivors r.root) n.requests }
 
 -- the head with these notes, and with these lines of how units have ended
-abbrev pub with_notes : HeadView → NotesView → List EndLine → HeadView
-with_notes h n ends = record h { clients = n.clients; requests = n.requests; ends = ends }
+abbrev pub head_with_notes : HeadView → NotesView → List EndLine → HeadView
+head_with_notes h n ends = record h { clients = n.clients; requests = n.requests; ends = ends }
 
 -- All lines that a dump tells of notes, read one after another by a head that has the workers and in which
 -- nothing is noted yet, lead to a head with just these notes, but for requests of which nothing is alive; and
@@ -77,8 +77,8 @@ NoteLinesRead =
     → AreNotes h n → AreNamed h → h.clients ≡ [] → h.requests ≡ [] → h.ends ≡ []
     → (ends : List EndLine)
     × ((past : ℕ) → HeadLines past (note_lines h.workers n survivors) h []
-    (with_notes h (alive_notes survivors n) ends))
-    × (notes_of (with_notes h (alive_notes survivors n) ends) h.workers ≡ alive_notes survivors n)
+    (head_with_notes h (alive_notes survivors n) ends))
+    × (notes_of (head_with_notes h (alive_notes survivors n) ends) h.workers ≡ alive_notes survivors n)
 
 -- Where a head's session, which begins with such notes, has made again what the head says is alive, the same
 -- is noted as would be after a rollover that has moved the same.

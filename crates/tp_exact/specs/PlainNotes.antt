@@ -23,9 +23,9 @@ use Rattle.tp_script.specs.declared.notes.TheConstants.{MAX_CLIENTS}
 use Rattle.tp_session.specs.Clients.{gap_text, is_its_own, received_by, send_text, sent_by}
 use Rattle.tp_session.specs.Clients.{taken_text}
 use Rattle.tp_session.specs.Lasts.{lost_text, open_text}
-use Rattle.tp_session.specs.Notes.{NotesView, place_of, standing, with_client, without_client}
+use Rattle.tp_session.specs.Notes.{NotesView, client_place, number_standing, with_new_client, without_client}
 use Rattle.tp_session.specs.NoteTexts.{forgotten_text, id_text, last_text, received_text, registered_text}
-use Rattle.tp_session.specs.NoteTexts.{reply_text, sent_text}
+use Rattle.tp_session.specs.NoteTexts.{last_reply_text, sent_text}
 use Rattle.tp_session.specs.declared.hand.Holding.{Holding}
 use Rattle.tp_session.specs.declared.hand.Holding.TheVariants.{Nothing, Open, Lost}
 use Rattle.tp_session.specs.declared.notes.Standing.{Standing}
@@ -67,9 +67,9 @@ first_below asked m zero = None
 first_below asked m (suc id) = option_or (first_below asked m id) (reply_in asked (read_as (read_of m id)))
 
 -- it is taken
-abbrev pub taken_of : Option Look → State → Option Element × State
-taken_of None m = (None, m)
-taken_of (Some look) m =
+abbrev pub reply_taken : Option Look → State → Option Element × State
+reply_taken None m = (None, m)
+reply_taken (Some look) m =
     (result_ok (collect_of m client look.element.id).0, (collect_of m client look.element.id).1)
 
 abbrev pub receives : NameView → ℕ → ClientNote → ℕ → NotesView → Option Element × State → NotedAnswered
@@ -82,13 +82,13 @@ receives name place c number n (found, m) = record {
 abbrev pub next_receive : Bool → NameView → Option ℕ → ℕ → ℕ → ClientNote → NotesView → State → NotedAnswered
 next_receive true name root number place c n m =
     receives name place c number n
-    (taken_of (first_below (λ r. asks_for n.requests name root r) m (rows_of m.limits)) m)
+    (reply_taken (first_below (λ r. asks_for n.requests name root r) m (rows_of m.limits)) m)
 next_receive false name root number place c n m = refuses refusals.NotThere n m
 
 abbrev pub receive_by : Standing → NameView → Option ℕ → ℕ → ℕ → ClientNote → NotesView → State → NotedAnswered
 receive_by Next name root number place c n m =
     next_receive (is_its_own n.requests name root) name root number place c n m
-receive_by Again name root number place c n m = just (received_text name number (reply_text c)) n m
+receive_by Again name root number place c n m = just (received_text name number (last_reply_text c)) n m
 receive_by Earlier name root number place c n m = just (received_text name number (codes "done")) n m
 receive_by Later name root number place c n m = just gap_text n m
 
@@ -96,7 +96,7 @@ receive_by Later name root number place c n m = just gap_text n m
 
 abbrev pub register_by : Option ℕ → Bool → NameView → NotesView → State → NotedAnswered
 register_by (Some place) room name n m = just (registered_text name) n m
-register_by None true name n m = just (registered_text name) (with_client name n) m
+register_by None true name n m = just (registered_text name) (with_new_client name n) m
 register_by None false name n m = refuses refusals.Full n m
 
 -- that, of a client that is registered
@@ -113,22 +113,22 @@ of_client (Some place) does n m = by_note (slice_get n.clients place) (does plac
 -- what the client of this name is told
 abbrev pub noted_does : NameView → NotedAct → NotesView → State → NotedAnswered
 noted_does name acts.Register n m =
-    register_by (place_of name n.clients) (nat_lt (length n.clients) MAX_CLIENTS) name n m
+    register_by (client_place name n.clients) (nat_lt (length n.clients) MAX_CLIENTS) name n m
 noted_does name (acts.Send number stage body) n m =
-    of_client (place_of name n.clients)
-    (λ place c. send_by (standing number c.sent) name stage body number place c) n m
+    of_client (client_place name n.clients)
+    (λ place c. send_by (number_standing number c.sent) name stage body number place c) n m
 noted_does name (acts.Receive number root) n m =
-    of_client (place_of name n.clients)
-    (λ place c. receive_by (standing number c.received) name root number place c) n m
-noted_does name acts.Last n m = of_client (place_of name n.clients) (λ place c. just (last_text c)) n m
+    of_client (client_place name n.clients)
+    (λ place c. receive_by (number_standing number c.received) name root number place c) n m
+noted_does name acts.Last n m = of_client (client_place name n.clients) (λ place c. just (last_text c)) n m
 noted_does name acts.Forget n m =
-    of_client (place_of name n.clients)
+    of_client (client_place name n.clients)
     (λ place c o. just (forgotten_text name) (without_client name o)) n m
 
 -- ---- workers
 
 -- what a worker has in hand
-abbrev pub hand_of : Holding → State → List ℕ
-hand_of Nothing m = codes "none"
-hand_of (Lost element) m = lost_text element
-hand_of (Open unit element) m = open_text unit element (read_as (read_of m element))
+abbrev pub work_told : Holding → State → List ℕ
+work_told Nothing m = codes "none"
+work_told (Lost element) m = lost_text element
+work_told (Open unit element) m = open_text unit element (read_as (read_of m element))

@@ -9,13 +9,13 @@ use Rattle.tp_script.specs.declared.head.Act.TheVariants.{Worker}
 use Rattle.tp_script.specs.declared.head.WorkerAct.TheVariants.{Abort}
 use Rattle.tp_reference.specs.PlainClient.{counts_of}
 use Rattle.tp_reference.specs.PlainReport.{ended_below, finals_below}
-use Rattle.tp_exact.specs.PlainSession.{Refusals, SessionState, act_step, begin, first_refusal, other_refusals}
+use Rattle.tp_exact.specs.PlainSession.{Refusals, SessionState, session_act_step, session_begin, first_refusal, other_refusals}
 
 -- acts one after another, which were refused so
 abbrev pub acts_step : HeadView → Refusals → List Act → SessionState → List ℕ × SessionState
 acts_step h refusals [] s = ([], s)
 acts_step h refusals (a ∷ others) s =
-    let first = act_step h (first_refusal refusals) a s in
+    let first = session_act_step h (first_refusal refusals) a s in
     let rest = acts_step h (other_refusals refusals) others first.1 in (first.0 ++ rest.0, rest.1)
 
 -- ---- the end
@@ -27,20 +27,20 @@ desks_closed servers s = record s { report = record s.report { manager = ended_b
 -- so did the first n workers
 abbrev pub workers_closed : HeadView → ℕ → SessionState → SessionState
 workers_closed h zero s = s
-workers_closed h (suc n) s = (act_step h None (Worker n Abort) (workers_closed h n s)).1
+workers_closed h (suc n) s = (session_act_step h None (Worker n Abort) (workers_closed h n s)).1
 
 -- all desks, and then all workers
 abbrev pub closed : HeadView → SessionState → SessionState
 closed h s = workers_closed h (length h.workers) (desks_closed (length h.servers) s)
 
 -- the line of the account, where it is asked for
-abbrev pub account_line : Bool → SessionState → List ℕ
-account_line true s = line (account_text (counts_of s.report.manager))
-account_line false s = []
+abbrev pub script_account_line : Bool → SessionState → List ℕ
+script_account_line true s = line (account_text (counts_of s.report.manager))
+script_account_line false s = []
 
 -- the final lines of what is left in the end, and the account
 abbrev pub end_lines : HeadView → Bool → SessionState → List ℕ
-end_lines h account s = finals_below h.servers s.report.desks (length h.servers) ++ account_line account s
+end_lines h account s = finals_below h.servers s.report.desks (length h.servers) ++ script_account_line account s
 
 -- ---- a whole script
 
@@ -50,9 +50,9 @@ written_by h account body = body.0 ++ end_lines h account (closed h body.1)
 
 -- what is written of a script whose acts were refused so
 abbrev pub script_of : Refusals → ScriptView → List ℕ
-script_of refusals s = written_by s.head s.account (acts_step s.head refusals s.acts (begin s.head))
+script_of refusals s = written_by s.head s.account (acts_step s.head refusals s.acts (session_begin s.head))
 
 -- and of what its bytes say: of a refusal the one line of it
-abbrev pub report_of_read : Refusals → Result ScriptView Refused → List ℕ
-report_of_read refusals (Ok s) = script_of refusals s
-report_of_read refusals (Err refused) = line (refused_text refused)
+abbrev pub script_report_of_read : Refusals → Result ScriptView Refused → List ℕ
+script_report_of_read refusals (Ok s) = script_of refusals s
+script_report_of_read refusals (Err refused) = line (refused_text refused)

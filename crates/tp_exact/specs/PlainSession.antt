@@ -32,14 +32,14 @@ use Rattle.tp_session.specs.Hands.{has_unit}
 use Rattle.tp_session.specs.Heard.{heard}
 use Rattle.tp_session.specs.Lasts.{end_at}
 use Rattle.tp_session.specs.Live.{survivors_of}
-use Rattle.tp_session.specs.Notes.{NotesView, notes_in, notes_of, with_end}
+use Rattle.tp_session.specs.Notes.{NotesView, notes_in, notes_of, with_unit_end}
 use Rattle.tp_session.specs.NoteTexts.{last_hand}
 use Rattle.tp_session.specs.Overviews.{names_of}
 use Rattle.tp_session.specs.Roots.{roots_of, roots_text}
 use Rattle.tp_session.specs.declared.hand.Holding.{Holding}
 use Rattle.tp_session.specs.declared.hand.Holding.TheVariants.{Nothing}
 use Rattle.tp_exact.specs.Alive.{alive_of}
-use Rattle.tp_exact.specs.PlainNotes.{NotedAnswered, hand_of, noted_does}
+use Rattle.tp_exact.specs.PlainNotes.{NotedAnswered, work_told, noted_does}
 use Rattle.tp_exact.specs.PlainOverviews.{overview_line}
 use Rattle.tp_exact.specs.PlainWorkers.{worker_does}
 
@@ -60,22 +60,22 @@ worker_step (Some it) act at c s =
       record {
         report = record s.report { manager = done.manager };
         works = slice_set s.works at done.work;
-        notes = with_end (slice_index_or s.works at Nothing) done.answer at s.notes;
+        notes = with_unit_end (slice_index_or s.works at Nothing) done.answer at s.notes;
       },
     )
 
 -- whether the pass of a desk has a unit of work open
-abbrev pub has_desk_open : SessionState → Bool
-has_desk_open s =
+abbrev pub session_desk_open : SessionState → Bool
+session_desk_open s =
     list_any (λ p. is_some p.holding) (take (length s.report.desks) (drop 1 s.report.manager.passes))
 
 -- whether a unit of work is open: one in a worker's hand, or at the pass of a desk
-abbrev pub is_open : SessionState → Bool
-is_open s = list_any has_unit s.works || has_desk_open s
+abbrev pub session_is_open : SessionState → Bool
+session_is_open s = list_any has_unit s.works || session_desk_open s
 
 -- `account`
-abbrev pub account_line : SessionState → List ℕ
-account_line s = line (if is_open s then answer_text answer.Busy else account_text (counts_of s.report.manager))
+abbrev pub session_account_line : SessionState → List ℕ
+session_account_line s = line (if session_is_open s then answer_text answer.Busy else account_text (counts_of s.report.manager))
 
 -- ---- rollovers, dumps and restores
 
@@ -104,8 +104,8 @@ unless_refused false None left done = done
 
 -- What the workers have in hand in this manager, where this was carried over and they had that: each the unit
 -- that its pass has open there.
-abbrev pub works_in : SessionState → List Moved → State → List Holding → List Holding
-works_in s moved manager works = let first = 1 + length s.report.desks in
+abbrev pub session_works_in : SessionState → List Moved → State → List Holding → List Holding
+session_works_in s moved manager works = let first = 1 + length s.report.desks in
     works_after moved first (map (λ p. p.holding) (drop first manager.passes)) works
 
 -- Another manager takes the place of this one, and the line tells what each element is called there and each
@@ -114,7 +114,7 @@ works_in s moved manager works = let first = 1 + length s.report.desks in
 abbrev pub anew_as : (List Renamed → List ℕ) → HeadView → List Holding → SessionState → SessionState
     → Option (List Moved × State) → List ℕ × SessionState
 anew_as told h before left s (Some (moved, manager)) =
-    let works = works_in s moved manager before in (
+    let works = session_works_in s moved manager before in (
       line (told (map renamed moved) <> roots_text (roots_of moved) <> units_text h.workers works),
       record {
         report = record s.report { manager = manager };
@@ -125,22 +125,22 @@ anew_as told h before left s (Some (moved, manager)) =
 anew_as told h before left s None = (line (roll_refused_text faults.Full), left)
 
 -- these elements are made anew in a manager with the same limits
-abbrev pub anew : (List Renamed → List ℕ) → HeadView → List Survivor → List Holding → SessionState → SessionState
+abbrev pub session_anew : (List Renamed → List ℕ) → HeadView → List Survivor → List Holding → SessionState → SessionState
     → List ℕ × SessionState
-anew told h survivors before left s = let l = s.report.manager.limits in
+session_anew told h survivors before left s = let l = s.report.manager.limits in
     anew_as told h before left s (made_anew l l.parts survivors (start l))
 
 -- a rollover: what the workers have in hand goes on
 abbrev pub rolled_over : HeadView → SessionState → List ℕ × SessionState
-rolled_over h s = anew rolled_text h (alive_of s.report.manager) s.works s s
+rolled_over h s = session_anew rolled_text h (alive_of s.report.manager) s.works s s
 
 -- where a restore is refused no id goes on that the head has noted
 abbrev pub unrestored : SessionState → SessionState
 unrestored s = record s { notes = notes_in [] s.notes }
 
 -- a restore of what the head says is alive, is in hand, or was lost
-abbrev pub restored : HeadView → SessionState → List ℕ × SessionState
-restored h s = anew restored_text h (survivors_of h) (lost_works h.lost 0 s.works) (unrestored s) s
+abbrev pub session_restored : HeadView → SessionState → List ℕ × SessionState
+session_restored h s = session_anew restored_text h (survivors_of h) (lost_works h.lost 0 s.works) (unrestored s) s
 
 -- the lines that lead to this state
 abbrev pub dump_of : HeadView → SessionState → List (List ℕ)
@@ -158,34 +158,34 @@ noted_step done s =
 abbrev pub last_step : Option WorkerView → ℕ → SessionState → List ℕ
 last_step None at s = []
 last_step (Some it) at s =
-    line (last_hand it.name (hand_of (slice_index_or s.works at Nothing) s.report.manager) (end_at s.notes.ends at))
+    line (last_hand it.name (work_told (slice_index_or s.works at Nothing) s.report.manager) (end_at s.notes.ends at))
 
 -- ---- each line
 
 -- a command: a rollover, or one of those that scripts have without one
 abbrev pub command_by : Bool → HeadView → Option RollFault → Command → SessionState → List ℕ × SessionState
-command_by true h why c s = unless_refused (has_desk_open s) why s (rolled_over h s)
+command_by true h why c s = unless_refused (session_desk_open s) why s (rolled_over h s)
 command_by false h why c s = let step = command_step h.servers c s.report in
     (step.0, record s { report = step.1 })
 
 -- what is asked for, and why it was refused, if it was
-abbrev pub act_step : HeadView → Option RollFault → Act → SessionState → List ℕ × SessionState
-act_step h why (acts.Command c) s = command_by (is_rollover c) h why c s
-act_step h why (acts.Worker at act) s =
+abbrev pub session_act_step : HeadView → Option RollFault → Act → SessionState → List ℕ × SessionState
+session_act_step h why (acts.Command c) s = command_by (is_rollover c) h why c s
+session_act_step h why (acts.Worker at act) s =
     worker_step (slice_get h.workers at) act at (1 + length h.servers + at) s
-act_step h why acts.Account s = (account_line s, s)
-act_step h why acts.Dump s = unless_refused (has_desk_open s) why s (dump_text (dump_of h s), s)
-act_step h why acts.Restore s = unless_refused (is_open s) why (unrestored s) (restored h s)
-act_step h why (acts.Noted name act) s = noted_step (noted_does name act s.notes s.report.manager) s
-act_step h why (acts.Last at) s = (last_step (slice_get h.workers at) at s, s)
-act_step h why (acts.Overview what) s =
+session_act_step h why acts.Account s = (session_account_line s, s)
+session_act_step h why acts.Dump s = unless_refused (session_desk_open s) why s (dump_text (dump_of h s), s)
+session_act_step h why acts.Restore s = unless_refused (session_is_open s) why (unrestored s) (session_restored h s)
+session_act_step h why (acts.Noted name act) s = noted_step (noted_does name act s.notes s.report.manager) s
+session_act_step h why (acts.Last at) s = (last_step (slice_get h.workers at) at s, s)
+session_act_step h why (acts.Overview what) s =
     (overview_line (names_of h) what s.report.manager s.report.desks s.works, s)
 
 -- a line after the head, which is the n-th of all lines
 abbrev pub line_step : HeadView → ℕ → Option RollFault → Result (Option Act) LineFault → SessionState
     → List ℕ × SessionState
 line_step h n why (Ok None) s = ([], s)
-line_step h n why (Ok (Some act)) s = act_step h why act s
+line_step h n why (Ok (Some act)) s = session_act_step h why act s
 line_step h n why (Err fault) s = (refused_line n fault, s)
 
 -- such lines one after another, after this many others
@@ -200,14 +200,14 @@ abbrev pub lines_from : Option Act → HeadView → ℕ → Refusals → List (L
     → List ℕ × SessionState
 lines_from None h past refusals lines s = lines_step h past refusals lines s
 lines_from (Some act) h past refusals lines s =
-    let first = act_step h (first_refusal refusals) act s in
+    let first = session_act_step h (first_refusal refusals) act s in
     let rest = lines_step h (past + 1) (other_refusals refusals) lines first.1 in (first.0 ++ rest.0, rest.1)
 
 -- ---- the head
 
 -- what was read of a head, what its lines were told, and how many lines stand in front of the first command;
 -- what that asks for, if there is one, and the lines after it
-pub record HeadRead : Type 0 where
+pub record ReadHead : Type 0 where
   pub text : List ℕ
   pub head : HeadView
   pub past : ℕ
@@ -215,27 +215,27 @@ pub record HeadRead : Type 0 where
   pub behind : List (List ℕ)
 
 -- this text, and then what else was read
-abbrev pub with_text : List ℕ → HeadRead → HeadRead
+abbrev pub with_text : List ℕ → ReadHead → ReadHead
 with_text text rest = record rest { text = text ++ rest.text }
 
 -- a line of the head: it is taken, it is the first command, or it is refused
-abbrev pub read_line : ℕ → List ℕ → List (List ℕ) → HeadView → (HeadView → HeadRead)
-    → Result (HeadView × Option Act) LineFault → HeadRead
+abbrev pub read_line : ℕ → List ℕ → List (List ℕ) → HeadView → (HeadView → ReadHead)
+    → Result (HeadView × Option Act) LineFault → ReadHead
 read_line past line others h next (Ok (taken, None)) = next taken
 read_line past line others h next (Ok (taken, Some act)) =
     record { text = []; head = h; past = past; command = Some act; behind = others }
 read_line past line others h next (Err fault) = with_text (refused_line (past + 1) fault) (next h)
 
 -- the lines of the head up to the first command, after this many others
-abbrev pub read_head : ℕ → List (List ℕ) → HeadView → HeadRead
+abbrev pub read_head : ℕ → List (List ℕ) → HeadView → ReadHead
 read_head past [] h = record { text = []; head = h; past = past; command = None; behind = [] }
 read_head past (line ∷ others) h = read_line past line others h (read_head (past + 1) others) (head_at line h)
 
 -- ---- a whole session
 
 -- before the first command
-abbrev pub begin : HeadView → SessionState
-begin h = record {
+abbrev pub session_begin : HeadView → SessionState
+session_begin h = record {
   report = record { manager = start (limits_of h 0); desks = map new_desk h.servers };
   works = map (λ _. Nothing) h.workers;
   notes = notes_of h h.workers;
@@ -243,9 +243,9 @@ begin h = record {
 
 -- of what was read of the head: what it was told, the answers to the first command and to the lines after it,
 -- and the final lines
-abbrev pub session_by : Refusals → HeadRead → List ℕ
+abbrev pub session_by : Refusals → ReadHead → List ℕ
 session_by refusals read =
-    let body = lines_from read.command read.head read.past refusals read.behind (begin read.head) in
+    let body = lines_from read.command read.head read.past refusals read.behind (session_begin read.head) in
     read.text ++ (body.0 ++ finals_below read.head.servers body.1.report.desks
     (length read.head.servers))
 

@@ -29,49 +29,49 @@ pub record WorkerAnswered : Type 0 where
   pub work : Holding
 
 -- what is told in the words of a server's answer
-abbrev pub told_as : ServerAnswer → thread.State → Holding → WorkerAnswered
-told_as answer m work = record { answer = Told answer; manager = m; work = work }
+abbrev pub worker_told_as : ServerAnswer → thread.State → Holding → WorkerAnswered
+worker_told_as answer m work = record { answer = Told answer; manager = m; work = work }
 
 -- a claim that was answered so
-abbrev pub claimed_as : Claimed × thread.State → WorkerAnswered
-claimed_as (claimed.Work work, m) =
+abbrev pub worker_claimed_as : Claimed × thread.State → WorkerAnswered
+worker_claimed_as (claimed.Work work, m) =
     record { answer = Took work; manager = m; work = Open work.unit work.element.id }
-claimed_as (claimed.Idle, m) = told_as (told.Turned turned.Idle) m Nothing
-claimed_as (claimed.NoUnit, m) = told_as (told.Turned turned.NoUnit) m Nothing
+worker_claimed_as (claimed.Idle, m) = worker_told_as (told.Turned turned.Idle) m Nothing
+worker_claimed_as (claimed.NoUnit, m) = worker_told_as (told.Turned turned.NoUnit) m Nothing
 
 -- a claim of the element with this id, which was answered so
 abbrev pub taken_as : ℕ → Result Work Refusal × thread.State → WorkerAnswered
-taken_as id (Ok work, m) = claimed_as (claimed.Work work, m)
-taken_as id (Err refusals.NoUnit, m) = claimed_as (claimed.NoUnit, m)
-taken_as id (Err why, m) = told_as (told.NotTaken id why) m Nothing
+taken_as id (Ok work, m) = worker_claimed_as (claimed.Work work, m)
+taken_as id (Err refusals.NoUnit, m) = worker_claimed_as (claimed.NoUnit, m)
+taken_as id (Err why, m) = worker_told_as (told.NotTaken id why) m Nothing
 
 -- a commit of the unit in hand, which had taken this element
-abbrev pub committed_as : ℕ → ℕ → Outcome × thread.State → WorkerAnswered
-committed_as unit element (outcome, m) = told_as (told.Turned (settled_as unit element outcome)) m Nothing
+abbrev pub worker_committed_as : ℕ → ℕ → Outcome × thread.State → WorkerAnswered
+worker_committed_as unit element (outcome, m) = worker_told_as (told.Turned (settled_as unit element outcome)) m Nothing
 
 -- an abort of it
-abbrev pub aborted_as : ℕ → Ended × thread.State → WorkerAnswered
-aborted_as element (ended.Aborted, m) = told_as (told.Aborted element) m Nothing
-aborted_as element (ended.AlreadyAborted, m) = told_as (told.AlreadyAborted element) m Nothing
+abbrev pub worker_aborted_as : ℕ → Ended × thread.State → WorkerAnswered
+worker_aborted_as element (ended.Aborted, m) = worker_told_as (told.Aborted element) m Nothing
+worker_aborted_as element (ended.AlreadyAborted, m) = worker_told_as (told.AlreadyAborted element) m Nothing
 
 -- what a worker of a stage is asked, whose pass is c, and which has nothing in hand
 abbrev pub does_idle : WorkerAct → ℕ → ℕ → thread.State → WorkerAnswered
-does_idle acts.Claim stage c m = claimed_as (claim_of_stage m c stage)
-does_idle acts.Next stage c m = claimed_as (claim_next_of_stage m c stage)
+does_idle acts.Claim stage c m = worker_claimed_as (claim_of_stage m c stage)
+does_idle acts.Next stage c m = worker_claimed_as (claim_next_of_stage m c stage)
 does_idle (acts.Take id) stage c m = taken_as id (claim_id_of m c id)
-does_idle other stage c m = told_as told.NoneOpen m Nothing
+does_idle other stage c m = worker_told_as told.NoneOpen m Nothing
 
 -- and with this unit in hand, which has taken this element
 abbrev pub does_busy : WorkerAct → ℕ → ℕ → ℕ → thread.State → WorkerAnswered
-does_busy (acts.Commit drafts) unit element c m = committed_as unit element (commit_of m c drafts.items)
-does_busy acts.Abort unit element c m = aborted_as element (abort_of m c)
-does_busy other unit element c m = told_as told.Busy m (Open unit element)
+does_busy (acts.Commit drafts) unit element c m = worker_committed_as unit element (commit_of m c drafts.items)
+does_busy acts.Abort unit element c m = worker_aborted_as element (abort_of m c)
+does_busy other unit element c m = worker_told_as told.Busy m (Open unit element)
 
 -- and where its unit, which had taken this element, was lost before a rollover: it hears of it then
 abbrev pub does_lost : WorkerAct → ℕ → thread.State → WorkerAnswered
-does_lost (acts.Commit drafts) element m = told_as (told.Turned (turned.Lost element)) m Nothing
-does_lost acts.Abort element m = told_as (told.AlreadyAborted element) m Nothing
-does_lost other element m = told_as told.Busy m (Lost element)
+does_lost (acts.Commit drafts) element m = worker_told_as (told.Turned (turned.Lost element)) m Nothing
+does_lost acts.Abort element m = worker_told_as (told.AlreadyAborted element) m Nothing
+does_lost other element m = worker_told_as told.Busy m (Lost element)
 
 abbrev pub worker_does : WorkerAct → ℕ → ℕ → thread.State → Holding → WorkerAnswered
 worker_does act stage c m Nothing = does_idle act stage c m

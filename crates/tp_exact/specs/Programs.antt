@@ -15,7 +15,7 @@ use Rattle.tp_script.specs.declared.fault.Refused.{Refused}
 use Rattle.tp_reference.specs.PlainReport as plain
 use Rattle.tp_reference.specs.Whole.{is_beyond}
 use Rattle.tp_session.specs.Performed.{Ran}
-use Rattle.tp_exact.specs.PlainScript.{report_of_read, script_of}
+use Rattle.tp_exact.specs.PlainScript.{script_report_of_read, script_of}
 use Rattle.tp_exact.specs.PlainSession.{Refusals}
 use Rattle.tp_exact.specs.Sessions.{AreUnforeseen, is_refusable}
 
@@ -47,7 +47,7 @@ ExactProgram =
     (outcome : Result Exit Fault) (bytes : List ℕ) (before after : Option (List ℕ))
     → IsCovered (script bytes) → Ran outcome (script bytes) before after
     → (refusals : Refusals) × AreUnforeseen refusals
-    × WritesAs outcome (exit_of (script bytes)) (report_of_read refusals (script bytes)) before after
+    × WritesAs outcome (exit_of (script bytes)) (script_report_of_read refusals (script bytes)) before after
 
 -- without a rollover, a dump and a restore it is computed of the bytes alone
 abbrev pub ComputedOfScript : Type 0

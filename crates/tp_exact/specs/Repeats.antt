@@ -8,12 +8,12 @@ use Rattle.tp_script.specs.declared.head.Act.TheVariants as acts
 use Rattle.tp_script.specs.declared.notes.ClientNote.{ClientNote}
 use Rattle.tp_script.specs.declared.notes.NotedAct.TheVariants as asks
 use Rattle.tp_rollover.specs.declared.moved.RollFault.{RollFault}
-use Rattle.tp_session.specs.Notes.{is_named}
-use Rattle.tp_exact.specs.PlainSession.{Refusals, SessionState, act_step, lines_step}
+use Rattle.tp_session.specs.Notes.{has_name}
+use Rattle.tp_exact.specs.PlainSession.{Refusals, SessionState, session_act_step, lines_step}
 
 -- what is noted of the client of this name
 abbrev pub note_of : NameView → SessionState → Option ClientNote
-note_of name s = find (λ c. is_named name c.name) s.notes.clients
+note_of name s = find (λ c. has_name name c.name) s.notes.clients
 
 -- so many sends and receives of the client were done, or more
 pub record HasDone (name : NameView) (sent received : ℕ) (s : SessionState) : Type 0 where
@@ -27,7 +27,7 @@ pub record HasDone (name : NameView) (sent received : ℕ) (s : SessionState) : 
 -- the line doesn't forget the client
 abbrev pub LeavesNote : NameView → HeadView → List ℕ → Type 0
 LeavesNote name h line = (other : NameView) → body_at line h ≡ Ok (Some (acts.Noted other asks.Forget))
-    → is_named name other ≡ false
+    → has_name name other ≡ false
 
 -- over any lines that don't forget it, rollovers and restores among them, refused or not
 abbrev pub DoneForGood : Type 0
@@ -41,13 +41,13 @@ DoneForGood = (h : HeadView) (past : ℕ) (refusals : Refusals) (lines : List (L
 abbrev pub SendsOnce : Type 0
 SendsOnce = (h : HeadView) (why : Option RollFault) (s : SessionState) (name : NameView) (number stage : ℕ)
     (body : List ℕ) (note : ClientNote) → note_of name s ≡ Some note → (number ≡ note.sent + 1 → ⊥)
-    → (act_step h why (acts.Noted name (asks.Send number stage body)) s).1 ≡ s
+    → (session_act_step h why (acts.Noted name (asks.Send number stage body)) s).1 ≡ s
 
 -- and so it is of receives: each takes one reply at most, which no other receive takes
 abbrev pub ReceivesOnce : Type 0
 ReceivesOnce = (h : HeadView) (why : Option RollFault) (s : SessionState) (name : NameView) (number : ℕ)
     (root : Option ℕ) (note : ClientNote) → note_of name s ≡ Some note → (number ≡ note.received + 1 → ⊥)
-    → (act_step h why (acts.Noted name (asks.Receive number root)) s).1 ≡ s
+    → (session_act_step h why (acts.Noted name (asks.Receive number root)) s).1 ≡ s
 
 -- ---- what is answered again
 
@@ -55,14 +55,14 @@ ReceivesOnce = (h : HeadView) (why : Option RollFault) (s : SessionState) (name 
 abbrev pub SendsAgain : Type 0
 SendsAgain = (h : HeadView) (why why' : Option RollFault) (s : SessionState) (name : NameView)
     (number stage stage' : ℕ) (body body' : List ℕ) (before note : ClientNote) → note_of name s ≡ Some before
-    → let first = act_step h why (acts.Noted name (asks.Send number stage body)) s in
+    → let first = session_act_step h why (acts.Noted name (asks.Send number stage body)) s in
     note_of name first.1 ≡ Some note → note.sent ≡ number
-    → act_step h why' (acts.Noted name (asks.Send number stage' body')) first.1 ≡ first
+    → session_act_step h why' (acts.Noted name (asks.Send number stage' body')) first.1 ≡ first
 
 -- a receive that took a reply, made again of any request, has the same answer and takes nothing
 abbrev pub ReceivesAgain : Type 0
 ReceivesAgain = (h : HeadView) (why why' : Option RollFault) (s : SessionState) (name : NameView) (number : ℕ)
     (root root' : Option ℕ) (before note : ClientNote) → note_of name s ≡ Some before
-    → let first = act_step h why (acts.Noted name (asks.Receive number root)) s in
+    → let first = session_act_step h why (acts.Noted name (asks.Receive number root)) s in
     note_of name first.1 ≡ Some note → note.received ≡ number
-    → act_step h why' (acts.Noted name (asks.Receive number root')) first.1 ≡ first
+    → session_act_step h why' (acts.Noted name (asks.Receive number root')) first.1 ≡ first

@@ -26,7 +26,7 @@ use Rattle.tp_session.specs.declared.hand.WorkerAnswer.{WorkerAnswer}
 use Rattle.tp_exact.specs.Acts.{Acts}
 use Rattle.tp_exact.specs.PlainSession.{Refusals, SessionState, line_step, read_head, session_of}
 use Rattle.tp_exact.specs.PlainWorkers.{worker_does}
-use Rattle.tp_exact.specs.Stands.{Stands}
+use Rattle.tp_exact.specs.Stands.{StandsAsComputed}
 
 -- a worker's pass c did so between two gatherings: the answer is the computed one, and so are the state and the
 -- work that are left
@@ -41,7 +41,7 @@ ExactWorker =
 -- what is there stands for a computed state: its scene does, as a script's, the workers have the same in hand, and
 -- the same is noted
 pub record StandsLive (h : HeadView) (live : Live) (s : SessionState) : Type 0 where
-  pub stands : Stands h.servers live.stand.manager.limits live.stand.keeper live.stand.keeper.seen
+  pub stands : StandsAsComputed h.servers live.stand.manager.limits live.stand.keeper live.stand.keeper.seen
       live.stand.scene s.report
   pub works : s.works ≡ live.works
   pub notes : s.notes ≡ live.notes

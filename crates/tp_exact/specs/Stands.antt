@@ -33,7 +33,7 @@ pub record IsServedBy (p : PlaceShown) (server : ServerView) : Type 0 where
 
 -- all passes are together, they and the desks are those of the computed state, and the desks are of these
 -- servers
-pub record Stands (servers : List ServerView) (l : Limits) (keeper : KeeperShown) (h : List Event)
+pub record StandsAsComputed (servers : List ServerView) (l : Limits) (keeper : KeeperShown) (h : List Event)
     (scene : Scene)
     (s : ReportState) : Type 0 where
   pub together : AreTogether l keeper (passes_in scene) h
@@ -47,7 +47,7 @@ pub record OnlyLooksAt (old new : PlaceShown) : Type 0 where
   pub same : new ≡ record old { desk = record old.desk { pass = new.desk.pass } }
 
 -- nothing has changed in a scene, but that its passes have looked
-pub record OnlyLooks (old new : Scene) : Type 0 where
+pub record SceneOnlyLooks (old new : Scene) : Type 0 where
   pub client : Stays old.client new.client
   pub places : AllZip OnlyLooksAt old.places new.places
   pub racers : AllZip Stays old.racers new.racers

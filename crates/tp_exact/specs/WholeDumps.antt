@@ -24,9 +24,9 @@ use Rattle.tp_session.specs.Told.{BodyLines}
 use Rattle.tp_session.specs.declared.hand.Holding.{Holding}
 use Rattle.tp_exact.specs.AliveReads.{IsBody64}
 use Rattle.tp_exact.specs.Dumps.{all_lost, line_of}
-use Rattle.tp_exact.specs.HeadReads.{AreSettings, IsServer, started}
+use Rattle.tp_exact.specs.HeadReads.{AreSettings, IsHeadServer, started}
 use Rattle.tp_exact.specs.NoteReads.{AreNotes, alive_notes}
-use Rattle.tp_exact.specs.PlainSession.{Refusals, SessionState, begin, lines_step, read_head, restored}
+use Rattle.tp_exact.specs.PlainSession.{Refusals, SessionState, session_begin, lines_step, read_head, session_restored}
 use Rattle.tp_exact.specs.PlainSession.{rolled_over}
 use Rattle.tp_exact.specs.Sessions.{AreUnforeseen, StandsLive}
 
@@ -41,7 +41,7 @@ pub record IsPlacedWorker (h : HeadView) (w : WorkerView) : Type 0 where
 -- settings, servers and workers as a head has them that a program has read
 pub record IsHead (h : HeadView) : Type 0 where
   pub settings : AreSettings h.settings
-  pub servers : (v : ServerView) → In v h.servers → IsServer v
+  pub servers : (v : ServerView) → In v h.servers → IsHeadServer v
   pub server_names : (name : List ℕ) → count_by (λ (v : ServerView). bytes_eq v.name name) h.servers ≤ 1
   pub few_servers : length h.servers ≤ MAX_SERVERS
   pub apart : (v : ServerView) → In v h.servers → worker_at v.name h ≡ None
@@ -58,8 +58,8 @@ pub record AreRegisters (servers : List ServerView) (registers : List (List ℕ)
       → slice_get held n ≡ Some value → value < 2 ^ 64
 
 -- the registers of a session's servers, and whether their desks were dropped
-abbrev pub registers_of : Live → List (List ℕ)
-registers_of l = map (λ p. p.desk.registers) l.stand.scene.places
+abbrev pub session_registers : Live → List (List ℕ)
+session_registers l = map (λ p. p.desk.registers) l.stand.scene.places
 
 -- the lines of a dump behind `restore`
 abbrev pub drops_of : HeadView → Live → List (List ℕ)
@@ -82,7 +82,7 @@ pub record IsDumped (h : HeadView) (old done : Live) (survivors : List Survivor)
   pub limits : AreLimits old.stand.manager.limits
   pub head : IsHead h
   pub works : length old.works ≡ length h.workers
-  pub registers : AreRegisters h.servers (registers_of old)
+  pub registers : AreRegisters h.servers (session_registers old)
   pub notes : AreNotes h old.notes
   pub words : AreWords64 old survivors
 
@@ -91,7 +91,7 @@ pub record IsDumped (h : HeadView) (old done : Live) (survivors : List Survivor)
 -- the head says all of this
 pub record SaysAll (h t : HeadView) (old : Live) (survivors : List Survivor) : Type 0 where
   pub settings : t.settings ≡ h.settings
-  pub servers : t.servers ≡ started h.servers (registers_of old)
+  pub servers : t.servers ≡ started h.servers (session_registers old)
   pub workers : t.workers ≡ h.workers
   pub alive : t.alive ≡ map (line_of (1 + length h.servers)) survivors
   pub lost : t.lost ≡ all_lost (1 + length h.servers) old.works survivors (length old.works)
@@ -132,8 +132,8 @@ RestoredStands =
     → let h = head_view source in let t = head_view head in
     IsDumped h old done survivors s → SaysAll h t old survivors
     → old.stand.manager.limits ≡ limits_of h 0 → begun.stand.manager.limits ≡ limits_of t 0
-    → StandsLive t begun (begin t) → HoldsUnits begun → RestoredLive t begun text new
-    → AreAlike (lines_step t past [] (drops_of h old) (restored t (begin t)).1).1 (rolled_over h s).1
+    → StandsLive t begun (session_begin t) → HoldsUnits begun → RestoredLive t begun text new
+    → AreAlike (lines_step t past [] (drops_of h old) (session_restored t (session_begin t)).1).1 (rolled_over h s).1
 
 -- So what the new session is told from there on, of any lines, is what is computed of the dumped session behind
 -- its rollover, and so are the final lines: nobody can tell the two apart.
@@ -145,8 +145,8 @@ AnswersGoOn =
     → let h = head_view source in let t = head_view head in
     IsDumped h old done survivors s → SaysAll h t old survivors
     → old.stand.manager.limits ≡ limits_of h 0 → begun.stand.manager.limits ≡ limits_of t 0
-    → StandsLive t begun (begin t) → HoldsUnits begun → RestoredLive t begun text new
-    → StandsLive t first (lines_step t past [] (drops_of h old) (restored t (begin t)).1).1
+    → StandsLive t begun (session_begin t) → HoldsUnits begun → RestoredLive t begun text new
+    → StandsLive t first (lines_step t past [] (drops_of h old) (session_restored t (session_begin t)).1).1
     → BodyLines head n lines first told last
     → (refusals : Refusals) × AreUnforeseen refusals
     × (told ≡ (lines_step h n refusals lines (rolled_over h s).1).0)

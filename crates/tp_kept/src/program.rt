@@ -74,17 +74,28 @@ enum Unopened {
 }
 
 impl From<AllocError> for Unopened {
+    ghost use Rattle.tp_kept.specs.declared.program.Unopened.TheVariants.{NoMemory};
+
+    ghost from_gives = { λ _ e. e ≡ NoMemory };
+
     fn from(_: AllocError) -> Self {
         Unopened::NoMemory
     }
 }
 
 impl From<io::Error> for Unopened {
+    ghost use Rattle.std.specs.IoError.{error_kind};
+    ghost use Rattle.std.specs.declared.io.ErrorKind.TheVariants.{OutOfMemory};
+    ghost use Rattle.tp_kept.specs.declared.program.Unopened.TheVariants.{Io, NoMemory};
+
+    ghost from_gives = { λ error e. (error_kind error ≡ OutOfMemory → e ≡ NoMemory)
+        × (¬ (error_kind error ≡ OutOfMemory) → e ≡ Io error) };
+
     fn from(error: io::Error) -> Self {
-        if error.kind() == io::ErrorKind::OutOfMemory {
-            return Unopened::NoMemory;
+        match error.kind() {
+            io::ErrorKind::OutOfMemory => Unopened::NoMemory,
+            _ => Unopened::Io(error),
         }
-        Unopened::Io(error)
     }
 }
 

@@ -1,9 +1,11 @@
 -- How many atomic steps the calls make at most. Each is what the call can need, and no more.
-use Rattle.std.specs.Prelude.{◌≡◌, ℕ, zero, suc, ◌+◌, ◌-◌, ◌*◌, ◌≤◌, List, slice_index}
+use Rattle.std.specs.Prelude.{◌≡◌, ℕ, zero, suc, ◌+◌, ◌-◌, ◌*◌, ◌≤◌, ◌==◌, if◌then◌else◌, List}
+use Rattle.std.specs.Prelude.{slice_index, sum_by}
+use Rattle.tp_model.specs.declared.types.Element.{Element}
 use Rattle.tp_model.specs.declared.types.Limits.{Limits}
 use Rattle.tp_model.specs.Steps.{AreLimits, part_rows, rows_of, tries, changes}
 use Rattle.tp_model.specs.Words.{ClaimWord, FreeWord, TakenWord, KilledWord, AgainWord}
-use Rattle.tp_model.specs.declared.types.TheConstants.{BLOCK_ROWS, BODY_WORDS, MAX_ROUNDS}
+use Rattle.tp_model.specs.declared.types.TheConstants.{BLOCK_ROWS, BODY_WORDS, MAX_ROUNDS, REPLY_STAGE}
 
 -- the words of an element's body
 abbrev pub body_steps : ℕ
@@ -113,6 +115,14 @@ end_steps l = 1 + slay_steps l + 1
 abbrev pub ends_steps : Limits → ℕ → ℕ
 ends_steps l n = n * end_steps l
 
+-- at this one: a reply shows by its head that it is one
+abbrev pub end_steps_at : Limits → Element → ℕ
+end_steps_at l x = if x.stage == REPLY_STAGE then 1 else end_steps l
+
+-- and at each of these
+abbrev pub each_end_steps : Limits → List Element → ℕ
+each_end_steps l xs = sum_by (end_steps_at l) xs
+
 -- whether the root of a family is a client's element: its head
 abbrev pub root_steps : ℕ
 root_steps = 1
@@ -120,6 +130,10 @@ root_steps = 1
 -- in a family of this many elements: that, and those
 abbrev pub family_cancel_steps : Limits → ℕ → ℕ
 family_cancel_steps l n = root_steps + ends_steps l n
+
+-- in a family of these elements
+abbrev pub lean_cancel_steps : Limits → List Element → ℕ
+lean_cancel_steps l xs = root_steps + each_end_steps l xs
 
 abbrev pub cancel_steps : Limits → ℕ
 cancel_steps l = family_cancel_steps l (rows_of l)
@@ -174,6 +188,10 @@ takes_steps n = (n + 1) * one_take_steps n
 
 abbrev pub family_collect_steps : ℕ → ℕ
 family_collect_steps n = root_steps + takes_steps n
+
+-- where it walks this many times
+abbrev pub lean_collect_steps : ℕ → ℕ → ℕ
+lean_collect_steps n walks = root_steps + walks * one_take_steps n
 
 abbrev pub collect_next_steps : Limits → ℕ
 collect_next_steps l = family_collect_steps (rows_of l)

@@ -7,7 +7,9 @@ use Rattle.tp_model.specs.declared.types.Limits.{Limits}
 use Rattle.tp_model.specs.declared.event.Event.{Event}
 use Rattle.tp_model.specs.declared.trace.TraceEntry.{TraceEntry}
 use Rattle.tp_model.specs.Passes.{HasLook, PassView, IsPassView, opening_of}
-use Rattle.tp_rule.specs.Views.{IsOnePass, blank_body, hand}
+use Rattle.tp_rule.specs.Tables.{IsSeatOf, table_limits}
+use Rattle.tp_rule.specs.Views.{IsOnePass, SeatShown, blank_body, hand, view_of}
+use Rattle.tp_rule.specs.declared.words.Words.{Words}
 use Rattle.tp_rule.specs.declared.view.Hand.{Hand}
 use Rattle.tp_rule.specs.declared.view.View.{View}
 use Rattle.tp_rule.specs.Steps.{IsSo, Knows}
@@ -35,6 +37,11 @@ pub record Steady (l : Limits) (v : View) : Type 0 where
   pub pass : IsOnePass v × (v.limits ≡ l)
   pub shows : IsPassView l (pass_in v)
   pub known : IsKnown l v
+
+-- the seat is one of the table's, and steady: what each function that makes steps asks for
+pub record IsSteady (words : Words) (seat : SeatShown) : Type 0 where
+  pub own : IsSeatOf words seat
+  pub steady : Steady (table_limits words) (view_of seat)
 
 -- these steps lead from v to w, and there are at most n
 pub record Stepped (l : Limits) (n : ℕ) (marks : List TraceEntry) (v w : View) : Type 0 where

@@ -1,19 +1,21 @@
 -- What a cancel does on its way. In each definition l are the table's limits, root is the id of the request,
 -- v is the view before, and w the view after.
-use Rattle.std.specs.Prelude.{◌≡◌, ◌⊎◌, ℕ, ◌+◌, ◌<◌, ◌≤◌, Bool, true, Some, List, [], ◌∷◌, ◌++◌, length}
+use Rattle.std.specs.Prelude.{◌≡◌, ◌⊎◌, ℕ, ◌+◌, ◌<◌, ◌≤◌, Bool, true, Some, List, [], ◌∷◌, ◌++◌, length, sum_by}
+use Rattle.std.specs.Prelude.{if◌then◌else◌}
 use Rattle.tp_model.specs.declared.types.TheConstants.{REPLY_STAGE}
 use Rattle.tp_model.specs.declared.types.Element.{Element}
 use Rattle.tp_model.specs.declared.types.Limits.{Limits}
 use Rattle.tp_model.specs.declared.types.Status.TheVariants as statuses
 use Rattle.tp_model.specs.declared.event.Event.{Event}
 use Rattle.tp_model.specs.declared.event.Event.TheVariants.{Kill}
-use Rattle.tp_model.specs.History.{In, UnitClaim, Committed, claim_of, element_of, end_of, status_of}
+use Rattle.tp_model.specs.History.{In, UnitClaim, Committed, born, claim_of, element_of, end_of, status_of}
 use Rattle.tp_model.specs.Families.{IsSettledFamily}
 use Rattle.tp_model.specs.Orders.{IsReached, IsWalk}
 use Rattle.tp_rule.specs.Views.{hand}
 use Rattle.tp_rule.specs.declared.view.View.{View}
 use Rattle.tp_manager.specs.declared.cancelling.Ended.{Ended}
 use Rattle.tp_manager.specs.declared.cancelling.Ended.TheVariants.{Killed, Outputs, Before}
+use Rattle.tp_manager.specs.Bounds.{end_steps_at}
 use Rattle.tp_manager.specs.Cancels.{AreInTurn, AreOfCancel, IsDoneAt}
 use Rattle.tp_manager.specs.Families.{Reached, Tree}
 use Rattle.tp_manager.specs.CallSteps.{Gained}
@@ -64,9 +66,13 @@ IsWalkedOut l Has h i = IsUnworked l i h ⊎ ((u : ℕ) × (first : ℕ) × (cou
     × (status_of l.attempts h i ≡ statuses.Consumed u)
     × (end_of h u ≡ Some (Committed first count)) × ((j : ℕ) → first ≤ j → j < first + count → Has j))
 
+-- what a cancel makes at the elements from which it has gone on
+abbrev pub gone_steps : Limits → (ℕ → Bool) → List Event → ℕ
+gone_steps l gone h = sum_by (λ x. if gone x.id then end_steps_at l x else 0) (born h)
+
 -- a cancel on its way: it has gone on from k elements, those of this walk, which are done with, and has
 -- killed some of them
-pub record Cancelling (l : Limits) (n root k killed : ℕ) (Left : ℕ → Type 0) (v w : View) : Type 0 where
+pub record Cancelling (l : Limits) (root k killed : ℕ) (Left : ℕ → Type 0) (v w : View) : Type 0 where
   pub gone : ℕ → Bool
   pub tree : Tree l root k Left gone w.seen
   pub walk : List ℕ
@@ -76,7 +82,7 @@ pub record Cancelling (l : Limits) (n root k killed : ℕ) (Left : ℕ → Type 
   pub in_order : IsWalk l.attempts w.seen root [] walk
   pub done : (i : ℕ) → gone i ≡ true → IsWalkedOut l (Reached Left gone) w.seen i
   pub events : List Event
-  pub swept : Swept l n root events v w
+  pub swept : Swept l (gone_steps l gone w.seen) root events v w
   pub counted : length (killed_in events) ≡ killed
   pub turns : AreInTurn l (hand v).number root v.seen w.seen walk events
   pub few : killed ≤ k

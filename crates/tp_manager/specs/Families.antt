@@ -16,7 +16,7 @@ use Rattle.tp_manager.specs.declared.walking.Found.TheVariants.{Outputs, Reply, 
 use Rattle.tp_manager.specs.Bounds.{one_take_steps, walk_steps}
 use Rattle.tp_manager.specs.Calls.{IsWaiting}
 use Rattle.tp_manager.specs.Kills.{Slain}
-use Rattle.tp_manager.specs.Lists.{HasReply, IsReply}
+use Rattle.tp_manager.specs.Lists.{HasReply, IsReply, killed_between}
 use Rattle.tp_manager.specs.Requeues.{IsBetween}
 use Rattle.tp_manager.specs.CallSteps.{Looked}
 
@@ -123,12 +123,13 @@ pub record Followed (l : Limits) (root from : ℕ) (least : Option ℕ) (v w : V
   pub passed : (x : Element) → element_of v.seen x.id ≡ Some x → x.root ≡ root → ¬ IsAsked from least x.id
   pub found : IfSome least (λ id. (from ≤ id) × IsOfFamily w.seen root id)
 
--- a collection of the next reply, on its way: others were quicker to take k replies, and each one before
--- `from` was killed
+-- a collection of the next reply, on its way: others were quicker to take k replies since it began, and each
+-- one before `from` was killed
 pub record Taking (l : Limits) (root from k : ℕ) (v w : View) : Type 0 where
   pub looked : Looked l (k * one_take_steps (length (family w.seen root))) v w
   pub killed : WereKilled l root (λ i. i < from) v.seen w.seen
   pub tries : k ≤ count_below (in_family root w.seen) from
+  pub lost : k ≤ killed_between l root v.seen w.seen
   pub inside : from ≤ rows_of l
 
 -- in at most n steps: the least reply that waited was killed, and each one before it had been; or each one

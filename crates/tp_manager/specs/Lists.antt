@@ -1,12 +1,14 @@
 -- What the listings answer. In each definition `old` is what the pass shows before the call, and `new` what
 -- it shows after it.
-use Rattle.std.specs.Prelude.{◌≡◌, ℕ, ◌<◌, ◌≤◌, List, Some}
+use Rattle.std.specs.Prelude.{◌≡◌, ℕ, ◌+◌, ◌<◌, ◌≤◌, ◌==◌, ◌&&◌, not, List, Option, Some, None, count_by}
 use Rattle.tp_model.specs.declared.types.TheConstants.{REPLY_STAGE}
 use Rattle.tp_model.specs.declared.types.Element.{Element}
 use Rattle.tp_model.specs.declared.types.Limits.{Limits}
 use Rattle.tp_model.specs.declared.types.Look.{Look}
 use Rattle.tp_model.specs.declared.types.Status.TheVariants.{Killed}
 use Rattle.tp_model.specs.declared.event.Event.{Event}
+use Rattle.tp_model.specs.Counts.{is_killed}
+use Rattle.tp_model.specs.Families.{family}
 use Rattle.tp_model.specs.History.{element_of, status_of}
 use Rattle.tp_model.specs.Steps.{IsParked}
 use Rattle.tp_manager.specs.Shown.{PassShown}
@@ -70,6 +72,17 @@ pub record CollectsNext (l : Limits) (root : ℕ) (x : Element) (old new : PassS
   pub collects : Collects x.id x old new
   pub root_is : x.root ≡ root
   pub before : AllKilled l root (λ i. i < x.id) old new
+
+-- this many replies of the root were killed between two histories
+abbrev pub killed_between : Limits → ℕ → List Event → List Event → ℕ
+killed_between l root a b = count_by (λ x. x.stage == REPLY_STAGE && (is_killed (status_of l.attempts b x.id)
+    && not (is_killed (status_of l.attempts a x.id)))) (family b root)
+
+-- how often a collection of the next reply walks where this many were killed meanwhile: once for each of them,
+-- its own among them, and once more where it takes none
+abbrev pub walks_of : Option Element → ℕ → ℕ
+walks_of (Some x) killed = killed
+walks_of None killed = killed + 1
 
 -- the pass has done nothing, and each reply of the root was killed at a point
 abbrev pub NoneCollected : Limits → ℕ → PassShown → PassShown → Type 0

@@ -43,6 +43,24 @@ Remembers c v lows = (p : ℕ) → 0 < slice_index lows p → MayRemember v.limi
 abbrev pub RemembersAll : View → List (List ℕ) → Type 0
 RemembersAll v lows = (c : ℕ) → Remembers c v (marks_of lows c)
 
+-- a gap of kind c: the seat knows each row from the first of two rows on and below the second of no use to
+-- that kind, whatever lies before them
+abbrev pub IsGap : ℕ → View → ℕ × ℕ → Type 0
+IsGap c v gap = Rose c v gap.0 gap.1
+
+-- the gap of part p, or of the spare rows, as a pass keeps it: its two rows beside each other
+abbrev pub gap_in : List ℕ → ℕ → ℕ × ℕ
+gap_in gaps p = (slice_index gaps (2 * p), slice_index gaps (2 * p + 1))
+
+-- the gaps of kind c that the pass remembers are such
+abbrev pub RemembersGaps : ℕ → View → List ℕ → Type 0
+RemembersGaps c v gaps = (p : ℕ) → IsGap c v (gap_in gaps p)
+
+-- what a pass remembers of all kinds: marks, and gaps behind them
+pub record Recalls (v : View) (lows runs : List (List ℕ)) : Type 0 where
+  pub marks : RemembersAll v lows
+  pub gaps : (c : ℕ) → RemembersGaps c v (marks_of runs c)
+
 -- of the first n parts every row is below the mark that is remembered
 abbrev pub AreFinished : Limits → List ℕ → ℕ → Type 0
 AreFinished l lows n = (p : ℕ) → p < n → slice_index lows p ≡ l.rows

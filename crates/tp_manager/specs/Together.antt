@@ -12,7 +12,7 @@ use Rattle.tp_model.specs.Accounts.{account_among, account_of, all_in, elements_
 use Rattle.tp_model.specs.declared.event.Event.{Event}
 use Rattle.tp_model.specs.declared.trace.StepKind.TheVariants as kinds
 use Rattle.tp_model.specs.History.{In, events_by}
-use Rattle.tp_model.specs.Passes.{Ascend, IsOwnOpen, IsRun}
+use Rattle.tp_model.specs.Passes.{AreEnded, Ascend, IsOwnOpen, IsRun}
 use Rattle.tp_rule.specs.Steps.{Knows, noted}
 use Rattle.tp_rule.specs.declared.view.Known.{Known}
 use Rattle.tp_rule.specs.declared.view.Known.TheVariants.{BlocksDrawn}
@@ -38,6 +38,7 @@ pub record LooksOn (l : Limits) (h : List Event) (v w : View) : Type 0 where
   pub hands : w.hands ≡ map (noted kinds.Load h) v.hands
   pub mine : (a : Hand) → In a w.hands → a.mine ≡ events_by a.number h
   pub open_own : (a : Hand) → In a w.hands → (u : ℕ) → a.open_unit ≡ Some u → IsOwnOpen h a.number u
+  pub ended : (a : Hand) → In a w.hands → AreEnded h a.number a.open_unit
   pub run : (a : Hand) → In a w.hands → IsRun l h a.number a.blocks a.next a.left
   pub known : IsKnown l w
   pub knows : (x : Known) → Knows v x → Knows w x

@@ -14,7 +14,7 @@ ghost use Rattle.tp_manager.specs.Together.{IsAt, LooksOn, LooksWith, AreAllPass
 ghost use Rattle.tp_manager.specs.Together.{AreLots, FoundDrawn, HaveFound, lots};
 ghost use Rattle.tp_manager.specs.Together.{IsWithin, HasCounted, account_below, with_one};
 ghost use Rattle.tp_manager.specs.Looks.{GoesOn};
-ghost use Rattle.tp_manager.specs.CallSteps.{Acted, Looked, Steady};
+ghost use Rattle.tp_manager.specs.CallSteps.{Acted, IsSteady, Looked, Steady};
 ghost use Rattle.tp_manager.specs.BetweenCalls.{RemembersDrawn};
 ghost use Rattle.tp_rule.specs.Steps.{Knows};
 ghost use Rattle.tp_rule.specs.declared.view.Known.TheVariants.{BlocksDrawn};
@@ -127,8 +127,7 @@ impl Shared {
 
     /// Counts the element of one more row, if one is born; `row` goes on.
     fn count_row(&self, seat: &mut Seat, row: &mut u32, account: &mut Account)
-        requires own { IsSeatOf self.now.words seat.old }
-        requires steady { Steady (table_limits self.now.words) (view_of seat.old) }
+        requires steady { IsSteady self.now.words seat.old }
         requires row { row.old < rows_of (table_limits self.now.words) }
         requires few { IsWithin row.old account.old }
         ensures same { IsSameSeat seat.old seat.new }
@@ -152,8 +151,7 @@ impl Shared {
     /// The account that one pass finds as it looks at every row: that of what it has seen, if nothing has
     /// happened meanwhile.
     fn count_rows(&self, seat: &mut Seat) -> Account
-        requires own { IsSeatOf self.now.words seat.old }
-        requires steady { Steady (table_limits self.now.words) (view_of seat.old) }
+        requires steady { IsSteady self.now.words seat.old }
         ensures same { IsSameSeat seat.old seat.new }
         ensures looked { let l = table_limits self.now.words in
             Looked l (rows_of l * look_steps l) (view_of seat.old) (view_of seat.new) }

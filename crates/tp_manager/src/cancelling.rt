@@ -10,15 +10,16 @@ ghost use Rattle.tp_model.specs.History.{status_of};
 ghost use Rattle.tp_model.specs.Steps.{rows_of};
 ghost use Rattle.tp_rule.specs.Steps.{HasElement};
 ghost use Rattle.tp_rule.specs.Views.{hand_of, seen_by, view_of, IsSameSeat};
-ghost use Rattle.tp_rule.specs.Tables.{table_limits, IsSeatOf};
+ghost use Rattle.tp_rule.specs.Tables.{table_limits};
 ghost use Rattle.tp_manager.specs.Shown.{IsOf};
-ghost use Rattle.tp_manager.specs.Bounds.{cancel_steps, end_steps, ends_steps, family_cancel_steps};
+ghost use Rattle.tp_manager.specs.Bounds.{cancel_steps, each_end_steps, end_steps_at, family_cancel_steps};
+ghost use Rattle.tp_manager.specs.Bounds.{lean_cancel_steps};
 ghost use Rattle.tp_manager.specs.Calls.{Follows, HasLooked};
 ghost use Rattle.tp_manager.specs.Cancels.{Cancels, CancelFails};
 ghost use Rattle.tp_manager.specs.Endings.{killed_there, CancelsIn, EndsAt, IsEnded};
 ghost use Rattle.tp_manager.specs.Kills.{IsPastKill};
 ghost use Rattle.tp_manager.specs.RowSets.{IsEmpty};
-ghost use Rattle.tp_manager.specs.CallSteps.{Looked, Steady};
+ghost use Rattle.tp_manager.specs.CallSteps.{IsSteady, Looked};
 
 use crate::ahead::Ahead;
 use crate::manager::{Manager, Pass, Shared};
@@ -42,8 +43,7 @@ pub(crate) enum Ended {
 impl Shared {
     /// The outputs of the unit that consumed the element of the row. One step.
     fn outputs_of(&self, seat: &mut Seat, row: u32, unit: u16) -> Ended
-        requires own { IsSeatOf self.now.words seat.old }
-        requires steady { Steady (table_limits self.now.words) (view_of seat.old) }
+        requires steady { IsSteady self.now.words seat.old }
         requires consumed { status_of (table_limits self.now.words).attempts (seen_by seat.old) row ≡ Consumed unit }
         ensures same { IsSameSeat seat.old seat.new }
         ensures looked { Looked (table_limits self.now.words) 1 (view_of seat.old) (view_of seat.new) }
@@ -59,8 +59,7 @@ impl Shared {
 
     /// What is the case where a kill of the row's element was refused. At most one step.
     fn left_by(&self, seat: &mut Seat, row: u32, refusal: Refusal) -> Ended
-        requires own { IsSeatOf self.now.words seat.old }
-        requires steady { Steady (table_limits self.now.words) (view_of seat.old) }
+        requires steady { IsSteady self.now.words seat.old }
         requires past { IsPastKill (table_limits self.now.words) (seen_by seat.old) row refusal }
         ensures same { IsSameSeat seat.old seat.new }
         ensures looked { Looked (table_limits self.now.words) 1 (view_of seat.old) (view_of seat.new) }
@@ -76,14 +75,13 @@ impl Shared {
     /// Kills the element that is born in the row, unless it is a reply, or is consumed or killed.
     #[inline(always)]
     fn end_row(&self, seat: &mut Seat, row: u32) -> Ended
-        requires own { IsSeatOf self.now.words seat.old }
-        requires steady { Steady (table_limits self.now.words) (view_of seat.old) }
+        requires steady { IsSteady self.now.words seat.old }
         requires row { (row < rows_of (table_limits self.now.words)) × HasElement (seen_by seat.old) row }
         requires free { (hand_of seat.old).open_unit ≡ None }
         ensures same { IsSameSeat seat.old seat.new }
         ensures told { let l = table_limits self.now.words in (root : ℕ)
-            → IsOfFamily (seen_by seat.old) root row
-            → EndsAt l (end_steps l) root row result (view_of seat.old) (view_of seat.new) }
+            → (of : IsOfFamily (seen_by seat.old) root row)
+            → EndsAt l (end_steps_at l of.0) root row result (view_of seat.old) (view_of seat.new) }
     {
         let head = self.head_at(seat, row);
         if is_reply(head) {
@@ -98,8 +96,7 @@ impl Shared {
     /// Goes through the family, and ends the work on each element that it comes to. How many elements it
     /// killed. The set is empty before and after.
     fn cancel_family(&self, seat: &mut Seat, rows: &mut RowSet, root: u32) -> u32
-        requires own { IsSeatOf self.now.words seat.old }
-        requires steady { Steady (table_limits self.now.words) (view_of seat.old) }
+        requires steady { IsSteady self.now.words seat.old }
         requires request { (root < rows_of (table_limits self.now.words))
             × IsRequest (seen_by seat.old) root }
         requires free { (hand_of seat.old).open_unit ≡ None }
@@ -107,7 +104,7 @@ impl Shared {
         ensures same { IsSameSeat seat.old seat.new }
         ensures none { IsEmpty rows.new }
         ensures told { let l = table_limits self.now.words in
-            CancelsIn l (ends_steps l (length (family (seen_by seat.new) root))) root result
+            CancelsIn l (each_end_steps l (family (seen_by seat.new) root)) root result
             (view_of seat.old) (view_of seat.new) }
     {
         let mut killed = 0;
@@ -144,6 +141,7 @@ impl Manager {
         ensures turn { pass.new.from ≡ pass.old.from }
         ensures follows { Follows (cancel_steps self.now.limits) pass.old pass.new }
         ensures few { Follows (family_cancel_steps self.now.limits (length (family pass.new.seen root))) pass.old pass.new }
+        ensures lean { Follows (lean_cancel_steps self.now.limits (family pass.new.seen root)) pass.old pass.new }
         ensures open_unit { pass.new.open_unit ≡ None }
         ensures looks { root < rows_of self.now.limits → HasLooked pass.old pass.new }
         ensures answer { MatchResult result

@@ -37,6 +37,7 @@ impl Manager {
         let Some(taken) = self.shared.scan(
             seat,
             &mut pass.lows[stage as usize],
+            &mut pass.gaps[stage as usize],
             &mut pass.run.drawn,
             pass.run.done,
             stage,

@@ -3,14 +3,14 @@ ghost use Rattle.std.specs.Prelude.{◌≡◌, ◌<◌, None, MatchOption, Match
 ghost use Rattle.tp_model.specs.History.{status_of};
 ghost use Rattle.tp_model.specs.Steps.{AreLimits, IsServerStage, rows_of};
 ghost use Rattle.tp_rule.specs.Views.{seen_by, view_of, IsSameSeat};
-ghost use Rattle.tp_rule.specs.Tables.{table_limits, IsSeatOf};
+ghost use Rattle.tp_rule.specs.Tables.{table_limits};
 ghost use Rattle.tp_manager.specs.Shown.{IsOf};
 ghost use Rattle.tp_manager.specs.Bounds.{claim_id_steps, claim_row_steps};
 ghost use Rattle.tp_manager.specs.Calls.{claims_in, Follows, HasLooked, IsWaiting};
 ghost use Rattle.tp_manager.specs.Given.{ClaimIdFails, TakesId};
 ghost use Rattle.tp_manager.specs.Looks.{IsBornAs};
 ghost use Rattle.tp_manager.specs.Requeues.{IsBetween};
-ghost use Rattle.tp_manager.specs.CallSteps.{Looked, Steady};
+ghost use Rattle.tp_manager.specs.CallSteps.{IsSteady, Looked};
 ghost use Rattle.tp_manager.specs.Scans.{IsSpare, Took};
 
 use crate::manager::{Manager, Pass, Shared, Task};
@@ -23,8 +23,7 @@ impl Shared {
     /// The unit takes the element that is born in the row, if it waits. `None` where it didn't wait at a
     /// moment.
     fn claim_row(&self, seat: &mut Seat, row: u32, birth: Birth, unit: u16) -> Option<Taken>
-        requires own { IsSeatOf self.now.words seat.old }
-        requires steady { Steady (table_limits self.now.words) (view_of seat.old) }
+        requires steady { IsSteady self.now.words seat.old }
         requires row { row < rows_of (table_limits self.now.words) }
         requires there { IsBornAs (seen_by seat.old) row birth }
         requires stage { IsServerStage birth.stage }

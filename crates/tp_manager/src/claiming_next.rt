@@ -2,17 +2,16 @@
 ghost use Rattle.std.specs.Prelude.{◌≡◌, ◌⊎◌, ◌+◌, ◌-◌, ◌*◌, ◌<◌, ◌≤◌, MatchOption, None, ℕ, slice_index};
 ghost use Rattle.tp_model.specs.Steps.{part_rows, rows_of, AreLimits, IsServerStage};
 ghost use Rattle.tp_rule.specs.Views.{view_of, IsSameSeat};
-ghost use Rattle.tp_rule.specs.Tables.{table_limits, IsSeatOf};
+ghost use Rattle.tp_rule.specs.Tables.{table_limits};
 ghost use Rattle.tp_manager.specs.Bounds.{drawn_steps, claim_next_steps, claim_next_steps_left};
 ghost use Rattle.tp_manager.specs.Bounds.{scan_steps, try_steps, circle_steps};
 ghost use Rattle.tp_model.specs.declared.types.TheConstants.{BLOCK_ROWS};
 ghost use Rattle.tp_manager.specs.Calls.{ClaimsNext, Follows};
 ghost use Rattle.tp_manager.specs.Shown.{marks_of, IsOf, NoneFalls};
-ghost use Rattle.tp_manager.specs.CallSteps.{StepsTo};
+ghost use Rattle.tp_manager.specs.CallSteps.{IsSteady, StepsTo};
 ghost use Rattle.tp_manager.specs.Marks.{Remembers};
 ghost use Rattle.tp_manager.specs.Scans.{Begun, EachRow, IsSpare, PassedBy};
 ghost use Rattle.tp_manager.specs.BetweenCalls.{RemembersDone};
-ghost use Rattle.tp_manager.specs.CallSteps.{Steady};
 ghost use Rattle.tp_manager.specs.BetweenCalls.{RemembersDrawn};
 ghost use Rattle.tp_manager.specs.Marks.{RisesAt};
 ghost use Rattle.tp_manager.specs.Scans.{Sought, Took, TookNext};
@@ -76,8 +75,7 @@ impl Shared {
         stage: u8,
         unit: u16,
     ) -> Option<Taken>
-        requires own { IsSeatOf self.now.words seat.old }
-        requires steady { Steady (table_limits self.now.words) (view_of seat.old) }
+        requires steady { IsSteady self.now.words seat.old }
         requires remembers { Remembers stage (view_of seat.old) lows.old }
         requires part { part < (table_limits self.now.words).parts }
         requires span { let l = table_limits self.now.words in (part * l.rows ≤ from) × (from ≤ to)
@@ -127,8 +125,7 @@ impl Shared {
         stage: u8,
         unit: u16,
     ) -> Option<Taken>
-        requires own { IsSeatOf self.now.words seat.old }
-        requires steady { Steady (table_limits self.now.words) (view_of seat.old) }
+        requires steady { IsSteady self.now.words seat.old }
         requires remembers { Remembers stage (view_of seat.old) lows.old }
         requires part { part < (table_limits self.now.words).parts }
         requires span { let l = table_limits self.now.words in (part * l.rows ≤ from) × (from ≤ to)
@@ -166,8 +163,7 @@ impl Shared {
         stage: u8,
         unit: u16,
     ) -> Option<Taken>
-        requires own { IsSeatOf self.now.words seat.old }
-        requires steady { Steady (table_limits self.now.words) (view_of seat.old) }
+        requires steady { IsSteady self.now.words seat.old }
         requires remembers { Remembers stage (view_of seat.old) lows.old }
         requires span { (from ≤ to) × (to ≤ part_rows (table_limits self.now.words)) }
         requires done { RemembersDone (view_of seat.old) done }
@@ -208,8 +204,7 @@ impl Shared {
         stage: u8,
         unit: u16,
     ) -> Option<Taken>
-        requires own { IsSeatOf self.now.words seat.old }
-        requires steady { Steady (table_limits self.now.words) (view_of seat.old) }
+        requires steady { IsSteady self.now.words seat.old }
         requires drawn { RemembersDrawn (view_of seat.old) drawn.old }
         requires span { let l = table_limits self.now.words in (part_rows l ≤ from) × (from ≤ to)
             × (to ≤ rows_of l) }
@@ -251,8 +246,7 @@ impl Shared {
         stage: u8,
         unit: u16,
     ) -> Option<Taken>
-        requires own { IsSeatOf self.now.words seat.old }
-        requires steady { Steady (table_limits self.now.words) (view_of seat.old) }
+        requires steady { IsSteady self.now.words seat.old }
         requires remembers { Remembers stage (view_of seat.old) lows.old }
         requires drawn { RemembersDrawn (view_of seat.old) drawn.old }
         requires span { (from ≤ to) × (to ≤ rows_of (table_limits self.now.words)) }
@@ -298,8 +292,7 @@ impl Shared {
         stage: u8,
         unit: u16,
     ) -> Option<Taken>
-        requires own { IsSeatOf self.now.words seat.old }
-        requires steady { Steady (table_limits self.now.words) (view_of seat.old) }
+        requires steady { IsSteady self.now.words seat.old }
         requires remembers { Remembers stage (view_of seat.old) lows.old }
         requires drawn { RemembersDrawn (view_of seat.old) drawn.old }
         requires done { RemembersDone (view_of seat.old) done }

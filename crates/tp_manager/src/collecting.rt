@@ -6,13 +6,13 @@ ghost use Rattle.tp_model.specs.Steps.{rows_of};
 ghost use Rattle.tp_model.specs.Words.{KilledWord};
 ghost use Rattle.tp_words.specs.Words.{claim_value};
 ghost use Rattle.tp_rule.specs.Views.{hand_of, seen_by, view_of, IsSameSeat};
-ghost use Rattle.tp_rule.specs.Tables.{table_limits, IsSeatOf};
+ghost use Rattle.tp_rule.specs.Tables.{table_limits};
 ghost use Rattle.tp_manager.specs.Shown.{IsOf};
 ghost use Rattle.tp_manager.specs.Bounds.{collect_steps, take_steps};
 ghost use Rattle.tp_manager.specs.Calls.{Follows, HasLooked};
 ghost use Rattle.tp_manager.specs.Kills.{Slain};
 ghost use Rattle.tp_manager.specs.Looks.{IsBornAs};
-ghost use Rattle.tp_manager.specs.CallSteps.{Steady, Looked};
+ghost use Rattle.tp_manager.specs.CallSteps.{IsSteady, Looked};
 ghost use Rattle.tp_manager.specs.Releases.{Collects, CollectFails, IsPastCollect};
 
 use crate::manager::{Manager, Pass, Shared};
@@ -51,8 +51,7 @@ impl Shared {
         row: u32,
         birth: Birth,
     ) -> Result<Element, Refusal>
-        requires own { IsSeatOf self.now.words seat.old }
-        requires steady { Steady (table_limits self.now.words) (view_of seat.old) }
+        requires steady { IsSteady self.now.words seat.old }
         requires row { row < rows_of (table_limits self.now.words) }
         requires there { IsBornAs (seen_by seat.old) row birth }
         requires reply { birth.stage ≡ REPLY_STAGE }

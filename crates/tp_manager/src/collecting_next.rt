@@ -1,23 +1,23 @@
 //! The collection of the next reply to a request.
 ghost use Rattle.tp_model.specs.declared.types.TheConstants.{REPLY_STAGE};
-ghost use Rattle.std.specs.Prelude.{◌≡◌, ◌<◌, [], length, MatchOption, None, Some};
+ghost use Rattle.std.specs.Prelude.{◌≡◌, ◌*◌, ◌<◌, [], length, MatchOption, None, Some};
 ghost use Rattle.tp_model.specs.declared.types.Element.{Element as element};
 ghost use Rattle.tp_model.specs.declared.types.Status.TheVariants.{Killed};
 ghost use Rattle.tp_model.specs.Families.{IsRequest, family};
 ghost use Rattle.tp_model.specs.History.{element_of, status_of};
 ghost use Rattle.tp_model.specs.Steps.{rows_of};
 ghost use Rattle.tp_rule.specs.Views.{hand_of, seen_by, view_of, IsSameSeat};
-ghost use Rattle.tp_rule.specs.Tables.{table_limits, IsSeatOf};
+ghost use Rattle.tp_rule.specs.Tables.{table_limits};
 ghost use Rattle.tp_manager.specs.Shown.{IsOf};
 ghost use Rattle.tp_manager.specs.Bounds.{collect_next_steps, collect_steps, family_collect_steps};
-ghost use Rattle.tp_manager.specs.Bounds.{takes_steps};
+ghost use Rattle.tp_manager.specs.Bounds.{lean_collect_steps, one_take_steps};
 ghost use Rattle.tp_manager.specs.Calls.{Follows, HasLooked};
-ghost use Rattle.tp_manager.specs.Lists.{CollectsNext, NoneCollected};
+ghost use Rattle.tp_manager.specs.Lists.{CollectsNext, NoneCollected, killed_between, walks_of};
 ghost use Rattle.tp_manager.specs.Families.{Taken};
 ghost use Rattle.tp_manager.specs.Kills.{Slain};
 ghost use Rattle.tp_manager.specs.Requeues.{IsBetween};
 ghost use Rattle.tp_manager.specs.RowSets.{IsEmpty};
-ghost use Rattle.tp_manager.specs.CallSteps.{Looked, Steady};
+ghost use Rattle.tp_manager.specs.CallSteps.{IsSteady, Looked};
 
 use crate::manager::{Manager, Pass, Shared};
 use crate::row_set::RowSet;
@@ -27,8 +27,7 @@ use tp_rule::Seat;
 impl Shared {
     /// Kills the reply that is born in the row, and hands it out; `None` where another was quicker.
     fn take_row(&self, seat: &mut Seat, row: u32) -> Option<Element>
-        requires own { IsSeatOf self.now.words seat.old }
-        requires steady { Steady (table_limits self.now.words) (view_of seat.old) }
+        requires steady { IsSteady self.now.words seat.old }
         requires row { row < rows_of (table_limits self.now.words) }
         requires reply { (x : element) × (element_of (seen_by seat.old) row ≡ Some x)
             × (x.stage ≡ REPLY_STAGE) }
@@ -58,8 +57,7 @@ impl Shared {
         rows: &mut RowSet,
         root: u32,
     ) -> Option<Element>
-        requires own { IsSeatOf self.now.words seat.old }
-        requires steady { Steady (table_limits self.now.words) (view_of seat.old) }
+        requires steady { IsSteady self.now.words seat.old }
         requires request { (root < rows_of (table_limits self.now.words))
             × IsRequest (seen_by seat.old) root }
         requires free { (hand_of seat.old).open_unit ≡ None }
@@ -67,7 +65,9 @@ impl Shared {
         ensures same { IsSameSeat seat.old seat.new }
         ensures none { IsEmpty rows.new }
         ensures told { let l = table_limits self.now.words in
-            Taken l (takes_steps (length (family (seen_by seat.new) root))) root (view_of seat.old) (view_of seat.new) result }
+            let killed = killed_between l root (seen_by seat.old) (seen_by seat.new) in
+            Taken l (walks_of result killed * one_take_steps (length (family (seen_by seat.new) root))) root
+            (view_of seat.old) (view_of seat.new) result }
     {
         let mut from = 0;
         for _past in 0..self.places.rows() + 1 {
@@ -85,8 +85,8 @@ impl Shared {
 
 impl Manager {
     /// Takes the least reply to the request with this root that it finds waiting, once: it is killed, so that
-    /// nobody else collects it. Where another is quicker it takes the next one. The pass has no unit open.
-    /// `None` where none waits.
+    /// nobody else collects it. Where another is quicker it walks again, and takes the next one (`lean`). The
+    /// pass has no unit open. `None` where none waits.
     pub fn collect_next(&self, pass: &mut Pass, root: u32) -> Option<Element>
         requires own { IsOf self.now pass.old }
         requires free { pass.old.open_unit ≡ None }
@@ -94,6 +94,9 @@ impl Manager {
         ensures turn { pass.new.from ≡ pass.old.from }
         ensures follows { Follows (collect_next_steps self.now.limits) pass.old pass.new }
         ensures few { Follows (family_collect_steps (length (family pass.new.seen root))) pass.old pass.new }
+        ensures lean { let killed = killed_between self.now.limits root pass.old.seen pass.new.seen in
+            Follows (lean_collect_steps (length (family pass.new.seen root)) (walks_of result killed))
+            pass.old pass.new }
         ensures open_unit { pass.new.open_unit ≡ None }
         ensures looks { root < rows_of self.now.limits → HasLooked pass.old pass.new }
         ensures answer { MatchOption result

@@ -4,8 +4,8 @@ ghost use Rattle.std.specs.List.{All};
 ghost use Rattle.tp_model.specs.Births.{IsWhole, outputs};
 ghost use Rattle.tp_model.specs.Steps.{rows_of};
 ghost use Rattle.tp_rule.specs.Views.{hand_of, next_row, view_of, IsNextRow, IsSameSeat};
-ghost use Rattle.tp_rule.specs.Tables.{table_limits, IsSeatOf};
-ghost use Rattle.tp_manager.specs.CallSteps.{IsBlank, Steady};
+ghost use Rattle.tp_rule.specs.Tables.{table_limits};
+ghost use Rattle.tp_manager.specs.CallSteps.{IsBlank, IsSteady};
 ghost use Rattle.tp_manager.specs.Drafts.{output, Wrote};
 
 use crate::manager::Shared;
@@ -15,8 +15,7 @@ use tp_rule::Seat;
 impl Shared {
     /// Writes a draft into the next row of the pass, which has the unit open. At most five steps.
     fn write_one(&self, seat: &mut Seat, row: u32, draft: Draft, root: u16, unit: u16)
-        requires own { IsSeatOf self.now.words seat.old }
-        requires steady { Steady (table_limits self.now.words) (view_of seat.old) }
+        requires steady { IsSteady self.now.words seat.old }
         requires next { IsNextRow (table_limits self.now.words) (view_of seat.old) row }
         requires fits { unit < 65535 }
         requires open_unit { (hand_of seat.old).open_unit ≡ Some unit }
@@ -40,8 +39,7 @@ impl Shared {
         root: u16,
         unit: u16,
     )
-        requires own { IsSeatOf self.now.words seat.old }
-        requires steady { Steady (table_limits self.now.words) (view_of seat.old) }
+        requires steady { IsSteady self.now.words seat.old }
         requires next { first ≡ next_row (view_of seat.old) }
         requires room { let l = table_limits self.now.words in
             (length drafts.now ≤ (hand_of seat.old).left)

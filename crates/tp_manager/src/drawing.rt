@@ -2,12 +2,12 @@
 ghost use Rattle.tp_model.specs.declared.types.TheConstants.{BLOCK_ROWS};
 ghost use Rattle.std.specs.Prelude.{◌≡◌, ◌+◌, ◌-◌, ◌<◌, ◌≤◌, [], true, false};
 ghost use Rattle.tp_rule.specs.Views.{hand_of, view_of, IsSameSeat};
-ghost use Rattle.tp_rule.specs.Tables.{table_limits, IsSeatOf};
+ghost use Rattle.tp_rule.specs.Tables.{table_limits};
 ghost use Rattle.tp_manager.specs.Shown.{IsOf};
 ghost use Rattle.tp_manager.specs.Draws.{Drawn, HasRoom, NoRoom};
 ghost use Rattle.tp_manager.specs.Bounds.{draw_steps};
 ghost use Rattle.tp_manager.specs.Spares.{AreHeaded, AreLeft};
-ghost use Rattle.tp_manager.specs.CallSteps.{Steady, Tried};
+ghost use Rattle.tp_manager.specs.CallSteps.{IsSteady, Tried};
 ghost use Rattle.tp_manager.specs.BetweenCalls.{RemembersDrawn};
 ghost use Rattle.tp_model.specs.declared.types.Limits.{Limits};
 ghost use Rattle.tp_manager.specs.Upward.{IdsGoUp};
@@ -20,8 +20,7 @@ impl Shared {
     /// Draws a spare block, whose rows are then the run, unless all are drawn. At most a step for each spare
     /// block, since an exchange of their counter that fails has found it higher.
     fn draw(&self, seat: &mut Seat, run: &mut Run) -> bool
-        requires own { IsSeatOf self.now.words seat.old }
-        requires steady { Steady (table_limits self.now.words) (view_of seat.old) }
+        requires steady { IsSteady self.now.words seat.old }
         requires drawn { RemembersDrawn (view_of seat.old) run.old.drawn }
         requires no_drafts { (hand_of seat.old).drafts ≡ [] }
         ensures same { IsSameSeat seat.old seat.new }
@@ -55,8 +54,7 @@ impl Shared {
     /// Marks this many rows from this one on, that the pass has left behind, as rows that are never used. A step for
     /// each.
     fn void_rows(&self, seat: &mut Seat, first: u32, count: u16)
-        requires own { IsSeatOf self.now.words seat.old }
-        requires steady { Steady (table_limits self.now.words) (view_of seat.old) }
+        requires steady { IsSteady self.now.words seat.old }
         requires left { AreLeft (table_limits self.now.words) (view_of seat.old) first count }
         ensures same { IsSameSeat seat.old seat.new }
         ensures tried { Tried (table_limits self.now.words) count (view_of seat.old) (view_of seat.new) }
@@ -70,8 +68,7 @@ impl Shared {
     /// Draws a spare block, unless all are drawn. Then none of the rows that the pass leaves behind is empty:
     /// so marks of the spare rows can rise over them.
     fn draw_on(&self, seat: &mut Seat, run: &mut Run) -> bool
-        requires own { IsSeatOf self.now.words seat.old }
-        requires steady { Steady (table_limits self.now.words) (view_of seat.old) }
+        requires steady { IsSteady self.now.words seat.old }
         requires drawn { RemembersDrawn (view_of seat.old) run.old.drawn }
         requires no_drafts { (hand_of seat.old).drafts ≡ [] }
         requires run { ((hand_of seat.old).next ≡ run.old.next) × ((hand_of seat.old).left ≡ run.old.left) }

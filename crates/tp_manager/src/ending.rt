@@ -82,7 +82,8 @@ impl Manager {
 
     /// Commits the open unit of work with at most four drafts. In one step its element is consumed and the
     /// drafts are born, with ids one after another. They are in the next rows of the pass, or of a spare
-    /// block that it draws where too few are left to it. `Full` where all blocks are drawn: the unit is
+    /// block that it draws where too few are left to it: where enough are, no step is about spare blocks
+    /// (`lean`). `Full` where all blocks are drawn: the unit is
     /// aborted, and no row is used. `Lost` where another caller had aborted the unit: the rows of the drafts
     /// are used up. Whatever the answer, the pass has no unit open any more.
     #[inline(always)]
@@ -93,6 +94,8 @@ impl Manager {
         ensures own { IsOf self.now pass.new }
         ensures turn { pass.new.from ≡ pass.old.from }
         ensures follows { Follows (commit_steps self.now.limits (length drafts.now)) pass.old pass.new }
+        ensures lean { length drafts.now ≤ pass.old.left
+            → Follows (close_steps (length drafts.now)) pass.old pass.new }
         ensures free { pass.new.open_unit ≡ None }
         ensures ended { IfSome pass.old.open_unit (HasEnded pass.new.seen) }
         ensures answer { Settles drafts.now pass.old pass.new result }

@@ -5,7 +5,7 @@ ghost use Rattle.tp_model.specs.declared.types.Element.{Element as element};
 ghost use Rattle.tp_model.specs.declared.types.Status.{Status as status};
 ghost use Rattle.tp_model.specs.Steps.{part_rows, rows_of, IsParked, IsRowOf};
 ghost use Rattle.tp_rule.specs.Views.{seen_by, view_of, IsSameSeat};
-ghost use Rattle.tp_rule.specs.Tables.{table_limits, IsSeatOf};
+ghost use Rattle.tp_rule.specs.Tables.{table_limits};
 ghost use Rattle.tp_words.specs.Words.{head_of};
 ghost use Rattle.tp_words.specs.declared.words.Head.TheVariants.{Filled};
 ghost use Rattle.tp_words.specs.declared.places.TheConstants.{MARK_KINDS};
@@ -16,11 +16,10 @@ ghost use Rattle.tp_manager.specs.Bounds.{scan_steps, spare_left};
 ghost use Rattle.tp_manager.specs.Calls.{Follows, HasLooked, IsQuiet};
 ghost use Rattle.tp_manager.specs.Lists.{NoneParked, NextError};
 ghost use Rattle.tp_manager.specs.Looks.{GoesOn};
-ghost use Rattle.tp_manager.specs.CallSteps.{Acted};
+ghost use Rattle.tp_manager.specs.CallSteps.{Acted, IsSteady};
 ghost use Rattle.tp_manager.specs.BetweenCalls.{RemembersDrawn};
 ghost use Rattle.tp_manager.specs.Marks.{Remembers, RisesAt, Rose};
 ghost use Rattle.tp_manager.specs.Scans.{Begun, EachRow};
-ghost use Rattle.tp_manager.specs.CallSteps.{Steady};
 ghost use Rattle.tp_manager.specs.Scans.{Sought};
 ghost use Rattle.tp_manager.specs.Finds.{Finds, Hits, PassedOver};
 
@@ -73,8 +72,7 @@ impl Shared {
     /// known of no use, where that is this one. One step where the head says that it isn't.
     #[inline(always)]
     pub(crate) fn is_parked_at(&self, seat: &mut Seat, row: &mut u32, low: &mut u32) -> bool
-        requires own { IsSeatOf self.now.words seat.old }
-        requires steady { Steady (table_limits self.now.words) (view_of seat.old) }
+        requires steady { IsSteady self.now.words seat.old }
         requires row { row.old < rows_of (table_limits self.now.words) }
         requires low { low.old ≤ row.old }
         ensures same { IsSameSeat seat.old seat.new }
@@ -109,8 +107,7 @@ impl Shared {
     /// The first row of a part, from one of its rows on, whose element is looked for. The scan starts at the
     /// part's mark, if that is further on, and raises the mark.
     fn find_from_mark(&self, seat: &mut Seat, lows: &mut Lows, part: u16, from: u32) -> Option<u32>
-        requires own { IsSeatOf self.now.words seat.old }
-        requires steady { Steady (table_limits self.now.words) (view_of seat.old) }
+        requires steady { IsSteady self.now.words seat.old }
         requires from { IsRowOf (table_limits self.now.words) part from }
         requires remembers { Remembers 0 (view_of seat.old) lows.old }
         ensures same { IsSameSeat seat.old seat.new }
@@ -143,8 +140,7 @@ impl Shared {
     /// has a head from there on, or from the mark on that the pass remembers.
     #[inline(always)]
     fn find_in_part(&self, seat: &mut Seat, lows: &mut Lows, part: u16, from: u32) -> Option<u32>
-        requires own { IsSeatOf self.now.words seat.old }
-        requires steady { Steady (table_limits self.now.words) (view_of seat.old) }
+        requires steady { IsSteady self.now.words seat.old }
         requires from { IsRowOf (table_limits self.now.words) part from }
         requires remembers { Remembers 0 (view_of seat.old) lows.old }
         ensures same { IsSameSeat seat.old seat.new }
@@ -164,8 +160,7 @@ impl Shared {
 
     /// The first row of the parts, from this one on, whose element is looked for.
     fn find_in_parts(&self, seat: &mut Seat, lows: &mut Lows, from: u32) -> Option<u32>
-        requires own { IsSeatOf self.now.words seat.old }
-        requires steady { Steady (table_limits self.now.words) (view_of seat.old) }
+        requires steady { IsSteady self.now.words seat.old }
         requires from { from < part_rows (table_limits self.now.words) }
         requires remembers { Remembers 0 (view_of seat.old) lows.old }
         ensures same { IsSameSeat seat.old seat.new }
@@ -197,8 +192,7 @@ impl Shared {
         drawn: &mut u16,
         from: u32,
     ) -> Option<u32>
-        requires own { IsSeatOf self.now.words seat.old }
-        requires steady { Steady (table_limits self.now.words) (view_of seat.old) }
+        requires steady { IsSteady self.now.words seat.old }
         requires remembers { Remembers 0 (view_of seat.old) lows.old }
         requires drawn { RemembersDrawn (view_of seat.old) drawn.old }
         requires from { let l = table_limits self.now.words in (part_rows l ≤ from) × (from ≤ rows_of l) }
@@ -221,8 +215,7 @@ impl Shared {
 
     /// The first row from this one on whose element is looked for.
     fn find(&self, seat: &mut Seat, lows: &mut Lows, drawn: &mut u16, from: u32) -> Option<u32>
-        requires own { IsSeatOf self.now.words seat.old }
-        requires steady { Steady (table_limits self.now.words) (view_of seat.old) }
+        requires steady { IsSteady self.now.words seat.old }
         requires from { from < rows_of (table_limits self.now.words) }
         requires remembers { Remembers 0 (view_of seat.old) lows.old }
         requires drawn { RemembersDrawn (view_of seat.old) drawn.old }

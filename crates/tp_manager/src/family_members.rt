@@ -4,12 +4,12 @@ ghost use Rattle.tp_model.specs.Families.{family};
 ghost use Rattle.tp_model.specs.Steps.{rows_of};
 ghost use Rattle.tp_rule.specs.Steps.{HasElement};
 ghost use Rattle.tp_rule.specs.Views.{seen_by, view_of, IsSameSeat};
-ghost use Rattle.tp_rule.specs.Tables.{table_limits, IsSeatOf};
+ghost use Rattle.tp_rule.specs.Tables.{table_limits};
 ghost use Rattle.tp_manager.specs.Shown.{IsOf};
 ghost use Rattle.tp_manager.specs.Bounds.{family_look_steps, family_steps, read_steps};
 ghost use Rattle.tp_manager.specs.Calls.{Follows, HasLooked, IsLook, IsQuiet};
 ghost use Rattle.tp_manager.specs.Lists.{NextOfFamily, NoneOfFamily};
-ghost use Rattle.tp_manager.specs.CallSteps.{Looked, Steady};
+ghost use Rattle.tp_manager.specs.CallSteps.{IsSteady, Looked};
 
 use crate::manager::{Manager, Pass, Shared};
 use tp_model::types::Look;
@@ -18,8 +18,7 @@ use tp_rule::Seat;
 impl Shared {
     /// The element that is born in the row, and its status.
     fn look_at(&self, seat: &mut Seat, row: u32) -> Look
-        requires own { IsSeatOf self.now.words seat.old }
-        requires steady { Steady (table_limits self.now.words) (view_of seat.old) }
+        requires steady { IsSteady self.now.words seat.old }
         requires row { (row < rows_of (table_limits self.now.words)) × HasElement (seen_by seat.old) row }
         ensures same { IsSameSeat seat.old seat.new }
         ensures looked { let l = table_limits self.now.words in Looked l (read_steps l) (view_of seat.old)

@@ -5,10 +5,10 @@ ghost use Rattle.tp_model.specs.Words.{claim_word};
 ghost use Rattle.tp_words.specs.Words.{claim_value, IsFitClaim};
 ghost use Rattle.tp_rule.specs.Steps.{HasElement};
 ghost use Rattle.tp_rule.specs.Views.{hand_of, seen_by, view_of, IsSameSeat};
-ghost use Rattle.tp_rule.specs.Tables.{table_limits, IsSeatOf};
+ghost use Rattle.tp_rule.specs.Tables.{table_limits};
 ghost use Rattle.tp_manager.specs.Shown.{IsOf};
 ghost use Rattle.tp_manager.specs.Calls.{Follows, HasLooked, Kills, KillFails};
-ghost use Rattle.tp_manager.specs.CallSteps.{Steady, Looked};
+ghost use Rattle.tp_manager.specs.CallSteps.{IsSteady, Looked};
 ghost use Rattle.tp_manager.specs.Bounds.{kill_steps, slay_from, slay_steps};
 ghost use Rattle.tp_manager.specs.Looks.{IsEnough};
 ghost use Rattle.tp_manager.specs.Kills.{takers, IsPastKill, Loosened, KillsIn, FailsIn};
@@ -46,8 +46,7 @@ impl Shared {
     /// and `AlreadyKilled`. One step where a unit took the element.
     #[inline(always)]
     fn loosen(&self, seat: &mut Seat, row: u32, claim: Claim) -> Result<u8, Refusal>
-        requires own { IsSeatOf self.now.words seat.old }
-        requires steady { Steady (table_limits self.now.words) (view_of seat.old) }
+        requires steady { IsSteady self.now.words seat.old }
         requires row { row < rows_of (table_limits self.now.words) }
         requires found { claim_value claim ≡ claim_word (seen_by seat.old) row }
         requires free { (hand_of seat.old).open_unit ≡ None }
@@ -92,8 +91,7 @@ impl Shared {
         claim: FoundClaim,
         left: u8,
     ) -> Result<u8, Refusal>
-        requires own { IsSeatOf self.now.words seat.old }
-        requires steady { Steady (table_limits self.now.words) (view_of seat.old) }
+        requires steady { IsSteady self.now.words seat.old }
         requires row { (row < rows_of (table_limits self.now.words)) × HasElement (seen_by seat.old) row }
         requires found { (claim_value claim.tells ≡ claim_word (seen_by seat.old) row)
             × IsFitClaim (claim_value claim.tells) }
@@ -127,8 +125,7 @@ impl Shared {
         claim: FoundClaim,
         left: u8,
     ) -> Result<u8, Refusal>
-        requires own { IsSeatOf self.now.words seat.old }
-        requires steady { Steady (table_limits self.now.words) (view_of seat.old) }
+        requires steady { IsSteady self.now.words seat.old }
         requires row { (row < rows_of (table_limits self.now.words)) × HasElement (seen_by seat.old) row }
         requires found { (claim_value claim.tells ≡ claim_word (seen_by seat.old) row)
             × IsFitClaim (claim_value claim.tells) }
@@ -147,8 +144,7 @@ impl Shared {
     /// all rounds.
     #[inline(always)]
     pub(crate) fn kill_row(&self, seat: &mut Seat, row: u32) -> Result<u8, Refusal>
-        requires own { IsSeatOf self.now.words seat.old }
-        requires steady { Steady (table_limits self.now.words) (view_of seat.old) }
+        requires steady { IsSteady self.now.words seat.old }
         requires row { (row < rows_of (table_limits self.now.words)) × HasElement (seen_by seat.old) row }
         requires free { (hand_of seat.old).open_unit ≡ None }
         ensures same { IsSameSeat seat.old seat.new }

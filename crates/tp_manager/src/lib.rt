@@ -15,6 +15,7 @@ mod drawing;
 mod ending;
 mod error_queue;
 mod family_members;
+mod gaps;
 mod killing;
 mod manager;
 mod marking;

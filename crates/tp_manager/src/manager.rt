@@ -10,6 +10,7 @@ ghost use Rattle.tp_manager.specs.Calls.{Follows, claims_in};
 ghost use Rattle.tp_manager.specs.Shown.{low_of, turn_of, view_in, IsOf, IsKeptBy};
 ghost use Rattle.tp_manager.specs.declared.manager.MakeFault.TheVariants as faults;
 
+use crate::gaps::Gaps;
 use crate::marking::{Lows, MARKED_PARTS};
 use crate::row_set::{NoRows, RowSet};
 use std::alloc::Global;
@@ -117,6 +118,8 @@ pub struct Pass {
     /// The marks of each kind and part, as the pass last loaded or set them, or as far as a raise of a
     /// stage's mark that failed would have set it.
     pub(crate) lows: [Lows; MARK_KINDS],
+    /// For each stage and part a run of rows of no use to the stage, as far as the pass remembers one.
+    pub(crate) gaps: [Gaps; MARK_KINDS],
     /// For each stage the row after the element that it took last in its turn.
     pub(crate) from: [u32; 16],
     /// The rows that a walk has come to and not gone on from: none, between two calls.
@@ -129,11 +132,11 @@ impl Model for Pass {
     ghost Value = { PassShown };
 
     ghost use Rattle.tp_manager.specs.BetweenCalls.{Rests};
-    ghost use Rattle.tp_manager.specs.Marks.{RemembersAll};
+    ghost use Rattle.tp_manager.specs.Marks.{Recalls};
 
     ghost view = { λ p. shown (spot p.seat.table p.lows p.run.drawn p.from) p.seat.view };
 
-    ghost invariant = { λ p. Rests p.seat p.number p.run p.used p.task × RemembersAll p.seat.view p.lows };
+    ghost invariant = { λ p. Rests p.seat p.number p.run p.used p.task × Recalls p.seat.view p.lows p.gaps };
 }
 
 impl Keeper {
@@ -203,6 +206,7 @@ impl Keeper {
             used: 0,
             task: None,
             lows: [[0; MARKED_PARTS]; MARK_KINDS],
+            gaps: [[0; 2 * MARKED_PARTS]; MARK_KINDS],
             from: [0; 16],
             walk: NoRows {
                 rows: RowSet::new(),

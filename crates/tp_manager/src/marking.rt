@@ -8,8 +8,8 @@ ghost use Rattle.tp_rule.specs.Views.{seen_by, view_of, IsSameSeat};
 ghost use Rattle.tp_rule.specs.Rule.{IsInside};
 ghost use Rattle.tp_rule.specs.Steps.{IsLow, Knows};
 ghost use Rattle.tp_rule.specs.declared.view.Known.TheVariants.{MarkAbove, PartMark};
-ghost use Rattle.tp_rule.specs.Tables.{table_limits, IsSeatOf};
-ghost use Rattle.tp_manager.specs.CallSteps.{Acted, Looked, Steady};
+ghost use Rattle.tp_rule.specs.Tables.{table_limits};
+ghost use Rattle.tp_manager.specs.CallSteps.{Acted, IsSteady, Looked};
 ghost use Rattle.tp_manager.specs.Marks.{Remembers, RisesAt, Rose};
 
 use crate::manager::Shared;
@@ -80,8 +80,7 @@ impl Shared {
     /// isn't consumed or killed. One step.
     #[inline(always)]
     pub(crate) fn mark_at(&self, seat: &mut Seat, lows: &mut Lows, kind: u8, part: u16) -> u16
-        requires own { IsSeatOf self.now.words seat.old }
-        requires steady { Steady (table_limits self.now.words) (view_of seat.old) }
+        requires steady { IsSteady self.now.words seat.old }
         requires kind { kind < MARK_KINDS }
         requires listed { ¬ IsServerStage kind }
         requires part { part ≤ (table_limits self.now.words).parts }
@@ -109,8 +108,7 @@ impl Shared {
         mark: u16,
         low: u32,
     )
-        requires own { IsSeatOf self.now.words seat.old }
-        requires steady { Steady (table_limits self.now.words) (view_of seat.old) }
+        requires steady { IsSteady self.now.words seat.old }
         requires kind { kind < MARK_KINDS }
         requires part { part ≤ (table_limits self.now.words).parts }
         requires mark { Knows (view_of seat.old) (PartMark kind part mark)
@@ -142,8 +140,7 @@ impl Shared {
     /// part below it has an element of the stage that isn't consumed or killed. One step.
     #[inline(always)]
     pub(crate) fn low_at(&self, seat: &mut Seat, lows: &mut Lows, stage: u8, part: u16) -> u16
-        requires own { IsSeatOf self.now.words seat.old }
-        requires steady { Steady (table_limits self.now.words) (view_of seat.old) }
+        requires steady { IsSteady self.now.words seat.old }
         requires stage { IsServerStage stage }
         requires part { part ≤ (table_limits self.now.words).parts }
         requires remembers { Remembers stage (view_of seat.old) lows.old }
@@ -175,8 +172,7 @@ impl Shared {
         mark: u16,
         low: u32,
     )
-        requires own { IsSeatOf self.now.words seat.old }
-        requires steady { Steady (table_limits self.now.words) (view_of seat.old) }
+        requires steady { IsSteady self.now.words seat.old }
         requires stage { IsServerStage stage }
         requires part { part ≤ (table_limits self.now.words).parts }
         requires mark { Knows (view_of seat.old) (PartMark stage part mark)
@@ -205,8 +201,7 @@ impl Shared {
     /// where the row is the end of the part, or the one that the pass has consumed last.
     #[inline(always)]
     pub(crate) fn is_bare(&self, seat: &mut Seat, part: u16, row: u32, done: Option<u32>) -> bool
-        requires own { IsSeatOf self.now.words seat.old }
-        requires steady { Steady (table_limits self.now.words) (view_of seat.old) }
+        requires steady { IsSteady self.now.words seat.old }
         requires part { part < (table_limits self.now.words).parts }
         requires row { let l = table_limits self.now.words in
             (part * l.rows ≤ row) × (row ≤ part * l.rows + l.rows) }
@@ -231,8 +226,7 @@ impl Shared {
         end: u32,
         done: Option<u32>,
     ) -> bool
-        requires own { IsSeatOf self.now.words seat.old }
-        requires steady { Steady (table_limits self.now.words) (view_of seat.old) }
+        requires steady { IsSteady self.now.words seat.old }
         requires part { part < (table_limits self.now.words).parts }
         requires row { let l = table_limits self.now.words in
             (part * l.rows ≤ row) × (row ≤ end) × (end ≡ part * l.rows + l.rows) }

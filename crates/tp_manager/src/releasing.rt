@@ -3,11 +3,11 @@ ghost use Rattle.std.specs.Prelude.{◌≡◌, ◌<◌, MatchResult, None};
 ghost use Rattle.tp_model.specs.Steps.{rows_of};
 ghost use Rattle.tp_rule.specs.Steps.{HasElement};
 ghost use Rattle.tp_rule.specs.Views.{hand_of, seen_by, view_of, IsSameSeat};
-ghost use Rattle.tp_rule.specs.Tables.{table_limits, IsSeatOf};
+ghost use Rattle.tp_rule.specs.Tables.{table_limits};
 ghost use Rattle.tp_manager.specs.Shown.{IsOf};
 ghost use Rattle.tp_manager.specs.Bounds.{free_steps, release_steps};
 ghost use Rattle.tp_manager.specs.Calls.{Follows, HasLooked};
-ghost use Rattle.tp_manager.specs.CallSteps.{Steady, Looked};
+ghost use Rattle.tp_manager.specs.CallSteps.{IsSteady, Looked};
 ghost use Rattle.tp_manager.specs.Releases.{Freeing, IsPastRelease, Releases, ReleaseFails};
 
 use crate::manager::{Manager, Pass, Shared};
@@ -18,8 +18,7 @@ use tp_words::{Claim, UnitWord};
 impl Shared {
     /// Aborts the unit that holds the element that is born in the row. At most two steps.
     fn release_row(&self, seat: &mut Seat, row: u32) -> Result<Released, Refusal>
-        requires own { IsSeatOf self.now.words seat.old }
-        requires steady { Steady (table_limits self.now.words) (view_of seat.old) }
+        requires steady { IsSteady self.now.words seat.old }
         requires row { (row < rows_of (table_limits self.now.words)) × HasElement (seen_by seat.old) row }
         requires free { (hand_of seat.old).open_unit ≡ None }
         ensures same { IsSameSeat seat.old seat.new }

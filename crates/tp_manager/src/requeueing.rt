@@ -3,11 +3,11 @@ ghost use Rattle.std.specs.Prelude.{◌≡◌, ◌<◌, MatchResult};
 ghost use Rattle.tp_model.specs.Steps.{rows_of};
 ghost use Rattle.tp_rule.specs.Steps.{HasElement};
 ghost use Rattle.tp_rule.specs.Views.{seen_by, view_of, IsSameSeat};
-ghost use Rattle.tp_rule.specs.Tables.{table_limits, IsSeatOf};
+ghost use Rattle.tp_rule.specs.Tables.{table_limits};
 ghost use Rattle.tp_manager.specs.Shown.{IsOf};
 ghost use Rattle.tp_manager.specs.Bounds.{renew_steps, requeue_steps};
 ghost use Rattle.tp_manager.specs.Calls.{Follows, HasLooked};
-ghost use Rattle.tp_manager.specs.CallSteps.{Steady, Looked};
+ghost use Rattle.tp_manager.specs.CallSteps.{IsSteady, Looked};
 ghost use Rattle.tp_manager.specs.Requeues.{Renewed, IsPastRequeue, Requeues, RequeueFails};
 
 use crate::manager::{Manager, Pass, Shared};
@@ -19,8 +19,7 @@ impl Shared {
     /// Gives the element that is born in the row another round, where it is parked. Which round. At most
     /// three steps.
     fn requeue_row(&self, seat: &mut Seat, row: u32) -> Result<u8, Refusal>
-        requires own { IsSeatOf self.now.words seat.old }
-        requires steady { Steady (table_limits self.now.words) (view_of seat.old) }
+        requires steady { IsSteady self.now.words seat.old }
         requires row { (row < rows_of (table_limits self.now.words)) × HasElement (seen_by seat.old) row }
         ensures same { IsSameSeat seat.old seat.new }
         ensures told { let l = table_limits self.now.words in MatchResult result

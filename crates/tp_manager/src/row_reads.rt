@@ -8,14 +8,13 @@ ghost use Rattle.tp_model.specs.Words.{claim_word};
 ghost use Rattle.tp_words.specs.Words.{claim_value, IsFitClaim};
 ghost use Rattle.tp_rule.specs.Views.{seen_by, view_of, IsSameSeat};
 ghost use Rattle.tp_rule.specs.declared.view.Known.TheVariants.{PartMark};
-ghost use Rattle.tp_rule.specs.Tables.{table_limits, IsSeatOf};
+ghost use Rattle.tp_rule.specs.Tables.{table_limits};
 ghost use Rattle.tp_rule.specs.Steps.{IsLow, Knows, NoneFrom};
 ghost use Rattle.tp_words.specs.declared.places.TheConstants.{MARK_KINDS};
-ghost use Rattle.tp_manager.specs.CallSteps.{Acted, Looked};
+ghost use Rattle.tp_manager.specs.CallSteps.{Acted, IsSteady, Looked};
 ghost use Rattle.tp_manager.specs.BetweenCalls.{RemembersDrawn};
 ghost use Rattle.tp_manager.specs.Marks.{Remembers, RisesAt};
 ghost use Rattle.tp_manager.specs.Scans.{NoneBehind};
-ghost use Rattle.tp_manager.specs.CallSteps.{Steady};
 ghost use Rattle.tp_manager.specs.Bounds.{body_steps, retry_steps, status_steps};
 ghost use Rattle.tp_manager.specs.Looks.{Contains, GoesOn, HeadFound, IsBornAs, IsEnough};
 
@@ -47,8 +46,7 @@ impl Shared {
     /// What the head of a row says. One step.
     #[inline(always)]
     pub(crate) fn head_at(&self, seat: &mut Seat, row: u32) -> Head
-        requires own { IsSeatOf self.now.words seat.old }
-        requires steady { Steady (table_limits self.now.words) (view_of seat.old) }
+        requires steady { IsSteady self.now.words seat.old }
         requires row { row < rows_of (table_limits self.now.words) }
         ensures same { IsSameSeat seat.old seat.new }
         ensures acted { Acted (table_limits self.now.words) 1 (view_of seat.old) (view_of seat.new) }
@@ -62,8 +60,7 @@ impl Shared {
     /// the head is empty to the next part or spare block, since nothing is born in between. One step.
     #[inline(always)]
     pub(crate) fn head_on(&self, seat: &mut Seat, row: &mut u32) -> Head
-        requires own { IsSeatOf self.now.words seat.old }
-        requires steady { Steady (table_limits self.now.words) (view_of seat.old) }
+        requires steady { IsSteady self.now.words seat.old }
         requires row { row.old < rows_of (table_limits self.now.words) }
         ensures same { IsSameSeat seat.old seat.new }
         ensures acted { Acted (table_limits self.now.words) 1 (view_of seat.old) (view_of seat.new) }
@@ -84,8 +81,7 @@ impl Shared {
     /// The row after the spare blocks that are drawn: nothing is born from there on. One step; none, and
     /// `None`, where there are no spare blocks.
     pub(crate) fn blocks_end(&self, seat: &mut Seat, drawn: &mut u16) -> Option<u32>
-        requires own { IsSeatOf self.now.words seat.old }
-        requires steady { Steady (table_limits self.now.words) (view_of seat.old) }
+        requires steady { IsSteady self.now.words seat.old }
         requires drawn { RemembersDrawn (view_of seat.old) drawn.old }
         ensures same { IsSameSeat seat.old seat.new }
         ensures drawn { RemembersDrawn (view_of seat.new) drawn.new }
@@ -107,8 +103,7 @@ impl Shared {
     /// What the row holds whose head was just found. At most one more step.
     #[inline(always)]
     pub(crate) fn contents_from(&self, seat: &mut Seat, row: u32, head: Head) -> Contents
-        requires own { IsSeatOf self.now.words seat.old }
-        requires steady { Steady (table_limits self.now.words) (view_of seat.old) }
+        requires steady { IsSteady self.now.words seat.old }
         requires row { row < rows_of (table_limits self.now.words) }
         requires told { HeadFound (view_of seat.old) row head }
         ensures same { IsSameSeat seat.old seat.new }
@@ -141,8 +136,7 @@ impl Shared {
     /// step.
     #[inline(always)]
     pub(crate) fn birth_from(&self, seat: &mut Seat, row: u32, head: Head) -> Option<Birth>
-        requires own { IsSeatOf self.now.words seat.old }
-        requires steady { Steady (table_limits self.now.words) (view_of seat.old) }
+        requires steady { IsSteady self.now.words seat.old }
         requires row { row < rows_of (table_limits self.now.words) }
         requires told { HeadFound (view_of seat.old) row head }
         ensures same { IsSameSeat seat.old seat.new }
@@ -172,8 +166,7 @@ impl Shared {
     /// The body of the element of a row, where one is born: a step for each word.
     #[inline(always)]
     fn body_at(&self, seat: &mut Seat, row: u32) -> Body
-        requires own { IsSeatOf self.now.words seat.old }
-        requires steady { Steady (table_limits self.now.words) (view_of seat.old) }
+        requires steady { IsSteady self.now.words seat.old }
         requires row { row < rows_of (table_limits self.now.words) }
         ensures same { IsSameSeat seat.old seat.new }
         ensures looked { Looked (table_limits self.now.words) body_steps (view_of seat.old)
@@ -190,8 +183,7 @@ impl Shared {
     /// The element that is born in the row with this head, with its body.
     #[inline(always)]
     pub(crate) fn element_at(&self, seat: &mut Seat, row: u32, birth: Birth) -> Element
-        requires own { IsSeatOf self.now.words seat.old }
-        requires steady { Steady (table_limits self.now.words) (view_of seat.old) }
+        requires steady { IsSteady self.now.words seat.old }
         requires row { row < rows_of (table_limits self.now.words) }
         requires there { IsBornAs (seen_by seat.old) row birth }
         ensures same { IsSameSeat seat.old seat.new }
@@ -221,8 +213,7 @@ impl Shared {
         claim: FoundClaim,
         left: u8,
     ) -> (FoundClaim, Status)
-        requires own { IsSeatOf self.now.words seat.old }
-        requires steady { Steady (table_limits self.now.words) (view_of seat.old) }
+        requires steady { IsSteady self.now.words seat.old }
         requires row { row < rows_of (table_limits self.now.words) }
         requires found { (claim_value claim.tells ≡ claim_word (seen_by seat.old) row)
             × IsFitClaim (claim_value claim.tells) }
@@ -275,8 +266,7 @@ impl Shared {
         claim: FoundClaim,
         left: u8,
     ) -> (FoundClaim, Status)
-        requires own { IsSeatOf self.now.words seat.old }
-        requires steady { Steady (table_limits self.now.words) (view_of seat.old) }
+        requires steady { IsSteady self.now.words seat.old }
         requires row { row < rows_of (table_limits self.now.words) }
         requires found { (claim_value claim.tells ≡ claim_word (seen_by seat.old) row)
             × IsFitClaim (claim_value claim.tells) }
@@ -295,8 +285,7 @@ impl Shared {
     /// allowed in all rounds.
     #[inline(always)]
     pub(crate) fn status_at(&self, seat: &mut Seat, row: u32) -> (FoundClaim, Status)
-        requires own { IsSeatOf self.now.words seat.old }
-        requires steady { Steady (table_limits self.now.words) (view_of seat.old) }
+        requires steady { IsSteady self.now.words seat.old }
         requires row { row < rows_of (table_limits self.now.words) }
         ensures same { IsSameSeat seat.old seat.new }
         ensures acted { let l = table_limits self.now.words in

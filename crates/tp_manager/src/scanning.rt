@@ -10,7 +10,7 @@ ghost use Rattle.tp_words.specs.declared.places.TheConstants.{MARK_KINDS};
 ghost use Rattle.tp_rule.specs.Views.{seen_by, view_of, IsSameSeat};
 ghost use Rattle.tp_rule.specs.Steps.{Knows};
 ghost use Rattle.tp_rule.specs.declared.view.Known.TheVariants.{PartMark};
-ghost use Rattle.tp_rule.specs.Tables.{table_limits, IsSeatOf};
+ghost use Rattle.tp_rule.specs.Tables.{table_limits};
 ghost use Rattle.tp_manager.specs.Bounds.{marked_steps, scan_steps, spare_left, try_steps};
 ghost use Rattle.tp_manager.specs.Shown.{NoneFalls};
 ghost use Rattle.tp_manager.specs.declared.scanning.Stand.TheVariants as stands;
@@ -19,13 +19,14 @@ ghost use Rattle.tp_manager.specs.Spares.{SpareRests};
 ghost use Rattle.tp_manager.specs.Marks.{AreFinished, CameTo, RestInParts, RestsAt, WasOfUse};
 ghost use Rattle.tp_manager.specs.Scans.{Begun};
 ghost use Rattle.tp_manager.specs.Marks.{WasUnsettled};
-ghost use Rattle.tp_manager.specs.CallSteps.{Steady, Looked};
+ghost use Rattle.tp_manager.specs.CallSteps.{IsSteady, Looked};
 ghost use Rattle.tp_manager.specs.BetweenCalls.{RemembersDone, RemembersDrawn};
 ghost use Rattle.tp_manager.specs.Scans.{Sought, EachRow};
 ghost use Rattle.tp_manager.specs.Scans.{OfPart};
-ghost use Rattle.tp_manager.specs.Marks.{Remembers, RisesAt, Rose};
+ghost use Rattle.tp_manager.specs.Marks.{Remembers, RemembersGaps, RisesAt, Rose};
 ghost use Rattle.tp_manager.specs.Scans.{PassedBy, IsSpare, Took};
 
+use crate::gaps::Gaps;
 use crate::manager::Shared;
 use crate::marking::{Lows, past, past_other};
 use crate::row_reads::Contents;
@@ -95,8 +96,7 @@ impl Shared {
         claim: FoundClaim,
         whole: bool,
     ) -> Stand
-        requires own { IsSeatOf self.now.words seat.old }
-        requires steady { Steady (table_limits self.now.words) (view_of seat.old) }
+        requires steady { IsSteady self.now.words seat.old }
         requires row { row < rows_of (table_limits self.now.words) }
         requires found { (claim_value claim.tells ≡ claim_word (seen_by seat.old) row)
             × IsFitClaim (claim_value claim.tells) }
@@ -152,8 +152,7 @@ impl Shared {
         stage: u8,
         unit: u16,
     ) -> Option<Taken>
-        requires own { IsSeatOf self.now.words seat.old }
-        requires steady { Steady (table_limits self.now.words) (view_of seat.old) }
+        requires steady { IsSteady self.now.words seat.old }
         requires row { row.old < rows_of (table_limits self.now.words) }
         requires low { low.old ≤ row.old }
         requires stage { IsServerStage stage }
@@ -205,55 +204,6 @@ impl Shared {
         }
     }
 
-    /// The unit takes the first element of a part that waits in the stage. The scan starts at the part's
-    /// mark, after the row that the pass has consumed last where that comes first, and raises the mark.
-    fn scan_from_mark(
-        &self,
-        seat: &mut Seat,
-        lows: &mut Lows,
-        part: u16,
-        done: Option<u32>,
-        stage: u8,
-        unit: u16,
-    ) -> Option<Taken>
-        requires own { IsSeatOf self.now.words seat.old }
-        requires steady { Steady (table_limits self.now.words) (view_of seat.old) }
-        requires remembers { Remembers stage (view_of seat.old) lows.old }
-        requires part { part < (table_limits self.now.words).parts }
-        requires done { RemembersDone (view_of seat.old) done }
-        requires stage { IsServerStage stage }
-        requires spare { IsSpare unit (view_of seat.old) × (unit < 65535) }
-        ensures same { IsSameSeat seat.old seat.new }
-        ensures remembers { Remembers stage (view_of seat.new) lows.new }
-        ensures lows { RisesAt part lows.old lows.new }
-        ensures rests { let l = table_limits self.now.words in
-            RestsAt l stage part (slice_index lows.new part) (view_of seat.old) (view_of seat.new) }
-        ensures inside { let l = table_limits self.now.words in
-            IfSome result (λ t. t.element.id < part * l.rows + l.rows) }
-        ensures told { let l = table_limits self.now.words in
-            let n = 2 + (l.rows - slice_index lows.old part) * try_steps in MatchOption result
-            (Sought l n (OfPart l (PassedBy l stage) part) (view_of seat.old) (view_of seat.new))
-            (λ t. Took l n (part * l.rows) stage unit (view_of seat.old)
-            (view_of seat.new) t.element t.attempt
-            × (t.element.root ≡ t.root)) }
-    {
-        let mark = self.low_at(seat, lows, stage, part);
-        let rows = self.places.limits.rows as u32;
-        let first = part as u32 * rows;
-        let end = first + rows;
-        let begin = past_done(first + lows[part as usize] as u32, end, done);
-        let mut low = begin;
-        let mut row = begin;
-        while row < end {
-            if let Some(taken) = self.try_row(seat, &mut row, &mut low, stage, unit) {
-                self.raise_low(seat, lows, stage, part, mark, low);
-                return Some(taken);
-            }
-        }
-        self.raise_low(seat, lows, stage, part, mark, low);
-        None
-    }
-
     /// The unit takes the first element of a part that waits in the stage. One look where no row has a head
     /// from the mark on that the pass remembers. Where the part begins, and how long it is, is handed down,
     /// since an Idle claim does little more than this.
@@ -262,6 +212,7 @@ impl Shared {
         &self,
         seat: &mut Seat,
         lows: &mut Lows,
+        gaps: &mut Gaps,
         part: u16,
         first: u32,
         rows: u32,
@@ -269,9 +220,9 @@ impl Shared {
         stage: u8,
         unit: u16,
     ) -> Option<Taken>
-        requires own { IsSeatOf self.now.words seat.old }
-        requires steady { Steady (table_limits self.now.words) (view_of seat.old) }
+        requires steady { IsSteady self.now.words seat.old }
         requires remembers { Remembers stage (view_of seat.old) lows.old }
+        requires gaps { RemembersGaps stage (view_of seat.old) gaps.old }
         requires part { part < (table_limits self.now.words).parts }
         requires first { let l = table_limits self.now.words in (first ≡ part * l.rows) × (rows ≡ l.rows) }
         requires done { RemembersDone (view_of seat.old) done }
@@ -279,6 +230,7 @@ impl Shared {
         requires spare { IsSpare unit (view_of seat.old) × (unit < 65535) }
         ensures same { IsSameSeat seat.old seat.new }
         ensures remembers { Remembers stage (view_of seat.new) lows.new }
+        ensures gaps { RemembersGaps stage (view_of seat.new) gaps.new }
         ensures lows { RisesAt part lows.old lows.new }
         ensures rests { let l = table_limits self.now.words in
             RestsAt l stage part (slice_index lows.new part) (view_of seat.old) (view_of seat.new) }
@@ -295,7 +247,7 @@ impl Shared {
         if self.is_bare_to(seat, part, row, first + rows, done) {
             return None;
         }
-        self.scan_from_mark(seat, lows, part, done, stage, unit)
+        self.scan_from_mark(seat, lows, gaps, part, done, stage, unit)
     }
 
     /// The first part that has a row which the pass doesn't know finished, or else the last part. No step.
@@ -303,6 +255,8 @@ impl Shared {
     fn first_open(&self, lows: &Lows) -> u16
         ensures part { result < (table_limits self.now.words).parts }
         ensures finished { AreFinished (table_limits self.now.words) lows.now result }
+        ensures open { result + 1 < (table_limits self.now.words).parts
+            → ¬ (slice_index lows.now result ≡ (table_limits self.now.words).rows) }
     {
         let limits = self.places.limits;
         let last = limits.parts - 1;
@@ -320,18 +274,20 @@ impl Shared {
         &self,
         seat: &mut Seat,
         lows: &mut Lows,
+        gaps: &mut Gaps,
         done: Option<u32>,
         stage: u8,
         unit: u16,
     ) -> Option<Taken>
-        requires own { IsSeatOf self.now.words seat.old }
-        requires steady { Steady (table_limits self.now.words) (view_of seat.old) }
+        requires steady { IsSteady self.now.words seat.old }
         requires remembers { Remembers stage (view_of seat.old) lows.old }
+        requires gaps { RemembersGaps stage (view_of seat.old) gaps.old }
         requires done { RemembersDone (view_of seat.old) done }
         requires stage { IsServerStage stage }
         requires spare { IsSpare unit (view_of seat.old) × (unit < 65535) }
         ensures same { IsSameSeat seat.old seat.new }
         ensures remembers { Remembers stage (view_of seat.new) lows.new }
+        ensures gaps { RemembersGaps stage (view_of seat.new) gaps.new }
         ensures lows { NoneFalls lows.old lows.new }
         ensures rests { let l = table_limits self.now.words in
             RestInParts l stage lows.new (view_of seat.old) (view_of seat.new) result }
@@ -345,8 +301,15 @@ impl Shared {
         let rows = self.places.limits.rows as u32;
         let begin = self.first_open(lows);
         let mut first = begin as u32 * rows;
+        let last = self.places.limits.parts - 1;
         for part in begin..self.places.limits.parts {
-            if let Some(taken) = self.scan_part(seat, lows, part, first, rows, done, stage, unit) {
+            if lows[part as usize] == self.places.limits.rows && part != last {
+                first += rows;
+                continue;
+            }
+            if let Some(taken) = self.scan_part(
+                seat, lows, gaps, part, first, rows, done, stage, unit,
+            ) {
                 return Some(taken);
             }
             first += rows;
@@ -359,13 +322,14 @@ impl Shared {
         &self,
         seat: &mut Seat,
         lows: &mut Lows,
+        gaps: &mut Gaps,
         drawn: &mut u16,
         stage: u8,
         unit: u16,
     ) -> Option<Taken>
-        requires own { IsSeatOf self.now.words seat.old }
-        requires steady { Steady (table_limits self.now.words) (view_of seat.old) }
+        requires steady { IsSteady self.now.words seat.old }
         requires remembers { Remembers stage (view_of seat.old) lows.old }
+        requires gaps { RemembersGaps stage (view_of seat.old) gaps.old }
         requires drawn { RemembersDrawn (view_of seat.old) drawn.old }
         requires stage { IsServerStage stage }
         requires spare { IsSpare unit (view_of seat.old) × (unit < 65535) }
@@ -373,6 +337,7 @@ impl Shared {
         ensures drawn { RemembersDrawn (view_of seat.new) drawn.new }
         ensures risen { drawn.old ≤ drawn.new }
         ensures remembers { Remembers stage (view_of seat.new) lows.new }
+        ensures gaps { RemembersGaps stage (view_of seat.new) gaps.new }
         ensures lows { RisesAt (table_limits self.now.words).parts lows.old lows.new }
         ensures rests { let l = table_limits self.now.words in let end = block_first l drawn.new in
             SpareRests l stage end (slice_index lows.new l.parts) (view_of seat.old) (view_of seat.new) }
@@ -385,7 +350,7 @@ impl Shared {
         let Some(end) = self.blocks_end(seat, drawn) else {
             return None;
         };
-        self.scan_spare(seat, lows, end, stage, unit)
+        self.scan_spare(seat, lows, gaps, end, stage, unit)
     }
 
     /// The unit takes the first element that waits in the stage.
@@ -393,20 +358,22 @@ impl Shared {
         &self,
         seat: &mut Seat,
         lows: &mut Lows,
+        gaps: &mut Gaps,
         drawn: &mut u16,
         done: Option<u32>,
         stage: u8,
         unit: u16,
     ) -> Option<Taken>
-        requires own { IsSeatOf self.now.words seat.old }
-        requires steady { Steady (table_limits self.now.words) (view_of seat.old) }
+        requires steady { IsSteady self.now.words seat.old }
         requires remembers { Remembers stage (view_of seat.old) lows.old }
+        requires gaps { RemembersGaps stage (view_of seat.old) gaps.old }
         requires drawn { RemembersDrawn (view_of seat.old) drawn.old }
         requires done { RemembersDone (view_of seat.old) done }
         requires stage { IsServerStage stage }
         requires spare { IsSpare unit (view_of seat.old) × (unit < 65535) }
         ensures same { IsSameSeat seat.old seat.new }
         ensures remembers { Remembers stage (view_of seat.new) lows.new }
+        ensures gaps { RemembersGaps stage (view_of seat.new) gaps.new }
         ensures drawn { RemembersDrawn (view_of seat.new) drawn.new }
         ensures risen { drawn.old ≤ drawn.new }
         ensures lows { NoneFalls lows.old lows.new }
@@ -421,9 +388,9 @@ impl Shared {
             (λ t. Took l n 0 stage unit (view_of seat.old) (view_of seat.new) t.element t.attempt
             × (t.element.root ≡ t.root)) }
     {
-        if let Some(taken) = self.scan_parts(seat, lows, done, stage, unit) {
+        if let Some(taken) = self.scan_parts(seat, lows, gaps, done, stage, unit) {
             return Some(taken);
         }
-        self.scan_blocks(seat, lows, drawn, stage, unit)
+        self.scan_blocks(seat, lows, gaps, drawn, stage, unit)
     }
 }

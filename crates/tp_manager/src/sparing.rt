@@ -3,15 +3,16 @@ ghost use Rattle.std.specs.Prelude.{◌≡◌, ◌+◌, ◌-◌, ◌*◌, ◌<�
 ghost use Rattle.tp_model.specs.declared.types.TheConstants.{BLOCK_ROWS};
 ghost use Rattle.tp_model.specs.Steps.{part_rows, rows_of, IsServerStage};
 ghost use Rattle.tp_rule.specs.Views.{seen_by, view_of, IsSameSeat};
-ghost use Rattle.tp_rule.specs.Tables.{table_limits, IsSeatOf};
+ghost use Rattle.tp_rule.specs.Tables.{table_limits};
+ghost use Rattle.tp_manager.specs.CallSteps.{IsSteady};
 ghost use Rattle.tp_manager.specs.Bounds.{look_steps, try_steps};
 ghost use Rattle.tp_manager.specs.Finds.{Hits, PassedOver};
 ghost use Rattle.tp_manager.specs.Spares.{Passed, SpareRests};
-ghost use Rattle.tp_manager.specs.CallSteps.{Steady};
-ghost use Rattle.tp_manager.specs.Marks.{Remembers, RisesAt};
+ghost use Rattle.tp_manager.specs.Marks.{Remembers, RemembersGaps, RisesAt};
 ghost use Rattle.tp_manager.specs.Scans.{IsSpare, NoneBehind, PassedBy, Took};
 
 use crate::error_queue::later;
+use crate::gaps::Gaps;
 use crate::manager::Shared;
 use crate::marking::Lows;
 use crate::scanning::Taken;
@@ -19,24 +20,27 @@ use tp_rule::Seat;
 
 impl Shared {
     /// The unit takes the first element of the spare blocks that waits in the stage, where nothing was born
-    /// from row `end` on. The scan starts at the mark of the spare rows, and raises it.
+    /// from row `end` on. The scan starts at the mark of the spare rows, and raises it. Behind a row that may be of
+    /// use it goes on past their gap.
     pub(crate) fn scan_spare(
         &self,
         seat: &mut Seat,
         lows: &mut Lows,
+        gaps: &mut Gaps,
         end: u32,
         stage: u8,
         unit: u16,
     ) -> Option<Taken>
-        requires own { IsSeatOf self.now.words seat.old }
-        requires steady { Steady (table_limits self.now.words) (view_of seat.old) }
+        requires steady { IsSteady self.now.words seat.old }
         requires remembers { Remembers stage (view_of seat.old) lows.old }
+        requires gaps { RemembersGaps stage (view_of seat.old) gaps.old }
         requires end { let l = table_limits self.now.words in
             (part_rows l ≤ end) × (end ≤ rows_of l) × NoneBehind l end (view_of seat.old) }
         requires stage { IsServerStage stage }
         requires spare { IsSpare unit (view_of seat.old) × (unit < 65535) }
         ensures same { IsSameSeat seat.old seat.new }
         ensures remembers { Remembers stage (view_of seat.new) lows.new }
+        ensures gaps { RemembersGaps stage (view_of seat.new) gaps.new }
         ensures lows { RisesAt (table_limits self.now.words).parts lows.old lows.new }
         ensures rests { let l = table_limits self.now.words in
             SpareRests l stage end (slice_index lows.new l.parts) (view_of seat.old) (view_of seat.new) }
@@ -56,6 +60,15 @@ impl Shared {
                 self.raise_low(seat, lows, stage, part, mark, low);
                 return Some(taken);
             }
+            if low < row && row < end {
+                self.raise_low(seat, lows, stage, part, mark, low);
+                let at = 2 * part as usize;
+                let mut gap = (gaps[at], gaps[at + 1]);
+                let found = self.scan_behind(seat, &mut gap, row, end, None, stage, unit);
+                gaps[at] = gap.0;
+                gaps[at + 1] = gap.1;
+                return found;
+            }
         }
         self.raise_low(seat, lows, stage, part, mark, low);
         None
@@ -71,8 +84,7 @@ impl Shared {
         end: u32,
         from: u32,
     ) -> Option<u32>
-        requires own { IsSeatOf self.now.words seat.old }
-        requires steady { Steady (table_limits self.now.words) (view_of seat.old) }
+        requires steady { IsSteady self.now.words seat.old }
         requires remembers { Remembers 0 (view_of seat.old) lows.old }
         requires end { let l = table_limits self.now.words in
             (part_rows l ≤ end) × (end ≤ rows_of l) × NoneBehind l end (view_of seat.old) }

@@ -39,6 +39,7 @@ impl Manager {
         ensures own { IsOf self.now pass.new }
         ensures turn { pass.new.from ≡ pass.old.from }
         ensures follows { Follows (submit_steps self.now.limits) pass.old pass.new }
+        ensures lean { 0 < pass.old.left → Follows next_steps pass.old pass.new }
         ensures open_unit { pass.new.open_unit ≡ pass.old.open_unit }
         ensures answer { MatchResult result
             (λ id. Submits id stage body pass.old pass.new)

@@ -11,12 +11,12 @@ ghost use Rattle.tp_model.specs.declared.types.Status.TheVariants.{Waiting};
 ghost use Rattle.tp_model.specs.Steps.{rows_of};
 ghost use Rattle.tp_rule.specs.Steps.{HasElement};
 ghost use Rattle.tp_rule.specs.Views.{seen_by, view_of, IsSameSeat};
-ghost use Rattle.tp_rule.specs.Tables.{table_limits, IsSeatOf};
+ghost use Rattle.tp_rule.specs.Tables.{table_limits};
 ghost use Rattle.tp_manager.specs.Bounds.{root_steps, stride_steps};
 ghost use Rattle.tp_words.specs.Words.{head_of};
 ghost use Rattle.tp_manager.specs.Families.{IsAsked, IsFound, Followed, Listed};
 ghost use Rattle.tp_manager.specs.RowSets.{IsEmpty};
-ghost use Rattle.tp_manager.specs.CallSteps.{Acted, Looked, Steady};
+ghost use Rattle.tp_manager.specs.CallSteps.{Acted, IsSteady, Looked};
 
 use crate::ahead::Ahead;
 use crate::manager::Shared;
@@ -110,8 +110,7 @@ impl Shared {
     /// Whether a client's element is born in the row. One step.
     #[inline(always)]
     pub(crate) fn is_request(&self, seat: &mut Seat, row: u32) -> bool
-        requires own { IsSeatOf self.now.words seat.old }
-        requires steady { Steady (table_limits self.now.words) (view_of seat.old) }
+        requires steady { IsSteady self.now.words seat.old }
         requires row { row < rows_of (table_limits self.now.words) }
         ensures same { IsSameSeat seat.old seat.new }
         ensures acted { Acted (table_limits self.now.words) root_steps (view_of seat.old) (view_of seat.new) }
@@ -135,8 +134,7 @@ impl Shared {
     /// What a walk finds at the element of a row that was found untaken: whether it is a reply. One step.
     #[inline(always)]
     fn look_untaken(&self, seat: &mut Seat, row: u32) -> Found
-        requires own { IsSeatOf self.now.words seat.old }
-        requires steady { Steady (table_limits self.now.words) (view_of seat.old) }
+        requires steady { IsSteady self.now.words seat.old }
         requires row { (row < rows_of (table_limits self.now.words)) × HasElement (seen_by seat.old) row }
         requires waits { status_of (table_limits self.now.words).attempts (seen_by seat.old) row ≡ Waiting 0 }
         ensures same { IsSameSeat seat.old seat.new }
@@ -155,8 +153,7 @@ impl Shared {
     /// What a walk finds at the element that is born in the row. At most two steps.
     #[inline(always)]
     fn look_on(&self, seat: &mut Seat, row: u32) -> Found
-        requires own { IsSeatOf self.now.words seat.old }
-        requires steady { Steady (table_limits self.now.words) (view_of seat.old) }
+        requires steady { IsSteady self.now.words seat.old }
         requires row { (row < rows_of (table_limits self.now.words)) × HasElement (seen_by seat.old) row }
         ensures same { IsSameSeat seat.old seat.new }
         ensures looked { Looked (table_limits self.now.words) stride_steps (view_of seat.old)
@@ -194,8 +191,7 @@ impl Shared {
         root: u32,
         from: u32,
     ) -> Option<u32>
-        requires own { IsSeatOf self.now.words seat.old }
-        requires steady { Steady (table_limits self.now.words) (view_of seat.old) }
+        requires steady { IsSteady self.now.words seat.old }
         requires request { (root < rows_of (table_limits self.now.words))
             × IsRequest (seen_by seat.old) root }
         requires none { IsEmpty rows.old }
@@ -227,8 +223,7 @@ impl Shared {
         root: u32,
         from: u32,
     ) -> Option<u32>
-        requires own { IsSeatOf self.now.words seat.old }
-        requires steady { Steady (table_limits self.now.words) (view_of seat.old) }
+        requires steady { IsSteady self.now.words seat.old }
         requires request { (root < rows_of (table_limits self.now.words))
             × IsRequest (seen_by seat.old) root }
         requires none { IsEmpty rows.old }

@@ -13,7 +13,7 @@ use Rattle.tp_model.specs.Families.{ClosedHasFamily, ComesFrom, FamilyIsTree, Is
 use Rattle.tp_model.specs.Steps.{MayCommit, Step, IsLegal}
 use Rattle.tp_model.proofs.Lists.{if_same, option_or-some}
 use Rattle.tp_model.proofs.Histories.{by_steps, element_of-kept, element_of-snoc, legal_more, open_holds, settled_stays, status_of-snoc}
-use Rattle.tp_model.proofs.Bridges.{begins_refl, begins_trans, born_either, born_later, element_of-id, end_stays, find_in, in_none, in_one, is_born, outputs_place, taking_later}
+use Rattle.tp_model.proofs.Bridges.{begins_refl, begins_trans, born_either, born_later, element_of-id, end_stays, find_in, found_later, in_none, in_one, is_born, outputs_place, taking_later}
 use Rattle.tp_model.proofs.Later.{ends_by, output_at}
 use Rattle.tp_model.proofs.WordProofs.{end_of-snoc}
 
@@ -79,6 +79,21 @@ module _ (l : Limits) where
       more h e legal step old x is = ⊎_elim
           (λ before. ⊎_elim (λ r. inl r) (λ f. inr (comes_later h (h ++ e ∷ []) x (legal_more l h e legal step) (e ∷ [], refl) f)) (old x before))
           (λ new. ⊎_elim (λ r. inl r) (λ f. inr f.0) (made_from h e legal step x new))
+          (born_either x h e is)
+
+  -- the root of an element that is born is born
+  pub root_born : (h : List Event) → IsLegal l h → (x : Element) → IsBorn h x → (r : Element) × (element_of h x.root ≡ Some r)
+  root_born h legal = by_steps l (λ z. (x : Element) → IsBorn z x → (r : Element) × (element_of z x.root ≡ Some r)) (λ x is. absurd cc) more h legal
+    where
+      more : (h : List Event) (e : Event) → IsLegal l h → Step l h e → ((x : Element) → IsBorn h x → (r : Element) × (element_of h x.root ≡ Some r))
+          → (x : Element) → IsBorn (h ++ e ∷ []) x → (r : Element) × (element_of (h ++ e ∷ []) x.root ≡ Some r)
+      more h e legal step old x is =
+          let later : (y : Element) → IsBorn h y → (r : Element) × (element_of (h ++ e ∷ []) y.root ≡ Some r) = λ y born. (let t = old y born in (t.0, found_later h (h ++ e ∷ []) (e ∷ [], refl) y.root t.0 t.1)) in
+          ⊎_elim (later x)
+          (λ new. ⊎_elim
+          (λ own. (x, ap (element_of (h ++ e ∷ [])) (sym own.0) ∙ is))
+          (λ f. (let t = later f.0.parent f.1 in (t.0, ap (element_of (h ++ e ∷ [])) (sym f.0.root) ∙ t.1)))
+          (made_from h e legal step x new))
           (born_either x h e is)
 
 pub family_is_tree : FamilyIsTree

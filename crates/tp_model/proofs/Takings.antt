@@ -82,7 +82,7 @@ claimer_of u (Abort c v) t is = absurd cc
 claimer_of u (Kill c i) t is = absurd cc
 claimer_of u (Requeue c i k) t is = absurd cc
 
-own_claim : (h : List Event) (u : ℕ) (t : UnitClaim) → claim_of h u ≡ Some t → claim_of (events_by t.pass h) u ≡ Some t
+pub own_claim : (h : List Event) (u : ℕ) (t : UnitClaim) → claim_of h u ≡ Some t → claim_of (events_by t.pass h) u ≡ Some t
 own_claim [] u t is = absurd cc
 own_claim (e ∷ h) u t is = ⊎_elim
     (λ p. let rest = events_by t.pass h in

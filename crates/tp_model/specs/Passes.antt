@@ -1,5 +1,5 @@
 -- What a pass shows to contracts, and the points of its calls.
-use Rattle.std.specs.Prelude.{◌≡◌, ◌⊎◌, ℕ, ◌+◌, ◌<◌, ◌≤◌, Bool, true, false, if◌then◌else◌, Option, Some}
+use Rattle.std.specs.Prelude.{◌≡◌, ◌⊎◌, ℕ, ◌+◌, ◌<◌, ◌≤◌, Bool, true, false, if◌then◌else◌, Option, None, Some}
 use Rattle.std.specs.Prelude.{List, [], ◌∷◌}
 use mathlib.Core.List.{IsPrefix}
 use Rattle.tp_model.specs.declared.types.Limits.{Limits}
@@ -33,6 +33,10 @@ pub record IsOwnOpen (h : List Event) (c u : ℕ) : Type 0 where
   pub uncommitted : (first count : ℕ) → ¬ (end_of h u ≡ Some (Committed first count))
   pub kept : ¬ In (Abort c u) h
 
+-- every unit that pass c took has ended, but the one that it has open
+abbrev pub AreEnded : List Event → ℕ → Option ℕ → Type 0
+AreEnded h c unit = (u i n : ℕ) → IsClaim h c u i n → ¬ (unit ≡ Some u) → ¬ (end_of h u ≡ None)
+
 -- these numbers ascend, and are at least `low` and below `high`
 abbrev pub Ascend : ℕ → ℕ → List ℕ → Type 0
 Ascend low high [] = Unit {0}
@@ -60,13 +64,15 @@ pub record IsRun (l : Limits) (h : List Event) (c : ℕ) (blocks : List ℕ) (ne
   pub usable : (i : ℕ) → next ≤ i → i < next + left → MayUse l h c i
 
 -- it has seen a legal history; its own events are those of that history with its number; the rows that are
--- left to it are a run there; and its open unit is there its own, not committed, and not aborted by itself
+-- left to it are a run there; its open unit is there its own, not committed, and not aborted by itself; and its
+-- other units have ended there
 pub record IsPassView (l : Limits) (v : PassView) : Type 0 where
   pub given : v.number < l.parts
   pub legal : IsLegal l v.seen
   pub own : v.mine ≡ events_by v.number v.seen
   pub run : IsRun l v.seen v.number v.blocks v.next v.left
   pub open_own : (u : ℕ) → v.open_unit ≡ Some u → IsOwnOpen v.seen v.number u
+  pub ended : AreEnded v.seen v.number v.open_unit
 
 -- whether a step looks at the table: what it finds or changes there is tied to what is seen after it. A draft
 -- store sees nothing, the load that cuts or joins seats says nothing, the choice of a unit finds nothing out

@@ -6,7 +6,7 @@ use Rattle.tp_server.specs.Behaviour.{Behaviour}
 use Rattle.tp_server.specs.Pending.{Pending}
 use Rattle.tp_manager.specs.Shown.{KeeperShown, ManagerShown, PassShown}
 use Rattle.tp_commands.specs.declared.place.Place.{Place}
-use Rattle.tp_perform.specs.GivingUp.{GiveUpAll, GiveUpBelow, GivesUp}
+use Rattle.tp_perform.specs.GivingUp.{GiveUpAll, GiveUpBelow, DeskGivesUp}
 use Rattle.tp_perform.specs.Scenes.{Scene}
 use Rattle.tp_perform.specs.Told.{AreReady, IsScene}
 use Rattle.tp_perform.proofs.Rounds.{places_long}
@@ -26,7 +26,7 @@ module _ {X : Type 0} {F : X → Type 0} (behaviour : DynBox X Global F → Beha
 
   abbrev pub GivenUpOne : ManagerShown → ℕ → KeeperShown → List PassShown → List Box → List (Place X F) → KeeperShown → List PassShown → List Box → List (Place X F) → Type 0
   GivenUpOne m n keeper ps ss os keeper' qs ts ns =
-      (old : Scene) × (new : Scene) × Is ps ss os old × GivesUp m n keeper old keeper' new × Is qs ts ns new
+      (old : Scene) × (new : Scene) × Is ps ss os old × DeskGivesUp m n keeper old keeper' new × Is qs ts ns new
 
   -- before the first
   pub given_none : (m : ManagerShown) (keeper : KeeperShown) (ps : List PassShown) (ss : List Box) (os : List (Place X F)) → 1 ≤ length ps → GivenUp m 0 keeper ps ss os keeper ps ss os
@@ -39,7 +39,7 @@ module _ {X : Type 0} {F : X → Type 0} (behaviour : DynBox X Global F → Beha
       → GivenUp m n keeper ps ss os kept qs ts ns → GivenUpOne m n kept qs ts ns keeper' rs us vs → GivenUp m (n + 1) keeper ps ss os keeper' rs us vs
   given_more m n keeper kept keeper' ps qs rs ss ts us os ns vs t o =
       let same : o.0 ≡ t.1 = one_scene behaviour registers pending qs ts ns o.0 t.1 o.2 t.4 in
-      let one : GivesUp m n kept t.1 keeper' o.1 = subst (λ z. GivesUp m n kept z keeper' o.1) same o.3 in
+      let one : DeskGivesUp m n kept t.1 keeper' o.1 = subst (λ z. DeskGivesUp m n kept z keeper' o.1) same o.3 in
       let all : GiveUpBelow m (suc n) keeper t.0 keeper' o.1 = (kept, t.1, t.3, one) in
       let next : suc n ≡ n + 1 = omega arith in
       (t.0, o.1, t.2, subst (λ k. GiveUpBelow m k keeper t.0 keeper' o.1) next all, o.4)

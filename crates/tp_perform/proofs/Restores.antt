@@ -15,7 +15,7 @@ use Rattle.tp_plain.specs.OneThread.{start}
 use Rattle.tp_alone.specs.Thread.{thread_of}
 use Rattle.tp_rollover.specs.Anew.{made_anew}
 use Rattle.tp_rollover.specs.Faults.{AreFree}
-use Rattle.tp_rollover.specs.Carries.{IsMade}
+use Rattle.tp_rollover.specs.Carries.{IsAsComputed}
 use Rattle.tp_rollover.specs.Managed.{IsManaged, IsUnrestored}
 use Rattle.tp_rollover.specs.Survivors.{AreHands, Restores}
 use Rattle.tp_rollover.proofs.Carrying.{each_of}
@@ -37,7 +37,7 @@ use Rattle.tp_perform.proofs.Slices.{scene_there}
 
 -- why none was made is why it was refused, where no unit was open
 pub refused_as : {A C : Type 0} (l k : Limits) (passes : List PassShown) (survivors : List Survivor) (why : RollFault) (value : A → C) (computed : Option C)
-    → AreLimits l → k ≡ l → AreFree passes → (computed ≡ None → made_anew k k.parts survivors (start k) ≡ None) → IsUnrestored k why → IsMade (Err why) value computed → IsUnrestoredFor l survivors passes why
+    → AreLimits l → k ≡ l → AreFree passes → (computed ≡ None → made_anew k k.parts survivors (start k) ≡ None) → IsUnrestored k why → IsAsComputed (Err why) value computed → IsUnrestoredFor l survivors passes why
 refused_as l k passes survivors faults.NoMemory value computed limits same free none due made = free
 refused_as l k passes survivors faults.BadLimits value computed limits same free none due made = absurd (due (subst AreLimits (sym same) limits))
 refused_as l k passes survivors faults.NoPass value computed limits same free none due made = absurd due

@@ -25,11 +25,11 @@ use Rattle.tp_alone.proofs.Apart.{number_in}
 use Rattle.tp_rollover.specs.Answers.{Rolls}
 use Rattle.tp_rollover.specs.Carries.{Carries}
 use Rattle.tp_rollover.specs.Faults.{AreFree}
-use Rattle.tp_rollover.specs.Managed.{GoesOn, IsManaged, StaysManaged}
+use Rattle.tp_rollover.specs.Managed.{GoesOnAnew, IsManaged, StaysManaged}
 use Rattle.tp_rollover.proofs.Carrying.{each_of}
 use Rattle.tp_rollover.proofs.Heads.{stay_same}
 use Rattle.tp_rollover.proofs.Lists.{in_at}
-use Rattle.tp_rollover.specs.Hands.{HasOpen, IsHeldBy, holder_of}
+use Rattle.tp_rollover.specs.Hands.{HasOpen, NamesHolder, holder_of}
 use Rattle.tp_rollover.specs.declared.moved.RollFault.{RollFault}
 use Rattle.tp_rollover.specs.declared.managed.Managed.{Managed}
 use Rattle.tp_rollover.specs.declared.moved.Moved.{Moved}
@@ -83,7 +83,7 @@ front_free n ps from each = λ k d less.
     each (get_or (take n ps) k d) t.0 (let low = t.1 in omega (arith, low))
 
 -- who is named as a holder had a unit open
-held_of : (l : Limits) (st : Status) (c : ℕ) → IsHeldBy l st (Some c) → (u : ℕ) × (n : ℕ) × (st ≡ Held u n) × (holder_of l u ≡ c)
+held_of : (l : Limits) (st : Status) (c : ℕ) → NamesHolder l st (Some c) → (u : ℕ) × (n : ℕ) × (st ≡ Held u n) × (holder_of l u ≡ c)
 held_of l (Waiting n) c is = absurd cc
 held_of l (Held u n) c is = (u, n, refl, cc)
 held_of l (Consumed u) c is = absurd cc
@@ -94,11 +94,11 @@ held_of l Killed c is = absurd cc
 pub idle_on : (l k : Limits) (old' new' : KeeperShown) (olds olds' news : List PassShown) (moved : List Moved) → Rolls l k old' new' olds olds' news moved → (q : PassShown) → In q news → ¬ HasOpen olds q.number → q.open_unit ≡ None
 idle_on l k old' new' olds olds' news moved r q p none = r.holders.free q p (λ named.
     let m = named.0 in
-    let held = held_of l (status_of l.attempts r.before m.old) q.number (subst (IsHeldBy l (status_of l.attempts r.before m.old)) named.2 (r.hands.named m named.1)) in
+    let held = held_of l (status_of l.attempts r.before m.old) q.number (subst (NamesHolder l (status_of l.attempts r.before m.old)) named.2 (r.hands.named m named.1)) in
     none (subst (HasOpen olds) held.3 (r.hands.had m named.1 held.0 held.1 held.2)))
 
 -- those of the program have none there, where they had none
-pub gone_free : (own : ℕ) (old new : Managed) (moved : List Moved) → IsManaged old → IsManaged new → GoesOn old new moved → AreFree (take own old.passes.items) → AreFree (take own new.passes.items)
+pub gone_free : (own : ℕ) (old new : Managed) (moved : List Moved) → IsManaged old → IsManaged new → GoesOnAnew old new moved → AreFree (take own old.passes.items) → AreFree (take own new.passes.items)
 gone_free own old new moved was is on free = front_free own new.passes.items is.all.1 (λ q p less.
     idle_on old.manager.limits new.manager.limits on.keeper new.keeper old.passes.items on.passes new.passes.items moved on.rolls q p (λ has.
     let none = each_of Free (take own old.passes.items) has.0 free (low_front 0 own old.passes.items has.0 was.all.1 has.1 (let same = has.2 in omega (arith, same, less))) in
@@ -213,7 +213,7 @@ module _ {X : Type 0} {F : X → Type 0} (behaviour : DynBox X Global F → Beha
       omega (arith, long, one, two, three, four, five, six)
 
   -- where it went on
-  module _ (old new : Managed) (moved : List Moved) (ss : List Box) (os ns : List (Place X F)) (managed : IsManaged old) (managed' : IsManaged new) (on : GoesOn old new moved)
+  module _ (old new : Managed) (moved : List Moved) (ss : List Box) (os ns : List (Place X F)) (managed : IsManaged old) (managed' : IsManaged new) (on : GoesOnAnew old new moved)
       (idle : AreFree (take (1 + length ss) old.passes.items)) (free : AreFree (take (1 + length ss) new.passes.items))
       (ready : AreReady behaviour registers pending old.manager old.passes.items ss os) (enough : 1 + length ss ≤ length old.passes.items)
       (lie : Lie (workers (length ss) new.passes.items) ss ns) (began : firsts ns ≡ all_firsts (workers (length ss) new.passes.items) ss)

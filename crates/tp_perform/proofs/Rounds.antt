@@ -14,7 +14,7 @@ use Rattle.tp_commands.specs.Places.{AllLie, workers}
 use Rattle.tp_perform.specs.Drains.{Drains, Round, RoundsClaim, Turn, TurnsBelow}
 use Rattle.tp_perform.specs.Scenes.{Scene, passes_in}
 use Rattle.tp_perform.specs.Told.{AreReady, IsScene}
-use Rattle.tp_perform.specs.Units.{units_left}
+use Rattle.tp_perform.specs.Units.{all_units_left}
 use Rattle.tp_perform.proofs.Chains.{all_steady}
 use Rattle.tp_perform.proofs.Gatherings.{all_in}
 use Rattle.tp_perform.proofs.Slices.{one_scene, scene_there}
@@ -77,12 +77,12 @@ module _ {X : Type 0} {F : X → Type 0} (behaviour : DynBox X Global F → Beha
 
   -- what a turn uses up
   pub units_used : (order : Order) (m : ManagerShown) (n : ℕ) (keeper keeper' : KeeperShown) (ps qs : List PassShown) (ss ts : List Box) (os ns : List (Place X F)) (b : Bool) → Ready m ps ss os → Ready m qs ts ns
-      → TurnedOnce order m n keeper ps ss os b keeper' qs ts ns → count b + units_left m.limits qs ≡ units_left m.limits ps
+      → TurnedOnce order m n keeper ps ss os b keeper' qs ts ns → count b + all_units_left m.limits qs ≡ all_units_left m.limits ps
   units_used order m n keeper keeper' ps qs ss ts os ns b before after o =
       let was : passes_in o.0 ≡ ps = all_in behaviour registers pending m ps ss os o.0 before o.2 in
       let is : passes_in o.1 ≡ qs = all_in behaviour registers pending m qs ts ns o.1 after o.4 in
-      subst (λ z. count b + units_left m.limits z ≡ units_left m.limits ps) is
-      (turn_left order m n keeper keeper' o.0 o.1 b o.3 ∙ ap (units_left m.limits) was)
+      subst (λ z. count b + all_units_left m.limits z ≡ all_units_left m.limits ps) is
+      (turn_left order m n keeper keeper' o.0 o.1 b o.3 ∙ ap (all_units_left m.limits) was)
 
   -- a round
   abbrev pub WentRound : Order → ManagerShown → KeeperShown → List PassShown → List Box → List (Place X F) → Bool → KeeperShown → List PassShown → List Box → List (Place X F) → Type 0

@@ -10,16 +10,16 @@ use Rattle.tp_commands.specs.Acting.{IsSteadyPlace, StaysIn, TurnsIn}
 use Rattle.tp_perform.specs.Scenes.{Gathered, OnlyPlaces, Scene}
 
 -- whether a turn claimed an element
-abbrev pub has_claimed : Turned → Bool
-has_claimed turneds.Idle = false
-has_claimed turneds.NoUnit = false
-has_claimed other = true
+abbrev pub turn_claimed : Turned → Bool
+turn_claimed turneds.Idle = false
+turn_claimed turneds.NoUnit = false
+turn_claimed other = true
 
 -- the free desk at a place took a turn, and then all gathered
 pub record TurnTaken (order : Order) (m : ManagerShown) (at : ℕ) (keeper : KeeperShown) (old : Scene)
     (claimed : Bool) (keeper' : KeeperShown) (new : Scene) : Type 0 where
   pub turned : Turned
-  pub claimed_is : claimed ≡ has_claimed turned
+  pub claimed_is : claimed ≡ turn_claimed turned
   pub done : Scene
   pub turns : TurnsIn order m.limits at old.places turned done.places
   pub others : OnlyPlaces old done

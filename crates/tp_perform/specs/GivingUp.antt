@@ -5,7 +5,7 @@ use Rattle.tp_commands.specs.Acting.{GivesUpIn}
 use Rattle.tp_perform.specs.Scenes.{Gathered, OnlyPlaces, Scene}
 
 -- the desk at a place gave up what it had in hand, and then all gathered
-pub record GivesUp (m : ManagerShown) (at : ℕ) (keeper : KeeperShown) (old : Scene) (keeper' : KeeperShown)
+pub record DeskGivesUp (m : ManagerShown) (at : ℕ) (keeper : KeeperShown) (old : Scene) (keeper' : KeeperShown)
     (new : Scene) : Type 0 where
   pub done : Scene
   pub gives_up : GivesUpIn m.limits at old.places done.places
@@ -16,7 +16,7 @@ pub record GivesUp (m : ManagerShown) (at : ℕ) (keeper : KeeperShown) (old : S
 abbrev pub GiveUpBelow : ManagerShown → ℕ → KeeperShown → Scene → KeeperShown → Scene → Type 0
 GiveUpBelow m zero keeper old keeper' new = (keeper' ≡ keeper) × (new ≡ old)
 GiveUpBelow m (suc at) keeper old keeper' new = (kept : KeeperShown) × (between : Scene)
-    × GiveUpBelow m at keeper old kept between × GivesUp m at kept between keeper' new
+    × GiveUpBelow m at keeper old kept between × DeskGivesUp m at kept between keeper' new
 
 -- all of them
 abbrev pub GiveUpAll : ManagerShown → KeeperShown → Scene → KeeperShown → Scene → Type 0

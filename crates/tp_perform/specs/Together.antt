@@ -1,20 +1,23 @@
 -- A race: all free servers work, each on a thread of its own, beside clients and killers.
 use Rattle.std.specs.Prelude.{◌≡◌, ◌≤◌, ◌<◌, get_or, ℕ, ◌+◌, ◌*◌, Bool, true, false, List}
-use Rattle.std.specs.Prelude.{[], ◌∷◌, None, drop, length, replicate, take}
+use Rattle.std.specs.Prelude.{[], ◌∷◌, All, None, drop, length, replicate, take}
 use Rattle.std.specs.List.{AllZip}
+use Rattle.tp_model.specs.Steps.{IsServerStage}
 use Rattle.tp_model.specs.declared.types.Limits.{Limits}
+use Rattle.tp_model.specs.declared.types.TheConstants.{MAX_PART_ROWS}
 use Rattle.tp_manager.specs.Shown.{ManagerShown, PassShown}
 use Rattle.tp_workers.specs.declared.killer.KillJob.{KillJob}
 use Rattle.tp_workers.specs.declared.tally.Shift.{Shift}
 use Rattle.tp_workers.specs.Clients.{ClientRan, JobShown}
 use Rattle.tp_workers.specs.Desks.{TakesTurns}
 use Rattle.tp_workers.specs.Desks as workers
+use Rattle.tp_workers.specs.Free.{IsFreePass, numbers}
 use Rattle.tp_workers.specs.Killers.{KillerRan}
 use Rattle.tp_workers.specs.Plans.{least_first}
 use Rattle.tp_workers.specs.Ran.{RanEach}
 use Rattle.tp_commands.specs.declared.place.Place.{Place}
 use Rattle.tp_script.specs.declared.script.Race.{Race}
-use Rattle.tp_commands.specs.Acting.{PlaceShown, is_free, place_of}
+use Rattle.tp_commands.specs.Acting.{PlaceShown, is_free, place_of_desk}
 use Rattle.tp_commands.specs.Places.{is_free_at}
 
 -- ---- desks
@@ -26,7 +29,7 @@ ArePassed {X = X} {F = F} from to places = (i : ℕ) (d : Place X F) → from �
 
 -- the desk did this, and has nothing in hand
 pub record TookPart (Did : workers.Place → workers.Place → Type 0) (old new : PlaceShown) : Type 0 where
-  pub did : Did (place_of old.desk) (place_of new.desk)
+  pub did : Did (place_of_desk old.desk) (place_of_desk new.desk)
   pub none_left : new.desk.work ≡ None
   pub began : new.began ≡ old.began
   pub kept : new.is_dropped ≡ old.is_dropped
@@ -64,6 +67,20 @@ abbrev pub kill_job : ℕ → Race → List PassShown → KillJob
 kill_job rows plan clients =
     let first = first_number clients * rows in
     record { first = first; end = first + plan.clients * rows }
+
+-- passes that a race may have, whose manager has parts of so many rows: all are free, and there are enough for
+-- its clients
+pub record MayRace (m : ManagerShown) (rows : ℕ) (plan : Race) (racers : List PassShown) : Type 0 where
+  pub free : All (IsFreePass m) racers
+  pub enough : plan.clients ≤ length racers
+  pub most : length racers ≤ 510
+  pub few : rows ≤ MAX_PART_ROWS
+  pub stage : IsServerStage plan.stage
+
+-- free passes are free again, each with its number
+pub record AreStillFree (m : ManagerShown) (old new : List PassShown) : Type 0 where
+  pub free : All (IsFreePass m) new
+  pub numbered : numbers new ≡ numbers old
 
 -- clients of the first passes and killers of the others did their jobs, and so many submits were accepted
 pub record RacersRan (m : ManagerShown) (submits : List JobShown) (kills : List KillJob)

@@ -9,5 +9,5 @@ abbrev pub units_left_to : Limits → PassShown → ℕ
 units_left_to l p = l.units - claims_in p.mine
 
 -- those of all these passes
-abbrev pub units_left : Limits → List PassShown → ℕ
-units_left l passes = sum_by (units_left_to l) passes
+abbrev pub all_units_left : Limits → List PassShown → ℕ
+all_units_left l passes = sum_by (units_left_to l) passes

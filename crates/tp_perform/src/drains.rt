@@ -5,10 +5,10 @@ ghost use Rattle.tp_manager.specs.Shown.{IsKeptBy};
 ghost use Rattle.tp_workers.specs.Free.{numbers};
 ghost use Rattle.tp_commands.specs.Acting.{StaysIn, TurnsIn};
 ghost use Rattle.tp_commands.specs.Places.{firsts};
-ghost use Rattle.tp_perform.specs.Drains.{Drains, Round, Turn, has_claimed};
+ghost use Rattle.tp_perform.specs.Drains.{Drains, Round, Turn, turn_claimed};
 ghost use Rattle.tp_perform.specs.Scenes.{OnlyPlaces, Scene};
 ghost use Rattle.tp_perform.specs.Told.{AreReady, IsScene, units_held};
-ghost use Rattle.tp_perform.specs.Units.{units_left};
+ghost use Rattle.tp_perform.specs.Units.{all_units_left};
 
 use std::alloc::{AllocError, Global};
 use std::string::String;
@@ -76,7 +76,7 @@ fn round(
         × Round order manager.now keeper.old old result keeper.new new
         × IsScene behaviour registers pending passes.new servers.new places.new new }
     ensures fewer { result ≡ true
-        → units_left manager.now.limits passes.new < units_left manager.now.limits passes.old }
+        → all_units_left manager.now.limits passes.new < all_units_left manager.now.limits passes.old }
 {
     let mut claims = false;
     for at in 0..places.len() {
@@ -125,7 +125,7 @@ fn turn(
 
 /// Whether a turn claimed an element.
 fn claims(turned: Turned) -> bool
-    ensures { result ≡ has_claimed turned }
+    ensures { result ≡ turn_claimed turned }
 {
     match turned {
         Turned::Idle | Turned::NoUnit => false,

@@ -5,7 +5,7 @@ ghost use Rattle.tp_manager.specs.Shown.{IsKeptBy};
 ghost use Rattle.tp_workers.specs.Free.{numbers};
 ghost use Rattle.tp_commands.specs.Acting.{GivesUpIn};
 ghost use Rattle.tp_commands.specs.Places.{firsts};
-ghost use Rattle.tp_perform.specs.GivingUp.{GiveUpAll, GivesUp};
+ghost use Rattle.tp_perform.specs.GivingUp.{GiveUpAll, DeskGivesUp};
 ghost use Rattle.tp_perform.specs.Scenes.{OnlyPlaces, Scene};
 ghost use Rattle.tp_perform.specs.Told.{AreReady, IsScene, units_held};
 
@@ -69,7 +69,7 @@ fn give_up(
     ensures held { units_held (length servers.old) passes.new ≡ units_held (length servers.old) passes.old }
     ensures gives_up { (old : Scene) × (new : Scene)
         × IsScene behaviour registers pending passes.old servers.old places.old old
-        × GivesUp manager.now at keeper.old old keeper.new new
+        × DeskGivesUp manager.now at keeper.old old keeper.new new
         × IsScene behaviour registers pending passes.new servers.new places.new new }
 {
     give_up_of_all(manager, passes, servers, places, at);

@@ -14,5 +14,6 @@ pub mod rollover;
 pub use giving_up::give_up_all;
 pub use one_command::perform_next;
 pub use race_lines::race_next;
+pub use racing::Racing;
 pub use restoring::restore;
 pub use rollover::{gather_all, roll_over};

@@ -13,54 +13,50 @@ ghost use Rattle.tp_script.specs.Ranges.{IsInRange};
 ghost use Rattle.tp_script.specs.Script.{head_view};
 
 use crate::drains::drain_line;
-use std::alloc::{AllocError, Global};
+use std::alloc::AllocError;
 use std::string::String;
-use tp_commands::{Place, balance_line, client_line, desk_line, sum};
+use tp_commands::{Means, Place, balance_line, client_line, desk_line, sum};
 use tp_desk::Order;
-use tp_manager::{Keeper, Manager, Pass};
+use tp_manager::{Keeper, Pass};
 use tp_report::{Answer, line};
-use tp_script::{Command, Head};
+use tp_script::Command;
 use tp_server::Server;
 
 /// Performs a command that is no race, no drain and no rollover, and answers its line.
 fn command_line(
-    alloc: Global,
-    head: &Head,
-    manager: &Manager,
+    means: &Means,
     client: &mut Pass,
     passes: &mut [Pass],
     servers: &mut [Box<dyn Server + Send>],
     places: &mut [Place],
     command: Command,
 ) -> Result<String, AllocError>
-    requires client { IsFreePass manager.now client.old }
-    requires own { All (IsOf manager.now) passes.old }
+    requires client { IsFreePass means.now.manager.now client.old }
+    requires own { All (IsOf means.now.manager.now) passes.old }
     requires lie { AllLie behaviour registers pending passes.old servers.old places.old }
-    requires as_many { length places.old ≡ length head.now.servers.items }
-    requires in_range { IsInRange (length head.now.servers.items) command }
+    requires as_many { length places.old ≡ length means.now.head.now.servers.items }
+    requires in_range { IsInRange (length means.now.head.now.servers.items) command }
     requires no_race { is_race command ≡ false }
     requires no_rollover { is_rollover command ≡ false }
     requires no_drain { drain_order command ≡ None }
-    ensures client { IsFreePass manager.now client.new }
+    ensures client { IsFreePass means.now.manager.now client.new }
     ensures client_number { client.new.number ≡ client.old.number }
-    ensures own { All (IsOf manager.now) passes.new }
+    ensures own { All (IsOf means.now.manager.now) passes.new }
     ensures lie { AllLie behaviour registers pending passes.new servers.new places.new }
     ensures as_many { length places.new ≡ length places.old }
     ensures began { firsts places.new ≡ firsts places.old }
     ensures tells { IfOk result (λ text.
-        TellsCommand manager.now (head_view head.now) command
+        TellsCommand means.now.manager.now (head_view means.now.head.now) command
         (scene behaviour registers pending client.old passes.old servers.old places.old [])
         (string_bytes text)
         (scene behaviour registers pending client.new passes.new servers.new places.new [])) }
 {
-    let named = head.servers.as_slice();
+    let named = means.head.servers.as_slice();
     match command {
-        Command::Client(act) => client_line(alloc, manager, client, act),
-        Command::Desk { server, act } => desk_line(
-            alloc, named, manager, passes, servers, places, server, act,
-        ),
+        Command::Client(act) => client_line(means.alloc, means.manager, client, act),
+        Command::Desk { server, act } => desk_line(means, passes, servers, places, server, act),
         Command::Balance { server, k } => balance_line(
-            alloc,
+            means.alloc,
             &named[server],
             &servers[server],
             places[server].is_dropped,
@@ -68,7 +64,7 @@ fn command_line(
         ),
         Command::Sum { k } => {
             let sum = sum(servers, places, k);
-            line(alloc, Answer::Sum { k, sum })
+            line(means.alloc, Answer::Sum { k, sum })
         }
         Command::Race(_) => unreachable!(),
         Command::Drain => unreachable!(),
@@ -80,38 +76,34 @@ fn command_line(
 /// Performs a command that is no race, no drain and no rollover by the client's pass and those of the
 /// servers. The passes are all, from the client's on.
 fn command_in(
-    alloc: Global,
-    head: &Head,
-    manager: &Manager,
+    means: &Means,
     passes: &mut [Pass],
     servers: &mut [Box<dyn Server + Send>],
     places: &mut [Place],
     command: Command,
 ) -> Result<String, AllocError>
-    requires ready { AreReady behaviour registers pending manager.now passes.old servers.old places.old }
-    requires as_many { length places.old ≡ length head.now.servers.items }
+    requires ready { AreReady behaviour registers pending means.now.manager.now passes.old servers.old places.old }
+    requires as_many { length places.old ≡ length means.now.head.now.servers.items }
     requires enough { 1 + length servers.old ≤ length passes.old }
-    requires in_range { IsInRange (length head.now.servers.items) command }
+    requires in_range { IsInRange (length means.now.head.now.servers.items) command }
     requires no_race { is_race command ≡ false }
     requires no_rollover { is_rollover command ≡ false }
     requires no_drain { drain_order command ≡ None }
-    ensures ready { AreReady behaviour registers pending manager.now passes.new servers.new places.new }
+    ensures ready { AreReady behaviour registers pending means.now.manager.now passes.new servers.new places.new }
     ensures as_many { length places.new ≡ length places.old }
     ensures began { firsts places.new ≡ firsts places.old }
     ensures numbered { numbers passes.new ≡ numbers passes.old }
     ensures held { units_held (length servers.old) passes.new ≡ units_held (length servers.old) passes.old }
     ensures tells { IfOk result (λ text. (old : Scene) × (new : Scene)
         × IsScene behaviour registers pending passes.old servers.old places.old old
-        × Performs manager.now (head_view head.now) command 0 old (string_bytes text) new
+        × Performs means.now.manager.now (head_view means.now.head.now) command 0 old (string_bytes text) new
         × IsScene behaviour registers pending passes.new servers.new places.new new) }
 {
     let Some((client, others)) = passes.split_first_mut() else {
         unreachable!();
     };
     let (workers, _rest) = others.split_at_mut(servers.len());
-    command_line(
-        alloc, head, manager, client, workers, servers, places, command,
-    )
+    command_line(means, client, workers, servers, places, command)
 }
 
 /// In which order the desks of a drain claim, or `None` for a command that is no drain.
@@ -135,42 +127,48 @@ fn order_of(command: Command) -> Option<Order>
 /// then one for each server, then others, which may have units open and keep them: those of races, or of a
 /// session's workers.
 pub fn perform_next(
-    alloc: Global,
-    head: &Head,
-    manager: &Manager,
+    means: &Means,
     keeper: &mut Keeper,
     passes: &mut [Pass],
     servers: &mut [Box<dyn Server + Send>],
     places: &mut [Place],
     command: Command,
 ) -> Result<String, AllocError>
-    requires keeper { IsKeptBy manager.now keeper.old }
+    requires keeper { IsKeptBy means.now.manager.now keeper.old }
     requires given { AreAll keeper.old passes.old }
-    requires ready { AreReady behaviour registers pending manager.now passes.old servers.old places.old }
-    requires as_many { length places.old ≡ length head.now.servers.items }
+    requires ready { AreReady behaviour registers pending means.now.manager.now passes.old servers.old places.old }
+    requires as_many { length places.old ≡ length means.now.head.now.servers.items }
     requires enough { 1 + length servers.old ≤ length passes.old }
-    requires in_range { IsInRange (length head.now.servers.items) command }
+    requires in_range { IsInRange (length means.now.head.now.servers.items) command }
     requires no_race { is_race command ≡ false }
     requires no_rollover { is_rollover command ≡ false }
-    ensures keeper { IsKeptBy manager.now keeper.new }
+    ensures keeper { IsKeptBy means.now.manager.now keeper.new }
     ensures given { keeper.new.given ≡ keeper.old.given }
     ensures all { AreAll keeper.new passes.new }
-    ensures ready { AreReady behaviour registers pending manager.now passes.new servers.new places.new }
+    ensures ready { AreReady behaviour registers pending means.now.manager.now passes.new servers.new places.new }
     ensures as_many { length places.new ≡ length places.old }
     ensures began { firsts places.new ≡ firsts places.old }
     ensures numbered { numbers passes.new ≡ numbers passes.old }
     ensures held { units_held (length servers.old) passes.new ≡ units_held (length servers.old) passes.old }
     ensures tells { IfOk result (λ text. (old : Scene) × (new : Scene)
         × IsScene behaviour registers pending passes.old servers.old places.old old
-        × PerformsAll manager.now (head_view head.now) command 0
+        × PerformsAll means.now.manager.now (head_view means.now.head.now) command 0
         keeper.old old (string_bytes text) keeper.new new
         × IsScene behaviour registers pending passes.new servers.new places.new new) }
 {
     match order_of(command) {
-        Some(order) => drain_line(alloc, manager, keeper, passes, servers, places, order),
+        Some(order) => drain_line(
+            means.alloc,
+            means.manager,
+            keeper,
+            passes,
+            servers,
+            places,
+            order,
+        ),
         None => {
-            let line = command_in(alloc, head, manager, passes, servers, places, command)?;
-            keeper.gather(manager, passes);
+            let line = command_in(means, passes, servers, places, command)?;
+            keeper.gather(means.manager, passes);
             Ok(line)
         }
     }

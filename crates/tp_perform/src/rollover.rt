@@ -5,7 +5,7 @@ ghost use Rattle.tp_manager.specs.Accounts.{Gathers};
 ghost use Rattle.tp_manager.specs.Bounds.{gather_steps};
 ghost use Rattle.tp_report.specs.Answer.{line};
 ghost use Rattle.tp_rollover.specs.Faults.{AreFree};
-ghost use Rattle.tp_rollover.specs.Managed.{GoesOn, IsManaged, StaysManaged};
+ghost use Rattle.tp_rollover.specs.Managed.{GoesOnAnew, IsManaged, StaysManaged};
 ghost use Rattle.tp_commands.specs.Places.{AllLie, all_firsts, firsts, workers};
 ghost use Rattle.tp_perform.specs.Rollover.{IsUnrolled, IsUnrolledFor, RollRefused, RolledOver, renamed};
 ghost use Rattle.tp_perform.specs.Rollover.{roll_refused_text, stand};
@@ -88,7 +88,7 @@ fn go_on(alloc: Global, managed: &mut Managed, own: usize) -> Result<Vec<Moved>,
     requires managed { IsManaged managed.old }
     requires own { own ≤ length managed.old.passes.items }
     ensures managed { IsManaged managed.new }
-    ensures moved { IfOk result (λ moved. GoesOn managed.old managed.new moved.items) }
+    ensures moved { IfOk result (λ moved. GoesOnAnew managed.old managed.new moved.items) }
     ensures idle { OnOk result (AreFree (take own managed.old.passes.items)) }
     ensures free { OnOk result (AreFree (take own managed.new.passes.items)) }
     ensures refused { OnErr result (StaysManaged managed.old managed.new) }
@@ -128,7 +128,7 @@ pub fn roll_over(
     ensures as_many { length places.new ≡ length places.old }
     ensures held { OnErr result (units_held (length servers.now) managed.new.passes.items
         ≡ units_held (length servers.now) managed.old.passes.items) }
-    ensures moved { IfOk result (λ moved. GoesOn managed.old managed.new moved.items) }
+    ensures moved { IfOk result (λ moved. GoesOnAnew managed.old managed.new moved.items) }
     ensures rolled { IfOk result (λ moved. (old : Scene) × (new : Scene)
         × IsScene behaviour registers pending managed.old.passes.items servers.now places.old old
         × RolledOver (stand managed.old old) moved.items (stand managed.new new)

@@ -11,15 +11,15 @@ use Rattle.tp_crew.specs.Crew.{IsSteadyCrew, folds}
 use Rattle.tp_crew.specs.CrewPasses.{desks_in}
 use Rattle.tp_crew.specs.declared.crew.Crew.{Crew}
 use Rattle.tp_crew.proofs.Careers.{career_raised, come_same, has_become, has_begun, has_rolled}
-use Rattle.tp_pipeline.specs.Books.{GoesOn, HasWorked, HaveWorked, charges_in, count_in, one, takings_in}
+use Rattle.tp_pipeline.specs.Books.{CrewGoesOn, HasWorked, HaveWorked, charges_in, count_in, one, takings_in}
 use Rattle.tp_pipeline.specs.Payments.{amount_of, charger, shipper, validator}
 
 module _ {X : Type 0} {F : X → Type 0} (behaviour : DynBox X Global F → Behaviour) (registers : DynBox X Global F → List ℕ) where
   -- where folds go on as they were, so does all work
-  pub goes_same : (old new : Crew X F) → new.starts ≡ old.starts → GoesOn behaviour registers old new
+  pub goes_same : (old new : Crew X F) → new.starts ≡ old.starts → CrewGoesOn behaviour registers old new
   goes_same old new same = record { come = λ k u stints come. (stints, come_same behaviour registers old new k u stints same come) }
 
-  pub goes_further : (a b c : Crew X F) → GoesOn behaviour registers a b → GoesOn behaviour registers b c → GoesOn behaviour registers a c
+  pub goes_further : (a b c : Crew X F) → CrewGoesOn behaviour registers a b → CrewGoesOn behaviour registers b c → CrewGoesOn behaviour registers a c
   goes_further a b c first then = record {
     come = λ k u stints come.
         let next = first.come k u stints come in
@@ -44,7 +44,7 @@ module _ {X : Type 0} {F : X → Type 0} (behaviour : DynBox X Global F → Beha
     (pending : DynBox X Global F → Option Pending) where
   pub goes_rolled : (old new : Crew X F) → IsSteadyCrew behaviour registers pending old → IsSteadyCrew behaviour registers pending new
       → new.boxes ≡ old.boxes → folds new ≡ zip (desks_in (length new.boxes.items) new.passes.items) new.boxes.items
-      → GoesOn behaviour registers old new
+      → CrewGoesOn behaviour registers old new
   goes_rolled old new h h' boxes begun =
       record { come = λ k u stints come. has_rolled behaviour registers pending old new k u stints h h' boxes begun come }
 
@@ -52,7 +52,7 @@ module _ {X : Type 0} {F : X → Type 0} (behaviour : DynBox X Global F → Beha
   pub have_worked : ((ceiling : ℕ) → Raises (validator ceiling) count_in one) → Raises charger takings_in amount_of
       → Raises charger charges_in one → Raises shipper count_in one
       → (us : List (DynBox X Global F)) (old new : Crew X F) → IsSteadyCrew behaviour registers pending old → IsSteadyCrew behaviour registers pending new
-      → old.boxes.items ≡ us → folds old ≡ zip (desks_in (length us) old.passes.items) us → GoesOn behaviour registers old new
+      → old.boxes.items ≡ us → folds old ≡ zip (desks_in (length us) old.passes.items) us → CrewGoesOn behaviour registers old new
       → HaveWorked behaviour registers us new.boxes.items
   have_worked validated takings charges shipped us old new h h' is begun goes k u at =
       let begins = subst (λ (l : List (DynBox X Global F)). folds old ≡ zip (desks_in (length l) old.passes.items) l) (sym is) begun in

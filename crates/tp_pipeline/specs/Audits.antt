@@ -23,7 +23,7 @@ takings_due ceiling (suc n) = takings_due ceiling n + (if nat_le (amount_in n) c
 
 module _ {X : Type 0} {F : X → Type 0} (registers : DynBox X Global F → List ℕ) where
   -- the box at this place shows this value in the register with this number
-  pub record Shows (boxes : List (DynBox X Global F)) (place k value : ℕ) : Type 0 where
+  pub record BoxShows (boxes : List (DynBox X Global F)) (place k value : ℕ) : Type 0 where
     pub box : DynBox X Global F
     pub stands : slice_get boxes place ≡ Some box
     pub holds : slice_get (registers box) k ≡ Some value
@@ -32,13 +32,13 @@ module _ {X : Type 0} {F : X → Type 0} (registers : DynBox X Global F → List
   -- that was due was let through, charged and shipped, and the charger has taken in what these come to. The
   -- client has collected as many replies, of as much, and all others are cancelled.
   pub record Agree (payments ceiling : ℕ) (boxes : List (DynBox X Global F)) (books : Books) : Type 0 where
-    pub validated : Shows boxes 0 0 (passed ceiling payments)
-    pub takings : Shows boxes 1 0 (takings_due ceiling payments)
-    pub charges : Shows boxes 1 1 (passed ceiling payments)
+    pub validated : BoxShows boxes 0 0 (passed ceiling payments)
+    pub takings : BoxShows boxes 1 0 (takings_due ceiling payments)
+    pub charges : BoxShows boxes 1 1 (passed ceiling payments)
     pub first : ℕ
     pub second : ℕ
-    pub first_shipped : Shows boxes 2 0 first
-    pub second_shipped : Shows boxes 3 0 second
+    pub first_shipped : BoxShows boxes 2 0 first
+    pub second_shipped : BoxShows boxes 3 0 second
     pub shipped : first + second ≡ passed ceiling payments
     pub collected : books.collected ≡ passed ceiling payments
     pub paid : books.paid ≡ takings_due ceiling payments

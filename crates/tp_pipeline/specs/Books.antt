@@ -33,7 +33,7 @@ module _ {X : Type 0} {F : X → Type 0} where
 module _ {X : Type 0} {F : X → Type 0} (behaviour : DynBox X Global F → Behaviour)
     (registers : DynBox X Global F → List ℕ) where
   -- the crew goes on, in its manager or in the next one: what its boxes did before and since is one career
-  pub record GoesOn (old new : Crew X F) : Type 0 where
+  pub record CrewGoesOn (old new : Crew X F) : Type 0 where
     pub come : (k : ℕ) (u : DynBox X Global F) (stints : List Stint)
         → HasCome behaviour registers k u stints old
         → (more : List Stint) × HasCome behaviour registers k u more new

@@ -3,3 +3,4 @@ pub mod Books
 pub mod Ends
 pub mod Audits
 pub mod Submitting
+pub mod Stops

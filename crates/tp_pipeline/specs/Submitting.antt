@@ -19,6 +19,6 @@ module _ {X : Type 0} {F : X → Type 0} where
       OwnCall (submit_steps old.manager.limits) (λ p q. (id : ℕ) × Submits id 1 (payment number) p q) old new
 
   -- from so many payments that were submitted to so many: each one between was, once, in order
-  abbrev pub SubmitsNext : ℕ → ℕ → Crew X F → Crew X F → Type 0
-  SubmitsNext from to old new =
+  abbrev pub SubmitsPayments : ℕ → ℕ → Crew X F → Crew X F → Type 0
+  SubmitsPayments from to old new =
       (count : ℕ) × (to ≡ from + count) × Chain SubmitsPayment old (numbers_from from count) new

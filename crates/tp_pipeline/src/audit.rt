@@ -1,6 +1,6 @@
 //! The servers' registers, the pipeline's books and what was asked for are held against one another.
-ghost use Rattle.std.specs.Prelude.{◌≡◌, IfOk, IfSome, OnOk, option_copied, slice_get};
-ghost use Rattle.tp_pipeline.specs.Audits.{Agree, Shows, passed, takings_due};
+ghost use Rattle.std.specs.Prelude.{◌≡◌, IfErr, IfOk, IfSome, OnOk, option_copied, slice_get};
+ghost use Rattle.tp_pipeline.specs.Audits.{Agree, BoxShows, passed, takings_due};
 ghost use Rattle.tp_pipeline.specs.Ends.{AreClosed};
 
 use crate::books::Books;
@@ -42,7 +42,8 @@ fn value_of(server: &Boxed, k: u64) -> Option<u64>
 
 /// The register with this number of the box at this place.
 fn register(boxes: &[Boxed], place: usize, k: u64) -> Result<u64, PipelineFault>
-    ensures shows { IfOk result (Shows registers boxes.now place k) }
+    ensures shows { IfOk result (BoxShows registers boxes.now place k) }
+    ensures told { IfErr result (λ fault. fault ≡ PipelineFault.BadBooks) }
 {
     let Some(server) = box_at(boxes, place) else {
         return Err(PipelineFault::BadBooks);
@@ -56,6 +57,7 @@ fn register(boxes: &[Boxed], place: usize, k: u64) -> Result<u64, PipelineFault>
 /// Nothing, if both are alike.
 fn same(found: u64, due: u64) -> Result<(), PipelineFault>
     ensures same { OnOk result (found ≡ due) }
+    ensures told { IfErr result (λ fault. fault ≡ PipelineFault.BadBooks) }
 {
     if found != due {
         return Err(PipelineFault::BadBooks);
@@ -67,6 +69,7 @@ fn same(found: u64, due: u64) -> Result<(), PipelineFault>
 pub fn agree(boxes: &[Boxed], books: &Books, task: Task) -> Result<(), PipelineFault>
     requires closed { AreClosed task.payments books.now }
     ensures agree { OnOk result (Agree registers task.payments task.ceiling boxes.now books.now) }
+    ensures told { IfErr result (λ fault. fault ≡ PipelineFault.BadBooks) }
 {
     let Some((count, amounts)) = expected(task.payments, task.ceiling) else {
         return Err(PipelineFault::BadBooks);

@@ -1,4 +1,5 @@
 //! What can keep the pipeline from going on.
+ghost use Rattle.std.specs.Prelude.{◌≡◌};
 
 use std::alloc::{AllocError, AllocFailed};
 use std::io;
@@ -28,36 +29,60 @@ pub enum PipelineFault {
 }
 
 impl From<MakeFault> for PipelineFault {
+    ghost use Rattle.tp_pipeline.specs.declared.faults.PipelineFault.TheVariants.{NoManager};
+
+    ghost from_gives = { λ fault e. e ≡ NoManager fault };
+
     fn from(fault: MakeFault) -> PipelineFault {
         PipelineFault::NoManager(fault)
     }
 }
 
 impl From<AllocError> for PipelineFault {
+    ghost use Rattle.tp_pipeline.specs.declared.faults.PipelineFault.TheVariants.{NoMemory};
+
+    ghost from_gives = { λ _ e. e ≡ NoMemory };
+
     fn from(_: AllocError) -> PipelineFault {
         PipelineFault::NoMemory
     }
 }
 
 impl<T: Drop> From<AllocFailed<T>> for PipelineFault {
+    ghost use Rattle.tp_pipeline.specs.declared.faults.PipelineFault.TheVariants.{NoMemory};
+
+    ghost from_gives = { λ _ e. e ≡ NoMemory };
+
     fn from(_: AllocFailed<T>) -> PipelineFault {
         PipelineFault::NoMemory
     }
 }
 
 impl From<io::Error> for PipelineFault {
+    ghost use Rattle.tp_pipeline.specs.declared.faults.PipelineFault.TheVariants.{NoOutput};
+
+    ghost from_gives = { λ _ e. e ≡ NoOutput };
+
     fn from(_: io::Error) -> PipelineFault {
         PipelineFault::NoOutput
     }
 }
 
 impl From<Refusal> for PipelineFault {
+    ghost use Rattle.tp_pipeline.specs.declared.faults.PipelineFault.TheVariants.{Refused};
+
+    ghost from_gives = { λ refusal e. e ≡ Refused refusal };
+
     fn from(refusal: Refusal) -> PipelineFault {
         PipelineFault::Refused(refusal)
     }
 }
 
 impl From<RollFault> for PipelineFault {
+    ghost use Rattle.tp_pipeline.specs.declared.faults.PipelineFault.TheVariants.{NoRollover};
+
+    ghost from_gives = { λ fault e. e ≡ NoRollover fault };
+
     fn from(fault: RollFault) -> PipelineFault {
         PipelineFault::NoRollover(fault)
     }

@@ -1,14 +1,16 @@
 //! The service: a crew works off payments, batch after batch, and goes on in a new manager whenever its own
 //! is used up.
-ghost use Rattle.std.specs.Prelude.{◌≡◌, ◌+◌, ◌<◌, ◌≤◌, ◌^◌, ℕ, All, IfOk, None, OnOk, length};
+ghost use Rattle.std.specs.Prelude.{◌≡◌, ◌+◌, ◌<◌, ◌≤◌, ◌^◌, ℕ, All, IfErr, IfOk, None, OnOk};
+ghost use Rattle.std.specs.Prelude.{length};
 ghost use Rattle.tp_desk.specs.Steady.{shown};
 ghost use Rattle.tp_server.specs.Books.{Raises};
 ghost use Rattle.tp_crew.specs.Crew.{IsSteadyCrew};
-ghost use Rattle.tp_pipeline.specs.Books.{GoesOn, HaveWorked, IsStaffed, charges_in, count_in, one, takings_in};
+ghost use Rattle.tp_pipeline.specs.Books.{CrewGoesOn, HaveWorked, IsStaffed, charges_in, count_in, one, takings_in};
 ghost use Rattle.tp_pipeline.specs.Audits.{Agree, payment};
 ghost use Rattle.tp_pipeline.specs.Ends.{AddUp, AreClosed};
 ghost use Rattle.tp_pipeline.specs.Payments.{amount_of, charger, shipper, validator};
-ghost use Rattle.tp_pipeline.specs.Submitting.{SubmitsNext, SubmitsPayment};
+ghost use Rattle.tp_pipeline.specs.Stops.{IsBatchFault, IsServiceFault, StopsAt, StopsBehind};
+ghost use Rattle.tp_pipeline.specs.Submitting.{SubmitsPayments, SubmitsPayment};
 
 use crate::audit::agree;
 use crate::books::Books;
@@ -86,9 +88,10 @@ fn make_room(
     requires add_up { AddUp books.old }
     ensures steady { OnOk result (IsSteadyCrew (shown behaviour) (shown registers) (shown pending) crew.new) }
     ensures staffed { OnOk result (IsStaffed crew.new) }
-    ensures goes_on { OnOk result (GoesOn (shown behaviour) (shown registers) crew.old crew.new) }
+    ensures goes_on { OnOk result (CrewGoesOn (shown behaviour) (shown registers) crew.old crew.new) }
     ensures add_up { OnOk result (AddUp books.new) }
     ensures submitted { OnOk result (books.new.submitted ≡ books.old.submitted) }
+    ensures told { IfErr result IsBatchFault }
 {
     let before = now(clock);
     let Some(moved) = crew.roll_when(alloc, WANTED, 2 * WANTED)? else {
@@ -110,9 +113,10 @@ fn answer(crew: &mut Crew, books: &mut Books, id: u32) -> Result<(), PipelineFau
     requires add_up { AddUp books.old }
     ensures steady { OnOk result (IsSteadyCrew (shown behaviour) (shown registers) (shown pending) crew.new) }
     ensures staffed { OnOk result (IsStaffed crew.new) }
-    ensures goes_on { OnOk result (GoesOn (shown behaviour) (shown registers) crew.old crew.new) }
+    ensures goes_on { OnOk result (CrewGoesOn (shown behaviour) (shown registers) crew.old crew.new) }
     ensures add_up { OnOk result (AddUp books.new) }
     ensures submitted { OnOk result (books.new.submitted ≡ books.old.submitted) }
+    ensures told { IfErr result IsBatchFault }
 {
     let element = crew.read(id)?.element;
     if element.stage == 1 {
@@ -134,9 +138,10 @@ fn answer_all(crew: &mut Crew, books: &mut Books) -> Result<(), PipelineFault>
     requires add_up { AddUp books.old }
     ensures steady { OnOk result (IsSteadyCrew (shown behaviour) (shown registers) (shown pending) crew.new) }
     ensures staffed { OnOk result (IsStaffed crew.new) }
-    ensures goes_on { OnOk result (GoesOn (shown behaviour) (shown registers) crew.old crew.new) }
+    ensures goes_on { OnOk result (CrewGoesOn (shown behaviour) (shown registers) crew.old crew.new) }
     ensures add_up { OnOk result (AddUp books.new) }
     ensures submitted { OnOk result (books.new.submitted ≡ books.old.submitted) }
+    ensures told { IfErr result IsBatchFault }
 {
     let mut from = 0;
     for _past in 0..u32::MAX {
@@ -157,17 +162,19 @@ fn submit_one(crew: &mut Crew, books: &mut Books) -> Result<(), PipelineFault>
     requires few { books.old.submitted + 1 < 2 ^ 64 }
     ensures steady { OnOk result (IsSteadyCrew (shown behaviour) (shown registers) (shown pending) crew.new) }
     ensures staffed { OnOk result (IsStaffed crew.new) }
-    ensures goes_on { OnOk result (GoesOn (shown behaviour) (shown registers) crew.old crew.new) }
+    ensures goes_on { OnOk result (CrewGoesOn (shown behaviour) (shown registers) crew.old crew.new) }
     ensures add_up { OnOk result (AddUp books.new) }
     ensures submitted { OnOk result (books.new.submitted ≡ books.old.submitted + 1) }
     ensures submits { OnOk result (SubmitsPayment crew.old books.old.submitted crew.new) }
+    ensures stops { IfErr result (StopsAt crew.old books.old.submitted crew.new) }
 {
     let root = crew.submit(1, body_of(books.submitted))?;
     books.submit(root)?;
     Ok(())
 }
 
-/// The next payments, as many as there is room for: each with its number, in order.
+/// The next payments, as many as there is room for: each with its number, in order. A refusal is told as it
+/// is, and `NoMemory` only of a payment that is submitted and can't be noted.
 pub fn submit_next(crew: &mut Crew, books: &mut Books, payments: u64) -> Result<(), PipelineFault>
     requires steady { IsSteadyCrew (shown behaviour) (shown registers) (shown pending) crew.old }
     requires staffed { IsStaffed crew.old }
@@ -175,10 +182,11 @@ pub fn submit_next(crew: &mut Crew, books: &mut Books, payments: u64) -> Result<
     requires few { books.old.submitted ≤ payments }
     ensures steady { OnOk result (IsSteadyCrew (shown behaviour) (shown registers) (shown pending) crew.new) }
     ensures staffed { OnOk result (IsStaffed crew.new) }
-    ensures goes_on { OnOk result (GoesOn (shown behaviour) (shown registers) crew.old crew.new) }
+    ensures goes_on { OnOk result (CrewGoesOn (shown behaviour) (shown registers) crew.old crew.new) }
     ensures add_up { OnOk result (AddUp books.new) }
     ensures few { OnOk result (books.new.submitted ≤ payments) }
-    ensures submits { OnOk result (SubmitsNext books.old.submitted books.new.submitted crew.old crew.new) }
+    ensures submits { OnOk result (SubmitsPayments books.old.submitted books.new.submitted crew.old crew.new) }
+    ensures stops { IfErr result (StopsBehind books.old.submitted crew.old crew.new) }
 {
     for _one in 0..crew.room().rows {
         if books.submitted >= payments {
@@ -195,7 +203,7 @@ fn work_on_threads<R: Threads + Sync>(rt: &R, crew: &mut Crew, turns: u16)
     requires staffed { IsStaffed crew.old }
     ensures steady { IsSteadyCrew (shown behaviour) (shown registers) (shown pending) crew.new }
     ensures staffed { IsStaffed crew.new }
-    ensures goes_on { GoesOn (shown behaviour) (shown registers) crew.old crew.new }
+    ensures goes_on { CrewGoesOn (shown behaviour) (shown registers) crew.old crew.new }
 {
     if turns == 0 {
         return;
@@ -210,7 +218,7 @@ fn work<R: Threads + Sync>(rt: &R, crew: &mut Crew, turns: u16)
     requires staffed { IsStaffed crew.old }
     ensures steady { IsSteadyCrew (shown behaviour) (shown registers) (shown pending) crew.new }
     ensures staffed { IsStaffed crew.new }
-    ensures goes_on { GoesOn (shown behaviour) (shown registers) crew.old crew.new }
+    ensures goes_on { CrewGoesOn (shown behaviour) (shown registers) crew.old crew.new }
 {
     work_on_threads(rt, crew, turns);
     crew.drain(Order::InTurn);
@@ -225,7 +233,7 @@ fn collect_one(crew: &mut Crew, books: &mut Books, place: usize)
     requires within { place < length books.old.roots.items }
     ensures steady { IsSteadyCrew (shown behaviour) (shown registers) (shown pending) crew.new }
     ensures staffed { IsStaffed crew.new }
-    ensures goes_on { GoesOn (shown behaviour) (shown registers) crew.old crew.new }
+    ensures goes_on { CrewGoesOn (shown behaviour) (shown registers) crew.old crew.new }
     ensures add_up { AddUp books.new }
     ensures submitted { books.new.submitted ≡ books.old.submitted }
     ensures left { length books.old.roots.items ≤ length books.new.roots.items + 1 }
@@ -244,7 +252,7 @@ fn collect_all(crew: &mut Crew, books: &mut Books)
     requires add_up { AddUp books.old }
     ensures steady { IsSteadyCrew (shown behaviour) (shown registers) (shown pending) crew.new }
     ensures staffed { IsStaffed crew.new }
-    ensures goes_on { GoesOn (shown behaviour) (shown registers) crew.old crew.new }
+    ensures goes_on { CrewGoesOn (shown behaviour) (shown registers) crew.old crew.new }
     ensures add_up { AddUp books.new }
     ensures submitted { books.new.submitted ≡ books.old.submitted }
 {
@@ -267,9 +275,10 @@ fn batch<R: Clock + Threads + Sync + AllocGlobal>(
     requires few { books.old.submitted ≤ task.payments }
     ensures steady { OnOk result (IsSteadyCrew (shown behaviour) (shown registers) (shown pending) crew.new) }
     ensures staffed { OnOk result (IsStaffed crew.new) }
-    ensures goes_on { OnOk result (GoesOn (shown behaviour) (shown registers) crew.old crew.new) }
+    ensures goes_on { OnOk result (CrewGoesOn (shown behaviour) (shown registers) crew.old crew.new) }
     ensures add_up { OnOk result (AddUp books.new) }
     ensures few { OnOk result (books.new.submitted ≤ task.payments) }
+    ensures told { IfErr result IsBatchFault }
 {
     make_room(rt, rt.alloc(), crew, books)?;
     submit_next(crew, books, task.payments)?;
@@ -293,8 +302,9 @@ fn run<R: Clock + Threads + Sync + AllocGlobal>(
     requires few { books.old.submitted ≤ task.payments }
     ensures steady { OnOk result (IsSteadyCrew (shown behaviour) (shown registers) (shown pending) crew.new) }
     ensures staffed { OnOk result (IsStaffed crew.new) }
-    ensures goes_on { OnOk result (GoesOn (shown behaviour) (shown registers) crew.old crew.new) }
+    ensures goes_on { OnOk result (CrewGoesOn (shown behaviour) (shown registers) crew.old crew.new) }
     ensures closed { OnOk result (AreClosed task.payments books.new) }
+    ensures told { IfErr result IsBatchFault }
 {
     for _batch in 0..u32::MAX {
         if books.submitted >= task.payments && books.roots.is_empty() {
@@ -320,6 +330,7 @@ pub fn serve<R: Clock + Threads + Sync + AllocGlobal>(
     ensures kept { IfOk result (λ served. length served.boxes.items ≡ 4) }
     ensures agree { IfOk result (λ served. Agree registers task.payments task.ceiling
         served.boxes.items served.books) }
+    ensures told { IfErr result IsServiceFault }
 {
     each_payment();
     let mut books = Books::new(rt.alloc());

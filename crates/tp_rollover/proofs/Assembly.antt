@@ -140,20 +140,24 @@ free_stays (p ∷ ps) [] zip free = absurd zip
 free_stays (p ∷ ps) (q ∷ qs) zip free = All-cons (λ (z : PassShown). z.open_unit ≡ None) q qs (zip.0.quiet.open_unit ∙ free 0 p (omega arith)) (free_stays ps qs zip.1 (tail_all (λ (z : PassShown). z.open_unit ≡ None) p ps free))
 
 -- an account, looks by the first pass, and a gathering
+module _ (m : ManagerShown) (a c : ℕ) (k0 k1 k2 : KeeperShown) (ps0 ps1 ps2 ps3 : List PassShown) where
+  pub looked_between : Gathers m.limits a k0 k1 ps0 ps1 → AreAll k1 ps1 → k1.given ≡ k0.given → All (IsOf m) ps1 → AllZip Stays ps1 ps2 → 1 ≤ length ps1
+      → Gathers m.limits c k1 k2 ps2 ps3 → AreAll k2 ps3 → k2.given ≡ k1.given → All (IsOf m) ps3
+      → (k2.seen ≡ k1.seen) × (seen_first ps1 ≡ k2.seen) × (seen_first ps2 ≡ seen_first ps1) × IsHistoryOf k2 ps0 k2.seen × AreTogether m.limits k2 ps3 k2.seen
+  looked_between g1 all1 given1 own1 stay some g2 all2 given2 own2 =
+      let t1 = gathered m a k0 k1 ps0 ps1 g1 all1 given1 own1 in
+      let t2 = gathered m c k1 k2 ps2 ps3 g2 all2 given2 own2 in
+      let same = nothing_happened m.limits k1 k2 ps1 ps2 ps3 k1.seen k2.seen t1.0 stay t2.1 t2.0 some in
+      (same.0, same.1 ∙ sym same.0, same.2, history_of m.limits k1 ps0 ps1 k2.seen k2 (subst (AreTogether m.limits k1 ps1) (sym same.0) t1.0) t1.1 given2, t2.0)
+
 module _ (m : ManagerShown) (n a c : ℕ) (k0 k1 k2 : KeeperShown) (ps0 ps1 ps2 ps3 : List PassShown) (survivors : List Survivor) where
   pub surveyed : Gathers m.limits a k0 k1 ps0 ps1 → AreAll k1 ps1 → k1.given ≡ k0.given → All (IsOf m) ps1
       → AllZip Stays ps1 ps2 → ToldFirst ps1 ps2 (λ h. AreSurvivorsOf m.limits n h survivors) → CountsAlive n (counts m.limits.attempts k1.seen) → 1 ≤ length ps1
       → Gathers m.limits c k1 k2 ps2 ps3 → AreAll k2 ps3 → k2.given ≡ k1.given → All (IsOf m) ps3
-      → (k2.seen ≡ k1.seen) × AreSurvivors m.limits k2.seen survivors × IsHistoryOf k2 ps0 k2.seen
+      → AreSurvivors m.limits k2.seen survivors
   surveyed g1 all1 given1 own1 stay told counted some g2 all2 given2 own2 =
-      let t1 = gathered m a k0 k1 ps0 ps1 g1 all1 given1 own1 in
-      let t2 = gathered m c k1 k2 ps2 ps3 g2 all2 given2 own2 in
-      let same = nothing_happened m.limits k1 k2 ps1 ps2 ps3 k1.seen k2.seen t1.0 stay t2.1 t2.0 some in
-      let at : seen_first ps1 ≡ k2.seen = same.1 ∙ sym same.0 in (
-        same.0,
-        subst (λ h. AreSurvivorsOf m.limits n h survivors) at (told same.2) t2.0.legal (subst (λ z. CountsAlive n (counts m.limits.attempts z)) (sym same.0) counted),
-        history_of m.limits k1 ps0 ps1 k2.seen k2 (subst (AreTogether m.limits k1 ps1) (sym same.0) t1.0) t1.1 given2,
-      )
+      let t = looked_between m a c k0 k1 k2 ps0 ps1 ps2 ps3 g1 all1 given1 own1 stay some g2 all2 given2 own2 in
+      subst (λ h. AreSurvivorsOf m.limits n h survivors) t.1 (told t.2) t.4.legal (subst (λ z. CountsAlive n (counts m.limits.attempts z)) (sym t.0) counted)
 
 -- the same of the manager in which they stand again
 module _ (m : ManagerShown) (a c : ℕ) (k0 k1 k2 : KeeperShown) (ps0 ps1 ps2 ps3 : List PassShown) (survivors : List Survivor) (moved : List Moved) where

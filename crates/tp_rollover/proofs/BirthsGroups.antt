@@ -5,7 +5,7 @@ use Rattle.std.proofs.lemmas.List.{append-nil, at_drop_more, length-map, take_at
 use Rattle.tp_model.specs.Drafts.{DraftView}
 use Rattle.tp_model.specs.declared.types.Limits.{Limits}
 use Rattle.tp_model.specs.declared.types.Status.TheVariants.{Waiting}
-use Rattle.tp_rollover.specs.Anew.{draft_of, drafts_of, filler, home_of, named, neighbours}
+use Rattle.tp_rollover.specs.Anew.{survivor_draft, drafts_of, filler, home_of, named, neighbours}
 use Rattle.tp_rollover.specs.declared.moved.Moved.{Moved}
 use Rattle.tp_rollover.specs.declared.survivors.Survivor.{Survivor}
 
@@ -52,8 +52,8 @@ CountIs more count n = ((more ≡ true) × (count ≡ n + 1)) ⊎ ((more ≡ fal
 
 module _ (group : List Survivor) where
   pub drafts_many : (more : Bool) (count : ℕ) → CountIs more count (length group) → length (drafts_of group more) ≡ count
-  drafts_many true count (inl p) = length-append (map draft_of group) (filler ∷ []) ∙ (ap (λ n. n + 1) (length-map group draft_of) ∙ sym p.1)
-  drafts_many false count (inr p) = length-append (map draft_of group) [] ∙ (let e = length-map group draft_of in omega (arith, e, p.1))
+  drafts_many true count (inl p) = length-append (map survivor_draft group) (filler ∷ []) ∙ (ap (λ n. n + 1) (length-map group survivor_draft) ∙ sym p.1)
+  drafts_many false count (inr p) = length-append (map survivor_draft group) [] ∙ (let e = length-map group survivor_draft in omega (arith, e, p.1))
   drafts_many true count (inr p) = absurd (true≢false p.0)
   drafts_many false count (inl p) = absurd (false≢true p.0)
 
@@ -67,16 +67,16 @@ module _ (group : List Survivor) where
 
   -- so those are taken that are to be born
   pub drafts_taken : (more : Bool) (count : ℕ) (drafts : List DraftView) → CountIs more count (length group) → (more ≡ true → length group ≤ 3)
-      → drafts ≡ map draft_of group ++ replicate (4 - length group) filler → take count drafts ≡ drafts_of group more
+      → drafts ≡ map survivor_draft group ++ replicate (4 - length group) filler → take count drafts ≡ drafts_of group more
   drafts_taken true count drafts (inl p) room are =
       ap (λ n. take n drafts) p.1
       ∙ (ap (take (length group + 1)) are
-      ∙ (taken_past (map draft_of group) (replicate (4 - length group) filler) (length group) 1 (length-map group draft_of)
-      ∙ ap (λ ds. map draft_of group ++ ds) (fillers (length group) refl (room refl))))
+      ∙ (taken_past (map survivor_draft group) (replicate (4 - length group) filler) (length group) 1 (length-map group survivor_draft)
+      ∙ ap (λ ds. map survivor_draft group ++ ds) (fillers (length group) refl (room refl))))
   drafts_taken false count drafts (inr p) room are =
       ap (λ n. take n drafts) p.1
       ∙ (ap (take (length group)) are
-      ∙ (take_at (map draft_of group) (replicate (4 - length group) filler) (length group) (length-map group draft_of)
-      ∙ sym (append-nil (map draft_of group))))
+      ∙ (take_at (map survivor_draft group) (replicate (4 - length group) filler) (length group) (length-map group survivor_draft)
+      ∙ sym (append-nil (map survivor_draft group))))
   drafts_taken true count drafts (inr p) room are = absurd (true≢false p.0)
   drafts_taken false count drafts (inl p) room are = absurd (false≢true p.0)

@@ -8,7 +8,7 @@ use Rattle.tp_plain.specs.OneThread.{State, no_pass, pass_at}
 use Rattle.tp_manager.specs.Calls.{claims_in}
 use Rattle.tp_manager.specs.Shown.{PassShown}
 use Rattle.tp_alone.specs.Thread.{state_of, thread_of}
-use Rattle.tp_rollover.specs.Anew.{drawer, first_from, found_at, has_left, last_below, next_pass, least_units, start_at, units_left, would_draw}
+use Rattle.tp_rollover.specs.Anew.{drawer, first_from, found_at, has_left, last_below, next_pass, least_units, start_at, units_unclaimed, would_draw}
 use Rattle.tp_rollover.specs.declared.places.Cursor.{Cursor}
 
 -- a search upward
@@ -47,37 +47,37 @@ module _ (l : Limits) (ps : List PassShown) (h : List Event) (c : ℕ) (p : Pass
   left_is : (pass_at (thread_of l ps h) c).left ≡ r
   left_is = ap (λ s. s.left) at_pass ∙ sym rows_are
 
-  pub left_units : units_left (thread_of l ps h) c ≡ u
+  pub left_units : units_unclaimed (thread_of l ps h) c ≡ u
   left_units = ap (λ s. l.units - s.claimed) at_pass ∙ omega arith
 
   pub has_both : rows ≤ r → least ≤ u → has_left kept (thread_of l ps h) rows units c ≡ true
-  has_both a b = and_from (nat_le rows (pass_at (thread_of l ps h) c).left) (nat_le (least_units kept units c) (units_left (thread_of l ps h) c)) (le-leb rows _ (let e = left_is in omega (arith, e, a))) (le-leb (least_units kept units c) _ (let e = left_units in omega (arith, e, b, is_least)))
+  has_both a b = and_from (nat_le rows (pass_at (thread_of l ps h) c).left) (nat_le (least_units kept units c) (units_unclaimed (thread_of l ps h) c)) (le-leb rows _ (let e = left_is in omega (arith, e, a))) (le-leb (least_units kept units c) _ (let e = left_units in omega (arith, e, b, is_least)))
 
   pub few_rows : r < rows → has_left kept (thread_of l ps h) rows units c ≡ false
-  few_rows a = and_left (nat_le rows (pass_at (thread_of l ps h) c).left) (nat_le (least_units kept units c) (units_left (thread_of l ps h) c)) (lt-leb rows _ (let e = left_is in omega (arith, e, a)))
+  few_rows a = and_left (nat_le rows (pass_at (thread_of l ps h) c).left) (nat_le (least_units kept units c) (units_unclaimed (thread_of l ps h) c)) (lt-leb rows _ (let e = left_is in omega (arith, e, a)))
 
   pub few_units : u < least → has_left kept (thread_of l ps h) rows units c ≡ false
-  few_units a = and_right (nat_le rows (pass_at (thread_of l ps h) c).left) (nat_le (least_units kept units c) (units_left (thread_of l ps h) c)) (lt-leb (least_units kept units c) _ (let e = left_units in omega (arith, e, a, is_least)))
+  few_units a = and_right (nat_le rows (pass_at (thread_of l ps h) c).left) (nat_le (least_units kept units c) (units_unclaimed (thread_of l ps h) c)) (lt-leb (least_units kept units c) _ (let e = left_units in omega (arith, e, a, is_least)))
 
   pub draws_here : r < rows → least ≤ u → would_draw kept (thread_of l ps h) rows units c ≡ true
-  draws_here a b = and_from (nat_lt (pass_at (thread_of l ps h) c).left rows) (nat_le (least_units kept units c) (units_left (thread_of l ps h) c)) (lt-ltb _ rows (let e = left_is in omega (arith, e, a))) (le-leb (least_units kept units c) _ (let e = left_units in omega (arith, e, b, is_least)))
+  draws_here a b = and_from (nat_lt (pass_at (thread_of l ps h) c).left rows) (nat_le (least_units kept units c) (units_unclaimed (thread_of l ps h) c)) (lt-ltb _ rows (let e = left_is in omega (arith, e, a))) (le-leb (least_units kept units c) _ (let e = left_units in omega (arith, e, b, is_least)))
 
   pub enough_rows : rows ≤ r → would_draw kept (thread_of l ps h) rows units c ≡ false
-  enough_rows a = and_left (nat_lt (pass_at (thread_of l ps h) c).left rows) (nat_le (least_units kept units c) (units_left (thread_of l ps h) c)) (le-ltb _ rows (let e = left_is in omega (arith, e, a)))
+  enough_rows a = and_left (nat_lt (pass_at (thread_of l ps h) c).left rows) (nat_le (least_units kept units c) (units_unclaimed (thread_of l ps h) c)) (le-ltb _ rows (let e = left_is in omega (arith, e, a)))
 
   pub draws_not : u < least → would_draw kept (thread_of l ps h) rows units c ≡ false
-  draws_not a = and_right (nat_lt (pass_at (thread_of l ps h) c).left rows) (nat_le (least_units kept units c) (units_left (thread_of l ps h) c)) (lt-leb (least_units kept units c) _ (let e = left_units in omega (arith, e, a, is_least)))
+  draws_not a = and_right (nat_lt (pass_at (thread_of l ps h) c).left rows) (nat_le (least_units kept units c) (units_unclaimed (thread_of l ps h) c)) (lt-leb (least_units kept units c) _ (let e = left_units in omega (arith, e, a, is_least)))
 
 -- the pass that goes on in spare blocks
 module _ (kept : List Bool) (p : ℕ) (s : State) (rows units c : ℕ) where
   pub drawer_past : p ≤ c → drawer kept p s rows units (Some c) ≡ last_below (would_draw kept s rows units) p
-  drawer_past past = ap (λ b. cond b (Some c) (last_below (would_draw kept s rows units) p)) (and_left (nat_lt c p) (nat_le (least_units kept units c) (units_left s c)) (le-ltb c p past))
+  drawer_past past = ap (λ b. cond b (Some c) (last_below (would_draw kept s rows units) p)) (and_left (nat_lt c p) (nat_le (least_units kept units c) (units_unclaimed s c)) (le-ltb c p past))
 
-  pub drawer_used : units_left s c < least_units kept units c → drawer kept p s rows units (Some c) ≡ last_below (would_draw kept s rows units) p
-  drawer_used used = ap (λ b. cond b (Some c) (last_below (would_draw kept s rows units) p)) (and_right (nat_lt c p) (nat_le (least_units kept units c) (units_left s c)) (lt-leb (least_units kept units c) (units_left s c) used))
+  pub drawer_used : units_unclaimed s c < least_units kept units c → drawer kept p s rows units (Some c) ≡ last_below (would_draw kept s rows units) p
+  drawer_used used = ap (λ b. cond b (Some c) (last_below (would_draw kept s rows units) p)) (and_right (nat_lt c p) (nat_le (least_units kept units c) (units_unclaimed s c)) (lt-leb (least_units kept units c) (units_unclaimed s c) used))
 
-  pub drawer_on : c < p → least_units kept units c ≤ units_left s c → drawer kept p s rows units (Some c) ≡ Some c
-  drawer_on less enough = ap (λ b. cond b (Some c) (last_below (would_draw kept s rows units) p)) (and_from (nat_lt c p) (nat_le (least_units kept units c) (units_left s c)) (lt-ltb c p less) (le-leb (least_units kept units c) (units_left s c) enough))
+  pub drawer_on : c < p → least_units kept units c ≤ units_unclaimed s c → drawer kept p s rows units (Some c) ≡ Some c
+  drawer_on less enough = ap (λ b. cond b (Some c) (last_below (would_draw kept s rows units) p)) (and_from (nat_lt c p) (nat_le (least_units kept units c) (units_unclaimed s c)) (lt-ltb c p less) (le-leb (least_units kept units c) (units_unclaimed s c) enough))
 
 -- the next pass
 module _ (p : ℕ) (s : State) (home rows units : ℕ) (cursor : Cursor) (from : ℕ) (begins : from ≡ start_at p cursor.at home) where

@@ -13,10 +13,10 @@ use Rattle.tp_plain.specs.Computed.{has_room, is_server_stage, with_request}
 use Rattle.tp_plain.specs.OneThread.{State, draws, next_row, no_pass, pass_at, ready, used_up}
 use Rattle.tp_manager.specs.Bounds.{gather_steps, submit_steps}
 use Rattle.tp_manager.specs.Shown.{KeeperShown, PassShown}
-use Rattle.tp_rollover.specs.Anew.{Bearing, Placing, born_from, carrier_by, given, has_left, home_of, named_in, next_born, next_pass, placed_by, root_or_group, group_born, start_at, submitted, units_left}
+use Rattle.tp_rollover.specs.Anew.{Bearing, Placing, born_from, carrier_by, given, has_left, home_of, named_in, next_born, next_pass, placed_by, root_or_group, group_born, start_at, submitted, units_unclaimed}
 use Rattle.tp_rollover.specs.Bounds.{AllMake, bear_steps, commit_on_steps, gathered}
 use Rattle.tp_rollover.specs.Lone.{Agrees}
-use Rattle.tp_rollover.specs.Runs.{BearsOn, GoesOn, named_root, newly, roots_born}
+use Rattle.tp_rollover.specs.Runs.{BearsOn, StaysInPart, named_root, newly, roots_born}
 use Rattle.tp_rollover.specs.declared.births.Family.{Family}
 use Rattle.tp_rollover.specs.declared.births.Group.{Group}
 use Rattle.tp_rollover.specs.declared.moved.Moved.{Moved}
@@ -81,14 +81,14 @@ module _ (l : Limits) (p : ℕ) (cursor : Cursor) (families : List Family) (insi
   -- the pass in whose part births go on is next again
   next_is : (s : State) (home : ℕ) → start_at p cursor.at home ≡ cursor.at → 1 ≤ (pass_at s cursor.at).left → next_pass p s home 1 0 cursor ≡ Some (cursor.at, cursor)
   next_is s home begins some =
-      let holds : has_left cursor.kept s 1 0 cursor.at ≡ true = and_from (nat_le 1 (pass_at s cursor.at).left) (nat_le 0 (units_left s cursor.at)) (le-leb 1 (pass_at s cursor.at).left some) (le-leb 0 (units_left s cursor.at) (omega arith)) in
+      let holds : has_left cursor.kept s 1 0 cursor.at ≡ true = and_from (nat_le 1 (pass_at s cursor.at).left) (nat_le 0 (units_unclaimed s cursor.at)) (le-leb 1 (pass_at s cursor.at).left some) (le-leb 0 (units_unclaimed s cursor.at) (omega arith)) in
       next_first p s home 1 0 cursor cursor.at (sym begins) cursor.at (sym (first_hit (has_left cursor.kept s 1 0) cursor.at p inside holds))
 
   -- what one of them leaves
   abbrev made_root : ℕ × State → Option (Group × Bearing)
   made_root made = Some (record { root = made.0; first = made.0; count = 1 }, bears made.1)
 
-  born_is : (one : Survivor) (rest : List Survivor) (s : State) → GoesOn l p cursor.at families one → 1 ≤ (pass_at s cursor.at).left
+  born_is : (one : Survivor) (rest : List Survivor) (s : State) → StaysInPart l p cursor.at families one → 1 ≤ (pass_at s cursor.at).left
       → next_born l p (one ∷ rest) (bears s) ≡ option_and_then made_root (submitted cursor.at one.root_stage one.root_body s)
   born_is one rest s on some =
       let home = home_of l one.id in
@@ -107,7 +107,7 @@ module _ (l : Limits) (p : ℕ) (cursor : Cursor) (families : List Family) (insi
   abbrev behind : ℕ → List Survivor → List Moved × State → Option (List Moved × State)
   behind n rest x = born_from l p n rest x.0 (bears x.1)
 
-  one_of_run : (one : Survivor) (rest : List Survivor) (k n : ℕ) (moved : List Moved) (s : State) → GoesOn l p cursor.at families one → 1 ≤ (pass_at s cursor.at).left
+  one_of_run : (one : Survivor) (rest : List Survivor) (k n : ℕ) (moved : List Moved) (s : State) → StaysInPart l p cursor.at families one → 1 ≤ (pass_at s cursor.at).left
       → ((id : ℕ) (s' : State) → submitted cursor.at one.root_stage one.root_body s ≡ Some (id, s')
       → behind (k + n) rest (moved ++ named_root one id ∷ [], s') ≡ option_and_then (behind n (drop k rest)) (roots_born cursor.at (take k rest) (moved ++ named_root one id ∷ [], s')))
       → born_from l p (suc (k + n)) (one ∷ rest) moved (bears s) ≡ option_and_then (behind n (drop k rest)) (roots_born cursor.at (one ∷ take k rest) (moved, s))
@@ -121,7 +121,7 @@ module _ (l : Limits) (p : ℕ) (cursor : Cursor) (families : List Family) (insi
       go None is = refl
       go (Some made) is = goes made.0 made.1 is
 
-  pub born_run : (k n : ℕ) (rest : List Survivor) (moved : List Moved) (s : State) → k ≤ length rest → k ≤ (pass_at s cursor.at).left → All (GoesOn l p cursor.at families) (take k rest)
+  pub born_run : (k n : ℕ) (rest : List Survivor) (moved : List Moved) (s : State) → k ≤ length rest → k ≤ (pass_at s cursor.at).left → All (StaysInPart l p cursor.at families) (take k rest)
       → born_from l p (k + n) rest moved (bears s) ≡ option_and_then (behind n (drop k rest)) (roots_born cursor.at (take k rest) (moved, s))
   born_run zero n rest moved s less left on = ap (λ m. born_from l p m rest moved (bears s)) (let e : zero + n ≡ n = omega arith in e)
   born_run (suc k) n [] moved s less left on = absurd (omega (arith, less))
@@ -130,7 +130,7 @@ module _ (l : Limits) (p : ℕ) (cursor : Cursor) (families : List Family) (insi
       ∙ one_of_run one rest k n moved s (on 0 one (omega arith)) (omega (arith, left))
       (λ id s' e. born_run k n rest (moved ++ named_root one id ∷ []) s' (omega (arith, less)) (left_next s cursor.at one.root_stage one.root_body k id s' left e) (λ i d in_run. on (suc i) d (omega (arith, in_run))))
 
-  module _ (rest : List Survivor) (count : ℕ) (some : 1 ≤ count) (within : count ≤ length rest) (s s' : State) (left : count ≤ (pass_at s cursor.at).left) (on : All (GoesOn l p cursor.at families) (take count rest)) (moved moved' : List Moved) where
+  module _ (rest : List Survivor) (count : ℕ) (some : 1 ≤ count) (within : count ≤ length rest) (s s' : State) (left : count ≤ (pass_at s cursor.at).left) (on : All (StaysInPart l p cursor.at families) (take count rest)) (moved moved' : List Moved) where
     run_long : roots_born cursor.at (take count rest) (moved, s) ≡ Some (moved', s') → length moved' ≡ length moved + count
     run_long e = let f = roots_long cursor.at (take count rest) (moved, s) (moved', s') e in let g = length-take-le count rest within in omega (arith, f, g)
 

@@ -14,7 +14,7 @@ use Rattle.tp_alone.specs.Thread.{Stays}
 use Rattle.tp_rollover.specs.Alike.{AllStandUnheld, StandsUnheld}
 use Rattle.tp_rollover.specs.Checks.{IsNamed}
 use Rattle.tp_rollover.specs.Finding.{AreAlive, AreAliveOf, AreDescribed, AreSurvivorsOf, IsDescribed, StandsAlive, StandsLiving}
-use Rattle.tp_rollover.specs.Hands.{AreHolders, HandsGoOn, HasInHand, HasOpen, Holds, IsHeldBy, IsNamedHolder, holder_of}
+use Rattle.tp_rollover.specs.Hands.{AreHolders, HandsGoOn, HasInHand, HasOpen, PassHolds, NamesHolder, IsNamedHolder, holder_of}
 use Rattle.tp_rollover.specs.Rolls.{IsCarried, IsSame}
 use Rattle.tp_rollover.specs.Survivors.{AreHands, AreInHand, AreSurvivors, Ascending, IsHolder, IsInHand, IsLiving, IsStanding, StandAgain, StandsAgain}
 use Rattle.tp_rollover.specs.Told.{HoldsAsSeen}
@@ -157,16 +157,16 @@ are_holders k g ps survivors moved all hands = record {
     named : (c : ℕ) → IsHolder c survivors → IsNamedHolder c moved
     named c holds = let t = zip_of_left (StandsAgain k g) survivors moved holds.0 all holds.1 in (t.0, t.1, t.2.holder ∙ holds.2)
 
-killable_held : (l : Limits) (status : Status) → IsKillable status → IsHeldBy l status None
+killable_held : (l : Limits) (status : Status) → IsKillable status → NamesHolder l status None
 killable_held l (Waiting n) a = refl
 killable_held l (Held u n) a = absurd a
 killable_held l (Consumed u) a = absurd a
 killable_held l (Parked n) a = refl
 killable_held l Killed a = absurd a
 
-standing_held : (l : Limits) (is status : Status) (holder : Option ℕ) → IsStanding l is status holder → IsHeldBy l is holder
-standing_held l is status None a = subst (λ z. IsHeldBy l z None) (sym a.0) (killable_held l status a.1)
-standing_held l is status (Some c) a = subst (λ z. IsHeldBy l z (Some c)) (sym a.2) (ap Some a.4)
+standing_held : (l : Limits) (is status : Status) (holder : Option ℕ) → IsStanding l is status holder → NamesHolder l is holder
+standing_held l is status None a = subst (λ z. NamesHolder l z None) (sym a.0) (killable_held l status a.1)
+standing_held l is status (Some c) a = subst (λ z. NamesHolder l z (Some c)) (sym a.2) (ap Some a.4)
 
 module _ (l k : Limits) (h g : List Event) (olds news : List PassShown) (survivors : List Survivor) (moved : List Moved) (found : AreSurvivors l h survivors) (again : StandAgain k g survivors moved)
     (had : AreInHand olds survivors) (hands : AreHands k g news survivors moved) where
@@ -178,8 +178,8 @@ module _ (l k : Limits) (h g : List Event) (olds news : List PassShown) (survivo
     named = λ m p.
         (let z = zip_of_right (StandsAgain k g) survivors moved m again.each p in
         let d = found.described z.0 z.1 in
-        subst (IsHeldBy l (status_of l.attempts h m.old)) (sym z.2.holder)
-        (subst (λ i. IsHeldBy l (status_of l.attempts h i) z.0.holder) (sym z.2.named.0) (standing_held l (status_of l.attempts h z.0.id) z.0.status z.0.holder d.stands)));
+        subst (NamesHolder l (status_of l.attempts h m.old)) (sym z.2.holder)
+        (subst (λ i. NamesHolder l (status_of l.attempts h i) z.0.holder) (sym z.2.named.0) (standing_held l (status_of l.attempts h z.0.id) z.0.status z.0.holder d.stands)));
     had = λ m p u n held.
         (let z = zip_of_right (StandsAgain k g) survivors moved m again.each p in
         subst (λ o. IfSome o (HasOpen olds)) (holder z.0 m u n z.1 z.2.named.0 held) (each_of (λ (s : Survivor). IfSome s.holder (HasOpen olds)) survivors z.0 had z.1));
@@ -189,7 +189,7 @@ module _ (l k : Limits) (h g : List Event) (olds news : List PassShown) (survivo
     free = λ q p none. hands.free q p (λ holds. none (holder_of_one q.number holds));
   }
     where
-      holder_of_one : (c : ℕ) → IsHolder c survivors → Holds l h c
+      holder_of_one : (c : ℕ) → IsHolder c survivors → PassHolds l h c
       holder_of_one c holds =
           let s = holds.0 in
           let stands = subst (IsStanding l (status_of l.attempts h s.id) s.status) holds.2 (found.described s holds.1).stands in

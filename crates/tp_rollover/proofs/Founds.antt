@@ -13,7 +13,7 @@ use Rattle.tp_model.specs.History.{In, IsBorn, born, element_of, status_of}
 use Rattle.tp_model.specs.Steps.{IsLegal, rows_of}
 use Rattle.tp_model.proofs.Bridges.{append_nil, element_of-id, in_either, in_one}
 use Rattle.tp_model.proofs.RowTallies.{rows_sum}
-use Rattle.tp_rollover.specs.Finding.{AreAlive, AreAliveBelow, CountsAlive, IsAliveAt, listed}
+use Rattle.tp_rollover.specs.Finding.{AreAlive, AreAliveBelow, AreLiving, CountsAlive, IsAliveAt, StandsLiving, listed}
 use Rattle.tp_rollover.specs.declared.moved.Moved.{Moved}
 use Rattle.tp_rollover.specs.Survivors.{Ascending, IsLiving}
 use Rattle.tp_rollover.proofs.Lists.{ascending_more}
@@ -86,22 +86,26 @@ one_more F n =
 
 -- of the first rows each element that is alive was found, and no more were
 abbrev pub FoundBelow : ℕ → ℕ → List ℕ → List Event → Type 0
-FoundBelow limit row found h = AreAliveBelow limit row found h × (sum_by (row_alive limit h) (range_with_len 0 row) ≡ length found)
+FoundBelow limit row found h = AreAliveBelow limit row found h × (sum_by (row_alive limit h) (range_with_len 0 row) ≡ length found) × AreLiving limit found h
 
 pub found_none : (limit : ℕ) (h : List Event) → FoundBelow limit 0 [] h
-found_none limit h = (alive_none limit [] h, refl)
+found_none limit h = (alive_none limit [] h, refl, λ id p. elim p [ ])
 
-found_next : (limit row : ℕ) (h : List Event) (found : List ℕ) (o : Option ℕ) → FoundBelow limit row found h → IsAliveAt limit row o h → FoundBelow limit (row + 1) (found ++ listed o) h
-found_next limit row h found o below at =
+listed_living : (limit row : ℕ) (h : List Event) (o : Option ℕ) → IfSome o (λ id. id ≡ row) → IsAliveAt limit row o h → (id : ℕ) → In id (listed o) → StandsLiving limit id h
+listed_living limit row h None itself at id p = elim p [ ]
+listed_living limit row h (Some a) itself at id p = subst (λ i. StandsLiving limit i h) (sym (in_one p ∙ itself)) (at.1 a refl)
+
+found_next : (limit row : ℕ) (h : List Event) (found : List ℕ) (o : Option ℕ) → IfSome o (λ id. id ≡ row) → FoundBelow limit row found h → IsAliveAt limit row o h → FoundBelow limit (row + 1) (found ++ listed o) h
+found_next limit row h found o itself below at =
     let more = one_more (row_alive limit h) row in
     let one = at_counted limit row o h at in
     let long = length-append found (listed o) in
     let before = below.1 in
-    (alive_next limit row h found o below.0 at, omega arith)
+    (alive_next limit row h found o below.0 at, omega arith, λ id p. ⊎_elim (below.2 id) (listed_living limit row h o itself at id) (in_either found (listed o) p))
 
-pub found_then : (limit row : ℕ) (found : List ℕ) (o : Option ℕ) (p q r : PassShown) → Stays p q → Stays q r → HoldsAsSeen p q (FoundBelow limit row found) → HoldsAsSeen q r (IsAliveAt limit row o) → HoldsAsSeen p r (FoundBelow limit (row + 1) (found ++ listed o))
-found_then limit row found o p q r a b below at same =
-    found_next limit row p.seen found o (told_first (FoundBelow limit row found) p.seen q.seen r.seen a.sees b.sees below same) (told_second (IsAliveAt limit row o) p.seen q.seen r.seen a.sees b.sees at same)
+pub found_then : (limit row : ℕ) (found : List ℕ) (o : Option ℕ) (p q r : PassShown) → IfSome o (λ id. id ≡ row) → Stays p q → Stays q r → HoldsAsSeen p q (FoundBelow limit row found) → HoldsAsSeen q r (IsAliveAt limit row o) → HoldsAsSeen p r (FoundBelow limit (row + 1) (found ++ listed o))
+found_then limit row found o p q r itself a b below at same =
+    found_next limit row p.seen found o itself (told_first (FoundBelow limit row found) p.seen q.seen r.seen a.sees b.sees below same) (told_second (IsAliveAt limit row o) p.seen q.seen r.seen a.sees b.sees at same)
 
 -- where as many are found as an account counts
 module _ (l : Limits) (h : List Event) (n : ℕ) (found : List ℕ) (legal : IsLegal l h) (counted : CountsAlive n (counts l.attempts h)) where

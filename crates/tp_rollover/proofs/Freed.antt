@@ -12,7 +12,7 @@ use Rattle.tp_manager.specs.Shown.{KeeperShown, PassShown}
 use Rattle.tp_rollover.specs.Answers.{Rolls}
 use Rattle.tp_rollover.specs.Faults.{AreFree}
 use Rattle.tp_rollover.specs.Hands.{HasOpen, holder_of}
-use Rattle.tp_rollover.specs.Laws.{FreeIsPlain, IsPlain}
+use Rattle.tp_rollover.specs.Laws.{FreeIsPlain, RollsPlainly}
 use Rattle.tp_rollover.specs.Rolls.{IsSame, ends, kills}
 use Rattle.tp_rollover.specs.Survivors.{AreHands, AreInHand, AreUnheld, IsLiving}
 use Rattle.tp_rollover.specs.declared.moved.Moved.{Moved}
@@ -69,7 +69,7 @@ module _ (l k : Limits) (old' new' : KeeperShown) (olds olds' news : List PassSh
   killed = r.over.killed ∙ (ap (λ es. (h ++ es) ++ kills l.attempts (h ++ es) 0 moved) given
       ∙ (ap (λ z. z ++ kills l.attempts z 0 moved) (append_nil h) ∙ ap (λ es. h ++ es) (kills_alone l.attempts h 0 moved idle)))
 
-  pub plain : IsPlain l k h old'.seen new'.seen moved
+  pub plain : RollsPlainly l k h old'.seen new'.seen moved
   plain = record {
     same = λ m p. same_free l k (status_of l.attempts h m.old) (status_of k.attempts new'.seen m.new) (λ u n held. none_named m u n p held) (r.over.carried m p).same;
     idle = idle;

@@ -20,7 +20,7 @@ use Rattle.tp_manager.specs.Bounds.{abort_steps}
 use Rattle.tp_manager.specs.Shown.{KeeperShown, ManagerShown, PassShown}
 use Rattle.tp_alone.specs.Thread.{AreTogether, not_given, thread_of}
 use Rattle.tp_rollover.specs.Bounds.{gathered, give_up_steps}
-use Rattle.tp_rollover.specs.Closing.{AreLiving, Buries, given_up}
+use Rattle.tp_rollover.specs.Closing.{AreLiving, Buries, hand_given_up}
 use Rattle.tp_rollover.specs.Lone.{AreLone, lone}
 use Rattle.tp_rollover.specs.Rolls.{IsGivenUp, kills}
 use Rattle.tp_rollover.specs.Survivors.{IsLiving}
@@ -36,10 +36,10 @@ module _ (l : Limits) (ps : List PassShown) (h : List Event) (c : ℕ) (p : Pass
   in_hand : is_some (pass_at (thread_of l ps h) c).holding ≡ is_some (get_or ps c p).open_unit
   in_hand = ap (λ (z : PassState). is_some z.holding) (from_pass ps (not_given l (length ps)) c p less)
 
-  pub gives_open : is_some (get_or ps c p).open_unit ≡ true → given_up c (thread_of l ps h) ≡ (abort_of (thread_of l ps h) c).1
+  pub gives_open : is_some (get_or ps c p).open_unit ≡ true → hand_given_up c (thread_of l ps h) ≡ (abort_of (thread_of l ps h) c).1
   gives_open some = ap (λ b. cond b (abort_of (thread_of l ps h) c).1 (thread_of l ps h)) (in_hand ∙ some)
 
-  pub gives_none : is_some (get_or ps c p).open_unit ≡ false → given_up c (thread_of l ps h) ≡ thread_of l ps h
+  pub gives_none : is_some (get_or ps c p).open_unit ≡ false → hand_given_up c (thread_of l ps h) ≡ thread_of l ps h
   gives_none none = ap (λ b. cond b (abort_of (thread_of l ps h) c).1 (thread_of l ps h)) (in_hand ∙ none)
 
 pub steps_open : (l : Limits) (q : ℕ) (ps : List PassShown) (p : PassShown) → 1 ≤ length ps → is_some (get_or ps 0 p).open_unit ≡ true → give_up_steps l q ps ≡ gathered l q abort_steps
@@ -54,11 +54,11 @@ module _ (s : State) (c : ℕ) where
   free_at u (Some (Committed a b)) inside = ap (λ (z : PassState). z.holding) (get_or-set_same s.passes c (freed (pass_at s c)) no_pass inside)
   free_at u (Some Aborted) inside = ap (λ (z : PassState). z.holding) (get_or-set_same s.passes c (freed (pass_at s c)) no_pass inside)
 
-  free_after : (o : Option ℕ) → (pass_at s c).holding ≡ o → c < length s.passes → (pass_at (given_up c s) c).holding ≡ None
+  free_after : (o : Option ℕ) → (pass_at s c).holding ≡ o → c < length s.passes → (pass_at (hand_given_up c s) c).holding ≡ None
   free_after None is inside = ap (λ b. (pass_at (cond b (abort_of s c).1 s) c).holding) (ap is_some is) ∙ is
   free_after (Some u) is inside = ap (λ b. (pass_at (cond b (abort_of s c).1 s) c).holding) (ap is_some is) ∙ free_at (unwrap_or (pass_at s c).holding 0) (end_of s.history (unwrap_or (pass_at s c).holding 0)) inside
 
-  pub none_left : c < length s.passes → (pass_at (given_up c s) c).holding ≡ None
+  pub none_left : c < length s.passes → (pass_at (hand_given_up c s) c).holding ≡ None
   none_left inside = free_after (pass_at s c).holding refl inside
 
   -- its history goes on by an abort, if by anything
@@ -77,14 +77,14 @@ module _ (s : State) (c : ℕ) where
     gives_at u mine (Some (Committed a b)) is = absurd (mine.uncommitted a b is)
     gives_at u mine (Some Aborted) is = record { events = []; own = inl refl; is = sym (append_nil s.history) }
 
-    gives_for : (o : Option ℕ) → (pass_at s c).holding ≡ o → GivesUp (given_up c s).history
+    gives_for : (o : Option ℕ) → (pass_at s c).holding ≡ o → GivesUp (hand_given_up c s).history
     gives_for None is = record { events = []; own = inl refl; is = ap (λ b. (cond b (abort_of s c).1 s).history) (ap is_some is) ∙ sym (append_nil s.history) }
     gives_for (Some u) is =
-        let done : (given_up c s).history ≡ (abort_at s c u (end_of s.history u)).1.history =
+        let done : (hand_given_up c s).history ≡ (abort_at s c u (end_of s.history u)).1.history =
         ap (λ b. (cond b (abort_of s c).1 s).history) (ap is_some is) ∙ ap (λ o. (abort_at s c (unwrap_or o 0) (end_of s.history (unwrap_or o 0))).1.history) is in
         subst GivesUp (sym done) (gives_at u (own u is) (end_of s.history u) refl)
 
-    pub gives : GivesUp (given_up c s).history
+    pub gives : GivesUp (hand_given_up c s).history
     gives = gives_for (pass_at s c).holding refl
 
 -- ---- the first pass's own
@@ -95,7 +95,7 @@ first_own l keeper (p ∷ ps) h together some u hand =
     let one = together.each p here in
     subst (λ z. IsOwnOpen z 0 u) one.seen (subst (λ c. IsOwnOpen p.seen c u) together.all.1.0 (one.shows.open_own u hand))
 
-pub given_first : (m : ManagerShown) (keeper keeper' : KeeperShown) (ps qs : List PassShown) → AreLone m keeper ps → 1 ≤ length ps → lone m keeper' qs ≡ given_up 0 (lone m keeper ps) → GivesUp (lone m keeper ps) 0 keeper'.seen
+pub given_first : (m : ManagerShown) (keeper keeper' : KeeperShown) (ps qs : List PassShown) → AreLone m keeper ps → 1 ≤ length ps → lone m keeper' qs ≡ hand_given_up 0 (lone m keeper ps) → GivesUp (lone m keeper ps) 0 keeper'.seen
 given_first m keeper keeper' ps qs is some given =
     subst (GivesUp (lone m keeper ps) 0) (sym (ap (λ (s : State). s.history) given))
     (gives (lone m keeper ps) 0 is.together.legal (first_own m.limits keeper ps keeper.seen is.together some))

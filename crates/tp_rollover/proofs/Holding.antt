@@ -24,7 +24,7 @@ use Rattle.tp_plain.specs.Computed.{claim_id_at, claim_id_found, with_claim, wor
 use Rattle.tp_plain.specs.OneThread.{State, next_unit, no_pass, pass_at, taken}
 use Rattle.tp_plain.specs.declared.pass_state.PassState.{PassState}
 use Rattle.tp_rollover.specs.Alike.{StandsUnheld}
-use Rattle.tp_rollover.specs.Anew.{all_held, given, held_by, taken_by}
+use Rattle.tp_rollover.specs.Anew.{all_held, given, held_by, claimed_for}
 use Rattle.tp_rollover.specs.Checks.{AscendFrom, IsNamed}
 use Rattle.tp_rollover.specs.Holds.{HoldAgain, StandsFor, StandsFree, status_in}
 use Rattle.tp_rollover.specs.declared.moved.Moved.{Moved}
@@ -117,14 +117,14 @@ module _ (p : ℕ) (s t : State) (c i : ℕ) (status : Status) (stands : status_
   tried false less got = absurd cc
   tried true less got = found (leb-true (suc (pass_at s c).claimed) s.limits.units less) (element_of s.history i) refl got
 
-  one_taken : taken_by c i s ≡ Some t → OneHeld p s t i status (Some c)
+  one_taken : claimed_for c i s ≡ Some t → OneHeld p s t i status (Some c)
   one_taken got = tried (nat_lt (pass_at s c).claimed s.limits.units) refl got
 
 is_nothing : (o : Option ℕ) → is_none o ≡ true → o ≡ None
 is_nothing None is = refl
 is_nothing (Some u) is = absurd cc
 
-tested : (p : ℕ) (s t : State) (c i : ℕ) (status : Status) → p ≤ length s.passes → status_in s i ≡ status → (b : Bool) → (nat_lt c p && is_none (pass_at s c).holding) ≡ b → (if b then taken_by c i s else None) ≡ Some t
+tested : (p : ℕ) (s t : State) (c i : ℕ) (status : Status) → p ≤ length s.passes → status_in s i ≡ status → (b : Bool) → (nat_lt c p && is_none (pass_at s c).holding) ≡ b → (if b then claimed_for c i s else None) ≡ Some t
     → OneHeld p s t i status (Some c)
 tested p s t c i status many stands false test got = absurd cc
 tested p s t c i status many stands true test got =

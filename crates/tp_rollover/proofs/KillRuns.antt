@@ -22,7 +22,7 @@ use Rattle.tp_alone.proofs.Kills.{alone_kill}
 use Rattle.tp_alone.proofs.Middles.{alone_middle, mids}
 use Rattle.tp_alone.proofs.Turns.{first_alone}
 use Rattle.tp_rollover.specs.Checks.{AscendFrom, IsNamed}
-use Rattle.tp_rollover.specs.Closing.{AreLiving, KillsEach, KillsOne, KillsShort}
+use Rattle.tp_rollover.specs.Closing.{AreLiving, KillsAllMoved, KillsOne, KillsShort}
 use Rattle.tp_rollover.specs.Finding.{StandsLiving}
 use Rattle.tp_rollover.specs.Lone.{AreLone, lone}
 use Rattle.tp_rollover.specs.Rolls.{kills}
@@ -39,7 +39,7 @@ abbrev pub nothing : Moved
 nothing = record { old = 0; new = 0; old_root = 0; new_root = 0; holder = None }
 
 -- one more is killed
-pub one_killed : (l : Limits) (ms : List Moved) (m : Moved) (k : KilledAnswer) (old middle new : PassShown) → KillsEach l ms old middle → KillsOne l m.old (Ok k) middle new → KillsEach l (ms ++ m ∷ []) old new
+pub one_killed : (l : Limits) (ms : List Moved) (m : Moved) (k : KilledAnswer) (old middle new : PassShown) → KillsAllMoved l ms old middle → KillsOne l m.old (Ok k) middle new → KillsAllMoved l (ms ++ m ∷ []) old new
 one_killed l [] m k old middle new all last = (new, k, subst (λ p. KillsOne l m.old (Ok k) p new) all last, refl)
 one_killed l (x ∷ ms) m k old middle new all last = (all.0, all.1, all.2, one_killed l ms m k all.0 middle new all.3 last)
 
@@ -75,7 +75,7 @@ goes l id answer old new call =
       drawn = f.drawn;
     }
 
-all_go : (l : Limits) (ms : List Moved) (old new : PassShown) → KillsEach l ms old new → Goes old new
+all_go : (l : Limits) (ms : List Moved) (old new : PassShown) → KillsAllMoved l ms old new → Goes old new
 all_go l [] old new all = subst (Goes old) (sym all) (goes_same old)
 all_go l (m ∷ ms) old new all = goes_trans old all.0 new (goes l m.old (Ok all.1) old all.0 all.2) (all_go l ms all.0 new all.3)
 
@@ -97,7 +97,7 @@ module _ (l : Limits) (keeper keeper' : KeeperShown) (news : List PassShown) (h'
   long_front m drawn (p ∷ ps) = ap suc (long_front m drawn ps)
 
   middle : (ms : List Moved) (olds front back : List PassShown) (h : List Event) (old new : PassShown) → AreTogether l keeper olds h → olds ≡ front ++ old ∷ back → length front ≡ c
-      → AllZip Stays (front ++ last ∷ back) news → KillsEach l ms old new → Goes new last → Middle l keeper c ms (thread_of l olds h) new last news
+      → AllZip Stays (front ++ last ∷ back) news → KillsAllMoved l ms old new → Goes new last → Middle l keeper c ms (thread_of l olds h) new last news
   middle [] olds front back h old new before are place others all rest = record {
     passes = olds;
     seen = h;
@@ -165,11 +165,11 @@ module _ (m : ManagerShown) (keeper keeper' : KeeperShown) (olds news : List Pas
   together : AreTogether m.limits keeper' news keeper'.seen × AllZip Stays (take at olds ++ new ∷ drop (suc at) olds) news
   together = behind m keeper keeper' olds news at d new q is less own gathers kept owns all
 
-  up_to : (ms : List Moved) (mid : PassShown) → KillsEach m.limits ms old mid → Goes mid new → Middle m.limits keeper at ms (lone m keeper olds) mid new news
+  up_to : (ms : List Moved) (mid : PassShown) → KillsAllMoved m.limits ms old mid → Goes mid new → Middle m.limits keeper at ms (lone m keeper olds) mid new news
   up_to ms mid ran rest = middle m.limits keeper keeper' news keeper'.seen at new together.0 ms olds (take at olds) (drop (suc at) olds) keeper.seen old mid is.together (at_place olds at d less) (before_place olds at less) together.1 ran rest
 
   -- the history goes on by the kills
-  pub all_buried : (ms : List Moved) → AreLiving m.limits.attempts keeper.seen ms → KillsEach m.limits ms old new → keeper'.seen ≡ keeper.seen ++ kills m.limits.attempts keeper.seen at ms
+  pub all_buried : (ms : List Moved) → AreLiving m.limits.attempts keeper.seen ms → KillsAllMoved m.limits ms old new → keeper'.seen ≡ keeper.seen ++ kills m.limits.attempts keeper.seen at ms
   all_buried ms live ran =
       let t = up_to ms new ran (goes_same new) in
       let idle = alone_idle m.limits keeper keeper' t.passes news t.seen keeper'.seen t.together (subst (λ ps. AllZip Stays ps news) (sym t.are) t.others) together.0 in

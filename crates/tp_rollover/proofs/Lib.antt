@@ -6,6 +6,7 @@ pub mod Heads
 pub mod Holding
 pub mod GivingUp
 pub mod Standing
+mod Stopping
 pub mod Burying
 pub mod KillRuns
 pub mod Others

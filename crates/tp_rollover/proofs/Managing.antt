@@ -11,7 +11,7 @@ use Rattle.tp_alone.specs.Thread.{IsFresh, thread_of}
 use Rattle.tp_rollover.specs.Anew.{made_anew}
 use Rattle.tp_rollover.specs.Answers.{Rolls}
 use Rattle.tp_rollover.specs.Survivors.{Restores}
-use Rattle.tp_rollover.specs.Carries.{AreFresh, Carries, IsMade, WouldNotFit}
+use Rattle.tp_rollover.specs.Carries.{AreFresh, Carries, IsAsComputed, WouldNotFit}
 use Rattle.tp_rollover.specs.Faults.{IsDue, IsRestoreDue}
 use Rattle.tp_rollover.specs.Lone.{lone}
 use Rattle.tp_rollover.specs.Managed.{IsManaged, IsNewPass, IsRefusedFor, IsUnrestored}
@@ -73,7 +73,7 @@ pub all_fresh : (m : ManagerShown) (ps qs : List PassShown) → ps ≡ qs → Al
 all_fresh m ps qs same new own = subst (AreFresh m.limits) (sym same) (λ p q. fresh_new m p (all_in IsNewPass qs p new q) (all_in (IsOf m) qs p own q))
 
 -- a fault comes of what is the same
-pub fault_same : {A B C : Type 0} (fault : RollFault) (value : A → C) (value' : B → C) (computed computed' : Option C) → computed' ≡ computed → IsMade (Err fault) value computed → IsMade (Err fault) value' computed'
+pub fault_same : {A B C : Type 0} (fault : RollFault) (value : A → C) (value' : B → C) (computed computed' : Option C) → computed' ≡ computed → IsAsComputed (Err fault) value computed → IsAsComputed (Err fault) value' computed'
 fault_same NoMemory value value' computed computed' same made = tt
 fault_same BadLimits value value' computed computed' same made = tt
 fault_same NoPass value value' computed computed' same made = tt

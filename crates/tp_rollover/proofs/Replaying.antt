@@ -7,7 +7,7 @@ use Rattle.tp_model.specs.declared.types.Status.{Status}
 use Rattle.tp_model.specs.History.{rounds, status_of}
 use Rattle.tp_manager.specs.Bounds.{requeue_steps}
 use Rattle.tp_manager.specs.Shown.{KeeperShown, PassShown}
-use Rattle.tp_rollover.specs.Bounds.{AllMake, IsWithin, all_rounds, all_tries, attempt_steps, attempts_had, gathered, hold_of, hold_steps, holds_for, most_replay_steps, replay_of, replay_steps, replays_for, replays_of, tries_had}
+use Rattle.tp_rollover.specs.Bounds.{AllMake, IsWithinLimits, all_rounds, all_tries, attempt_steps, attempts_had, gathered, hold_of, hold_steps, holds_for, most_replay_steps, replay_of, replay_steps, replays_for, replays_of, tries_had}
 use Rattle.tp_rollover.specs.Survivors.{IsStanding, StandsAgain}
 use Rattle.tp_rollover.specs.declared.moved.Moved.{Moved}
 use Rattle.tp_rollover.specs.declared.survivors.Survivor.{Survivor}
@@ -48,7 +48,7 @@ with_hold l q s =
     let f = hold_less l q (is_some s.holder) in
     omega (arith, e, f)
 
-one_within : (l : Limits) (q : ℕ) (s : Survivor) → IsWithin l s → replay_of l q s + hold_of l q s ≤ most_replay_steps l q
+one_within : (l : Limits) (q : ℕ) (s : Survivor) → IsWithinLimits l s → replay_of l q s + hold_of l q s ≤ most_replay_steps l q
 one_within l q s within =
     let had = attempts_had s.status in
     let x = if is_some s.holder then 1 else 0 in
@@ -63,11 +63,11 @@ one_within l q s within =
     omega (arith, e, f, g, h, i, j)
 
 -- and all of them
-pub all_within : (l : Limits) (q : ℕ) (survivors : List Survivor) → All (IsWithin l) survivors → replays_for l q survivors + holds_for l q survivors ≤ length survivors * most_replay_steps l q
+pub all_within : (l : Limits) (q : ℕ) (survivors : List Survivor) → All (IsWithinLimits l) survivors → replays_for l q survivors + holds_for l q survivors ≤ length survivors * most_replay_steps l q
 all_within l q [] all = omega arith
 all_within l q (s ∷ ss) all =
     let one = one_within l q s (all 0 s (omega arith)) in
-    let rest = all_within l q ss (tail_all (IsWithin l) s ss all) in
+    let rest = all_within l q ss (tail_all (IsWithinLimits l) s ss all) in
     let e = add-mul 1 (length ss) (most_replay_steps l q) in
     omega (arith, one, rest, e)
 
@@ -94,9 +94,9 @@ same_replays l q g (s ∷ ss) (m ∷ ms) all =
     omega (arith, rest, one, first, both)
 
 -- and one more
-pub within_more : (l : Limits) (survivors : List Survivor) (i : ℕ) (s : Survivor) → i < length survivors → ((k : ℕ) (d : Survivor) → k < i → IsWithin l (get_or survivors k d)) → IsWithin l (get_or survivors i s)
-    → (k : ℕ) (d : Survivor) → k < i + 1 → IsWithin l (get_or survivors k d)
+pub within_more : (l : Limits) (survivors : List Survivor) (i : ℕ) (s : Survivor) → i < length survivors → ((k : ℕ) (d : Survivor) → k < i → IsWithinLimits l (get_or survivors k d)) → IsWithinLimits l (get_or survivors i s)
+    → (k : ℕ) (d : Survivor) → k < i + 1 → IsWithinLimits l (get_or survivors k d)
 within_more l survivors i s less before one k d low = elim (eqb_tells k i) [
-  | inl p ↦ subst (IsWithin l) (ap (λ n. get_or survivors n d) (sym p.1)) (subst (IsWithin l) (default_same survivors i s d less) one)
+  | inl p ↦ subst (IsWithinLimits l) (ap (λ n. get_or survivors n d) (sym p.1)) (subst (IsWithinLimits l) (default_same survivors i s d less) one)
   | inr p ↦ let not : k ≢ i = p.1 in before k d (omega (arith, low, not))
 ]

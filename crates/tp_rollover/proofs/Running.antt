@@ -24,7 +24,7 @@ use Rattle.tp_alone.proofs.Turns.{first_alone}
 use Rattle.tp_rollover.specs.Anew.{given, submitted}
 use Rattle.tp_rollover.specs.Bounds.{AllMake, PassMakes, gathered}
 use Rattle.tp_rollover.specs.Lone.{Agrees, AreLone, lone}
-use Rattle.tp_rollover.specs.Runs.{Runs, RunsShort, RunsThrough, Submitted, SubmitsAll, named_root, roots_born}
+use Rattle.tp_rollover.specs.Runs.{SubmitsRun, RunsShort, RunsThrough, RootSubmitted, SubmitsAll, named_root, roots_born}
 use Rattle.tp_rollover.specs.declared.moved.Moved.{Moved}
 use Rattle.tp_rollover.specs.declared.stops.Stop.{Stop}
 use Rattle.tp_rollover.specs.declared.stops.Stop.TheVariants as stops
@@ -37,15 +37,15 @@ use Rattle.tp_rollover.proofs.Sums.{all_make}
 -- ---- the run
 
 -- one more is submitted
-pub one_submitted : (l : Limits) (roots : List Survivor) (names : List Moved) (s : Survivor) (id : ℕ) (old middle new : PassShown) → SubmitsAll l roots names old middle → Submitted l s (Ok id) middle new
+pub one_submitted : (l : Limits) (roots : List Survivor) (names : List Moved) (s : Survivor) (id : ℕ) (old middle new : PassShown) → SubmitsAll l roots names old middle → RootSubmitted l s (Ok id) middle new
     → SubmitsAll l (roots ++ s ∷ []) (names ++ named_root s id ∷ []) old new
-one_submitted l [] [] s id old middle new all last = (new, subst (λ p. Submitted l s (Ok id) p new) all last, refl, refl)
+one_submitted l [] [] s id old middle new all last = (new, subst (λ p. RootSubmitted l s (Ok id) p new) all last, refl, refl)
 one_submitted l [] (m ∷ names) s id old middle new all last = absurd all
 one_submitted l (r ∷ roots) [] s id old middle new all last = absurd all
 one_submitted l (r ∷ roots) (m ∷ names) s id old middle new all last = (all.0, all.1, all.2, one_submitted l roots names s id all.0 middle new all.3 last)
 
 pub runs_on : (l : Limits) (roots roots' : List Survivor) (moved moved' moved'' : List Moved) (s : Survivor) (id : ℕ) (old middle new : PassShown) → roots' ≡ roots ++ s ∷ [] → moved'' ≡ moved' ++ named_root s id ∷ []
-    → RunsThrough l roots moved moved' old middle → Submitted l s (Ok id) middle new → RunsThrough l roots' moved moved'' old new
+    → RunsThrough l roots moved moved' old middle → RootSubmitted l s (Ok id) middle new → RunsThrough l roots' moved moved'' old new
 runs_on l roots roots' moved moved' moved'' s id old middle new more pushed ran last = record {
   names = ran.names ++ named_root s id ∷ [];
   named = pushed ∙ (ap (λ ms. ms ++ named_root s id ∷ []) ran.named ∙ append_assoc moved ran.names (named_root s id ∷ []));
@@ -53,7 +53,7 @@ runs_on l roots roots' moved moved' moved'' s id old middle new more pushed ran 
 }
 
 -- where one is refused
-pub refused_as : (A : Type 0) (l : Limits) (roots : List Survivor) (moved moved' : List Moved) (old new : PassShown) (why : Stop) → RunsShort l roots old new → Runs {A = A} l roots moved moved' old new (Err why)
+pub refused_as : (A : Type 0) (l : Limits) (roots : List Survivor) (moved moved' : List Moved) (old new : PassShown) (why : Stop) → RunsShort l roots old new → SubmitsRun {A = A} l roots moved moved' old new (Err why)
 refused_as A l roots moved moved' old new stops.NoMemory short = tt
 refused_as A l roots moved moved' old new stops.Full short = short
 refused_as A l roots moved moved' old new stops.Unequal short = tt
@@ -96,11 +96,11 @@ keeps_more old new block more fresh seen = record {
   later = λ b held. ⊎_elim (λ p. inl p) (λ p. let e = in_one p in inr (omega (arith, e, fresh), omega (arith, e, seen))) (in_either old.blocks (block ∷ []) (subst (In b) more held));
 }
 
-keeps : (l : Limits) (s : Survivor) (answer : Result ℕ Refusal) (old new : PassShown) → Submitted l s answer old new → Keeps old new
+keeps : (l : Limits) (s : Survivor) (answer : Result ℕ Refusal) (old new : PassShown) → RootSubmitted l s answer old new → Keeps old new
 keeps l s (Ok id) old new call = ⊎_elim (λ (u : UsesRun 1 id old new). keeps_same old new u.blocks) (λ (u : UsesBlock 1 id old new). keeps_more old new u.block u.blocks u.fresh u.seen) call.says.run
 keeps l s (Err why) old new call = ⊎_elim (λ p. keeps_same old new (ap (λ (q : PassShown). q.blocks) p.2)) (λ p. keeps_same old new (no_block_quiet 1 old new p.2).run.2) call.says
 
-goes : (l : Limits) (s : Survivor) (answer : Result ℕ Refusal) (old new : PassShown) → Submitted l s answer old new → Goes old new
+goes : (l : Limits) (s : Survivor) (answer : Result ℕ Refusal) (old new : PassShown) → RootSubmitted l s answer old new → Goes old new
 goes l s answer old new call =
     let f = call.follows in
     let k = keeps l s answer old new call in
@@ -259,7 +259,7 @@ module _ (m : ManagerShown) (keeper keeper' : KeeperShown) (olds news : List Pas
       ap (λ rs. roots_born at rs (moved, lone m keeper olds)) ran.roots_are
       ∙ refused_behind at ran.done ran.next ran.rest (moved, lone m keeper olds) (moved ++ ran.names, thread_of m.limits t.passes t.seen) t.born (ap given (sym refused))
 
-  pub run_computed : {A : Type 0} (roots : List Survivor) (moved moved' : List Moved) (result : Result A Stop) → Runs m.limits roots moved moved' old new result → Agrees result (λ x. (moved', lone m keeper' news)) (roots_born at roots (moved, lone m keeper olds))
+  pub run_computed : {A : Type 0} (roots : List Survivor) (moved moved' : List Moved) (result : Result A Stop) → SubmitsRun m.limits roots moved moved' old new result → Agrees result (λ x. (moved', lone m keeper' news)) (roots_born at roots (moved, lone m keeper olds))
   run_computed roots moved moved' (Ok x) ran = goes_through roots moved moved' ran
   run_computed roots moved moved' (Err stops.NoMemory) ran = tt
   run_computed roots moved moved' (Err stops.Full) ran = comes_short roots moved ran

@@ -10,7 +10,7 @@ use Rattle.tp_model.specs.declared.types.Status.{Status}
 use Rattle.tp_model.specs.declared.event.Event.{Event}
 use Rattle.tp_model.specs.Counts.{is_consumed}
 use Rattle.tp_model.specs.History.{In, here, there}
-use Rattle.tp_model.specs.Steps.{IsKillable, rows_of}
+use Rattle.tp_model.specs.Steps.{IsKillable, IsUnitOf, rows_of}
 use Rattle.tp_plain.specs.OneThread.{State, pass_at}
 use Rattle.tp_plain.specs.declared.pass_state.PassState.{PassState}
 use Rattle.tp_manager.specs.Accounts.{AreNumberedFrom}
@@ -20,7 +20,7 @@ use Rattle.tp_alone.proofs.Apart.{number_in, numbered}
 use Rattle.tp_rollover.specs.Alike.{StandUnheld, StandsUnheld}
 use Rattle.tp_rollover.specs.Checks.{AreOnly, IsNamed}
 use Rattle.tp_rollover.specs.Hands.{HasInHand, HasOpen, holder_of}
-use Rattle.tp_rollover.specs.Holds.{HoldAgain, IsTaken, StandsFor, StandsHeld, status_in}
+use Rattle.tp_rollover.specs.Holds.{HoldAgain, IsInHandOf, StandsFor, StandsHeld, status_in}
 use Rattle.tp_rollover.specs.Survivors.{AreHands, AreInHand, IsInHand, IsStanding, StandAgain, StandsAgain}
 use Rattle.tp_rollover.specs.declared.moved.Moved.{Moved}
 use Rattle.tp_rollover.specs.declared.survivors.Survivor.{Survivor}
@@ -33,6 +33,14 @@ pub own_unit : (l : Limits) (c i : ℕ) → i < l.units → c ≡ holder_of l (c
 own_unit l c i less =
     sym (div-mul-add c l.units i less)
     ∙ ap (λ d. (c * l.units + i) / d) (sym (max-eq_left (let some : 1 ≤ l.units = omega (arith, less) in some)))
+
+within : (m u k : ℕ) → m ≤ u → u < m + k → (m + (u - m) ≡ u) × (u - m < k)
+within m u k low high = (omega (arith, low), omega (arith, low, high))
+
+pub unit_pass : (l : Limits) (c u : ℕ) → IsUnitOf l c u → holder_of l u ≡ c
+unit_pass l c u unit =
+    let in_it = within (c * l.units) u l.units unit.1 unit.2 in
+    ap (holder_of l) (sym in_it.0) ∙ sym (own_unit l c (u - c * l.units) in_it.1)
 
 stands_as : (p : ℕ) (t : State) (i : ℕ) (status : Status) (holder : Option ℕ) → IsKillable status → StandsFor p t i status holder → IsStanding t.limits (status_in t i) status holder
 stands_as p t i status None alive stands = (stands, alive)
@@ -114,7 +122,7 @@ module _ (k : Limits) (ps : List PassShown) (g : List Event) (from : AreNumbered
   pub one_at : (c : ℕ) → c < length ps → (q : PassShown) × In q ps × (q.number ≡ c)
   one_at c less = numbered 0 c ps from (omega arith) (omega (arith, less))
 
-  in_hand : (i c : ℕ) (status : Status) → IsTaken (length ps) (thread_of k ps g) i status c → HasInHand k g ps c i
+  in_hand : (i c : ℕ) (status : Status) → IsInHandOf (length ps) (thread_of k ps g) i status c → HasInHand k g ps c i
   in_hand i c status x =
       let q = one_at c x.one_of in
       record {

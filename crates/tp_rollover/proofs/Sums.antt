@@ -8,8 +8,8 @@ use Rattle.tp_model.specs.Accounts.{account_of}
 use Rattle.tp_manager.specs.Accounts.{AreAll, steps_together}
 use Rattle.tp_manager.specs.Bounds.{abort_steps, account_steps, gather_steps, kill_steps}
 use Rattle.tp_manager.specs.Shown.{KeeperShown, PassShown}
-use Rattle.tp_rollover.specs.Bounds.{AllMake, PassesMake, alive_after, bear_steps, compare_steps, describe_steps, made_by_all, most_new_steps, most_replay_steps, new_steps, old_steps, renew_steps, replays_for, search_steps, steps_made, survey_steps, unheld_steps}
-use Rattle.tp_rollover.specs.Bounds.{IsWithin, check_steps, gathered, give_up_steps, holds_for}
+use Rattle.tp_rollover.specs.Bounds.{AllMake, PassesMake, alive_after, bear_steps, compare_steps, describe_steps, made_by_all, most_new_steps, most_replay_steps, new_steps, old_steps, renewal_steps, replays_for, search_steps, steps_made, survey_steps, unheld_steps}
+use Rattle.tp_rollover.specs.Bounds.{IsWithinLimits, check_steps, gathered, give_up_steps, holds_for}
 use Rattle.tp_rollover.specs.Finding.{CountsAlive}
 use Rattle.tp_rollover.specs.Survivors.{StandsAgain}
 use Rattle.tp_rollover.specs.declared.moved.Moved.{Moved}
@@ -43,7 +43,7 @@ module _ (l : Limits) (p n : ℕ) (keeper keeper1 : KeeperShown) (olds olds1 : L
 
 -- and what makes n elements stand again, by q passes
 module _ (k : Limits) (q n : ℕ) (k0 k1 k2 : KeeperShown) (ps0 ps1 ps2 : List PassShown) (began : AllMake (gather_steps k q) k0 ps0 k1 ps1) (given : k1.given ≡ q) (born : AllMake (n * bear_steps k k1.given 1) k1 ps1 k2 ps2) where
-  each_renewed : n * renew_steps k q ≡ n * bear_steps k q 1 + n * most_replay_steps k q
+  each_renewed : n * renewal_steps k q ≡ n * bear_steps k q 1 + n * most_replay_steps k q
   each_renewed = mul-add n (bear_steps k q 1) (most_replay_steps k q)
 
   all_born : AllMake (n * bear_steps k q 1) k1 ps1 k2 ps2
@@ -93,7 +93,7 @@ module _ (k : Limits) (q : ℕ) (survivors : List Survivor) (k0 k1 k2 : KeeperSh
   all_held : AllMake (holds_for k q survivors) k1 ps1 k2 ps2
   all_held = subst (λ z. AllMake (holds_for k z survivors) k1 ps1 k2 ps2) given holds
 
-  pub held_within : All (IsWithin k) survivors → AllMake (most_new_steps k q (length survivors)) k0 ps0 k2 ps2
+  pub held_within : All (IsWithinLimits k) survivors → AllMake (most_new_steps k q (length survivors)) k0 ps0 k2 ps2
   held_within within =
       let e = mul-add (length survivors) (bear_steps k q 1) (most_replay_steps k q) in
       let f = all_within k q survivors within in
@@ -110,7 +110,7 @@ module _ (k : Limits) (q : ℕ) (survivors : List Survivor) (k0 k1 k2 : KeeperSh
 
 -- for no more than were counted
 pub most_for : (k : Limits) (q a n : ℕ) (keeper keeper' : KeeperShown) (news news' : List PassShown) → a ≤ n → AllMake (most_new_steps k q a) keeper news keeper' news' → AllMake (most_new_steps k q n) keeper news keeper' news'
-most_for k q a n keeper keeper' news news' few made = let e = no_more a n (renew_steps k q) few in let f = no_more a n (compare_steps k) few in omega (arith, e, f, made)
+most_for k q a n keeper keeper' news news' few made = let e = no_more a n (renewal_steps k q) few in let f = no_more a n (compare_steps k) few in omega (arith, e, f, made)
 
 pub most_none : (k : Limits) (q n : ℕ) (keeper : KeeperShown) (news : List PassShown) → AllMake (most_new_steps k q n) keeper news keeper news
 most_none k q n keeper news = omega arith

@@ -55,8 +55,8 @@ requeued c id s = option_and_then (λ done. Some done.1) (given (requeue_of s c 
 -- ---- which pass is next
 
 -- how many units are left to pass c
-abbrev pub units_left : State → ℕ → ℕ
-units_left s c = s.limits.units - (pass_at s c).claimed
+abbrev pub units_unclaimed : State → ℕ → ℕ
+units_unclaimed s c = s.limits.units - (pass_at s c).claimed
 
 -- the passes, with one more that is to hold an element
 abbrev pub with_holder : Option ℕ → List Bool → List Bool
@@ -75,12 +75,12 @@ least_units kept (suc n) c = if slice_index_or kept c false then suc n + 1 else 
 -- so many rows and units are left to pass c
 abbrev pub has_left : List Bool → State → ℕ → ℕ → ℕ → Bool
 has_left kept s rows units c =
-    nat_le rows (pass_at s c).left && nat_le (least_units kept units c) (units_left s c)
+    nat_le rows (pass_at s c).left && nat_le (least_units kept units c) (units_unclaimed s c)
 
 -- it has the units, and too few rows, so that it draws a spare block
 abbrev pub would_draw : List Bool → State → ℕ → ℕ → ℕ → Bool
 would_draw kept s rows units c =
-    nat_lt (pass_at s c).left rows && nat_le (least_units kept units c) (units_left s c)
+    nat_lt (pass_at s c).left rows && nat_le (least_units kept units c) (units_unclaimed s c)
 
 -- the first of n numbers from this one on of which that holds
 abbrev pub first_from : (ℕ → Bool) → ℕ → ℕ → Option ℕ
@@ -97,7 +97,7 @@ last_below holds (suc n) = if holds n then Some n else last_below holds n
 abbrev pub drawer : List Bool → ℕ → State → ℕ → ℕ → Option ℕ → Option ℕ
 drawer kept p s rows units None = last_below (would_draw kept s rows units) p
 drawer kept p s rows units (Some c) =
-    if nat_lt c p && nat_le (least_units kept units c) (units_left s c)
+    if nat_lt c p && nat_le (least_units kept units c) (units_unclaimed s c)
     then Some c else last_below (would_draw kept s rows units) p
 
 -- in which pass's part the elements of a pass go on: in its own, unless parts behind it are in use
@@ -138,8 +138,8 @@ abbrev pub family_at : List Family → ℕ → Family
 family_at families root = slice_index_or families root (unborn 0)
 
 -- with one more element of its family
-abbrev pub counted : List Family → Survivor → List Family
-counted families s = slice_set families s.root (unborn ((family_at families s.root).left + 1))
+abbrev pub family_counted : List Family → Survivor → List Family
+family_counted families s = slice_set families s.root (unborn ((family_at families s.root).left + 1))
 
 -- the highest root
 abbrev pub highest_root : List Survivor → ℕ
@@ -148,7 +148,7 @@ highest_root survivors = fold (λ n s. max n s.root) 0 survivors
 -- the families of all roots, in a manager with these limits
 abbrev pub families_of : Limits → List Survivor → List Family
 families_of l survivors =
-    fold counted (replicate (min (highest_root survivors + 1) (rows_of l)) (unborn 0)) survivors
+    fold family_counted (replicate (min (highest_root survivors + 1) (rows_of l)) (unborn 0)) survivors
 
 -- the pass in whose part a row lies, or as many as there are parts for a spare one
 abbrev pub home_of : Limits → ℕ → ℕ
@@ -176,11 +176,11 @@ group_size l rest left = let n = neighbours_in l rest in if n == 4 && nat_lt 4 l
 abbrev pub filler : DraftView
 filler = record { stage = 1; body = replicate 4 0 }
 
-abbrev pub draft_of : Survivor → DraftView
-draft_of s = record { stage = s.stage; body = s.body }
+abbrev pub survivor_draft : Survivor → DraftView
+survivor_draft s = record { stage = s.stage; body = s.body }
 
 abbrev pub drafts_of : List Survivor → Bool → List DraftView
-drafts_of group more = map draft_of group ++ (if more then filler ∷ [] else [])
+drafts_of group more = map survivor_draft group ++ (if more then filler ∷ [] else [])
 
 -- what a pass has made, which was next
 abbrev pub placed_by : Cursor → ℕ × State → ℕ × Placing
@@ -269,10 +269,10 @@ all_born l p survivors s = born_from l p (length survivors) survivors [] (record
 -- ---- attempts and rounds
 
 -- the element is claimed and given up n times, by the passes from this one on that have a unit for it
-abbrev pub tried : ℕ → List Bool → ℕ → ℕ → ℕ × State → Option (ℕ × State)
-tried p kept id zero x = Some x
-tried p kept id (suc n) x =
-    option_and_then (λ c. option_and_then (λ after. tried p kept id n (c, after)) (attempted c id x.1))
+abbrev pub attempts_made : ℕ → List Bool → ℕ → ℕ → ℕ × State → Option (ℕ × State)
+attempts_made p kept id zero x = Some x
+attempts_made p kept id (suc n) x =
+    option_and_then (λ c. option_and_then (λ after. attempts_made p kept id n (c, after)) (attempted c id x.1))
     (first_from (has_left kept x.1 0 1) x.0 (p - x.0))
 
 -- it is given n rounds of all attempts
@@ -281,12 +281,12 @@ renewed p kept id limit zero x = Some x
 renewed p kept id limit (suc n) x =
     option_and_then
     (λ done. option_and_then (λ after. renewed p kept id limit n (done.0, after)) (requeued 0 id done.1))
-    (tried p kept id limit x)
+    (attempts_made p kept id limit x)
 
 -- it is given what was described
 abbrev pub replayed : ℕ → List Bool → ℕ → Survivor → ℕ → ℕ × State → Option (ℕ × State)
 replayed p kept limit s id x =
-    option_and_then (tried p kept id (attempts_had s.status)) (renewed p kept id limit s.rounds x)
+    option_and_then (attempts_made p kept id (attempts_had s.status)) (renewed p kept id limit s.rounds x)
 
 -- and so is each, under its new id
 abbrev pub all_replayed : ℕ → List Bool → ℕ → List Survivor → List Moved → ℕ × State → Option State
@@ -298,13 +298,13 @@ all_replayed p kept limit (s ∷ survivors) (m ∷ moved) x =
 -- ---- units
 
 -- pass c claims the element
-abbrev pub taken_by : ℕ → ℕ → State → Option State
-taken_by c id s = option_and_then (λ claimed. Some claimed.1) (given (claim_id_of s c id))
+abbrev pub claimed_for : ℕ → ℕ → State → Option State
+claimed_for c id s = option_and_then (λ claimed. Some claimed.1) (given (claim_id_of s c id))
 
 -- the pass that is to hold the element, if one is, claims it: one of the p passes, which has nothing in hand
 abbrev pub held_by : ℕ → Option ℕ → ℕ → State → Option State
 held_by p None id s = Some s
-held_by p (Some c) id s = if nat_lt c p && is_none (pass_at s c).holding then taken_by c id s else None
+held_by p (Some c) id s = if nat_lt c p && is_none (pass_at s c).holding then claimed_for c id s else None
 
 -- and so each, in their order, under its new id
 abbrev pub all_held : ℕ → List Survivor → List Moved → State → Option State

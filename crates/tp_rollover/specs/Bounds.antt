@@ -104,8 +104,8 @@ abbrev pub hold_of : Limits → ℕ → Survivor → ℕ
 hold_of l q s = if is_some s.holder then hold_steps l q else 0
 
 -- it can have had so many attempts in its round, with the one in hand, and so many further rounds
-abbrev pub IsWithin : Limits → Survivor → Type 0
-IsWithin l s = (attempts_had s.status + (if is_some s.holder then 1 else 0) ≤ l.attempts)
+abbrev pub IsWithinLimits : Limits → Survivor → Type 0
+IsWithinLimits l s = (attempts_had s.status + (if is_some s.holder then 1 else 0) ≤ l.attempts)
     × (s.rounds ≤ MAX_ROUNDS)
 
 -- and all that are held
@@ -130,8 +130,8 @@ abbrev pub compare_steps : Limits → ℕ
 compare_steps l = read_steps l + rounds_steps + read_steps l
 
 -- what the q new passes make for each, with all that it can have had
-abbrev pub renew_steps : Limits → ℕ → ℕ
-renew_steps l q = bear_steps l q 1 + most_replay_steps l q
+abbrev pub renewal_steps : Limits → ℕ → ℕ
+renewal_steps l q = bear_steps l q 1 + most_replay_steps l q
 
 -- the p old passes find n elements alive: an account, the search, each is described, and they gather
 abbrev pub survey_steps : Limits → ℕ → ℕ → ℕ
@@ -153,7 +153,7 @@ check_steps l q n = gather_steps l q + (account_steps l q + n * compare_steps l 
 
 -- and at most for n elements in all: these are born and replayed, and those
 abbrev pub most_new_steps : Limits → ℕ → ℕ → ℕ
-most_new_steps l q n = n * renew_steps l q + check_steps l q n
+most_new_steps l q n = n * renewal_steps l q + check_steps l q n
 
 -- with the attempts and rounds that they have had after this history
 abbrev pub new_steps : Limits → ℕ → List Event → List Moved → ℕ
@@ -179,5 +179,5 @@ pub record PerElement (l : Limits) (q : ℕ) : Type 0 where
   pub new : bear_steps l q 1 + compare_steps l ≡ 16 * l.attempts + 2 * l.spare + 44 + 3 * gather_steps l q
   pub replay : (attempts further : ℕ) → replay_steps l q attempts further
       ≡ (11 + 2 * gather_steps l q) * attempts + (5 + gather_steps l q) * further
-  pub most : renew_steps l q + compare_steps l
+  pub most : renewal_steps l q + compare_steps l
       ≡ 60 * l.attempts + 2 * l.spare + 59 + (8 * l.attempts + 6) * gather_steps l q

@@ -18,10 +18,10 @@ abbrev pub AreFresh : Limits → List PassShown → Type 0
 AreFresh l passes = (p : PassShown) → In p passes → IsFresh l p
 
 -- what was done is what is computed, and it was refused as full only where that is
-abbrev pub IsMade : {A B : Type 0} → Result A RollFault → (A → B) → Option B → Type 0
-IsMade (Ok x) value computed = computed ≡ Some (value x)
-IsMade (Err Full) value computed = computed ≡ None
-IsMade (Err other) value computed = Unit {0}
+abbrev pub IsAsComputed : {A B : Type 0} → Result A RollFault → (A → B) → Option B → Type 0
+IsAsComputed (Ok x) value computed = computed ≡ Some (value x)
+IsAsComputed (Err Full) value computed = computed ≡ None
+IsAsComputed (Err other) value computed = Unit {0}
 
 -- The passes of a manager with limits l did nothing but look, and looked together. What was alive then finds
 -- no room in a manager that was this before, by p passes.

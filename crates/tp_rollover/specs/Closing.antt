@@ -18,8 +18,8 @@ use Rattle.tp_rollover.specs.Rolls.{IsGivenUp, kills}
 use Rattle.tp_rollover.specs.declared.moved.Moved.{Moved}
 
 -- pass c gives up what it has in hand, if it has something
-abbrev pub given_up : ℕ → State → State
-given_up c s = if is_some (pass_at s c).holding then (abort_of s c).1 else s
+abbrev pub hand_given_up : ℕ → State → State
+hand_given_up c s = if is_some (pass_at s c).holding then (abort_of s c).1 else s
 
 -- each of these was alive after this history, and their ids ascend
 pub record AreLiving (limit : ℕ) (h : List Event) (moved : List Moved) : Type 0 where
@@ -35,10 +35,10 @@ pub record KillsOne (l : Limits) (id : ℕ) (answer : Result Killed Refusal) (ol
   pub says : KillAnswers id l old new answer
 
 -- it has killed all these
-abbrev pub KillsEach : Limits → List Moved → PassShown → PassShown → Type 0
-KillsEach l [] old new = new ≡ old
-KillsEach l (m ∷ moved) old new = (middle : PassShown) × (killed : Killed)
-    × KillsOne l m.old (Ok killed) old middle × KillsEach l moved middle new
+abbrev pub KillsAllMoved : Limits → List Moved → PassShown → PassShown → Type 0
+KillsAllMoved l [] old new = new ≡ old
+KillsAllMoved l (m ∷ moved) old new = (middle : PassShown) × (killed : Killed)
+    × KillsOne l m.old (Ok killed) old middle × KillsAllMoved l moved middle new
 
 -- it has killed some, and the next one was refused
 pub record KillsShort (l : Limits) (moved : List Moved) (old new : PassShown) : Type 0 where
@@ -47,7 +47,7 @@ pub record KillsShort (l : Limits) (moved : List Moved) (old new : PassShown) : 
   pub rest : List Moved
   pub moved_are : moved ≡ done ++ next ∷ rest
   pub middle : PassShown
-  pub all : KillsEach l done old middle
+  pub all : KillsAllMoved l done old middle
   pub why : Refusal
   pub refused : KillsOne l next.old (Err why) middle new
 

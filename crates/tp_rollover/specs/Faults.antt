@@ -28,12 +28,12 @@ abbrev pub HasShort : Limits → List PassShown → Type 0
 HasShort k passes = (p : PassShown) × In p passes × IsShort k p
 
 -- the pass has begun all its units but one, which it may have to keep
-abbrev pub IsLow : Limits → PassShown → Type 0
-IsLow k p = claims_in p.mine + 1 ≡ k.units
+abbrev pub HasLastUnit : Limits → PassShown → Type 0
+HasLastUnit k p = claims_in p.mine + 1 ≡ k.units
 
 -- one of these passes has
 abbrev pub HasLow : Limits → List PassShown → Type 0
-HasLow k passes = (p : PassShown) × In p passes × IsLow k p
+HasLow k passes = (p : PassShown) × In p passes × HasLastUnit k p
 
 -- a fault that comes after the first calls. Full comes only where a pass of the new manager is short then, or
 -- low, where an element is held
@@ -58,7 +58,6 @@ IsDue l k olds news news' late = MayBegin l k olds news × IsLate k news' (¬ Ar
 abbrev pub IsSurveyDue : List PassShown → RollFault → Type 0
 IsSurveyDue passes NoPass = passes ≡ []
 IsSurveyDue passes NoMemory = Unit {0}
-IsSurveyDue passes Unequal = Unit {0}
 IsSurveyDue passes other = ⊥
 
 -- when each fault of a restoration comes: the first one before any call

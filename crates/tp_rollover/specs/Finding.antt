@@ -8,7 +8,11 @@ use Rattle.tp_model.specs.declared.event.Event.{Event}
 use Rattle.tp_model.specs.Counts.{counts}
 use Rattle.tp_model.specs.History.{In, IsBorn, element_of, status_of}
 use Rattle.tp_model.specs.Steps.{IsKillable, IsLegal, rows_of}
+use Rattle.tp_manager.specs.Shown.{PassShown}
 use Rattle.tp_rollover.specs.Survivors.{AreSurvivors, IsLiving, IsSurvivor}
+use Rattle.tp_rollover.specs.Told.{HoldsAsSeen, ToldFirst}
+use Rattle.tp_rollover.specs.declared.stops.Stop.{Stop}
+use Rattle.tp_rollover.specs.declared.stops.Stop.TheVariants.{NoMemory, Full, Unequal}
 use Rattle.tp_rollover.specs.declared.survivors.Survivor.{Survivor}
 
 -- the element of this row waits or is parked
@@ -46,6 +50,10 @@ CountsAlive n c = c.waiting + c.parked + c.held ≡ n
 abbrev pub AreAliveOf : Limits → ℕ → List ℕ → List Event → Type 0
 AreAliveOf l n found h = IsLegal l h → CountsAlive n (counts l.attempts h) → AreAlive l found h
 
+-- each of these ids is that of an element that is alive
+abbrev pub AreLiving : ℕ → List ℕ → List Event → Type 0
+AreLiving limit ids h = (id : ℕ) → In id ids → StandsLiving limit id h
+
 -- what was found, as a list
 abbrev pub listed : Option ℕ → List ℕ
 listed None = []
@@ -63,3 +71,16 @@ AreDescribed l h ids survivors = AllZip (IsDescribed l h) ids survivors
 abbrev pub AreSurvivorsOf : Limits → ℕ → List Event → List Survivor → Type 0
 AreSurvivorsOf l n h survivors = IsLegal l h → CountsAlive n (counts l.attempts h)
     → AreSurvivors l h survivors
+
+-- a look at what is alive stopped: for want of memory, or since this isn't so of what the pass had seen, or it
+-- has seen something new
+abbrev pub StopsLooking : PassShown → PassShown → (List Event → Type 0) → Stop → Type 0
+StopsLooking old new Holds NoMemory = Unit {0}
+StopsLooking old new Holds Full = ⊥
+StopsLooking old new Holds Unequal = HoldsAsSeen old new (λ h. ¬ Holds h)
+
+-- the same of the first of these passes
+abbrev pub StopsFirst : List PassShown → List PassShown → (List Event → Type 0) → Stop → Type 0
+StopsFirst olds news Holds NoMemory = Unit {0}
+StopsFirst olds news Holds Full = ⊥
+StopsFirst olds news Holds Unequal = ToldFirst olds news (λ h. ¬ Holds h)

@@ -27,13 +27,13 @@ abbrev pub holder_of : Limits → ℕ → ℕ
 holder_of l u = u / max l.units 1
 
 -- a unit of pass c holds an element
-abbrev pub Holds : Limits → List Event → ℕ → Type 0
-Holds l h c = (i u n : ℕ) × (status_of l.attempts h i ≡ Held u n) × (holder_of l u ≡ c)
+abbrev pub PassHolds : Limits → List Event → ℕ → Type 0
+PassHolds l h c = (i u n : ℕ) × (status_of l.attempts h i ≡ Held u n) × (holder_of l u ≡ c)
 
 -- an element with this status is named with the pass that holds it, where one does
-abbrev pub IsHeldBy : Limits → Status → Option ℕ → Type 0
-IsHeldBy l (Held u n) holder = holder ≡ Some (holder_of l u)
-IsHeldBy l other holder = holder ≡ None
+abbrev pub NamesHolder : Limits → Status → Option ℕ → Type 0
+NamesHolder l (Held u n) holder = holder ≡ Some (holder_of l u)
+NamesHolder l other holder = holder ≡ None
 
 -- pass c is named as the holder of one
 abbrev pub IsNamedHolder : ℕ → List Moved → Type 0
@@ -50,9 +50,9 @@ pub record AreHolders (k : Limits) (g : List Event) (passes : List PassShown) (m
 -- cancelled or released, has nothing.
 pub record HandsGoOn (l k : Limits) (h g : List Event) (olds news : List PassShown) (moved : List Moved)
     : Type 0 where
-  pub named : (m : Moved) → In m moved → IsHeldBy l (status_of l.attempts h m.old) m.holder
+  pub named : (m : Moved) → In m moved → NamesHolder l (status_of l.attempts h m.old) m.holder
   pub had : (m : Moved) → In m moved → (u n : ℕ) → status_of l.attempts h m.old ≡ Held u n
       → HasOpen olds (holder_of l u)
   pub held : (m : Moved) → In m moved → (u n : ℕ) → status_of l.attempts h m.old ≡ Held u n
       → HasInHand k g news (holder_of l u) m.new
-  pub free : (p : PassShown) → In p news → ¬ Holds l h p.number → p.open_unit ≡ None
+  pub free : (p : PassShown) → In p news → ¬ PassHolds l h p.number → p.open_unit ≡ None

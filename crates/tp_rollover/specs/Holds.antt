@@ -16,7 +16,7 @@ abbrev pub status_in : State → ℕ → Status
 status_in s i = status_of s.limits.attempts s.history i
 
 -- the unit in the hand of pass c holds element i, in the attempt after those that it had as it waited so
-pub record IsTaken (p : ℕ) (s : State) (i : ℕ) (status : Status) (c : ℕ) : Type 0 where
+pub record IsInHandOf (p : ℕ) (s : State) (i : ℕ) (status : Status) (c : ℕ) : Type 0 where
   pub place : ℕ
   pub tries : ℕ
   pub one_of : c < p
@@ -28,7 +28,7 @@ pub record IsTaken (p : ℕ) (s : State) (i : ℕ) (status : Status) (c : ℕ) :
 -- element i stands so, or is taken by the pass that is to hold it
 abbrev pub StandsFor : ℕ → State → ℕ → Status → Option ℕ → Type 0
 StandsFor p s i status None = status_in s i ≡ status
-StandsFor p s i status (Some c) = IsTaken p s i status c
+StandsFor p s i status (Some c) = IsInHandOf p s i status c
 
 -- what was described stands so, or is held so
 abbrev pub StandsHeld : ℕ → State → Survivor → Moved → Type 0

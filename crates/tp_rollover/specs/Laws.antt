@@ -72,7 +72,7 @@ RestoredIsRolledOver =
     → RollsOver l k 0 h (h ++ kills l.attempts h 0 moved) g moved
 
 -- each stands with the status that it had, none was held, and the old manager goes on by the kills alone
-pub record IsPlain (l k : Limits) (h h' g : List Event) (moved : List Moved) : Type 0 where
+pub record RollsPlainly (l k : Limits) (h h' g : List Event) (moved : List Moved) : Type 0 where
   pub same : (m : Moved) → In m moved → status_of k.attempts g m.new ≡ status_of l.attempts h m.old
   pub idle : (i u n : ℕ) → ¬ (status_of l.attempts h i ≡ Held u n)
   pub killed : h' ≡ h ++ map (λ (m : Moved). Kill 0 m.old) moved
@@ -82,4 +82,4 @@ abbrev pub FreeIsPlain : Type 0
 FreeIsPlain =
     (l k : Limits) (old' new' : KeeperShown) (olds olds' news' : List PassShown) (moved : List Moved)
     → (r : Rolls l k old' new' olds olds' news' moved) → AreFree olds
-    → IsPlain l k r.before old'.seen new'.seen moved × AreFree news'
+    → RollsPlainly l k r.before old'.seen new'.seen moved × AreFree news'

@@ -40,7 +40,7 @@ pub record IsManaged (m : Managed) : Type 0 where
 -- It has gone on in another manager, of the same limits. From what the old passes had done before the
 -- rollover went to what the new ones have seen, and what was alive was made anew as it is computed. The old
 -- manager's keeper and passes showed these at the last.
-pub record GoesOn (old new : Managed) (moved : List Moved) : Type 0 where
+pub record GoesOnAnew (old new : Managed) (moved : List Moved) : Type 0 where
   pub keeper : KeeperShown
   pub passes : List PassShown
   pub given : keeper.given ≡ old.keeper.given
@@ -64,10 +64,9 @@ IsRefusedFor l passes Full = WouldNotFit l passes l.parts (start l)
 IsRefusedFor l passes Unequal = Unit {0}
 IsRefusedFor l passes other = ⊥
 
--- why it isn't surveyed
+-- why it isn't surveyed: for want of memory alone
 abbrev pub IsUnsurveyed : RollFault → Type 0
 IsUnsurveyed NoMemory = Unit {0}
-IsUnsurveyed Unequal = Unit {0}
 IsUnsurveyed other = ⊥
 
 -- why none with these limits is made of descriptions

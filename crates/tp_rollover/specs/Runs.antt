@@ -28,7 +28,7 @@ roots_born c (s ∷ rest) x =
     (submitted c s.root_stage s.root_body x.1)
 
 -- a pass was to submit a copy of this one's root, with this answer
-pub record Submitted (l : Limits) (s : Survivor) (answer : Result ℕ Refusal) (old new : PassShown)
+pub record RootSubmitted (l : Limits) (s : Survivor) (answer : Result ℕ Refusal) (old new : PassShown)
     : Type 0 where
   pub limits : new.limits ≡ l
   pub turn : new.from ≡ old.from
@@ -40,7 +40,7 @@ abbrev pub SubmitsAll : Limits → List Survivor → List Moved → PassShown �
 SubmitsAll l [] [] old new = new ≡ old
 SubmitsAll l [] (m ∷ names) old new = ⊥
 SubmitsAll l (s ∷ rest) [] old new = ⊥
-SubmitsAll l (s ∷ rest) (m ∷ names) old new = (middle : PassShown) × Submitted l s (Ok m.new) old middle
+SubmitsAll l (s ∷ rest) (m ∷ names) old new = (middle : PassShown) × RootSubmitted l s (Ok m.new) old middle
     × (m ≡ named_root s m.new) × SubmitsAll l rest names middle new
 
 -- all are named behind the others
@@ -60,17 +60,17 @@ pub record RunsShort (l : Limits) (roots : List Survivor) (old new : PassShown) 
   pub middle : PassShown
   pub all : SubmitsAll l done names old middle
   pub why : Refusal
-  pub refused : Submitted l next (Err why) middle new
+  pub refused : RootSubmitted l next (Err why) middle new
 
 -- what a run of them leaves
-abbrev pub Runs : {A : Type 0} → Limits → List Survivor → List Moved → List Moved → PassShown → PassShown
+abbrev pub SubmitsRun : {A : Type 0} → Limits → List Survivor → List Moved → List Moved → PassShown → PassShown
     → Result A Stop → Type 0
-Runs l roots moved moved' old new (Ok x) = RunsThrough l roots moved moved' old new
-Runs l roots moved moved' old new (Err Full) = RunsShort l roots old new
-Runs l roots moved moved' old new (Err other) = Unit {0}
+SubmitsRun l roots moved moved' old new (Ok x) = RunsThrough l roots moved moved' old new
+SubmitsRun l roots moved moved' old new (Err Full) = RunsShort l roots old new
+SubmitsRun l roots moved moved' old new (Err other) = Unit {0}
 
 -- this is a request of a family of which nothing is there, and it goes on in the part of pass `at`
-pub record GoesOn (l : Limits) (p at : ℕ) (families : List Family) (s : Survivor) : Type 0 where
+pub record StaysInPart (l : Limits) (p at : ℕ) (families : List Family) (s : Survivor) : Type 0 where
   pub root : s.id ≡ s.root
   pub unborn : (family_at families s.root).carrier ≡ None
   pub here : start_at p at (home_of l s.id) ≡ at

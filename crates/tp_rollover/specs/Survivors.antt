@@ -23,6 +23,11 @@ IsLiving (Held u n) = Unit {0}
 IsLiving (Parked n) = Unit {0}
 IsLiving other = ⊥
 
+-- it is held in no attempt: no element is
+abbrev pub HasNoAttempt : Status → Type 0
+HasNoAttempt (Held u n) = n ≡ 0
+HasNoAttempt other = ⊥
+
 -- An element with the first status is described by the second one. Where a pass holds it, that is how it
 -- waited before: the pass is the one whose unit it is.
 abbrev pub IsStanding : Limits → Status → Status → Option ℕ → Type 0

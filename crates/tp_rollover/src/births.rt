@@ -6,13 +6,13 @@ ghost use Rattle.tp_plain.specs.OneThread.{pass_at};
 ghost use Rattle.tp_manager.specs.Bounds.{submit_steps};
 ghost use Rattle.tp_manager.specs.Shown.{IsOf};
 ghost use Rattle.tp_alone.specs.Thread.{thread_of};
-ghost use Rattle.tp_rollover.specs.Anew.{all_born, born_next, carrier_by, draft_of, drafts_of, families_of};
+ghost use Rattle.tp_rollover.specs.Anew.{all_born, born_next, carrier_by, survivor_draft, drafts_of, families_of};
 ghost use Rattle.tp_rollover.specs.Anew.{filler, group_size, highest_root, home_of, named_in, neighbours_in};
 ghost use Rattle.tp_rollover.specs.Anew.{next_born, submitted_next};
 ghost use Rattle.tp_rollover.specs.Bounds.{AllMake, bear_steps, commit_on_steps, gathered};
 ghost use Rattle.tp_rollover.specs.Births.{born_of};
 ghost use Rattle.tp_rollover.specs.Lone.{Agrees, AreLone, bearing, lone, placing};
-ghost use Rattle.tp_rollover.specs.Runs.{BearsOn, GoesOn, newly};
+ghost use Rattle.tp_rollover.specs.Runs.{BearsOn, StaysInPart, newly};
 
 use crate::calls::{bear_by, submit_by, submit_run};
 use crate::moved::Moved;
@@ -38,6 +38,23 @@ struct Group {
     root: u32,
     first: u32,
     count: usize,
+}
+
+/// What is yet to be born, in its order, and the limits of the manager in which it is.
+#[derive(Clone, Copy, Debug, PartialEq, Eq)]
+struct Unborn<'s> {
+    limits: Limits,
+    rest: &'s [Survivor],
+}
+
+/// Those that are born next: of which element, by the next pass from which on, and whether a further carrier is
+/// born with them.
+#[derive(Clone, Copy, Debug, PartialEq, Eq)]
+struct Birth<'s> {
+    group: &'s [Survivor],
+    more: bool,
+    carrier: u32,
+    home: usize,
 }
 
 /// The pass in whose part the row lies, or as many as there are parts for a spare one.
@@ -201,7 +218,7 @@ fn carrier_of(
 fn drafts_of(group: &[Survivor]) -> Option<[Draft; 4]>
     requires few { length group.now ≤ 4 }
     ensures drafts { IfSome result (λ drafts.
-        drafts ≡ map draft_of group.now ++ replicate (4 - length group.now) filler) }
+        drafts ≡ map survivor_draft group.now ++ replicate (4 - length group.now) filler) }
 {
     let filler = Draft::new(1, [0; 4])?;
     let mut drafts = [filler; 4];
@@ -211,43 +228,38 @@ fn drafts_of(group: &[Survivor]) -> Option<[Draft; 4]>
     Some(drafts)
 }
 
-/// These, and a further carrier where there is to be one, are born of the carrier, by the next pass from
-/// `home` on. The id of the first.
+/// These are born. The id of the first.
 fn bear_group(
-    group: &[Survivor],
-    more: bool,
-    carrier: u32,
+    birth: &Birth,
     manager: &Manager,
     keeper: &mut Keeper,
     passes: &mut [Pass],
     cursor: &mut Cursor,
-    home: usize,
 ) -> Result<u32, Stop>
     requires lone { AreLone manager.now keeper.old passes.old }
-    requires some { 1 ≤ length group.now }
-    requires few { length group.now ≤ 4 }
-    requires room { more ≡ true → length group.now ≤ 3 }
+    requires some { 1 ≤ length birth.now.group.now }
+    requires few { length birth.now.group.now ≤ 4 }
+    requires room { birth.now.more ≡ true → length birth.now.group.now ≤ 3 }
     ensures lone { AreLone manager.now keeper.new passes.new × (keeper.new.given ≡ keeper.old.given) }
-    ensures steps { let n = length group.now in
+    ensures steps { let n = length birth.now.group.now in
         AllMake (commit_on_steps manager.now.limits keeper.old.given (n + 1))
         keeper.old passes.old keeper.new passes.new }
     ensures gives { Agrees result (λ first. (first, placing manager.now keeper.new passes.new cursor.new))
-        (born_next (length passes.old) (drafts_of group.now more) carrier home
+        (born_next (length passes.old) (drafts_of birth.now.group.now birth.now.more) birth.now.carrier birth.now.home
         (placing manager.now keeper.old passes.old cursor.old)) }
 {
-    let Some(drafts) = drafts_of(group) else {
+    let Some(drafts) = drafts_of(birth.group) else {
         return Err(Stop::Unequal);
     };
-    let count = if more { group.len() + 1 } else { group.len() };
-    let at = cursor.next(manager, passes, home, count as u16, 1)?;
-    bear_by(manager, keeper, passes, at, carrier, &drafts[..count])
+    let alone = birth.group.len();
+    let count = if birth.more { alone + 1 } else { alone };
+    let at = cursor.next(manager, passes, birth.home, count as u16, 1)?;
+    bear_by(manager, keeper, passes, at, birth.carrier, &drafts[..count])
 }
 
-/// The next of these are born: a root by itself, or neighbours of one family. The limits are those of the
-/// manager in which they are.
+/// The next of these are born: a root by itself, or neighbours of one family.
 fn bear_next(
-    limits: Limits,
-    rest: &[Survivor],
+    unborn: &Unborn,
     manager: &Manager,
     keeper: &mut Keeper,
     passes: &mut [Pass],
@@ -255,18 +267,18 @@ fn bear_next(
     cursor: &mut Cursor,
 ) -> Result<Group, Stop>
     requires lone { AreLone manager.now keeper.old passes.old }
-    requires some { 1 ≤ length rest.now }
+    requires some { 1 ≤ length unborn.now.rest.now }
     ensures lone { AreLone manager.now keeper.new passes.new × (keeper.new.given ≡ keeper.old.given) }
-    ensures inside { IfOk result (λ group. (1 ≤ group.count) × (group.count ≤ length rest.now)) }
-    ensures steps { let n = born_of rest.now result in
+    ensures inside { IfOk result (λ group. (1 ≤ group.count) × (group.count ≤ length unborn.now.rest.now)) }
+    ensures steps { let n = born_of unborn.now.rest.now result in
         AllMake (n * bear_steps manager.now.limits keeper.old.given 1)
         keeper.old passes.old keeper.new passes.new }
     ensures gives { Agrees result
         (λ group. (group, bearing manager.now keeper.new passes.new cursor.new families.new))
-        (next_born limits (length passes.old) rest.now
+        (next_born unborn.now.limits (length passes.old) unborn.now.rest.now
         (bearing manager.now keeper.old passes.old cursor.old families.old)) }
 {
-    let Some((&next, _others)) = rest.split_first() else {
+    let Some((&next, _others)) = unborn.rest.split_first() else {
         return Err(Stop::Unequal);
     };
     let place = next.root as usize;
@@ -274,7 +286,7 @@ fn bear_next(
         return Err(Stop::Unequal);
     }
     let family = families[place];
-    let home = home_of(limits, next.id);
+    let home = home_of(unborn.limits, next.id);
     let (root, carrier) = carrier_of(next, family.carrier, manager, keeper, passes, cursor, home)?;
     if next.id == next.root {
         return Ok(Group {
@@ -283,9 +295,14 @@ fn bear_next(
             count: 1,
         });
     }
-    let (count, more) = next_group(limits, rest, family.left);
-    let group = &rest[..count];
-    let first = bear_group(group, more, carrier, manager, keeper, passes, cursor, home)?;
+    let (count, more) = next_group(unborn.limits, unborn.rest, family.left);
+    let birth = Birth {
+        group: &unborn.rest[..count],
+        more,
+        carrier,
+        home,
+    };
+    let first = bear_group(&birth, manager, keeper, passes, cursor)?;
     let Some(next_carrier) = first.checked_add(count as u32) else {
         return Err(Stop::Unequal);
     };
@@ -326,7 +343,7 @@ fn name(moved: &mut Vec<Moved>, rest: &[Survivor], group: Group) -> Result<(), S
 /// Whether this is a request of a family of which nothing is born yet, and goes on in the part of the pass
 /// that is in use.
 fn goes_on(limits: Limits, one: Survivor, passes: usize, at: usize, families: &[Family]) -> bool
-    ensures { result ≡ true → GoesOn limits passes at families.now one }
+    ensures { result ≡ true → StaysInPart limits passes at families.now one }
 {
     if one.id != one.root {
         return false;
@@ -357,7 +374,7 @@ fn run_of(
     ensures inside { result ≤ length rest.now }
     ensures rows { (h : List Event) → let s = thread_of manager.now.limits passes.now h in
         result ≤ (pass_at s at).left }
-    ensures on { All (GoesOn limits (length passes.now) at families.now) (take result rest.now) }
+    ensures on { All (StaysInPart limits (length passes.now) at families.now) (take result rest.now) }
 {
     let room = manager.room(&passes[at]);
     let end = rest.len().min(usize::from(room.rows));
@@ -372,8 +389,7 @@ fn run_of(
 /// The next of these are born and named: a run of requests by the pass whose part is in use, or else one
 /// group.
 fn bear_turn(
-    limits: Limits,
-    rest: &[Survivor],
+    unborn: &Unborn,
     manager: &Manager,
     keeper: &mut Keeper,
     passes: &mut [Pass],
@@ -382,24 +398,24 @@ fn bear_turn(
     moved: &mut Vec<Moved>,
 ) -> Result<(), Stop>
     requires lone { AreLone manager.now keeper.old passes.old }
-    requires some { 1 ≤ length rest.now }
+    requires some { 1 ≤ length unborn.now.rest.now }
     ensures lone { AreLone manager.now keeper.new passes.new × (keeper.new.given ≡ keeper.old.given) }
-    ensures steps { let n = newly rest.now moved.old.items moved.new.items result in
+    ensures steps { let n = newly unborn.now.rest.now moved.old.items moved.new.items result in
         AllMake (n * bear_steps manager.now.limits keeper.old.given 1)
         keeper.old passes.old keeper.new passes.new }
-    ensures on { BearsOn limits (length passes.old) rest.now moved.old.items moved.new.items
+    ensures on { BearsOn unborn.now.limits (length passes.old) unborn.now.rest.now moved.old.items moved.new.items
         (bearing manager.now keeper.old passes.old cursor.old families.old)
         (bearing manager.now keeper.new passes.new cursor.new families.new) result }
 {
     let at = cursor.at;
     if at < passes.len() {
-        let count = run_of(limits, rest, manager, passes, at, families);
+        let count = run_of(unborn.limits, unborn.rest, manager, passes, at, families);
         if count > 0 {
-            return submit_run(manager, keeper, passes, at, &rest[..count], moved);
+            return submit_run(manager, keeper, passes, at, &unborn.rest[..count], moved);
         }
     }
-    let group = bear_next(limits, rest, manager, keeper, passes, families, cursor)?;
-    name(moved, rest, group)
+    let group = bear_next(unborn, manager, keeper, passes, families, cursor)?;
+    name(moved, unborn.rest, group)
 }
 
 /// All these are born in a manager, in their order. What they are there. `of` is the manager in which they
@@ -437,10 +453,12 @@ pub(crate) fn bear_all(
         if from >= survivors.len() {
             break;
         }
-        let rest = &survivors[from..];
+        let unborn = Unborn {
+            limits: of.limits(),
+            rest: &survivors[from..],
+        };
         bear_turn(
-            of.limits(),
-            rest,
+            &unborn,
             manager,
             keeper,
             passes,

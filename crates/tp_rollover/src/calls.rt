@@ -11,9 +11,9 @@ ghost use Rattle.tp_rollover.specs.Anew.{attempted, born_by, first_given, given,
 ghost use Rattle.tp_rollover.specs.Anew.{submitted};
 ghost use Rattle.tp_rollover.specs.Bounds.{AllMake, PassMakes, attempt_steps, commit_on_steps, gathered};
 ghost use Rattle.tp_rollover.specs.Bounds.{give_up_steps, hold_steps};
-ghost use Rattle.tp_rollover.specs.Closing.{given_up};
+ghost use Rattle.tp_rollover.specs.Closing.{hand_given_up};
 ghost use Rattle.tp_rollover.specs.Lone.{Agrees, AreLone, lone};
-ghost use Rattle.tp_rollover.specs.Runs.{Runs, roots_born};
+ghost use Rattle.tp_rollover.specs.Runs.{SubmitsRun, roots_born};
 
 use crate::moved::Moved;
 use crate::stops::Stop;
@@ -68,7 +68,7 @@ fn submit_each(
     ensures own { IsOf manager.now pass.new × (pass.new.number ≡ pass.old.number) }
     ensures steps { PassMakes (length roots.now * submit_steps manager.now.limits) pass.old pass.new }
     ensures runs { let l = manager.now.limits in
-        Runs l roots.now moved.old.items moved.new.items pass.old pass.new result }
+        SubmitsRun l roots.now moved.old.items moved.new.items pass.old pass.new result }
 {
     for place in 0..roots.len() {
         let one = roots[place];
@@ -294,7 +294,7 @@ pub(crate) fn give_up(manager: &Manager, keeper: &mut Keeper, passes: &mut [Pass
     ensures steps { let l = manager.now.limits in
         AllMake (give_up_steps l keeper.old.given passes.old) keeper.old passes.old keeper.new passes.new }
     ensures gives { lone manager.now keeper.new passes.new
-        ≡ given_up 0 (lone manager.now keeper.old passes.old) }
+        ≡ hand_given_up 0 (lone manager.now keeper.old passes.old) }
     ensures free { (pass_at (lone manager.now keeper.new passes.new) 0).holding ≡ None }
 {
     if !passes[0].has_open() {

@@ -4,7 +4,7 @@ ghost use Rattle.tp_plain.specs.OneThread.{pass_at};
 ghost use Rattle.tp_manager.specs.Bounds.{gather_steps, kill_steps};
 ghost use Rattle.tp_manager.specs.Shown.{IsOf};
 ghost use Rattle.tp_rollover.specs.Bounds.{AllMake, PassMakes, gathered, give_up_steps};
-ghost use Rattle.tp_rollover.specs.Closing.{AreLiving, Buries, KillsEach, KillsShort};
+ghost use Rattle.tp_rollover.specs.Closing.{AreLiving, Buries, KillsAllMoved, KillsShort};
 ghost use Rattle.tp_rollover.specs.Lone.{AreLone, lone};
 ghost use Rattle.tp_rollover.specs.Rolls.{kills};
 
@@ -18,7 +18,7 @@ fn kill_each(manager: &Manager, pass: &mut Pass, moved: &[Moved]) -> bool
     requires free { pass.old.open_unit ≡ None }
     ensures own { IsOf manager.now pass.new × (pass.new.number ≡ pass.old.number) }
     ensures steps { PassMakes (length moved.now * kill_steps manager.now.limits) pass.old pass.new }
-    ensures done { result ≡ true → KillsEach manager.now.limits moved.now pass.old pass.new }
+    ensures done { result ≡ true → KillsAllMoved manager.now.limits moved.now pass.old pass.new }
     ensures stops { result ≡ false → KillsShort manager.now.limits moved.now pass.old pass.new }
 {
     for place in 0..moved.len() {

@@ -12,9 +12,9 @@ ghost use Rattle.tp_rollover.specs.Anew.{made_anew};
 ghost use Rattle.tp_rollover.specs.Answers.{IsHistoryOf, Rolls};
 ghost use Rattle.tp_rollover.specs.Bounds.{AllMake, alive_after, give_up_steps, made_by_all};
 ghost use Rattle.tp_rollover.specs.Bounds.{most_successor_steps, old_steps, survey_steps, successor_steps};
-ghost use Rattle.tp_rollover.specs.Carries.{Carries, IsMade};
+ghost use Rattle.tp_rollover.specs.Carries.{Carries, IsAsComputed};
 ghost use Rattle.tp_rollover.specs.Faults.{AreFree};
-ghost use Rattle.tp_rollover.specs.Managed.{GoesOn, IsManaged, IsNewPass, IsRefusedFor, IsUnrestored};
+ghost use Rattle.tp_rollover.specs.Managed.{GoesOnAnew, IsManaged, IsNewPass, IsRefusedFor, IsUnrestored};
 ghost use Rattle.tp_rollover.specs.Managed.{IsUnsurveyed, StaysManaged};
 ghost use Rattle.tp_rollover.specs.Survivors.{AreInHand, AreSurvivors, Restores};
 
@@ -152,7 +152,7 @@ impl Managed {
         requires managed { IsManaged self.old }
         ensures managed { IsManaged self.new }
         ensures limits { self.new.manager.limits ≡ self.old.manager.limits }
-        ensures moved { IfOk result (λ moved. GoesOn self.old self.new moved.items) }
+        ensures moved { IfOk result (λ moved. GoesOnAnew self.old self.new moved.items) }
         ensures refused { IfErr result (λ fault. StaysManaged self.old self.new) }
         ensures fault { IfErr result (IsRefusedFor self.old.manager.limits self.old.passes.items) }
         ensures steps { IfOk result (λ moved. made_by_all self.new.keeper self.new.passes.items
@@ -210,7 +210,7 @@ impl Managed {
         ensures limits { IfOk result (λ next. next.managed.manager.limits ≡ limits) }
         ensures restored { IfOk result (λ next. Restores limits next.managed.keeper
             next.managed.passes.items survivors.now next.moved.items) }
-        ensures computed { IsMade result
+        ensures computed { IsAsComputed result
             (λ next. (next.moved.items, thread_of limits next.managed.passes.items next.managed.keeper.seen))
             (made_anew limits limits.parts survivors.now (start limits)) }
         ensures fault { IfErr result (IsUnrestored limits) }

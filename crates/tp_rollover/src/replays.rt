@@ -1,8 +1,8 @@
 //! Elements that are born anew are given the attempts and rounds that were described.
 ghost use Rattle.std.specs.Prelude.{◌≡◌, ◌*◌, All, IfSome, OnOk, length, true};
-ghost use Rattle.tp_rollover.specs.Anew.{all_replayed, kept_for, renewed, replayed, tried};
+ghost use Rattle.tp_rollover.specs.Anew.{all_replayed, kept_for, renewed, replayed, attempts_made};
 ghost use Rattle.tp_rollover.specs.Bounds.{AllMake, attempt_steps, attempts_had, most_replay_steps};
-ghost use Rattle.tp_rollover.specs.Bounds.{IsWithin, replay_of, replay_steps, replays_for};
+ghost use Rattle.tp_rollover.specs.Bounds.{IsWithinLimits, replay_of, replay_steps, replays_for};
 ghost use Rattle.tp_rollover.specs.Lone.{Agrees, AreLone, lone};
 
 use crate::calls::{attempt_by, requeue_by};
@@ -28,7 +28,7 @@ fn attempts(
     ensures steps { AllMake (times * attempt_steps manager.now.limits keeper.old.given)
         keeper.old passes.old keeper.new passes.new }
     ensures gives { Agrees result (λ _. (from.new, lone manager.now keeper.new passes.new))
-        (tried (length passes.old) kept.now id times (from.old, lone manager.now keeper.old passes.old)) }
+        (attempts_made (length passes.old) kept.now id times (from.old, lone manager.now keeper.old passes.old)) }
 {
     for _time in 0..times {
         let Some(at) = first_with(manager, passes, kept, *from, 0, 1) else {
@@ -96,7 +96,7 @@ fn attempts_of(status: Status) -> Option<u8>
 /// Whether an element can have had so many attempts in its round, with the one in hand, and its rounds.
 fn is_within(limits: Limits, one: Survivor, times: u8) -> bool
     requires times { times ≡ attempts_had one.status }
-    ensures { result ≡ true → IsWithin limits one }
+    ensures { result ≡ true → IsWithinLimits limits one }
 {
     if one.rounds > MAX_ROUNDS {
         return false;
@@ -126,7 +126,7 @@ fn replay(
     ensures gives { Agrees result (λ _. (from.new, lone manager.now keeper.new passes.new))
         (replayed (length passes.old) kept.now manager.now.limits.attempts one id
         (from.old, lone manager.now keeper.old passes.old)) }
-    ensures within { OnOk result (IsWithin manager.now.limits one) }
+    ensures within { OnOk result (IsWithinLimits manager.now.limits one) }
 {
     let Some(times) = attempts_of(one.status) else {
         return Err(Stop::Unequal);
@@ -156,7 +156,7 @@ pub(crate) fn replay_all(
     ensures gives { Agrees result (λ _. lone manager.now keeper.new passes.new)
         (all_replayed (length passes.old) (kept_for survivors.now) manager.now.limits.attempts survivors.now
         moved.now (0, lone manager.now keeper.old passes.old)) }
-    ensures within { OnOk result (All (IsWithin manager.now.limits) survivors.now) }
+    ensures within { OnOk result (All (IsWithinLimits manager.now.limits) survivors.now) }
 {
     let kept = kept_for(survivors);
     let mut from = 0;

@@ -8,8 +8,8 @@ ghost use Rattle.tp_alone.specs.Thread.{AreTogether, Stays};
 ghost use Rattle.tp_rollover.specs.Alike.{StandAlike, StandUnheld};
 ghost use Rattle.tp_rollover.specs.Anew.{made_anew, made_unheld};
 ghost use Rattle.tp_rollover.specs.Bounds.{AllMake, PassMakes, PassesMake, compare_steps, most_new_steps};
-ghost use Rattle.tp_rollover.specs.Bounds.{IsWithin, new_steps, unheld_steps};
-ghost use Rattle.tp_rollover.specs.Carries.{AreFresh, IsMade};
+ghost use Rattle.tp_rollover.specs.Bounds.{IsWithinLimits, new_steps, unheld_steps};
+ghost use Rattle.tp_rollover.specs.Carries.{AreFresh, IsAsComputed};
 ghost use Rattle.tp_rollover.specs.Faults.{IsRestoreDue};
 ghost use Rattle.tp_rollover.specs.Lone.{Agrees, lone};
 ghost use Rattle.tp_rollover.specs.Survivors.{Restores};
@@ -108,7 +108,7 @@ fn stand_unheld(
     ensures computed { AreFresh manager.now.limits passes.old
         → Agrees result (λ moved. (moved.items, lone manager.now keeper.new passes.new))
         (made_unheld of.now.limits (length passes.old) survivors.now (start manager.now.limits)) }
-    ensures within { OnOk result (All (IsWithin manager.now.limits) survivors.now) }
+    ensures within { OnOk result (All (IsWithinLimits manager.now.limits) survivors.now) }
     ensures steps { AllMake (most_new_steps manager.now.limits keeper.old.given (length survivors.now))
         keeper.old passes.old keeper.new passes.new }
     ensures replayed { OnOk result
@@ -184,7 +184,7 @@ pub fn restore(
     ensures all { AreAll keeper.new passes.new }
     ensures restored { IfOk result (λ moved.
         Restores manager.now.limits keeper.new passes.new survivors.now moved.items) }
-    ensures computed { AreFresh manager.now.limits passes.old → IsMade result
+    ensures computed { AreFresh manager.now.limits passes.old → IsAsComputed result
         (λ moved. (moved.items, lone manager.now keeper.new passes.new))
         (made_anew manager.now.limits (length passes.old) survivors.now (start manager.now.limits)) }
     ensures due { IfErr result

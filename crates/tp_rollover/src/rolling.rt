@@ -1,5 +1,5 @@
 //! The rollover.
-ghost use Rattle.std.specs.Prelude.{◌≡◌, ◌≢◌, ◌+◌, All, Err, IfErr, IfOk, OnOk, length, true, false};
+ghost use Rattle.std.specs.Prelude.{◌≤◌, ◌≡◌, ◌≢◌, ◌+◌, All, Err, IfErr, IfOk, OnOk, length, true, false};
 ghost use Rattle.std.specs.List.{AllZip};
 ghost use Rattle.tp_manager.specs.Accounts.{AreAll};
 ghost use Rattle.tp_manager.specs.Shown.{IsKeptBy, IsOf};
@@ -46,6 +46,7 @@ fn prepare(
     requires new_keeper { IsKeptBy new.now new_keeper.old }
     requires own { All (IsOf old.now) old_passes.old × All (IsOf new.now) new_passes.old }
     requires all { AreAll old_keeper.old old_passes.old × AreAll new_keeper.old new_passes.old }
+    requires some { 1 ≤ length old_passes.old }
     ensures old_keeper { IsKeptBy old.now old_keeper.new × (old_keeper.new.given ≡ old_keeper.old.given) }
     ensures new_keeper { IsKeptBy new.now new_keeper.new × (new_keeper.new.given ≡ new_keeper.old.given) }
     ensures own { All (IsOf old.now) old_passes.new }

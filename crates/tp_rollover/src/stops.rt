@@ -1,7 +1,7 @@
 //! Why a rollover stops once it has begun, and the fault that is told then.
 ghost use Rattle.std.specs.Prelude.{◌≡◌, All, true};
 ghost use Rattle.tp_manager.specs.Shown.{IsOf};
-ghost use Rattle.tp_rollover.specs.Faults.{HasLow, HasShort, IsLate, IsLow, IsShort};
+ghost use Rattle.tp_rollover.specs.Faults.{HasLow, HasShort, IsLate, HasLastUnit, IsShort};
 ghost use Rattle.tp_rollover.specs.declared.moved.RollFault.TheVariants as faults;
 ghost use Rattle.tp_rollover.specs.declared.stops.Stop.TheVariants as stops;
 
@@ -45,7 +45,7 @@ fn has_short(manager: &Manager, passes: &[Pass]) -> bool
 /// Whether the pass has one unit left.
 fn is_low(manager: &Manager, pass: &Pass) -> bool
     requires own { IsOf manager.now pass.now }
-    ensures { result ≡ true → IsLow manager.now.limits pass.now }
+    ensures { result ≡ true → HasLastUnit manager.now.limits pass.now }
 {
     manager.room(pass).units == 1
 }

@@ -1,6 +1,7 @@
 //! A survey of a manager: what is alive there, described.
 ghost use Rattle.std.specs.Prelude.{◌≡◌, ◌↔◌, ◌+◌, ◌*◌, ◌≤◌, [], All, Err, IfErr, IfOk, OnOk, length};
 ghost use Rattle.std.specs.List.{AllZip};
+ghost use Rattle.tp_model.specs.Steps.{IsLegal};
 ghost use Rattle.tp_manager.specs.Accounts.{AreAll};
 ghost use Rattle.tp_manager.specs.Shown.{IsKeptBy, IsOf};
 ghost use Rattle.tp_alone.specs.Thread.{AreTogether, Stays};
@@ -8,7 +9,7 @@ ghost use Rattle.tp_rollover.specs.Answers.{IsHistoryOf};
 ghost use Rattle.tp_rollover.specs.Bounds.{AllMake, PassMakes, PassesMake, alive_after, describe_steps};
 ghost use Rattle.tp_rollover.specs.Bounds.{search_steps, survey_steps};
 ghost use Rattle.tp_rollover.specs.Faults.{IsSurveyDue};
-ghost use Rattle.tp_rollover.specs.Finding.{AreSurvivorsOf};
+ghost use Rattle.tp_rollover.specs.Finding.{AreSurvivorsOf, StopsFirst, StopsLooking};
 ghost use Rattle.tp_rollover.specs.Survivors.{AreInHand, AreSurvivors};
 ghost use Rattle.tp_rollover.specs.Told.{HoldsAsSeen, ToldFirst};
 ghost use Rattle.tp_rollover.specs.declared.moved.RollFault.TheVariants as faults;
@@ -17,7 +18,7 @@ ghost use Rattle.tp_rollover.specs.declared.stops.Stop.TheVariants as stops;
 use crate::alive::{alive_in, find_alive};
 use crate::moved::RollFault;
 use crate::stops::Stop;
-use crate::survivors::{Survivor, are_in_hand, describe_all};
+use crate::survivors::{Survivor, describe_all};
 use std::alloc::Global;
 use tp_manager::{Keeper, Manager, Pass};
 
@@ -33,7 +34,7 @@ fn find_by(
     ensures stays { Stays pass.old pass.new }
     ensures steps { let l = manager.now.limits in
         PassMakes (search_steps l count + count * describe_steps l) pass.old pass.new }
-    ensures full { ¬ (result ≡ Err stops.Full) }
+    ensures stops { IfErr result (StopsLooking pass.old pass.new (IsLegal manager.now.limits)) }
     ensures few { IfOk result (λ found. length found.items ≤ count) }
     ensures told { IfOk result (λ found. HoldsAsSeen pass.old pass.new
         (λ h. AreSurvivorsOf manager.now.limits count h found.items)) }
@@ -50,57 +51,24 @@ fn find(
     count: usize,
 ) -> Result<Vec<Survivor>, Stop>
     requires own { All (IsOf manager.now) passes.old }
+    requires some { 1 ≤ length passes.old }
     ensures own { All (IsOf manager.now) passes.new }
     ensures stays { AllZip Stays passes.old passes.new }
     ensures steps { let l = manager.now.limits in
         PassesMake (search_steps l count + count * describe_steps l) passes.old passes.new }
-    ensures full { ¬ (result ≡ Err stops.Full) }
+    ensures stops { IfErr result (StopsFirst passes.old passes.new (IsLegal manager.now.limits)) }
     ensures few { IfOk result (λ found. length found.items ≤ count) }
     ensures told { IfOk result (λ found. ToldFirst passes.old passes.new
         (λ h. AreSurvivorsOf manager.now.limits count h found.items)) }
-    ensures some { OnOk result (1 ≤ length passes.old) }
 {
     let Some((first, _rest)) = passes.split_first_mut() else {
-        return Err(Stop::Unequal);
+        unreachable!();
     };
     find_by(alloc, manager, first, count)
 }
 
-/// All that is alive, described, once all passes have gathered.
-fn find_together(
-    alloc: Global,
-    manager: &Manager,
-    keeper: &mut Keeper,
-    passes: &mut [Pass],
-) -> Result<Vec<Survivor>, Stop>
-    requires keeper { IsKeptBy manager.now keeper.old }
-    requires own { All (IsOf manager.now) passes.old }
-    requires all { AreAll keeper.old passes.old }
-    ensures keeper { IsKeptBy manager.now keeper.new × (keeper.new.given ≡ keeper.old.given) }
-    ensures own { All (IsOf manager.now) passes.new }
-    ensures all { AreAll keeper.new passes.new }
-    ensures stays { AllZip Stays passes.old passes.new }
-    ensures steps { let l = manager.now.limits in
-        AllMake (survey_steps l keeper.old.given (alive_after l.attempts keeper.new.seen))
-        keeper.old passes.old keeper.new passes.new }
-    ensures full { ¬ (result ≡ Err stops.Full) }
-    ensures few { IfOk result (λ found.
-        length found.items ≤ alive_after manager.now.limits.attempts keeper.new.seen) }
-    ensures found { IfOk result (λ found. AreSurvivors manager.now.limits keeper.new.seen found.items) }
-    ensures history { OnOk result (IsHistoryOf keeper.new passes.old keeper.new.seen) }
-    ensures together { OnOk result (AreTogether manager.now.limits keeper.new passes.new keeper.new.seen) }
-    ensures some { OnOk result (1 ≤ length passes.new) }
-{
-    let account = keeper.account(manager, passes);
-    let Some(count) = alive_in(&account) else {
-        return Err(Stop::Unequal);
-    };
-    let found = find(alloc, manager, passes, count)?;
-    keeper.gather(manager, passes);
-    Ok(found)
-}
-
-/// The same, where each pass that holds an element has a unit open.
+/// All that is alive, described, once all passes have gathered. Each pass that holds an element has a unit
+/// open.
 pub(crate) fn find_all(
     alloc: Global,
     manager: &Manager,
@@ -110,6 +78,7 @@ pub(crate) fn find_all(
     requires keeper { IsKeptBy manager.now keeper.old }
     requires own { All (IsOf manager.now) passes.old }
     requires all { AreAll keeper.old passes.old }
+    requires some { 1 ≤ length passes.old }
     ensures keeper { IsKeptBy manager.now keeper.new × (keeper.new.given ≡ keeper.old.given) }
     ensures own { All (IsOf manager.now) passes.new }
     ensures all { AreAll keeper.new passes.new }
@@ -117,28 +86,27 @@ pub(crate) fn find_all(
     ensures steps { let l = manager.now.limits in
         AllMake (survey_steps l keeper.old.given (alive_after l.attempts keeper.new.seen))
         keeper.old passes.old keeper.new passes.new }
-    ensures full { ¬ (result ≡ Err stops.Full) }
+    ensures memory { IfErr result (λ stop. stop ≡ stops.NoMemory) }
     ensures few { IfOk result (λ found.
         length found.items ≤ alive_after manager.now.limits.attempts keeper.new.seen) }
     ensures found { IfOk result (λ found. AreSurvivors manager.now.limits keeper.new.seen found.items) }
     ensures in_hand { IfOk result (λ found. AreInHand passes.old found.items) }
-    ensures history { OnOk result (IsHistoryOf keeper.new passes.old keeper.new.seen) }
-    ensures together { OnOk result (AreTogether manager.now.limits keeper.new passes.new keeper.new.seen) }
-    ensures some { OnOk result (1 ≤ length passes.new) }
+    ensures history { IsHistoryOf keeper.new passes.old keeper.new.seen }
+    ensures together { AreTogether manager.now.limits keeper.new passes.new keeper.new.seen }
+    ensures some { 1 ≤ length passes.new }
 {
-    let found = find_together(alloc, manager, keeper, passes)?;
-    if !are_in_hand(passes, &found) {
-        return Err(Stop::Unequal);
-    }
-    Ok(found)
+    let account = keeper.account(manager, passes);
+    let count = alive_in(&account);
+    let found = find(alloc, manager, passes, count);
+    keeper.gather(manager, passes);
+    found
 }
 
 /// All that is alive, each element once, by ascending ids, with all that another manager needs to go on with
 /// it (`restore`), and with the number of the pass that has it in hand, if one has. The slice holds every
 /// pass of the manager that was given out, in order of number (`Keeper::has_all` tests this). They have done
 /// nothing but look, and have gathered. A pass whose unit was lost, since what it took was killed, cancelled
-/// or released, holds none of these. `NoPass` exactly where no pass was given out; `NoMemory`. `Unequal`
-/// would be an error of this crate; it came in no test.
+/// or released, holds none of these. `NoPass` exactly where no pass was given out; `NoMemory`.
 pub fn survey(
     alloc: Global,
     manager: &Manager,
@@ -168,7 +136,7 @@ pub fn survey(
     match find_all(alloc, manager, keeper, passes) {
         Ok(found) => Ok(found),
         Err(Stop::NoMemory) => Err(RollFault::NoMemory),
-        Err(Stop::Full) => Err(RollFault::Unequal),
-        Err(Stop::Unequal) => Err(RollFault::Unequal),
+        Err(Stop::Full) => unreachable!(),
+        Err(Stop::Unequal) => unreachable!(),
     }
 }

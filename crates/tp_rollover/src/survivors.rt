@@ -1,13 +1,11 @@
 //! What is alive, described so that another manager can go on with it.
-ghost use Rattle.std.specs.Prelude.{◌≡◌, ◌*◌, Err, IfOk, IfSome, false, length, true};
-ghost use Rattle.tp_rollover.specs.declared.stops.Stop.TheVariants as stops;
-ghost use Rattle.tp_manager.specs.Accounts.{AreNumberedFrom};
+ghost use Rattle.std.specs.Prelude.{◌≡◌, ◌*◌, IfErr, IfOk, IfSome, None, false, length, true};
+ghost use Rattle.tp_model.specs.Steps.{IsLegal};
 ghost use Rattle.tp_manager.specs.Shown.{IsOf};
 ghost use Rattle.tp_alone.specs.Thread.{Stays};
 ghost use Rattle.tp_rollover.specs.Bounds.{PassMakes, describe_steps};
-ghost use Rattle.tp_rollover.specs.Finding.{AreDescribed, IsDescribed};
-ghost use Rattle.tp_rollover.specs.Survivors.{AreInHand, AreUnheld, IsStanding};
-ghost use Rattle.tp_rollover.specs.Hands.{HasOpen};
+ghost use Rattle.tp_rollover.specs.Finding.{AreDescribed, AreLiving, IsDescribed, StandsLiving, StopsLooking};
+ghost use Rattle.tp_rollover.specs.Survivors.{AreUnheld, HasNoAttempt, IsLiving, IsStanding};
 ghost use Rattle.tp_rollover.specs.Told.{HoldsAsSeen};
 
 use crate::looks::{look, rounds_had};
@@ -43,7 +41,8 @@ pub struct Survivor {
 
 /// How an element with this status is described, and which pass holds it. `None` where it is over.
 fn standing(limits: Limits, status: Status) -> Option<(Status, Option<u16>)>
-    ensures { IfSome result (λ stands. IsStanding limits status stands.0 stands.1) }
+    ensures stands { IfSome result (λ stands. IsStanding limits status stands.0 stands.1) }
+    ensures none { result ≡ None → IsLiving status → HasNoAttempt status }
 {
     match status {
         Status::Waiting { attempts: _ } => Some((status, None)),
@@ -73,41 +72,14 @@ pub fn are_held(survivors: &[Survivor]) -> bool
     false
 }
 
-/// Whether the pass that holds it, if one does, has a unit open.
-fn is_in_hand(passes: &[Pass], holder: Option<u16>) -> bool
-    requires numbered { AreNumberedFrom 0 passes.now }
-    ensures { result ≡ true → IfSome holder (HasOpen passes.now) }
-{
-    let Some(holder) = holder else {
-        return true;
-    };
-    let at = usize::from(holder);
-    if at >= passes.len() {
-        return false;
-    }
-    passes[at].has_open()
-}
-
-/// Whether each pass that holds one of these has a unit open.
-pub(crate) fn are_in_hand(passes: &[Pass], survivors: &[Survivor]) -> bool
-    requires numbered { AreNumberedFrom 0 passes.now }
-    ensures { result ≡ true → AreInHand passes.now survivors.now }
-{
-    for place in 0..survivors.len() {
-        if !is_in_hand(passes, survivors[place].holder) {
-            return false;
-        }
-    }
-    true
-}
-
 /// Describes the element with this id, which was found alive.
 fn describe(manager: &Manager, pass: &mut Pass, id: u32) -> Result<Survivor, Stop>
     requires own { IsOf manager.now pass.old }
     ensures own { IsOf manager.now pass.new }
     ensures stays { Stays pass.old pass.new }
     ensures steps { PassMakes (describe_steps manager.now.limits) pass.old pass.new }
-    ensures full { ¬ (result ≡ Err stops.Full) }
+    ensures stops { let l = manager.now.limits in
+        IfErr result (StopsLooking pass.old pass.new (λ h. IsLegal l h × StandsLiving l.attempts id h)) }
     ensures told { IfOk result (λ found.
         HoldsAsSeen pass.old pass.new (λ h. IsDescribed manager.now.limits h id found)) }
 {
@@ -150,7 +122,8 @@ pub(crate) fn describe_all(
     ensures stays { Stays pass.old pass.new }
     ensures steps { PassMakes (length ids.now * describe_steps manager.now.limits) pass.old pass.new }
     ensures many { IfOk result (λ found. length found.items ≡ length ids.now) }
-    ensures full { ¬ (result ≡ Err stops.Full) }
+    ensures stops { let l = manager.now.limits in
+        IfErr result (StopsLooking pass.old pass.new (λ h. IsLegal l h × AreLiving l.attempts ids.now h)) }
     ensures told { IfOk result (λ found. HoldsAsSeen pass.old pass.new
         (λ h. AreDescribed manager.now.limits h ids.now found.items)) }
 {

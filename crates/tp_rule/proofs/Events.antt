@@ -122,6 +122,7 @@ module _ (k : Limits) (t : Turn k) where
           view = refl;
           mine = λ b p. (after_hand a.kind a.f h' ws a.mine b p).mine;
           open_own = λ b p. (after_hand a.kind a.f h' ws a.mine b p).units.open_own;
+          ended = λ b p. (after_hand a.kind a.f h' ws a.mine b p).units.closed;
           run = after_run a.kind a.f h' ws world.drawn (blocks_for_own k h e (a.f (me k t)) (a.own ∙ sym (a.stays (me k t)).0) (blocks_kept a.f a.stays)) a.mine;
           knows = λ x p. p;
           is_so = λ x p. subst (λ l. IsSo l h' x) (sym (limits_are k t)) (so_now k h' ws world x (still x (seat.known x p)));
@@ -167,6 +168,7 @@ module _ (k : Limits) (t : Turn k) where
         view = refl;
         mine = λ a p. (after_hand kind f h t.state.words mine a p).mine;
         open_own = λ a p. (after_hand kind f h t.state.words mine a p).units.open_own;
+        ended = λ a p. (after_hand kind f h t.state.words mine a p).units.closed;
         run = after_run kind f h t.state.words t.rule.world.drawn (blocks_kept f stays) mine;
         knows = λ x p. p;
         is_so = λ x p. subst (λ l. IsSo l h x) (sym (limits_are k t)) (so_now k h t.state.words t.rule.world x (seat.known x p));

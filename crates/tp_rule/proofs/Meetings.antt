@@ -4,7 +4,7 @@ use mathlib.Core.List.{IsPrefix}
 use Rattle.tp_model.specs.declared.trace.StepKind.TheVariants as kinds
 use Rattle.tp_model.specs.declared.types.Limits.{Limits}
 use Rattle.tp_model.specs.History.{In, here, there, events_by}
-use Rattle.tp_model.specs.Passes.{IsOwnOpen, IsRun}
+use Rattle.tp_model.specs.Passes.{AreEnded, IsOwnOpen, IsRun}
 use Rattle.tp_model.proofs.Bridges.{in_left, in_right}
 use Rattle.tp_model.specs.Steps.{IsLegal}
 use Rattle.tp_rule.specs.Steps.{Grew, IsSo, Knows, SeatsMeet, front_of, joined, kept, looked, noted, parted, rest_of, unchanged}
@@ -84,6 +84,10 @@ module _ (v w j m x y : View) (one : IsOnePass v) (other : IsOnePass w) (join : 
     open_own = (
       (λ u is. subst (λ (a : Hand). IsOwnOpen x.seen a.number u) (sym first_is) (subst (λ h. IsOwnOpen h A.number u) (sym first_seen) (g.open_own A first_in u (sym (ap (λ (a : Hand). a.open_unit) first_is) ∙ is)))),
       (λ u is. subst (λ (a : Hand). IsOwnOpen y.seen a.number u) (sym second_is) (subst (λ h. IsOwnOpen h B.number u) (sym second_seen) (g.open_own B second_in u (sym (ap (λ (a : Hand). a.open_unit) second_is) ∙ is)))),
+    );
+    ended = (
+      subst (λ (a : Hand). AreEnded x.seen a.number a.open_unit) (sym first_is) (subst (λ h. AreEnded h A.number A.open_unit) (sym first_seen) (g.ended A first_in)),
+      subst (λ (a : Hand). AreEnded y.seen a.number a.open_unit) (sym second_is) (subst (λ h. AreEnded h B.number B.open_unit) (sym second_seen) (g.ended B second_in)),
     );
     run = (run_met x A first_seen first_in (inr first_is), run_met y B second_seen second_in (inl second_is));
     knows = (

@@ -119,6 +119,7 @@ module _ (k : Limits) where
             view = refl;
             mine = λ a p. (there.hands a p).mine;
             open_own = λ a p. (there.hands a p).units.open_own;
+            ended = λ a p. (there.hands a p).units.closed;
             run = λ a p. subst (λ l. IsRun l h a.number a.blocks a.next a.left) (sym lim) (run_of k h s.words a r.world.drawn (blocks_for k (record { words = s.words; homes = s.homes; views = set s.views id w }) rule id w a now p) (there.hands a p));
             knows = more;
             is_so = λ x p. subst (λ l. IsSo l h x) (sym lim) (so_now k h s.words r.world x (so x p));

@@ -8,7 +8,7 @@ use lib.ListN.{get_elem?}
 use Rattle.atomic_table.specs.Table.{State}
 use Rattle.tp_model.specs.History.{Aborted, In, IsClaim, IsSettled, IsUnborn, IsUnused, births, element_of}
 use Rattle.tp_model.specs.History.{end_of, events_by, status_of}
-use Rattle.tp_model.specs.Passes.{Ascend, IsOwnArea, IsOwnOpen}
+use Rattle.tp_model.specs.Passes.{AreEnded, Ascend, IsOwnArea, IsOwnOpen}
 use Rattle.tp_model.specs.Steps.{IsArea, IsBody, IsLegal, IsRowOfBlock, block_first, rows_of}
 use Rattle.tp_model.specs.Words.{claim_word}
 use Rattle.tp_model.specs.declared.event.Event.{Event}
@@ -91,7 +91,7 @@ pub record UnitsHold (l : Limits) (h : List Event) (c claimed : ℕ)
   -- an open unit was claimed by this pass, is not committed, and was not aborted by this pass
   pub open_own : (u : ℕ) → open_unit ≡ Some u → IsOwnOpen h c u
   -- every other unit that the pass has claimed is decided
-  pub closed : (u i n : ℕ) → IsClaim h c u i n → ¬ (open_unit ≡ Some u) → ¬ (end_of h u ≡ None)
+  pub closed : AreEnded h c open_unit
 
 -- what is so of one pass
 pub record HandHolds (l : Limits) (h : List Event) (ws : List ℕ) (a : Hand) : Type 0 where

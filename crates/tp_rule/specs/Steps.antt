@@ -14,7 +14,7 @@ use Rattle.tp_model.specs.declared.trace.StepKind.{StepKind}
 use Rattle.tp_model.specs.declared.trace.StepKind.TheVariants as kinds
 use Rattle.tp_model.specs.History.{Aborted, In, IsSettled, IsUnborn, status_of, UnitClaim, UnitEnd, claim_of}
 use Rattle.tp_model.specs.History.{element_of, end_of, events_by}
-use Rattle.tp_model.specs.Passes.{Ascend, IsOwnArea, IsOwnOpen, IsRun}
+use Rattle.tp_model.specs.Passes.{AreEnded, Ascend, IsOwnArea, IsOwnOpen, IsRun}
 use Rattle.tp_model.specs.Words.{ClaimWord, claim_word, round_in, word_status}
 use Rattle.tp_model.specs.Steps.{IsBody, IsStage, IsServerStage, IsKillable, IsParked, IsLegal, IsArea}
 use Rattle.tp_model.specs.Steps.{block_first, rows_of}
@@ -89,6 +89,8 @@ pub record Grew (kind : StepKind) (f : Hand → Hand) (events : List Event) (v w
   pub mine : (a : Hand) → In a w.hands → a.mine ≡ events_by a.number w.seen
   -- its open unit is its own
   pub open_own : (a : Hand) → In a w.hands → (u : ℕ) → a.open_unit ≡ Some u → IsOwnOpen w.seen a.number u
+  -- its other units have ended
+  pub ended : (a : Hand) → In a w.hands → AreEnded w.seen a.number a.open_unit
   -- the rows that are left to it are a run
   pub run : (a : Hand) → In a w.hands → IsRun v.limits w.seen a.number a.blocks a.next a.left
   -- what was known is known
@@ -481,6 +483,9 @@ pub record SeatsMeet (v w v' w' : View) : Type 0 where
       × ((hand w').mine ≡ events_by (hand w').number w'.seen)
   pub open_own : ((u : ℕ) → (hand v').open_unit ≡ Some u → IsOwnOpen v'.seen (hand v').number u)
       × ((u : ℕ) → (hand w').open_unit ≡ Some u → IsOwnOpen w'.seen (hand w').number u)
+  -- and their other units have ended
+  pub ended : AreEnded v'.seen (hand v').number (hand v').open_unit
+      × AreEnded w'.seen (hand w').number (hand w').open_unit
   -- the rows that are left to each are a run
   pub run : IsRun v.limits v'.seen (hand v').number (hand v').blocks (hand v').next (hand v').left
       × IsRun v.limits w'.seen (hand w').number (hand w').blocks (hand w').next (hand w').left

@@ -16,9 +16,10 @@ Consumes-none None = tt
 Consumes-none (Some x) = refl
 
 -- what is so while bytes are read
-pub record ReadSoFar (old now : Option (List ℕ)) (read : List ℕ) (len asked_before asked turns : ℕ) : Type 0 where
+pub record ReadSoFar (old now : Option (List ℕ)) (read : List ℕ) (len room asked_before asked turns : ℕ) : Type 0 where
   pub bytes : Consumes old now read
   pub short : len ≤ MAX_SCRIPT_BYTES
+  pub reserved : MAX_SCRIPT_BYTES + 1 ≤ room
   pub some : turns ≤ len
   pub once : asked ≡ asked_before + turns
 

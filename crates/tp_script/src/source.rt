@@ -137,7 +137,8 @@ pub const MAX_SCRIPT_BYTES: usize = 65_536;
 /// How often a reader is asked at most.
 pub const MAX_READS: u32 = 100_000;
 
-/// What the source gives up to its end, or the bytes past which a script is too long.
+/// What the source gives up to its end, or the bytes past which a script is too long. Memory for these is had
+/// before the source is asked: `NoMemory` is never told of what it gives.
 pub fn read_all<S: Source>(alloc: Global, source: &mut S) -> Result<Vec<u8>, ReadFault>
     requires { S.asked source.old + MAX_READS < 2 ^ 64 }
     ensures bytes { IfOk result (λ read. IfSome (S.rest source.old)
@@ -145,8 +146,9 @@ pub fn read_all<S: Source>(alloc: Global, source: &mut S) -> Result<Vec<u8>, Rea
     ensures no_script { HasNoScript result }
     ensures asked { S.asked source.new ≤ S.asked source.old + MAX_READS }
     ensures fault { IsErrOf result ReadFault.Read → IsTrue (S.has_failed source.new) }
+    ensures unread { IsErrOf result ReadFault.NoMemory → source.new ≡ source.old }
 {
-    let mut read = Vec::new(alloc);
+    let mut read = Vec::with_capacity(alloc, MAX_SCRIPT_BYTES + 1)?;
     for _ in 0..MAX_READS {
         let mut buffer = [0; 4096];
         let room = buffer.len().min(MAX_SCRIPT_BYTES + 1 - read.len());

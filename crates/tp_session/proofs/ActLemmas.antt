@@ -26,7 +26,7 @@ use Rattle.tp_perform.specs.Told.{AreReady, IsScene, PerformsAll, units_held}
 use Rattle.tp_perform.proofs.Gatherings.{gathered, held_gathered, ready_gathered}
 use Rattle.tp_session.specs.declared.hand.Holding.{Holding}
 use Rattle.tp_session.specs.declared.hand.Holding.TheVariants.{Nothing}
-use Rattle.tp_session.specs.Hands.{IsHand, WorkerDoes, hand, unit_of, has_unit}
+use Rattle.tp_session.specs.Hands.{IsHand, WorkerDoes, worker_hand, unit_of, has_unit}
 use Rattle.tp_report.specs.Answer.{line}
 use Rattle.tp_script.specs.Notes.{NameView}
 use Rattle.tp_script.specs.declared.notes.NotedAct.{NotedAct}
@@ -34,10 +34,10 @@ use Rattle.tp_session.specs.Clients.{NotedDoes, noting}
 use Rattle.tp_session.specs.Lasts.{HandRead, end_at}
 use Rattle.tp_session.specs.NoteTexts.{last_hand}
 use Rattle.std.specs.Prelude.{string_bytes}
-use Rattle.tp_session.specs.Live.{ClientCounts, CommandTold, IsHeld, IsLive, LastDid, Leads, LiveGathers, NotedDid, OverviewDid, TellsAccount, WorkerDid, is_open}
-use Rattle.tp_session.specs.Overviews.{HoldersRead, held_at, holds_text, in_hands, names_of}
+use Rattle.tp_session.specs.Live.{ClientCounts, CommandTold, IsHeldBySession, IsLive, LastDid, Leads, LiveGathers, NotedDid, OverviewDid, TellsAccount, WorkerDid, has_unit_open}
+use Rattle.tp_session.specs.Overviews.{HoldersRead, desk_holding, holds_text, in_hands, names_of}
 use Rattle.tp_session.specs.declared.hand.WorkerAnswer.{WorkerAnswer}
-use Rattle.tp_session.specs.Notes.{NotesView, notes_view, with_end}
+use Rattle.tp_session.specs.Notes.{NotesView, notes_view, with_unit_end}
 use Rattle.tp_session.specs.declared.held.Held.{Held}
 use Rattle.tp_session.proofs.LiveLemmas.{is_live, live_of, live_there}
 use Rattle.tp_session.proofs.OpenLemmas.{live_open}
@@ -57,10 +57,10 @@ module _ {X : Type 0} {F : X → Type 0} (behaviour : DynBox X Global F → Beha
   IsAt h s = IsScene behaviour registers pending h.managed.passes.items h.servers.items h.places.items s
 
   -- what holds goes on holding, with the same manager
-  pub held_on : (head : Head) (old new : Held X F) → IsHeld behaviour registers pending head old → new.managed.manager ≡ old.managed.manager
+  pub held_on : (head : Head) (old new : Held X F) → IsHeldBySession behaviour registers pending head old → new.managed.manager ≡ old.managed.manager
       → IsKeptBy new.managed.manager new.managed.keeper → AreAll new.managed.keeper new.managed.passes.items → Ready new
       → length new.managed.passes.items ≡ length old.managed.passes.items → length new.servers.items ≡ length old.servers.items → length new.works.items ≡ length old.works.items → All (λ (w : Holding). w ≡ Nothing) (drop (length head.workers.items) new.works.items)
-      → units_held (length new.servers.items) new.managed.passes.items ≡ map unit_of new.works.items → IsHeld behaviour registers pending head new
+      → units_held (length new.servers.items) new.managed.passes.items ≡ map unit_of new.works.items → IsHeldBySession behaviour registers pending head new
   held_on head old new held same kept all ready passes servers works racers in_hand = record {
     managed = record {
       keeper = kept;
@@ -78,9 +78,9 @@ module _ {X : Type 0} {F : X → Type 0} (behaviour : DynBox X Global F → Beha
   }
 
   -- the same of what lies in these lists
-  pub held_of : (head : Head) (old new : Held X F) (qs : List PassShown) (ss : List (DynBox X Global F)) (os : List (Place X F)) → IsHeld behaviour registers pending head old → new.managed.manager ≡ old.managed.manager
+  pub held_of : (head : Head) (old new : Held X F) (qs : List PassShown) (ss : List (DynBox X Global F)) (os : List (Place X F)) → IsHeldBySession behaviour registers pending head old → new.managed.manager ≡ old.managed.manager
       → new.managed.passes.items ≡ qs → new.servers.items ≡ ss → new.places.items ≡ os → IsKeptBy old.managed.manager new.managed.keeper → AreAll new.managed.keeper qs → AreReady behaviour registers pending old.managed.manager qs ss os
-      → length qs ≡ length old.managed.passes.items → length ss ≡ length old.servers.items → new.works.items ≡ old.works.items → units_held (length ss) qs ≡ map unit_of new.works.items → IsHeld behaviour registers pending head new
+      → length qs ≡ length old.managed.passes.items → length ss ≡ length old.servers.items → new.works.items ≡ old.works.items → units_held (length ss) qs ≡ map unit_of new.works.items → IsHeldBySession behaviour registers pending head new
   held_of head old new qs ss os held same passes servers places kept all ready long many works in_hand =
       held_on head old new held same (subst (λ m. IsKeptBy m new.managed.keeper) (sym same) kept) (subst (AreAll new.managed.keeper) (sym passes) all)
       (subst (λ m. AreReady behaviour registers pending m new.managed.passes.items new.servers.items new.places.items) (sym same)
@@ -110,7 +110,7 @@ module _ {X : Type 0} {F : X → Type 0} (behaviour : DynBox X Global F → Beha
 
   -- ---- all gather
 
-  module _ (head : Head) (old : Held X F) (keeper' : KeeperShown) (qs : List PassShown) (held : IsHeld behaviour registers pending head old)
+  module _ (head : Head) (old : Held X F) (keeper' : KeeperShown) (qs : List PassShown) (held : IsHeldBySession behaviour registers pending head old)
       (gathers : Gathers old.managed.manager.limits (gather_steps old.managed.manager.limits (length old.managed.passes.items)) old.managed.keeper keeper' old.managed.passes.items qs)
       (all : AreAll keeper' qs) (given : keeper'.given ≡ old.managed.keeper.given) (own : All (IsOf old.managed.manager) qs) where
     pub gather_ready : AreReady behaviour registers pending old.managed.manager qs old.servers.items old.places.items
@@ -141,7 +141,7 @@ module _ {X : Type 0} {F : X → Type 0} (behaviour : DynBox X Global F → Beha
 
   -- ---- a worker
 
-  module _ (head : Head) (w at : ℕ) (p : PassShown) (work : Holding) (old new : Held X F) (held : IsHeld behaviour registers pending head old) (within : w < length head.workers.items) (at_is : at ≡ 1 + length old.servers.items + w)
+  module _ (head : Head) (w at : ℕ) (p : PassShown) (work : Holding) (old new : Held X F) (held : IsHeldBySession behaviour registers pending head old) (within : w < length head.workers.items) (at_is : at ≡ 1 + length old.servers.items + w)
       (manager : new.managed.manager ≡ old.managed.manager) (keeper : new.managed.keeper ≡ old.managed.keeper) (passes : new.managed.passes.items ≡ slice_set old.managed.passes.items at p)
       (servers : new.servers.items ≡ old.servers.items) (places : new.places.items ≡ old.places.items) (works : new.works.items ≡ slice_set old.works.items w work) where
     pub here : w < length old.works.items
@@ -156,7 +156,7 @@ module _ {X : Type 0} {F : X → Type 0} (behaviour : DynBox X Global F → Beha
     numbered : length new.managed.passes.items ≡ length old.managed.passes.items
     numbered = ap length passes ∙ length-set old.managed.passes.items at p
 
-    pub worker_held : (d : PassShown) → p.number ≡ (get_or old.managed.passes.items at d).number → IsHand old.managed.manager (hand p work) → IsHeld behaviour registers pending head new
+    pub worker_held : (d : PassShown) → p.number ≡ (get_or old.managed.passes.items at d).number → IsHand old.managed.manager (worker_hand p work) → IsHeldBySession behaviour registers pending head new
     worker_held d same is =
         let all : AreAll old.managed.keeper (slice_set old.managed.passes.items at p) = (length-set old.managed.passes.items at p ∙ held.managed.all.0, numbered_set 0 at old.managed.passes.items p d same held.managed.all.1) in
         held_on head old new held manager (subst (λ m. IsKeptBy m new.managed.keeper) (sym manager) (subst (IsKeptBy old.managed.manager) (sym keeper) held.managed.keeper)) (subst (λ k. AreAll k new.managed.passes.items) (sym keeper) (subst (AreAll old.managed.keeper) (sym passes) all))
@@ -170,8 +170,8 @@ module _ {X : Type 0} {F : X → Type 0} (behaviour : DynBox X Global F → Beha
         (ap (λ ss. units_held (length ss) new.managed.passes.items) servers ∙ (ap (units_held (length old.servers.items)) passes
         ∙ (held_set behaviour registers pending (length old.servers.items) w at p work old.managed.passes.items old.works.items at_is some is.held held.in_hand ∙ ap (map unit_of) (sym works))))
 
-    pub worker_leads : (answer : WorkerAnswer) (e : Holding) → notes_view new.notes ≡ with_end e answer w (notes_view old.notes) → (it : WorkerLine) (act : WorkerAct) (d : PassShown) → d ≡ get_or old.managed.passes.items at d → e ≡ get_or old.works.items w e
-        → WorkerDoes old.managed.manager.limits it.stage act (hand d e) answer (hand p work)
+    pub worker_leads : (answer : WorkerAnswer) (e : Holding) → notes_view new.notes ≡ with_unit_end e answer w (notes_view old.notes) → (it : WorkerLine) (act : WorkerAct) (d : PassShown) → d ≡ get_or old.managed.passes.items at d → e ≡ get_or old.works.items w e
+        → WorkerDoes old.managed.manager.limits it.stage act (worker_hand d e) answer (worker_hand p work)
         → Leads behaviour registers pending (λ a b. WorkerDid it act w a answer b) old new
     worker_leads answer e notes it act d d_is e_is does =
         let l = live_there behaviour registers pending head old held in
@@ -179,14 +179,14 @@ module _ {X : Type 0} {F : X → Type 0} (behaviour : DynBox X Global F → Beha
         let racers = racers_are behaviour registers pending old.managed.passes.items old.servers.items old.places.items s l.1.scene in
         record {
           before = l.0;
-          after = record { stand = record l.0.stand { scene = record s { racers = slice_set s.racers w p } }; works = slice_set l.0.works w work; notes = with_end e answer w l.0.notes };
+          after = record { stand = record l.0.stand { scene = record s { racers = slice_set s.racers w p } }; works = slice_set l.0.works w work; notes = with_unit_end e answer w l.0.notes };
           was = l.1;
           leads = record {
-            before = hand d e;
+            before = worker_hand d e;
             pass = ap (λ rs. slice_get rs w) racers ∙ (worker_there (length old.servers.items) w at old.managed.passes.items d at_is inside ∙ ap (λ x. Some x) (sym d_is));
             work = ap (λ ws. slice_get ws w) l.1.works ∙ (slice_get-get_or old.works.items w e here ∙ ap (λ x. Some x) (sym e_is));
-            after = hand p work;
-            does = subst (λ (m : ManagerShown). WorkerDoes m.limits it.stage act (hand d e) answer (hand p work)) (sym l.1.manager) does;
+            after = worker_hand p work;
+            does = subst (λ (m : ManagerShown). WorkerDoes m.limits it.stage act (worker_hand d e) answer (worker_hand p work)) (sym l.1.manager) does;
             stand = refl;
             works = refl;
             notes = refl;
@@ -199,19 +199,19 @@ module _ {X : Type 0} {F : X → Type 0} (behaviour : DynBox X Global F → Beha
                 (subst (λ os. IsScene behaviour registers pending (slice_set old.managed.passes.items at p) old.servers.items os (record s { racers = slice_set s.racers w p })) (sym places)
                 (scene_set behaviour registers pending old.managed.manager w p old.servers.items old.places.items at old.managed.passes.items s at_is l.1.scene)));
             works = ap (λ ws. slice_set ws w work) l.1.works ∙ sym works;
-            notes = ap (with_end e answer w) l.1.notes ∙ sym notes;
+            notes = ap (with_unit_end e answer w) l.1.notes ∙ sym notes;
           };
         }
 
   -- ---- the client
 
-  module _ (head : Head) (p : PassShown) (old new : Held X F) (held : IsHeld behaviour registers pending head old)
+  module _ (head : Head) (p : PassShown) (old new : Held X F) (held : IsHeldBySession behaviour registers pending head old)
       (manager : new.managed.manager ≡ old.managed.manager) (keeper : new.managed.keeper ≡ old.managed.keeper) (passes : new.managed.passes.items ≡ slice_set old.managed.passes.items 0 p)
       (servers : new.servers.items ≡ old.servers.items) (places : new.places.items ≡ old.places.items) (works : new.works.items ≡ old.works.items) where
     some_client : 1 ≤ length old.managed.passes.items
     some_client = omega (arith, held.parts)
 
-    pub client_held : IsFreePass old.managed.manager p → AreAll new.managed.keeper new.managed.passes.items → IsHeld behaviour registers pending head new
+    pub client_held : IsFreePass old.managed.manager p → AreAll new.managed.keeper new.managed.passes.items → IsHeldBySession behaviour registers pending head new
     client_held free all =
         held_on head old new held manager (subst (λ m. IsKeptBy m new.managed.keeper) (sym manager) (subst (IsKeptBy old.managed.manager) (sym keeper) held.managed.keeper)) all
         (subst (λ m. AreReady behaviour registers pending m new.managed.passes.items new.servers.items new.places.items) (sym manager)
@@ -236,7 +236,7 @@ module _ {X : Type 0} {F : X → Type 0} (behaviour : DynBox X Global F → Beha
           was = l.1;
           leads = record {
             client = p;
-            tells = subst (λ (m : ManagerShown). TellsAccount m (is_open l.0) s.client text p) (sym l.1.manager)
+            tells = subst (λ (m : ManagerShown). TellsAccount m (has_unit_open l.0) s.client text p) (sym l.1.manager)
                 (subst (λ x. TellsAccount old.managed.manager x s.client text p) (b_is ∙ counted) (subst (λ x. TellsAccount old.managed.manager b x text p) (d_is ∙ first) tells));
             stand = refl;
             works = refl;
@@ -291,13 +291,13 @@ module _ {X : Type 0} {F : X → Type 0} (behaviour : DynBox X Global F → Beha
         }
 
     -- it read how each element stands that desks and workers have in hand
-    pub client_holds : new.notes ≡ old.notes → (works : List Holding) (n : ℕ) (text : List ℕ) (d : PassShown) → d ≡ get_or old.managed.passes.items 0 d → works ≡ map (λ o. held_at (work_in o.aside)) old.places.items ++ old.works.items → n ≡ length (names_of (head_view head))
+    pub client_holds : new.notes ≡ old.notes → (works : List Holding) (n : ℕ) (text : List ℕ) (d : PassShown) → d ≡ get_or old.managed.passes.items 0 d → works ≡ map (λ o. desk_holding (work_in o.aside)) old.places.items ++ old.works.items → n ≡ length (names_of (head_view head))
         → FoundLine (HoldersRead old.managed.manager.limits (names_of (head_view head)) works n) holds_text d text p
         → Leads behaviour registers pending (λ a b. OverviewDid (head_view head) overviews.Holds a text b) old new
     client_holds notes works n text d d_is works_are many t =
         let s = scene_now in
         let names = names_of (head_view head) in
-        let shown : works ≡ in_hands s.0 old.works.items = works_are ∙ ap (λ hs. hs ++ old.works.items) (shown_holds behaviour registers pending _ old.servers.items old.places.items held.ready.lie ∙ ap (map (λ (q : PlaceShown). held_at q.desk.work)) (sym s.1.1)) in
+        let shown : works ≡ in_hands s.0 old.works.items = works_are ∙ ap (λ hs. hs ++ old.works.items) (shown_holds behaviour registers pending _ old.servers.items old.places.items held.ready.lie ∙ ap (map (λ (q : PlaceShown). desk_holding q.desk.work)) (sym s.1.1)) in
         record {
           before = live_of behaviour registers pending old s.0;
           after = record { stand = record { manager = old.managed.manager; keeper = old.managed.keeper; scene = record s.0 { client = p } }; works = old.works.items; notes = notes_view old.notes };
@@ -315,10 +315,10 @@ module _ {X : Type 0} {F : X → Type 0} (behaviour : DynBox X Global F → Beha
         }
 
     -- it read how an element stands that a worker has in hand
-    pub client_last : new.notes ≡ old.notes → (workers : List WorkerLine) (it : WorkerLine) (w : ℕ) → slice_get workers w ≡ Some it → (work : Holding) (hand text : List ℕ) (d : PassShown) → d ≡ get_or old.managed.passes.items 0 d → slice_get old.works.items w ≡ Some work
-        → HandRead old.managed.manager.limits work d hand p → text ≡ line (last_hand (string_bytes it.name) hand (end_at old.notes.ends.items w))
+    pub client_last : new.notes ≡ old.notes → (workers : List WorkerLine) (it : WorkerLine) (w : ℕ) → slice_get workers w ≡ Some it → (work : Holding) (worker_hand text : List ℕ) (d : PassShown) → d ≡ get_or old.managed.passes.items 0 d → slice_get old.works.items w ≡ Some work
+        → HandRead old.managed.manager.limits work d worker_hand p → text ≡ line (last_hand (string_bytes it.name) worker_hand (end_at old.notes.ends.items w))
         → Leads behaviour registers pending (λ a b. LastDid workers w a text b) old new
-    client_last notes workers it w named work hand text d d_is work_is reads text_is =
+    client_last notes workers it w named work worker_hand text d d_is work_is reads text_is =
         let s = scene_now in
         record {
           before = live_of behaviour registers pending old s.0;
@@ -329,9 +329,9 @@ module _ {X : Type 0} {F : X → Type 0} (behaviour : DynBox X Global F → Beha
             named = named;
             work = work;
             work_is = work_is;
-            hand = hand;
+            hand = worker_hand;
             client = p;
-            reads = subst (λ x. HandRead old.managed.manager.limits work x hand p) (d_is ∙ client_first behaviour registers pending old.managed.passes.items old.servers.items old.places.items s.0 s.1 d) reads;
+            reads = subst (λ x. HandRead old.managed.manager.limits work x worker_hand p) (d_is ∙ client_first behaviour registers pending old.managed.passes.items old.servers.items old.places.items s.0 s.1 d) reads;
             stand = refl;
             works = refl;
             notes = refl;

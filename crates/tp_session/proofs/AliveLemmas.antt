@@ -25,7 +25,7 @@ use Rattle.tp_perform.proofs.Gatherings.{Looks, all_in, only_passes, ready_on, s
 use Rattle.tp_perform.proofs.Rollovers.{own_of, stayed}
 use Rattle.tp_perform.proofs.Slices.{scene_there}
 use Rattle.tp_session.specs.Dump.{dump_lines, dump_text}
-use Rattle.tp_session.specs.Live.{FoundAlive, HoldsUnits, IsHeld, IsLive, Leads, Live, LiveLooks, Surveyed, TellsDump, Unsurveyed, has_desk_open, lines_of}
+use Rattle.tp_session.specs.Live.{FoundAlive, HoldsUnits, IsHeldBySession, IsLive, Leads, Live, LiveLooks, Surveyed, TellsDump, Unsurveyed, has_desk_open, lines_of}
 use Rattle.tp_session.specs.Notes.{notes_view}
 use Rattle.tp_session.specs.declared.held.Held.{Held}
 use Rattle.tp_session.proofs.LiveLemmas.{is_live, live_of}
@@ -46,7 +46,7 @@ all_ok (Err e) P Q S p q s = tt
 module _ {X : Type 0} {F : X → Type 0} (behaviour : DynBox X Global F → Behaviour) (registers : DynBox X Global F → List ℕ) (pending : DynBox X Global F → Option Pending) where
   -- ---- what was done to what stands
 
-  pub works_leads : (head : Head) (R : Stand → Stand → List Holding → List Holding → Type 0) (old new : Held X F) → IsHeld behaviour registers pending head old → new.notes ≡ old.notes
+  pub works_leads : (head : Head) (R : Stand → Stand → List Holding → List Holding → Type 0) (old new : Held X F) → IsHeldBySession behaviour registers pending head old → new.notes ≡ old.notes
       → (a : Scene) × (b : Scene) × IsScene behaviour registers pending old.managed.passes.items old.servers.items old.places.items a × R (stand old.managed a) (stand new.managed b) old.works.items new.works.items
       × IsScene behaviour registers pending new.managed.passes.items new.servers.items new.places.items b
       → Leads behaviour registers pending (λ x y. HoldsUnits x × R x.stand y.stand x.works y.works × (y.notes ≡ x.notes)) old new
@@ -59,9 +59,9 @@ module _ {X : Type 0} {F : X → Type 0} (behaviour : DynBox X Global F → Beha
   }
 
   -- where another manager has taken the place of the first
-  pub held_anew : (head : Head) (old new : Held X F) (os : List (Place X F)) (ws : List Holding) → IsHeld behaviour registers pending head old → IsManaged new.managed → new.managed.manager.limits ≡ old.managed.manager.limits
+  pub held_anew : (head : Head) (old new : Held X F) (os : List (Place X F)) (ws : List Holding) → IsHeldBySession behaviour registers pending head old → IsManaged new.managed → new.managed.manager.limits ≡ old.managed.manager.limits
       → new.servers.items ≡ old.servers.items → new.places.items ≡ os → new.works.items ≡ ws → AreReady behaviour registers pending new.managed.manager new.managed.passes.items old.servers.items os
-      → length ws ≡ length old.works.items → units_held (length old.servers.items) new.managed.passes.items ≡ map unit_of ws → All (λ w. w ≡ Nothing) (drop (length head.workers.items) ws) → IsHeld behaviour registers pending head new
+      → length ws ≡ length old.works.items → units_held (length old.servers.items) new.managed.passes.items ≡ map unit_of ws → All (λ w. w ≡ Nothing) (drop (length head.workers.items) ws) → IsHeldBySession behaviour registers pending head new
   held_anew head old new os ws held is limits servers places works ready long units idle =
       let many : length new.works.items ≡ length ws = ap length works in
       let each : length new.servers.items ≡ length old.servers.items = ap length servers in
@@ -86,7 +86,7 @@ module _ {X : Type 0} {F : X → Type 0} (behaviour : DynBox X Global F → Beha
   abbrev pub with_managed : Held X F → Managed → Held X F
   with_managed h m = record { managed = m; servers = h.servers; places = h.places; works = h.works; notes = h.notes }
 
-  module _ (head : Head) (old : Held X F) (m : Managed) (held : IsHeld behaviour registers pending head old) (is : IsManaged m) (stays : StaysManaged old.managed m) where
+  module _ (head : Head) (old : Held X F) (m : Managed) (held : IsHeldBySession behaviour registers pending head old) (is : IsManaged m) (stays : StaysManaged old.managed m) where
     looks : AllZip Looks old.managed.passes.items m.passes.items
     looks = zip_with stayed old.managed.passes.items m.passes.items stays.passes
 
@@ -96,7 +96,7 @@ module _ {X : Type 0} {F : X → Type 0} (behaviour : DynBox X Global F → Beha
     ready : AreReady behaviour registers pending old.managed.manager m.passes.items old.servers.items old.places.items
     ready = ready_on behaviour registers pending old.managed.manager old.managed.passes.items m.passes.items old.servers.items old.places.items looks own held.ready
 
-    pub held_looked : IsHeld behaviour registers pending head (with_managed old m)
+    pub held_looked : IsHeldBySession behaviour registers pending head (with_managed old m)
     held_looked = record {
       managed = is;
       ready = subst (λ (z : ManagerShown). AreReady behaviour registers pending z m.passes.items old.servers.items old.places.items) (sym stays.manager) ready;
@@ -170,7 +170,7 @@ module _ {X : Type 0} {F : X → Type 0} (behaviour : DynBox X Global F → Beha
   shown_dropped (p ∷ ps) (s ∷ ss) [] all = absurd all
   shown_dropped (p ∷ ps) (s ∷ ss) (o ∷ os) all = ap (λ ds. o.is_dropped ∷ ds) (shown_dropped ps ss os all.1)
 
-  lines_told : (head : Head) (h : HeadView) (old : Held X F) (l : Live) (survivors : List Survivor) → IsHeld behaviour registers pending head old → IsLive behaviour registers pending old l
+  lines_told : (head : Head) (h : HeadView) (old : Held X F) (l : Live) (survivors : List Survivor) → IsHeldBySession behaviour registers pending head old → IsLive behaviour registers pending old l
       → dump_lines h (map registers old.servers.items) (map (λ (o : Place X F). o.is_dropped) old.places.items) old.works.items (notes_view old.notes) survivors ≡ lines_of h l survivors
   lines_told head h old l survivors held is =
       let rs : map (λ p. p.desk.registers) l.stand.scene.places ≡ map registers old.servers.items = ap (map (λ p. p.desk.registers)) is.scene.1 ∙ shown_registers _ old.servers.items old.places.items held.ready.lie in
@@ -180,7 +180,7 @@ module _ {X : Type 0} {F : X → Type 0} (behaviour : DynBox X Global F → Beha
       ∙ (ap (λ ws. dump_lines h (map (λ p. p.desk.registers) l.stand.scene.places) (map (λ p. p.is_dropped) l.stand.scene.places) ws (notes_view old.notes) survivors) (sym is.works)
       ∙ ap (λ n. dump_lines h (map (λ p. p.desk.registers) l.stand.scene.places) (map (λ p. p.is_dropped) l.stand.scene.places) l.works n survivors) (sym is.notes)))
 
-  module _ (head : Head) (h : HeadView) (old new : Held X F) (held : IsHeld behaviour registers pending head old) (text : List ℕ) where
+  module _ (head : Head) (h : HeadView) (old new : Held X F) (held : IsHeldBySession behaviour registers pending head old) (text : List ℕ) where
     pub surveyed_leads : (survivors : List Survivor) → text ≡ dump_text (dump_lines h (map registers old.servers.items) (map (λ (o : Place X F). o.is_dropped) old.places.items) old.works.items (notes_view old.notes) survivors)
         → Leads behaviour registers pending (λ x y. LiveLooks x y × FoundAlive x survivors y) old new → Leads behaviour registers pending (λ x y. LiveLooks x y × (Surveyed h x text y ⊎ Unsurveyed text)) old new
     surveyed_leads survivors is p = record {

@@ -9,7 +9,7 @@ use Rattle.tp_session.specs.Conversed.{HeadRead, TakesHeadLine}
 use Rattle.tp_session.specs.Heard.{Hears, HearsFront, IsAllOf, Next, Tells}
 use Rattle.tp_session.specs.Live.{Live, TellsAct}
 use Rattle.tp_session.specs.Reading.{to_come, unused}
-use Rattle.tp_session.specs.Told.{BodyTold, HeadLine, HeadLines, HeadTold, LineTold}
+use Rattle.tp_session.specs.Told.{BodyTold, HeadLine, HeadLines, HeadLinesTold, LineTold}
 use Rattle.tp_session.specs.declared.first.First.{First}
 use Rattle.tp_session.specs.declared.reading.Lines.{Lines}
 use Rattle.tp_session.proofs.CommandLemmas.{command_keeps}
@@ -26,7 +26,7 @@ come_same old new (Some bytes) is = ap (λ u. Some (u ++ bytes)) is
 
 abbrev pub HeadSoFar : Option (List ℕ) → Option (List ℕ) → ℕ → HeadView → HeadView → Option (List ℕ) → Option (List ℕ) → List ℕ → List ℕ → Type 0
 HeadSoFar a b n old new w x answers prior =
-    HeadTold (λ taken. Hears a taken b × (length taken ≡ n)) old new (λ text. Tells w x answers (prior ++ text))
+    HeadLinesTold (λ taken. Hears a taken b × (length taken ≡ n)) old new (λ text. Tells w x answers (prior ++ text))
 
 pub head_none : (a : Option (List ℕ)) (old : HeadView) (w : Option (List ℕ)) (prior : List ℕ) → HeadSoFar a a 0 old old w w prior prior
 head_none a old w prior = record {
@@ -87,7 +87,7 @@ head_command a b b' b'' f old mid new w x y kept answers answers' answers'' prio
 
 -- after a fault
 pub head_front : (a b : Option (List ℕ)) (n : ℕ) (old new : HeadView) (w x y : Option (List ℕ)) (answers prior : List ℕ)
-    → HeadSoFar a b n old new w x answers prior → AppendsFront x y answers → HeadTold (HearsFront a) old new (λ text. AppendsFront w y (prior ++ text))
+    → HeadSoFar a b n old new w x answers prior → AppendsFront x y answers → HeadLinesTold (HearsFront a) old new (λ text. AppendsFront w y (prior ++ text))
 head_front a b n old new w x y answers prior so_far front = record {
   taken = so_far.taken;
   heard = hears_some a b so_far.taken so_far.heard.0;

@@ -25,7 +25,7 @@ use Rattle.tp_perform.proofs.Gatherings.{all_in}
 use Rattle.tp_session.specs.declared.hand.Holding.{Holding}
 use Rattle.tp_session.specs.declared.hand.Holding.TheVariants.{Nothing}
 use Rattle.tp_session.specs.Conversed.{IsNewManaged, LiveBegins, limits_of}
-use Rattle.tp_session.specs.Live.{IsHeld, IsLive, Live}
+use Rattle.tp_session.specs.Live.{IsHeldBySession, IsLive, Live}
 use Rattle.tp_session.specs.Notes.{notes_of, notes_view}
 use Rattle.tp_session.specs.declared.held.Held.{Held}
 use Rattle.tp_session.proofs.HandLemmas.{none_in_hand}
@@ -75,7 +75,7 @@ module _ {X : Type 0} {F : X → Type 0} (behaviour : DynBox X Global F → Beha
   ready : AreReady behaviour registers pending m ps h.servers.items h.places.items
   ready = record { own = new.managed.own; client = All-take (IsFreePass m) 1 ps free; lie = lie }
 
-  pub is_held : IsHeld behaviour registers pending head h
+  pub is_held : IsHeldBySession behaviour registers pending head h
   is_held =
       let rest : length (after_servers n ps) ≡ length h.works.items = omega (arith, parts, length-drop n (drop 1 ps), length-drop 1 ps) in
       record {

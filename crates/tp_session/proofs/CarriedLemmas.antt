@@ -18,7 +18,7 @@ use Rattle.tp_manager.specs.Shown.{KeeperShown, ManagerShown, PassShown}
 use Rattle.tp_alone.proofs.Apart.{number_in}
 use Rattle.tp_rollover.specs.Faults.{AreFree}
 use Rattle.tp_rollover.specs.Hands.{HasOpen, IsNamedHolder}
-use Rattle.tp_rollover.specs.Managed.{GoesOn, IsManaged}
+use Rattle.tp_rollover.specs.Managed.{GoesOnAnew, IsManaged}
 use Rattle.tp_rollover.specs.Survivors.{AreHands}
 use Rattle.tp_rollover.specs.declared.managed.Managed.{Managed}
 use Rattle.tp_rollover.specs.declared.moved.Moved.{Moved}
@@ -275,7 +275,7 @@ carried_idle n k ps ws new moved long free idle is =
     (idle_behind moved (1 + n) k qs ws (omega (arith, long, one, two)) free idle)
 
 -- behind a rollover
-pub rolled_idle : (n k : ℕ) (old new : Managed) (ws works : List Holding) (moved : List Moved) → IsManaged old → IsManaged new → GoesOn old new moved → length old.passes.items ≡ 1 + n + length ws → new.manager.limits ≡ old.manager.limits
+pub rolled_idle : (n k : ℕ) (old new : Managed) (ws works : List Holding) (moved : List Moved) → IsManaged old → IsManaged new → GoesOnAnew old new moved → length old.passes.items ≡ 1 + n + length ws → new.manager.limits ≡ old.manager.limits
     → units_held n old.passes.items ≡ map unit_of ws → All (λ w. w ≡ Nothing) (drop k ws) → works ≡ works_after moved (1 + n) (map unit_in (drop (1 + n) new.passes.items)) ws → All (λ w. w ≡ Nothing) (drop k works)
 rolled_idle n k old new ws works moved was is on long limits same idle are =
     let as_many : length new.passes.items ≡ length old.passes.items = is.parts ∙ (ap (λ (l : Limits). l.parts) limits ∙ sym was.parts) in

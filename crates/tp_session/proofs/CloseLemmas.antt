@@ -16,7 +16,7 @@ use Rattle.tp_perform.specs.Scenes.{GatheredIn, Scene, passes_in}
 use Rattle.tp_perform.specs.Told.{AreReady, IsScene, units_held}
 use Rattle.tp_perform.proofs.Gatherings.{all_in, gathered_in, held_looked, ready_looked}
 use Rattle.tp_session.specs.Hands.{unit_of}
-use Rattle.tp_session.specs.Live.{IsHeld, Leads, Live}
+use Rattle.tp_session.specs.Live.{IsHeldBySession, Leads, Live}
 use Rattle.tp_session.specs.Performed.{DesksClose, LiveCounts, WorkerCloses, WorkersBelow}
 use Rattle.tp_session.specs.Notes.{notes_view}
 use Rattle.tp_session.specs.declared.held.Held.{Held}
@@ -49,7 +49,7 @@ module _ {X : Type 0} {F : X → Type 0} (behaviour : DynBox X Global F → Beha
     is = is_live behaviour registers pending new t.1 t.4;
   }
 
-  module _ (head : Head) (old : Held X F) (keeper' : KeeperShown) (qs : List PassShown) (account : Account) (held : IsHeld behaviour registers pending head old)
+  module _ (head : Head) (old : Held X F) (keeper' : KeeperShown) (qs : List PassShown) (account : Account) (held : IsHeldBySession behaviour registers pending head old)
       (counts : Accounts old.managed.manager.limits old.managed.keeper keeper' old.managed.passes.items qs account)
       (all : AreAll keeper' qs) (given : keeper'.given ≡ old.managed.keeper.given) (own : All (IsOf old.managed.manager) qs) where
     abbrev steps : ℕ

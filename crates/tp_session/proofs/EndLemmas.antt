@@ -15,7 +15,7 @@ use Rattle.tp_commands.specs.Places.{AllLeft, AllLie, firsts, workers}
 use Rattle.tp_commands.proofs.Lefts.{workers_are}
 use Rattle.tp_perform.specs.Told.{AreReady, after_servers, units_held}
 use Rattle.tp_session.specs.declared.hand.Holding.{Holding}
-use Rattle.tp_session.specs.Hands.{AllHold, GivesUp, hands, unit_of}
+use Rattle.tp_session.specs.Hands.{AllHold, WorkerGivesUp, hands, unit_of}
 use Rattle.tp_session.proofs.HandLemmas.{free_hands, hands_hold}
 
 module _ {X : Type 0} {F : X → Type 0} (behaviour : DynBox X Global F → Behaviour) (registers : DynBox X Global F → List ℕ) (pending : DynBox X Global F → Option Pending)
@@ -39,7 +39,7 @@ module _ {X : Type 0} {F : X → Type 0} (behaviour : DynBox X Global F → Beha
       (ap (map (λ (p : PassShown). p.open_unit)) (sym behind) ∙ in_hand)
 
   module _ (qs rs : List PassShown) (works' : List Holding) (long : length qs ≡ length ws) where
-    pub free_ended : All (IsFreePass m) qs → AllHold m rs works' → AllZip GivesUp (hands rest works) (hands rs works') → All (IsFreePass m) (client ∷ (qs ++ rs))
+    pub free_ended : All (IsFreePass m) qs → AllHold m rs works' → AllZip WorkerGivesUp (hands rest works) (hands rs works') → All (IsFreePass m) (client ∷ (qs ++ rs))
     free_ended free hold given =
         All-cons (IsFreePass m) client (qs ++ rs) (All-head (IsFreePass m) client [] (subst (λ zs. All (IsFreePass m) (take 1 zs)) all ready.client))
         (All-append (IsFreePass m) qs rs free (free_hands m rs works' (hands rest works) hold given))
@@ -53,8 +53,8 @@ module _ {X : Type 0} {F : X → Type 0} (behaviour : DynBox X Global F → Beha
     pub all_left : (ts : List (DynBox X Global F)) → AllLeft behaviour registers (firsts os) qs ts → AllLeft behaviour registers (firsts os) (workers (length ss) (client ∷ (qs ++ rs))) ts
     all_left ts left = subst (λ zs. AllLeft behaviour registers (firsts os) zs ts) (sym (workers_are behaviour registers pending (length ss) client qs rs (long ∙ many))) left
 
-    pub all_given_up : AllZip GivesUp (hands rest works) (hands rs works') → AllZip GivesUp (hands (after_servers (length ss) ps) works) (hands (after_servers (length ss) (client ∷ (qs ++ rs))) works')
+    pub all_given_up : AllZip WorkerGivesUp (hands rest works) (hands rs works') → AllZip WorkerGivesUp (hands (after_servers (length ss) ps) works) (hands (after_servers (length ss) (client ∷ (qs ++ rs))) works')
     all_given_up given =
         let rear : after_servers (length ss) (client ∷ (qs ++ rs)) ≡ rs = ap (λ n. drop n (qs ++ rs)) (sym (long ∙ many)) ∙ drop-append_seam qs rs in
-        subst (λ zs. AllZip GivesUp (hands zs works) (hands (after_servers (length ss) (client ∷ (qs ++ rs))) works')) (sym behind)
-        (subst (λ zs. AllZip GivesUp (hands rest works) (hands zs works')) (sym rear) given)
+        subst (λ zs. AllZip WorkerGivesUp (hands zs works) (hands (after_servers (length ss) (client ∷ (qs ++ rs))) works')) (sym behind)
+        (subst (λ zs. AllZip WorkerGivesUp (hands rest works) (hands zs works')) (sym rear) given)

@@ -12,8 +12,8 @@ use Rattle.tp_commands.specs.Places.{firsts}
 use Rattle.tp_perform.specs.Told.{began_of}
 use Rattle.tp_perform.proofs.Began.{began_same, scene_began}
 use Rattle.tp_session.specs.Heard.{HearsFront, Next, Tells}
-use Rattle.tp_session.specs.Left.{Acted, BodyDone, LineDone, OrSame, Reaches, began_at, began_in}
-use Rattle.tp_session.specs.Live.{IsHeld, IsLive, Leads, Live, TellsAct}
+use Rattle.tp_session.specs.Left.{ActDone, BodyDone, LineDone, OrSame, Reaches, began_at, began_in}
+use Rattle.tp_session.specs.Live.{IsHeldBySession, IsLive, Leads, Live, TellsAct}
 use Rattle.tp_session.specs.Told.{BodyTold, LineTold}
 use Rattle.tp_session.specs.declared.first.First.{First}
 use Rattle.tp_session.specs.declared.held.Held.{Held}
@@ -27,15 +27,15 @@ module _ {X : Type 0} {F : X → Type 0} (behaviour : DynBox X Global F → Beha
 
   -- ---- what was done
 
-  live_began : (head : Head) (h : Held X F) (l : Live) → IsHeld behaviour registers pending head h → IsLive behaviour registers pending h l → began_at l ≡ began_in registers h
+  live_began : (head : Head) (h : Held X F) (l : Live) → IsHeldBySession behaviour registers pending head h → IsLive behaviour registers pending h l → began_at l ≡ began_in registers h
   live_began head h l held is = scene_began behaviour registers pending h.managed.manager h.managed.passes.items h.servers.items h.places.items l.stand.scene held.ready is.scene
 
-  pub reach_same : (head : Head) (h h' : Held X F) (R : Live → Live → Type 0) → IsHeld behaviour registers pending head h → began_in registers h' ≡ began_in registers h → Reaches behaviour registers pending (OrSame R) h h'
+  pub reach_same : (head : Head) (h h' : Held X F) (R : Live → Live → Type 0) → IsHeldBySession behaviour registers pending head h → began_in registers h' ≡ began_in registers h → Reaches behaviour registers pending (OrSame R) h h'
   reach_same head h h' R held same =
       let l = live_there behaviour registers pending head h held in
       record { before = l.0; after = l.0; was = l.1; done = inl refl; began = live_began head h l.0 held l.1 ∙ sym same }
 
-  pub reach_lead : (head : Head) (h h' : Held X F) (R S : Live → Live → Type 0) → IsHeld behaviour registers pending head h' → ((a b : Live) → R a b → S a b) → Leads behaviour registers pending R h h' → Reaches behaviour registers pending S h h'
+  pub reach_lead : (head : Head) (h h' : Held X F) (R S : Live → Live → Type 0) → IsHeldBySession behaviour registers pending head h' → ((a b : Live) → R a b → S a b) → Leads behaviour registers pending R h h' → Reaches behaviour registers pending S h h'
   reach_lead head h h' R S held so p = record { before = p.before; after = p.after; was = p.was; done = so p.before p.after p.leads; began = live_began head h' p.after held p.is }
 
   pub reach_so : (h h' : Held X F) (R S : Live → Live → Type 0) → ((a b : Live) → R a b → S a b) → Reaches behaviour registers pending R h h' → Reaches behaviour registers pending S h h'
@@ -56,7 +56,7 @@ module _ {X : Type 0} {F : X → Type 0} (behaviour : DynBox X Global F → Beha
 -- ---- lines
 
 -- the first command alone
-pub one_done : (head : Head) (f : First) (come : Option (List ℕ)) (old new : Live) → Acted head f.act old new → BodyDone head f.past (Some f.act) come old new
+pub one_done : (head : Head) (f : First) (come : Option (List ℕ)) (old new : Live) → ActDone head f.act old new → BodyDone head f.past (Some f.act) come old new
 one_done head f come old new (inl same) = inl same
 one_done head f come old new (inr done) = inr (record {
   taken = [];
@@ -92,6 +92,6 @@ from_done head f come come' old mid new is one (inl same) = one_done head f come
 from_done head f come come' old mid new is one (inr others) = inr (body_begun head f come come' HearsFront old mid new [] one.0 (λ text. Unit {0}) is (one.0, refl, one.1) others)
 
 -- an act is what its line asks for
-pub act_done : (head : Head) (n : ℕ) (said : Result (Option Act) LineFault) (act : Act) (old new : Live) → said ≡ Ok (Some act) → Acted head act old new → OrSame (λ a b. (text : List ℕ) × LineTold head n said a text b) old new
+pub act_done : (head : Head) (n : ℕ) (said : Result (Option Act) LineFault) (act : Act) (old new : Live) → said ≡ Ok (Some act) → ActDone head act old new → OrSame (λ a b. (text : List ℕ) × LineTold head n said a text b) old new
 act_done head n said act old new is (inl same) = inl same
 act_done head n said act old new is (inr t) = inr (t.0, subst (λ r. LineTold head n r old t.0 new) (sym is) t.1)

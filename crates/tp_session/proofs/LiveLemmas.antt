@@ -8,7 +8,7 @@ use Rattle.tp_script.specs.declared.head.Head.{Head}
 use Rattle.tp_perform.specs.Scenes.{Scene}
 use Rattle.tp_perform.specs.Told.{IsScene}
 use Rattle.tp_perform.proofs.Slices.{one_scene, scene_there}
-use Rattle.tp_session.specs.Live.{Begins, IsHeld, IsLive, Leads, Live}
+use Rattle.tp_session.specs.Live.{Begins, IsHeldBySession, IsLive, Leads, Live}
 use Rattle.tp_session.specs.Notes.{notes_view}
 use Rattle.tp_session.specs.declared.held.Held.{Held}
 
@@ -24,7 +24,7 @@ module _ {X : Type 0} {F : X → Type 0} (behaviour : DynBox X Global F → Beha
   is_live h s is = record { manager = refl; keeper = refl; scene = is; works = refl; notes = refl }
 
   -- there is one
-  pub live_there : (head : Head) (h : Held X F) → IsHeld behaviour registers pending head h → (l : Live) × Is h l
+  pub live_there : (head : Head) (h : Held X F) → IsHeldBySession behaviour registers pending head h → (l : Live) × Is h l
   live_there head h held =
       let s = scene_there behaviour registers pending h.managed.passes.items h.servers.items h.places.items (omega (arith, held.parts)) in
       (live_of h s.0, is_live h s.0 s.1)
@@ -74,7 +74,7 @@ module _ {X : Type 0} {F : X → Type 0} (behaviour : DynBox X Global F → Beha
   leads_is R S h h' so p = record { before = p.before; after = p.after; was = p.was; leads = so p.before p.after p.was p.is p.leads; is = p.is }
 
   -- where nothing was done
-  pub leads_none : (head : Head) (h : Held X F) (R : Live → Live → Type 0) → IsHeld behaviour registers pending head h → ((l : Live) → R l l) → Leads behaviour registers pending R h h
+  pub leads_none : (head : Head) (h : Held X F) (R : Live → Live → Type 0) → IsHeldBySession behaviour registers pending head h → ((l : Live) → R l l) → Leads behaviour registers pending R h h
   leads_none head h R held same =
       let l = live_there head h held in
       record { before = l.0; after = l.0; was = l.1; leads = same l.0; is = l.1 }

@@ -6,7 +6,7 @@ use Rattle.tp_server.specs.Behaviour.{Behaviour}
 use Rattle.tp_server.specs.Pending.{Pending}
 use Rattle.tp_script.specs.declared.head.Head.{Head}
 use Rattle.tp_perform.specs.Scenes.{Stand}
-use Rattle.tp_session.specs.Live.{HoldsUnits, IsHeld, Leads, with_notes}
+use Rattle.tp_session.specs.Live.{HoldsUnits, IsHeldBySession, Leads, with_notes}
 use Rattle.tp_session.specs.Notes.{NotesView, notes_view}
 use Rattle.tp_session.specs.declared.hand.Holding.{Holding}
 use Rattle.tp_session.specs.declared.held.Held.{Held}
@@ -17,7 +17,7 @@ module _ {X : Type 0} {F : X → Type 0} (behaviour : DynBox X Global F → Beha
   abbrev pub with_noted : Held X F → Notes → Held X F
   with_noted h n = record { managed = h.managed; servers = h.servers; places = h.places; works = h.works; notes = n }
 
-  pub held_noted : (head : Head) (h : Held X F) (n : Notes) → IsHeld behaviour registers pending head h → IsHeld behaviour registers pending head (with_noted h n)
+  pub held_noted : (head : Head) (h : Held X F) (n : Notes) → IsHeldBySession behaviour registers pending head h → IsHeldBySession behaviour registers pending head (with_noted h n)
   held_noted head h n held = record {
     managed = held.managed;
     ready = held.ready;
@@ -29,7 +29,7 @@ module _ {X : Type 0} {F : X → Type 0} (behaviour : DynBox X Global F → Beha
   }
 
   -- what is noted has become this, and nothing else was done
-  pub noted_leads : (head : Head) (f : NotesView → NotesView) (h : Held X F) (n : Notes) → IsHeld behaviour registers pending head h → notes_view n ≡ f (notes_view h.notes)
+  pub noted_leads : (head : Head) (f : NotesView → NotesView) (h : Held X F) (n : Notes) → IsHeldBySession behaviour registers pending head h → notes_view n ≡ f (notes_view h.notes)
       → Leads behaviour registers pending (λ old new. new ≡ with_notes (f old.notes) old) h (with_noted h n)
   noted_leads head f h n held is =
       let l = live_there behaviour registers pending head h held in

@@ -13,7 +13,7 @@ use Rattle.tp_commands.specs.Acting.{PlaceShown, places_shown, work_in}
 use Rattle.tp_commands.specs.Places.{AllLie, workers}
 use Rattle.tp_script.specs.declared.head.Head.{Head}
 use Rattle.tp_session.specs.Hands.{has_unit, unit_of}
-use Rattle.tp_session.specs.Live.{HoldsUnits, IsHeld, IsLive, Leads, Live, has_desk_open, is_open}
+use Rattle.tp_session.specs.Live.{HoldsUnits, IsHeldBySession, IsLive, Leads, Live, has_desk_open, has_unit_open}
 use Rattle.tp_session.specs.declared.held.Held.{Held}
 use Rattle.tp_session.proofs.PassLemmas.{racers_are}
 
@@ -31,19 +31,19 @@ module _ {X : Type 0} {F : X → Type 0} (behaviour : DynBox X Global F → Beha
   shown_open (x ∷ ps) (y ∷ ss) (z ∷ os) all = ap (λ b. is_some (work_in z.aside) || b) (shown_open ps ss os all.1)
 
   -- whether a desk has a unit open, of what is held
-  pub desk_open : (head : Head) (h : Held X F) (l : Live) → IsHeld behaviour registers pending head h → IsLive behaviour registers pending h l → list_any (λ o. is_some (work_in o.aside)) h.places.items ≡ has_desk_open l
+  pub desk_open : (head : Head) (h : Held X F) (l : Live) → IsHeldBySession behaviour registers pending head h → IsLive behaviour registers pending h l → list_any (λ o. is_some (work_in o.aside)) h.places.items ≡ has_desk_open l
   desk_open head h l held is =
       shown_open _ h.servers.items h.places.items held.ready.lie ∙ ap (list_any (λ (q : PlaceShown). is_some q.desk.work)) (sym is.scene.1)
 
   -- whether a unit of work is open, of what is held
-  pub live_open : (head : Head) (h : Held X F) (l : Live) → IsHeld behaviour registers pending head h → IsLive behaviour registers pending h l
-      → (list_any has_unit h.works.items || list_any (λ o. is_some (work_in o.aside)) h.places.items) ≡ is_open l
+  pub live_open : (head : Head) (h : Held X F) (l : Live) → IsHeldBySession behaviour registers pending head h → IsLive behaviour registers pending h l
+      → (list_any has_unit h.works.items || list_any (λ o. is_some (work_in o.aside)) h.places.items) ≡ has_unit_open l
   live_open head h l held is =
       ap (λ b. list_any has_unit h.works.items || b) (desk_open head h l held is)
       ∙ ap (λ ws. list_any has_unit ws || has_desk_open l) (sym is.works)
 
   -- the units that are open, of the client and of the workers
-  pub live_units : (head : Head) (h : Held X F) (l : Live) → IsHeld behaviour registers pending head h → IsLive behaviour registers pending h l → HoldsUnits l
+  pub live_units : (head : Head) (h : Held X F) (l : Live) → IsHeldBySession behaviour registers pending head h → IsLive behaviour registers pending h l → HoldsUnits l
   live_units head h l held is = record {
     client = first_free h.managed.manager l.stand.scene.client h.managed.passes.items (workers (length h.servers.items) h.managed.passes.items ++ l.stand.scene.racers) is.scene.0 held.ready.client;
     workers = ap (map (λ (p : PassShown). p.open_unit)) (racers_are behaviour registers pending h.managed.passes.items h.servers.items h.places.items l.stand.scene is.scene)
@@ -51,7 +51,7 @@ module _ {X : Type 0} {F : X → Type 0} (behaviour : DynBox X Global F → Beha
   }
 
   -- and so they were before
-  pub leads_units : (head : Head) (old new : Held X F) (R : Live → Live → Type 0) → IsHeld behaviour registers pending head old → Leads behaviour registers pending R old new
+  pub leads_units : (head : Head) (old new : Held X F) (R : Live → Live → Type 0) → IsHeldBySession behaviour registers pending head old → Leads behaviour registers pending R old new
       → Leads behaviour registers pending (λ x y. HoldsUnits x × R x y) old new
   leads_units head old new R held p = record {
     before = p.before;

@@ -24,8 +24,8 @@ use Rattle.tp_script.specs.declared.head.WorkerLine.{WorkerLine}
 use Rattle.tp_script.specs.declared.script.Overview.{Overview}
 use Rattle.tp_script.specs.declared.script.Overview.TheVariants as overviews
 use Rattle.tp_script.specs.declared.script.ScriptServer.{ScriptServer}
-use Rattle.tp_session.specs.Live.{IsHeld, IsLive, Leads, Live, LiveGathers, OverviewDid, OverviewTold}
-use Rattle.tp_session.specs.Overviews.{HolderRead, HoldersRead, held_at, left_text, names_of, room_of, room_told}
+use Rattle.tp_session.specs.Live.{IsHeldBySession, IsLive, Leads, Live, LiveGathers, OverviewDid, OverviewTold}
+use Rattle.tp_session.specs.Overviews.{HolderRead, HoldersRead, desk_holding, left_text, names_of, room_of, room_told}
 use Rattle.tp_session.specs.declared.hand.Holding.{Holding}
 use Rattle.tp_session.specs.declared.held.Held.{Held}
 use Rattle.tp_session.proofs.LiveLemmas.{leads_is, leads_then, live_there}
@@ -116,7 +116,7 @@ holders_more l names works n old between new before one text name work done read
 
 module _ {X : Type 0} {F : X → Type 0} (behaviour : DynBox X Global F → Behaviour) (registers : DynBox X Global F → List ℕ) (pending : DynBox X Global F → Option Pending) where
   -- each worker has a pass
-  pub each_racer : (head : Head) (held : Held X F) (l : Live) → IsHeld behaviour registers pending head held → IsLive behaviour registers pending held l → length (head_view head).workers ≤ length l.stand.scene.racers
+  pub each_racer : (head : Head) (held : Held X F) (l : Live) → IsHeldBySession behaviour registers pending head held → IsLive behaviour registers pending held l → length (head_view head).workers ≤ length l.stand.scene.racers
   each_racer head held l holds is =
       let ps : List PassShown = held.managed.passes.items in
       let n : ℕ = length held.servers.items in
@@ -128,16 +128,16 @@ module _ {X : Type 0} {F : X → Type 0} (behaviour : DynBox X Global F → Beha
 
   -- what desks have in hand, of what is held
   pub shown_holds : (ps : List PassShown) (ss : List (DynBox X Global F)) (os : List (Place X F)) → AllLie behaviour registers pending ps ss os
-      → map (λ o. held_at (work_in o.aside)) os ≡ map (λ p. held_at p.desk.work) (places_shown behaviour registers pending ps ss os)
+      → map (λ o. desk_holding (work_in o.aside)) os ≡ map (λ p. desk_holding p.desk.work) (places_shown behaviour registers pending ps ss os)
   shown_holds [] [] [] all = refl
   shown_holds [] [] (z ∷ os) all = absurd all
   shown_holds [] (y ∷ ss) os all = absurd all
   shown_holds (x ∷ ps) [] os all = absurd all
   shown_holds (x ∷ ps) (y ∷ ss) [] all = absurd all
-  shown_holds (x ∷ ps) (y ∷ ss) (z ∷ os) all = ap (λ hs. held_at (work_in z.aside) ∷ hs) (shown_holds ps ss os all.1)
+  shown_holds (x ∷ ps) (y ∷ ss) (z ∷ os) all = ap (λ hs. desk_holding (work_in z.aside) ∷ hs) (shown_holds ps ss os all.1)
 
   -- it was told, and then all gathered
-  pub overview_leads : (head : Head) (held mid new : Held X F) (what : Overview) (text : List ℕ) → IsHeld behaviour registers pending head held → Leads behaviour registers pending (λ old done. OverviewDid (head_view head) what old text done) held mid
+  pub overview_leads : (head : Head) (held mid new : Held X F) (what : Overview) (text : List ℕ) → IsHeldBySession behaviour registers pending head held → Leads behaviour registers pending (λ old done. OverviewDid (head_view head) what old text done) held mid
       → Leads behaviour registers pending LiveGathers mid new → Leads behaviour registers pending (λ old last. OverviewTold (head_view head) what old text last) held new
   overview_leads head held mid new what text holds did gathers =
       leads_then behaviour registers pending Did LiveGathers (λ old last. OverviewTold (head_view head) what old text last) held mid new
@@ -149,18 +149,18 @@ module _ {X : Type 0} {F : X → Type 0} (behaviour : DynBox X Global F → Beha
       Did old done = (length (head_view head).workers ≤ length old.stand.scene.racers) × OverviewDid (head_view head) what old text done
 
   -- there is one for each server and each worker
-  pub hands_many : (head : Head) (held : Held X F) (all : List Holding) → IsHeld behaviour registers pending head held → all ≡ map (λ o. held_at (work_in o.aside)) held.places.items ++ held.works.items
+  pub hands_many : (head : Head) (held : Held X F) (all : List Holding) → IsHeldBySession behaviour registers pending head held → all ≡ map (λ o. desk_holding (work_in o.aside)) held.places.items ++ held.works.items
       → length head.servers.items + length head.workers.items ≤ length all
   hands_many head held all holds is =
-      let desks : List Holding = map (λ o. held_at (work_in o.aside)) held.places.items in
+      let desks : List Holding = map (λ o. desk_holding (work_in o.aside)) held.places.items in
       let long = ap (λ (hs : List Holding). length hs) is in
       let both = append_long desks held.works.items in
-      let each = length-map held.places.items (λ o. held_at (work_in o.aside)) in
+      let each = length-map held.places.items (λ o. desk_holding (work_in o.aside)) in
       let lie = lie_servers behaviour registers pending (workers (length held.servers.items) held.managed.passes.items) held.servers.items held.places.items holds.ready.lie in
       omega (arith, long, both, each, lie, holds.each_server, holds.each_worker)
 
   -- what is left was told
-  pub room_leads : (head : Head) (held : Held X F) (text : List ℕ) → IsHeld behaviour registers pending head held → text ≡ room_told (head_view head) held.managed.manager.limits held.managed.passes.items
+  pub room_leads : (head : Head) (held : Held X F) (text : List ℕ) → IsHeldBySession behaviour registers pending head held → text ≡ room_told (head_view head) held.managed.manager.limits held.managed.passes.items
       → Leads behaviour registers pending (λ old done. OverviewDid (head_view head) overviews.Room old text done) held held
   room_leads head held text holds is =
       let l = live_there behaviour registers pending head held holds in

@@ -11,7 +11,7 @@ use Rattle.tp_perform.specs.Ending.{final_lines}
 use Rattle.tp_session.specs.Conversed.{BodyFront, BodyWhole, Conversed, ConversedFront, HeadRead, LiveBegins, LiveEnds}
 use Rattle.tp_session.specs.Heard.{HearsFront, IsAllOf, IsSilent, Tells}
 use Rattle.tp_session.specs.Live.{Live}
-use Rattle.tp_session.specs.Told.{BodyTold, HeadTold, begun, past_of}
+use Rattle.tp_session.specs.Told.{BodyTold, HeadLinesTold, first_act, past_of}
 use Rattle.tp_session.specs.declared.first.First.{First}
 use Rattle.tp_session.proofs.ToldLemmas.{told_with, told_with_front}
 use Rattle.tp_session.proofs.WholeLemmas.{session_head, session_part, session_whole}
@@ -32,14 +32,14 @@ module _ (first : Option First) (head : Head) (a b c : Option (List ℕ)) (answe
   none_known None bytes read = read.1.heard
   none_known (Some first) bytes read = read.2.heard.0
 
-  pub conversed : (come left : Option (List ℕ)) → Read come left → BodyWhole head (past_of first) (begun first) left (λ text. Appends b c (answers ++ text))
+  pub conversed : (come left : Option (List ℕ)) → Read come left → BodyWhole head (past_of first) (first_act first) left (λ text. Appends b c (answers ++ text))
       → IfSome come (λ bytes. Conversed bytes a c)
   conversed None left read held = tt
   conversed (Some bytes) None read held = absurd (none_known first bytes read)
   conversed (Some bytes) (Some rest) read held =
       session_whole bytes rest head (λ text. Tells a b answers text) (λ text. Appends b c (answers ++ text)) (Appends a c) (λ h t told done. told_with a b c answers h t told done) first read held
 
-  pub conversed_front : (come left : Option (List ℕ)) → Read come left → BodyFront head (past_of first) (begun first) left Front → IfSome come (λ bytes. ConversedFront bytes a c)
+  pub conversed_front : (come left : Option (List ℕ)) → Read come left → BodyFront head (past_of first) (first_act first) left Front → IfSome come (λ bytes. ConversedFront bytes a c)
   conversed_front None left read held = tt
   conversed_front (Some bytes) None read held = absurd (none_known first bytes read)
   conversed_front (Some bytes) (Some rest) read (inl none) =
@@ -50,7 +50,7 @@ module _ (first : Option First) (head : Head) (a b c : Option (List ℕ)) (answe
       inr (inr (session_whole bytes rest head (λ text. Tells a b answers text) Front (AppendsFront a c) (λ h t told done. told_with_front a b c answers h t told done) first read whole))
 
 -- a fault in the head
-pub head_fault : (come : Option (List ℕ)) (a c : Option (List ℕ)) → (new : HeadView) × HeadTold (HearsFront come) no_head new (λ text. AppendsFront a c text) → IfSome come (λ bytes. ConversedFront bytes a c)
+pub head_fault : (come : Option (List ℕ)) (a c : Option (List ℕ)) → (new : HeadView) × HeadLinesTold (HearsFront come) no_head new (λ text. AppendsFront a c text) → IfSome come (λ bytes. ConversedFront bytes a c)
 head_fault None a c told = tt
 head_fault (Some bytes) a c told = inl told
 

@@ -7,7 +7,7 @@ use Rattle.tp_session.specs.Conversed.{BodyPart, BodyWhole, HeadRead, Session, S
 use Rattle.tp_session.specs.Heard.{HearsFront, heard}
 use Rattle.tp_session.specs.Live.{Live}
 use Rattle.tp_session.specs.Reading.{to_come, unused}
-use Rattle.tp_session.specs.Told.{BodyLines, BodyTold, HeadTold, LinesFrom, begun, past_of}
+use Rattle.tp_session.specs.Told.{BodyLines, BodyTold, HeadLinesTold, LinesFrom, first_act, past_of}
 use Rattle.tp_session.specs.declared.first.First.{First}
 use Rattle.tp_session.specs.declared.reading.Lines.{Lines}
 
@@ -35,7 +35,7 @@ no_front (x ∷ xs) ys is = absurd cc
 module _ (bytes rest : List ℕ) (head : Head) (HeadDone Done Wrote : List ℕ → Type 0) (both : (h t : List ℕ) → HeadDone h → Done t → Wrote (h ++ t)) where
   -- all of it
   pub session_whole : (first : Option First) → HeadRead first (Some bytes) (Some rest) no_head (head_view head) HeadDone
-      → BodyWhole head (past_of first) (begun first) (Some rest) Done → Session bytes Wrote
+      → BodyWhole head (past_of first) (first_act first) (Some rest) Done → Session bytes Wrote
   session_whole None read whole =
       let none : whole.body.taken ≡ [] = sym whole.body.heard ∙ read.0 in
       record {
@@ -73,7 +73,7 @@ module _ (bytes rest : List ℕ) (head : Head) (HeadDone Done Wrote : List ℕ �
 
   -- some of it
   pub session_part : (first : Option First) → HeadRead first (Some bytes) (Some rest) no_head (head_view head) HeadDone
-      → BodyPart head (past_of first) (begun first) (Some rest) Done → SessionPart bytes Wrote
+      → BodyPart head (past_of first) (first_act first) (Some rest) Done → SessionPart bytes Wrote
   session_part None read part =
       let none : part.body.taken ≡ [] = no_front part.body.taken part.body.heard.0 (sym part.body.heard.1 ∙ read.0) in
       record {
@@ -110,7 +110,7 @@ module _ (bytes rest : List ℕ) (head : Head) (HeadDone Done Wrote : List ℕ �
 module _ (bytes rest : List ℕ) (head : Head) (HeadDone Done Wrote : List ℕ → Type 0) (both : (h t : List ℕ) → HeadDone h → Done t → Wrote (h ++ t)) where
   -- its head alone
   pub session_head : (first : Option First) → HeadRead first (Some bytes) (Some rest) no_head (head_view head) HeadDone → Done []
-      → HeadTold (HearsFront (Some bytes)) no_head (head_view head) Wrote
+      → HeadLinesTold (HearsFront (Some bytes)) no_head (head_view head) Wrote
   session_head None read done = record {
     taken = read.1.taken;
     heard = (heard rest, read.1.heard);

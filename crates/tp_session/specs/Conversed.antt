@@ -25,11 +25,11 @@ use Rattle.tp_perform.specs.Ending.{final_lines}
 use Rattle.tp_perform.specs.Scenes.{IsNewPlace, Stand, passes_in}
 use Rattle.tp_session.specs.declared.hand.Holding.{Holding}
 use Rattle.tp_session.specs.declared.hand.Holding.TheVariants.{Nothing}
-use Rattle.tp_session.specs.Hands.{GivesUp, hands}
+use Rattle.tp_session.specs.Hands.{WorkerGivesUp, hands}
 use Rattle.tp_session.specs.Heard.{Hears, HearsFront, IsAllOf, IsSilent, heard}
 use Rattle.tp_session.specs.Live.{Live}
 use Rattle.tp_session.specs.Notes.{notes_of}
-use Rattle.tp_session.specs.Told.{BodyTold, HeadLine, HeadLines, HeadTold, LinesFrom}
+use Rattle.tp_session.specs.Told.{BodyTold, HeadLine, HeadLines, HeadLinesTold, LinesFrom}
 use Rattle.tp_session.specs.declared.first.First.{First}
 
 -- ---- the head
@@ -49,9 +49,9 @@ TakesHeadLine None n said old before new after =
 abbrev pub HeadRead : Option First → Option (List ℕ) → Option (List ℕ) → HeadView → HeadView
     → (List ℕ → Type 0) → Type 0
 HeadRead None come left old new Told = IsSilent left
-    × HeadTold (λ taken. Hears come taken left) old new Told
+    × HeadLinesTold (λ taken. Hears come taken left) old new Told
 HeadRead (Some first) come left old new Told = (line : List ℕ) × IsCommand line first.act new
-    × HeadTold (λ taken. Hears come (taken ++ line ∷ []) left × (length taken ≡ first.past)) old new Told
+    × HeadLinesTold (λ taken. Hears come (taken ++ line ∷ []) left × (length taken ≡ first.past)) old new Told
 
 -- ---- what is made
 
@@ -105,7 +105,7 @@ pub record LiveEnds (last : Live) (registers : List (List ℕ)) : Type 0 where
   pub steady : All IsSteadyPlace last.stand.scene.places
   pub workers : List PassShown
   pub works : List Holding
-  pub given_up : AllZip GivesUp (hands last.stand.scene.racers last.works) (hands workers works)
+  pub given_up : AllZip WorkerGivesUp (hands last.stand.scene.racers last.works) (hands workers works)
 
 -- the final lines: one for each server of the head, with the registers that are left
 abbrev pub finals_of : HeadView → List (List ℕ) → List ℕ
@@ -189,7 +189,7 @@ Conversed bytes before after = Session bytes (Appends before after)
 -- too, or to all, with the final lines.
 abbrev pub ConversedFront : List ℕ → Option (List ℕ) → Option (List ℕ) → Type 0
 ConversedFront bytes before after =
-    ((head : HeadView) × HeadTold (HearsFront (Some bytes)) no_head head (AppendsFront before after))
+    ((head : HeadView) × HeadLinesTold (HearsFront (Some bytes)) no_head head (AppendsFront before after))
     ⊎ (SessionPart bytes (AppendsFront before after) ⊎ Session bytes (AppendsFront before after))
 
 -- by how the program ended

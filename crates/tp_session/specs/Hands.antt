@@ -33,12 +33,12 @@ pub record Hand : Type 0 where
   pub pass : PassShown
   pub work : Holding
 
-abbrev pub hand : PassShown → Holding → Hand
-hand pass work = record { pass = pass; work = work }
+abbrev pub worker_hand : PassShown → Holding → Hand
+worker_hand pass work = record { pass = pass; work = work }
 
 -- those of all workers
 abbrev pub hands : List PassShown → List Holding → List Hand
-hands (p ∷ ps) (w ∷ ws) = hand p w ∷ hands ps ws
+hands (p ∷ ps) (w ∷ ws) = worker_hand p w ∷ hands ps ws
 hands ps ws = []
 
 -- the unit of what is in hand, unless it was lost
@@ -65,7 +65,7 @@ abbrev pub AllHold : ManagerShown → List PassShown → List Holding → Type 0
 AllHold m [] [] = Unit {0}
 AllHold m [] (w ∷ ws) = ⊥
 AllHold m (p ∷ ps) [] = ⊥
-AllHold m (p ∷ ps) (w ∷ ws) = IsHand m (hand p w) × AllHold m ps ws
+AllHold m (p ∷ ps) (w ∷ ws) = IsHand m (worker_hand p w) × AllHold m ps ws
 
 -- a claim from the worker's stage that took this
 pub record ClaimTook (l : Limits) (stage : ℕ) (work : Work) (old new : Hand) : Type 0 where
@@ -82,21 +82,21 @@ pub record TookNothing (l : Limits) (n : ℕ) (Answers : Type 0) (old new : Hand
   pub held : new.work ≡ Nothing
 
 -- nothing was done, since something is in hand
-abbrev pub IsBusy : Hand → Hand → Type 0
-IsBusy old new = (is_busy old.work ≡ true) × (new ≡ old)
+abbrev pub IsWorkerBusy : Hand → Hand → Type 0
+IsWorkerBusy old new = (is_busy old.work ≡ true) × (new ≡ old)
 
 -- nothing was done, since nothing is in hand
-abbrev pub IsIdle : Hand → Hand → Type 0
-IsIdle old new = (old.work ≡ Nothing) × (new ≡ old)
+abbrev pub IsWorkerIdle : Hand → Hand → Type 0
+IsWorkerIdle old new = (old.work ≡ Nothing) × (new ≡ old)
 
-abbrev pub TellsClaim : Limits → ℕ → Hand → WorkerAnswer → Hand → Type 0
-TellsClaim l stage old (Took work) new = ClaimTook l stage work old new
-TellsClaim l stage old (Told (told.Turned turneds.Idle)) new =
+abbrev pub WorkerTellsClaim : Limits → ℕ → Hand → WorkerAnswer → Hand → Type 0
+WorkerTellsClaim l stage old (Took work) new = ClaimTook l stage work old new
+WorkerTellsClaim l stage old (Told (told.Turned turneds.Idle)) new =
     TookNothing l (claim_steps l) (Claims l stage old.pass new.pass claimeds.Idle) old new
-TellsClaim l stage old (Told (told.Turned turneds.NoUnit)) new =
+WorkerTellsClaim l stage old (Told (told.Turned turneds.NoUnit)) new =
     TookNothing l (claim_steps l) (Claims l stage old.pass new.pass claimeds.NoUnit) old new
-TellsClaim l stage old (Told told.Busy) new = IsBusy old new
-TellsClaim l stage old other new = ⊥
+WorkerTellsClaim l stage old (Told told.Busy) new = IsWorkerBusy old new
+WorkerTellsClaim l stage old other new = ⊥
 
 -- a claim in turn from the worker's stage that was answered so, and what is in hand then
 pub record NextAnswered (l : Limits) (stage : ℕ) (claimed : Claimed) (held : Holding) (old new : Hand) : Type 0 where
@@ -107,13 +107,13 @@ pub record NextAnswered (l : Limits) (stage : ℕ) (claimed : Claimed) (held : H
   pub answer : ClaimsNext l stage old.pass new.pass claimed
   pub held_is : new.work ≡ held
 
-abbrev pub TellsNext : Limits → ℕ → Hand → WorkerAnswer → Hand → Type 0
-TellsNext l stage old (Took work) new =
+abbrev pub WorkerTellsNext : Limits → ℕ → Hand → WorkerAnswer → Hand → Type 0
+WorkerTellsNext l stage old (Took work) new =
     NextAnswered l stage (claimeds.Work work) (Open work.unit work.element.id) old new
-TellsNext l stage old (Told (told.Turned turneds.Idle)) new = NextAnswered l stage claimeds.Idle Nothing old new
-TellsNext l stage old (Told (told.Turned turneds.NoUnit)) new = NextAnswered l stage claimeds.NoUnit Nothing old new
-TellsNext l stage old (Told told.Busy) new = IsBusy old new
-TellsNext l stage old other new = ⊥
+WorkerTellsNext l stage old (Told (told.Turned turneds.Idle)) new = NextAnswered l stage claimeds.Idle Nothing old new
+WorkerTellsNext l stage old (Told (told.Turned turneds.NoUnit)) new = NextAnswered l stage claimeds.NoUnit Nothing old new
+WorkerTellsNext l stage old (Told told.Busy) new = IsWorkerBusy old new
+WorkerTellsNext l stage old other new = ⊥
 
 -- a claim of the element with this id that took it
 pub record TakeTook (l : Limits) (id : ℕ) (work : Work) (old new : Hand) : Type 0 where
@@ -122,15 +122,15 @@ pub record TakeTook (l : Limits) (id : ℕ) (work : Work) (old new : Hand) : Typ
   pub answer : TakesId l id work old.pass new.pass
   pub held : new.work ≡ Open work.unit work.element.id
 
-abbrev pub TellsTake : Limits → ℕ → Hand → WorkerAnswer → Hand → Type 0
-TellsTake l id old (Took work) new = TakeTook l id work old new
-TellsTake l id old (Told (told.Turned turneds.NoUnit)) new =
+abbrev pub WorkerTellsTake : Limits → ℕ → Hand → WorkerAnswer → Hand → Type 0
+WorkerTellsTake l id old (Took work) new = TakeTook l id work old new
+WorkerTellsTake l id old (Told (told.Turned turneds.NoUnit)) new =
     TookNothing l claim_id_steps (ClaimIdFails l id old.pass new.pass refusals.NoUnit) old new
-TellsTake l id old (Told (told.NotTaken element refusals.NoUnit)) new = ⊥
-TellsTake l id old (Told (told.NotTaken element why)) new =
+WorkerTellsTake l id old (Told (told.NotTaken element refusals.NoUnit)) new = ⊥
+WorkerTellsTake l id old (Told (told.NotTaken element why)) new =
     (element ≡ id) × TookNothing l claim_id_steps (ClaimIdFails l id old.pass new.pass why) old new
-TellsTake l id old (Told told.Busy) new = IsBusy old new
-TellsTake l id old other new = ⊥
+WorkerTellsTake l id old (Told told.Busy) new = IsWorkerBusy old new
+WorkerTellsTake l id old other new = ⊥
 
 -- the unit had been lost before a rollover, and the worker hears of it
 pub record HearsLost (element : ℕ) (old new : Hand) : Type 0 where
@@ -147,19 +147,19 @@ pub record CommitsHand (l : Limits) (drafts : List DraftView) (outcome : Outcome
   pub none_left : new.work ≡ Nothing
 
 -- it was, and this is the answer
-abbrev pub TellsSettled : Limits → List DraftView → Hand → Turned → Hand → Type 0
-TellsSettled l drafts old turned new = (unit element : ℕ) × (outcome : Outcome)
+abbrev pub WorkerTellsSettled : Limits → List DraftView → Hand → Turned → Hand → Type 0
+WorkerTellsSettled l drafts old turned new = (unit element : ℕ) × (outcome : Outcome)
     × CommitsHand l drafts outcome unit element old new × (turned ≡ settled_as unit element outcome)
 
 -- the worker hears of a unit that was lost before
-abbrev pub TellsLost : Hand → Turned → Hand → Type 0
-TellsLost old turned new = (element : ℕ) × HearsLost element old new × (turned ≡ turneds.Lost element)
+abbrev pub WorkerTellsLost : Hand → Turned → Hand → Type 0
+WorkerTellsLost old turned new = (element : ℕ) × HearsLost element old new × (turned ≡ turneds.Lost element)
 
-abbrev pub TellsCommit : Limits → List DraftView → Hand → WorkerAnswer → Hand → Type 0
-TellsCommit l drafts old (Told (told.Turned turned)) new =
-    TellsSettled l drafts old turned new ⊎ TellsLost old turned new
-TellsCommit l drafts old (Told told.NoneOpen) new = IsIdle old new
-TellsCommit l drafts old other new = ⊥
+abbrev pub WorkerTellsCommit : Limits → List DraftView → Hand → WorkerAnswer → Hand → Type 0
+WorkerTellsCommit l drafts old (Told (told.Turned turned)) new =
+    WorkerTellsSettled l drafts old turned new ⊎ WorkerTellsLost old turned new
+WorkerTellsCommit l drafts old (Told told.NoneOpen) new = IsWorkerIdle old new
+WorkerTellsCommit l drafts old other new = ⊥
 
 -- the unit in hand, which had taken this element, was given up
 pub record AbortsHand (l : Limits) (ended : Ended) (element : ℕ) (old new : Hand) : Type 0 where
@@ -169,23 +169,23 @@ pub record AbortsHand (l : Limits) (ended : Ended) (element : ℕ) (old new : Ha
   pub answer : AnswersAbort old.pass new.pass ended
   pub none_left : new.work ≡ Nothing
 
-abbrev pub TellsAbort : Limits → Hand → WorkerAnswer → Hand → Type 0
-TellsAbort l old (Told (told.Aborted element)) new = AbortsHand l endeds.Aborted element old new
-TellsAbort l old (Told (told.AlreadyAborted element)) new =
+abbrev pub WorkerTellsAbort : Limits → Hand → WorkerAnswer → Hand → Type 0
+WorkerTellsAbort l old (Told (told.Aborted element)) new = AbortsHand l endeds.Aborted element old new
+WorkerTellsAbort l old (Told (told.AlreadyAborted element)) new =
     AbortsHand l endeds.AlreadyAborted element old new ⊎ HearsLost element old new
-TellsAbort l old (Told told.NoneOpen) new = IsIdle old new
-TellsAbort l old other new = ⊥
+WorkerTellsAbort l old (Told told.NoneOpen) new = IsWorkerIdle old new
+WorkerTellsAbort l old other new = ⊥
 
 -- what a worker of a stage was asked
 abbrev pub WorkerDoes : Limits → ℕ → WorkerAct → Hand → WorkerAnswer → Hand → Type 0
-WorkerDoes l stage acts.Claim old a new = TellsClaim l stage old a new
-WorkerDoes l stage acts.Next old a new = TellsNext l stage old a new
-WorkerDoes l stage (acts.Take id) old a new = TellsTake l id old a new
-WorkerDoes l stage (acts.Commit drafts) old a new = TellsCommit l drafts.items old a new
-WorkerDoes l stage acts.Abort old a new = TellsAbort l old a new
+WorkerDoes l stage acts.Claim old a new = WorkerTellsClaim l stage old a new
+WorkerDoes l stage acts.Next old a new = WorkerTellsNext l stage old a new
+WorkerDoes l stage (acts.Take id) old a new = WorkerTellsTake l id old a new
+WorkerDoes l stage (acts.Commit drafts) old a new = WorkerTellsCommit l drafts.items old a new
+WorkerDoes l stage acts.Abort old a new = WorkerTellsAbort l old a new
 
 -- the worker gave up what it had in hand
-pub record GivesUp (old new : Hand) : Type 0 where
+pub record WorkerGivesUp (old new : Hand) : Type 0 where
   pub ends : EndsOpen old.pass.open_unit old.pass new.pass
   pub free : new.pass.open_unit ≡ None
   pub none_left : new.work ≡ Nothing

@@ -39,9 +39,9 @@ abbrev pub IsInLine : List ℕ → Type 0
 IsInLine bytes = All (λ b. (b == 10) ≡ false) bytes
 
 -- these bytes of a line were taken: up to its end, and that too, or all that was there
-abbrev pub Takes : Bool → List ℕ → List ℕ → List ℕ → Type 0
-Takes true before bytes after = before ≡ bytes ++ 10 ∷ after
-Takes false before bytes after = (before ≡ bytes) × (after ≡ [])
+abbrev pub TakesBytes : Bool → List ℕ → List ℕ → List ℕ → Type 0
+TakesBytes true before bytes after = before ≡ bytes ++ 10 ∷ after
+TakesBytes false before bytes after = (before ≡ bytes) × (after ≡ [])
 
 -- what was read of a line since its beginning, and what is kept of it
 pub record ReadsLine (before after : Option (List ℕ)) (kept : List ℕ) : Type 0 where

@@ -19,19 +19,19 @@ abbrev pub lost_text : ℕ → List ℕ
 lost_text element = codes "lost " <> decimal element
 
 -- a unit that holds its element, in this attempt
-abbrev pub holds_text : ℕ → ℕ → Element → List ℕ
-holds_text unit attempt e =
+abbrev pub holding_text : ℕ → ℕ → Element → List ℕ
+holding_text unit attempt e =
     decimal e.id <> codes " unit " <> decimal unit <> codes " attempt " <> decimal attempt
     <> codes " root " <> decimal e.root <> codes " body " <> body_text e.body
 
 -- one or the other, as the element that the unit had taken was found to stand
-abbrev pub look_text : ℕ → ℕ → Status → Element → List ℕ
-look_text unit element (status.Held holder attempt) e =
-    if holder == unit then holds_text unit attempt e else lost_text element
-look_text unit element other e = lost_text element
+abbrev pub found_text : ℕ → ℕ → Status → Element → List ℕ
+found_text unit element (status.Held holder attempt) e =
+    if holder == unit then holding_text unit attempt e else lost_text element
+found_text unit element other e = lost_text element
 
 abbrev pub open_text : ℕ → ℕ → Answer → List ℕ
-open_text unit element (answer.Read look) = look_text unit element look.status look.element
+open_text unit element (answer.Read look) = found_text unit element look.status look.element
 open_text unit element other = lost_text element
 
 -- what a worker has in hand, of which the client's pass reads how it stands

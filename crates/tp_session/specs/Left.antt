@@ -29,8 +29,8 @@ abbrev pub OrSame : (Live → Live → Type 0) → Live → Live → Type 0
 OrSame R old new = (new ≡ old) ⊎ R old new
 
 -- it was done, whatever became of its answer
-abbrev pub Acted : Head → Act → Live → Live → Type 0
-Acted head act = OrSame (λ old new. (text : List ℕ) × TellsAct head act old text new)
+abbrev pub ActDone : Head → Act → Live → Live → Type 0
+ActDone head act = OrSame (λ old new. (text : List ℕ) × TellsAct head act old text new)
 
 -- so was a line of this number
 abbrev pub LineDone : Head → ℕ → List ℕ → Live → Live → Type 0

@@ -49,7 +49,7 @@ use Rattle.tp_session.specs.Dump.{dump_lines, dump_text}
 use Rattle.tp_session.specs.Hands.{Hand, WorkerDoes, has_unit, unit_of}
 use Rattle.tp_session.specs.Lasts.{HandRead, end_at}
 use Rattle.tp_session.specs.NoteTexts.{last_hand}
-use Rattle.tp_session.specs.Notes.{NotesView, notes_in, notes_view, with_end}
+use Rattle.tp_session.specs.Notes.{NotesView, notes_in, notes_view, with_unit_end}
 use Rattle.tp_session.specs.Overviews.{HoldersRead, holds_text, in_hands, names_of, room_told}
 use Rattle.tp_session.specs.Roots.{roots_of, roots_text}
 use Rattle.tp_session.specs.declared.hand.Holding.{Holding}
@@ -73,8 +73,8 @@ abbrev pub has_desk_open : Live → Bool
 has_desk_open l = list_any (λ p. is_some p.desk.work) l.stand.scene.places
 
 -- whether a unit of work is open: one of a desk or of a worker
-abbrev pub is_open : Live → Bool
-is_open l = list_any has_unit l.works || has_desk_open l
+abbrev pub has_unit_open : Live → Bool
+has_unit_open l = list_any has_unit l.works || has_desk_open l
 
 -- the client's pass has no unit open, and each worker's has the one that the worker has in hand
 pub record HoldsUnits (l : Live) : Type 0 where
@@ -148,7 +148,7 @@ pub record WorkerDid (it : WorkerLine) (act : WorkerAct) (at : ℕ) (old : Live)
         record old.stand.scene { racers = slice_set old.stand.scene.racers at after.pass };
   }
   pub works : new.works ≡ slice_set old.works at after.work
-  pub notes : new.notes ≡ with_end before.work answer at old.notes
+  pub notes : new.notes ≡ with_unit_end before.work answer at old.notes
 
 -- the line tells, with the worker's name, what it was answered
 pub record WorkerTold (workers : List WorkerLine) (act : WorkerAct) (at : ℕ) (old : Live) (text : List ℕ)
@@ -171,7 +171,7 @@ TellsAccount m false old text new =
 -- the client did that, and all else is as it was
 pub record ClientCounts (old : Live) (text : List ℕ) (new : Live) : Type 0 where
   pub client : PassShown
-  pub tells : TellsAccount old.stand.manager (is_open old) old.stand.scene.client text client
+  pub tells : TellsAccount old.stand.manager (has_unit_open old) old.stand.scene.client text client
   pub stand : new.stand ≡ record old.stand { scene = record old.stand.scene { client = client } }
   pub works : new.works ≡ old.works
   pub notes : new.notes ≡ old.notes
@@ -188,9 +188,9 @@ abbrev pub status_at : ℕ → ℕ → Status
 status_at limit attempts = if attempts == limit then status.Parked attempts else status.Waiting attempts
 
 -- how an element stood, before a unit took it if one holds it, that was tried so often in its round
-abbrev pub status_in : ℕ → Option ℕ → ℕ → Status
-status_in limit None attempts = status_at limit attempts
-status_in limit (Some worker) attempts = status.Waiting (attempts - 1)
+abbrev pub status_before : ℕ → Option ℕ → ℕ → Status
+status_before limit None attempts = status_at limit attempts
+status_before limit (Some worker) attempts = status.Waiting (attempts - 1)
 
 -- what an `alive` or a `held` line describes, under this limit of attempts; the first worker's pass has this
 -- number
@@ -200,7 +200,7 @@ survivor_of limit first a = record {
   root = a.root;
   stage = a.draft.stage;
   body = a.draft.body;
-  status = status_in limit a.holder a.attempts;
+  status = status_before limit a.holder a.attempts;
   holder = option_map (λ worker. first + worker) a.holder;
   rounds = a.rounds;
   root_stage = a.root_draft.stage;
@@ -367,7 +367,7 @@ module _ {X : Type 0} {F : X → Type 0} (behaviour : DynBox X Global F → Beha
     (registers : DynBox X Global F → List ℕ) (pending : DynBox X Global F → Option Pending) where
   -- What holds between two lines: of all passes the client's is free, with the servers' their desks lie
   -- aside, each worker's has the unit open that the worker has in hand, and those of races are free.
-  pub record IsHeld (head : Head) (h : Held X F) : Type 0 where
+  pub record IsHeldBySession (head : Head) (h : Held X F) : Type 0 where
     pub managed : IsManaged h.managed
     pub ready : AreReady behaviour registers pending h.managed.manager h.managed.passes.items h.servers.items
         h.places.items

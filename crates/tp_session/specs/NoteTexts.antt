@@ -21,8 +21,8 @@ id_text None = codes "gone"
 id_text (Some id) = decimal id
 
 -- ID ROOT W0:W1:W2:W3 of a client's last reply
-abbrev pub reply_text : ClientNote → List ℕ
-reply_text c = id_text c.reply <> codes " " <> id_text c.root <> codes " " <> body_text c.body
+abbrev pub last_reply_text : ClientNote → List ℕ
+last_reply_text c = id_text c.reply <> codes " " <> id_text c.root <> codes " " <> body_text c.body
 
 -- ---- what a client is told
 
@@ -45,7 +45,7 @@ abbrev pub last_sent : ClientNote → List ℕ
 last_sent c = if c.sent == 0 then [] else codes " " <> id_text c.element
 
 abbrev pub last_received : ClientNote → List ℕ
-last_received c = if c.received == 0 then [] else codes " " <> reply_text c
+last_received c = if c.received == 0 then [] else codes " " <> last_reply_text c
 
 abbrev pub last_text : ClientNote → List ℕ
 last_text c =
@@ -74,7 +74,7 @@ last_hand name hand how = codes "last " <> name <> codes " hand " <> hand <> cod
 abbrev pub client_text : ClientNote → List ℕ
 client_text c =
     codes "client " <> c.name.letters <> codes " " <> decimal c.sent <> codes " " <> id_text c.element
-    <> codes " " <> decimal c.received <> codes " " <> reply_text c
+    <> codes " " <> decimal c.received <> codes " " <> last_reply_text c
 
 -- `request NAME ROOT`
 abbrev pub request_text : RequestNote → List ℕ

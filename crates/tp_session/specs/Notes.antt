@@ -36,12 +36,12 @@ notes_view n = record { clients = n.clients.items; requests = n.requests.items; 
 
 -- ---- a client's note
 
-abbrev pub is_named : NameView → NameView → Bool
-is_named name other = bytes_eq other.letters name.letters
+abbrev pub has_name : NameView → NameView → Bool
+has_name name other = bytes_eq other.letters name.letters
 
 -- the place of the client of this name
-abbrev pub place_of : NameView → List ClientNote → Option ℕ
-place_of name clients = position (λ c. is_named name c.name) clients
+abbrev pub client_place : NameView → List ClientNote → Option ℕ
+client_place name clients = position (λ c. has_name name c.name) clients
 
 -- a client that has sent and received nothing
 abbrev pub new_client : NameView → ClientNote
@@ -55,21 +55,21 @@ new_client name = record {
   body = replicate 4 0;
 }
 
-abbrev pub with_client : NameView → NotesView → NotesView
-with_client name n = record n { clients = n.clients ++ new_client name ∷ [] }
+abbrev pub with_new_client : NameView → NotesView → NotesView
+with_new_client name n = record n { clients = n.clients ++ new_client name ∷ [] }
 
 -- without a client and its requests
 abbrev pub without_client : NameView → NotesView → NotesView
 without_client name n = record n {
-  clients = filter (λ c. not (is_named name c.name)) n.clients;
-  requests = filter (λ r. not (is_named name r.client)) n.requests;
+  clients = filter (λ c. not (has_name name c.name)) n.clients;
+  requests = filter (λ r. not (has_name name r.client)) n.requests;
 }
 
 -- ---- sends and receives
 
 -- how the number of a send or a receive stands to how many were done
-abbrev pub standing : ℕ → ℕ → Standing
-standing number count =
+abbrev pub number_standing : ℕ → ℕ → Standing
+number_standing number count =
     if number == count then Again
     else if nat_lt number count then Earlier
     else if number - count == 1 then Next else Later
@@ -115,8 +115,8 @@ abbrev pub ends_by : Option UnitEnd → ℕ → List (Option UnitEnd) → List (
 ends_by None worker ends = ends
 ends_by (Some how) worker ends = slice_set ends worker (Some how)
 
-abbrev pub with_end : Holding → WorkerAnswer → ℕ → NotesView → NotesView
-with_end work answer worker n = record n { ends = ends_by (end_in work answer) worker n.ends }
+abbrev pub with_unit_end : Holding → WorkerAnswer → ℕ → NotesView → NotesView
+with_unit_end work answer worker n = record n { ends = ends_by (end_in work answer) worker n.ends }
 
 -- ---- in another manager
 
@@ -159,31 +159,31 @@ abbrev pub first_in : List Moved → ℕ → Option ℕ → Option ℕ
 first_in moved zero first = first
 first_in moved (suc count) first = noted_id moved first
 
-abbrev pub end_of : List Moved → UnitEnd → UnitEnd
-end_of moved (Done element unit first count) =
+abbrev pub end_moved : List Moved → UnitEnd → UnitEnd
+end_moved moved (Done element unit first count) =
     Done (noted_id moved element) unit (first_in moved count first) count
-end_of moved (Aborted element) = Aborted (noted_id moved element)
-end_of moved (Lost element) = Lost (noted_id moved element)
-end_of moved (Full element) = Full (noted_id moved element)
+end_moved moved (Aborted element) = Aborted (noted_id moved element)
+end_moved moved (Lost element) = Lost (noted_id moved element)
+end_moved moved (Full element) = Full (noted_id moved element)
 
 -- the notes, where these elements have gone on
 abbrev pub notes_in : List Moved → NotesView → NotesView
 notes_in moved n = record {
   clients = map (client_in moved) n.clients;
   requests = map (request_in moved) (filter (goes_on moved) n.requests);
-  ends = map (λ how. option_map (end_of moved) how) n.ends;
+  ends = map (λ how. option_map (end_moved moved) how) n.ends;
 }
 
 -- ---- what a head says
 
 -- how the worker's last unit ended, where a line says so
-abbrev pub end_at : ℕ → List EndLine → Option UnitEnd
-end_at worker lines = option_map (λ line. line.end) (find (λ line. line.worker == worker) lines)
+abbrev pub noted_end : ℕ → List EndLine → Option UnitEnd
+noted_end worker lines = option_map (λ line. line.end) (find (λ line. line.worker == worker) lines)
 
 -- so it is of as many workers as there are works, from this one on
 abbrev pub ends_at : {A : Type 0} → List EndLine → ℕ → List A → List (Option UnitEnd)
 ends_at lines worker [] = []
-ends_at lines worker (work ∷ works) = end_at worker lines ∷ ends_at lines (worker + 1) works
+ends_at lines worker (work ∷ works) = noted_end worker lines ∷ ends_at lines (worker + 1) works
 
 -- the notes of a head, with as many workers as there are works
 abbrev pub notes_of : {A : Type 0} → HeadView → List A → NotesView

@@ -56,21 +56,21 @@ room_told h l passes = room_line (pass_names h) (map (room_of l) passes) (l.spar
 -- ---- what is in hand
 
 -- what a desk has in hand
-abbrev pub held_at : Option Work → Holding
-held_at None = Nothing
-held_at (Some work) = Open work.unit work.element.id
+abbrev pub desk_holding : Option Work → Holding
+desk_holding None = Nothing
+desk_holding (Some work) = Open work.unit work.element.id
 
 -- what the desks have, and then the workers, who have these works
 abbrev pub in_hands : Scene → List Holding → List Holding
-in_hands s works = map (λ p. held_at p.desk.work) s.places ++ works
+in_hands s works = map (λ p. desk_holding p.desk.work) s.places ++ works
 
 -- in which attempt a unit holds the element that it took, or that another caller has aborted it
-abbrev pub attempt_in : ℕ → Status → List ℕ
-attempt_in unit (status.Held holder attempt) = if holder == unit then decimal attempt else codes "lost"
-attempt_in unit other = codes "lost"
+abbrev pub attempt_told : ℕ → Status → List ℕ
+attempt_told unit (status.Held holder attempt) = if holder == unit then decimal attempt else codes "lost"
+attempt_told unit other = codes "lost"
 
 abbrev pub attempt_text : ℕ → Answer → List ℕ
-attempt_text unit (answer.Read look) = attempt_in unit look.status
+attempt_text unit (answer.Read look) = attempt_told unit look.status
 attempt_text unit other = codes "lost"
 
 -- ` NAME:ELEMENT:UNIT:ATTEMPT`, as a read of the element was answered

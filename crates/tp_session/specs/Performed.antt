@@ -69,8 +69,8 @@ WorkersBelow workers (suc n) old new =
     (between : Live) × WorkersBelow workers n old between × WorkerCloses workers n between new
 
 -- what is in hand was given up: by the desks, and then by the workers
-abbrev pub Closes : Head → Live → Live → Type 0
-Closes head old new = let workers = head.workers.items in
+abbrev pub SessionCloses : Head → Live → Live → Type 0
+SessionCloses head old new = let workers = head.workers.items in
     (between : Live) × DesksClose old between × WorkersBelow workers (length workers) between new
 
 -- all passes gathered, and this is the account of what all of them have seen
@@ -91,10 +91,10 @@ Counts true old (Some account) new = LiveCounts old account new
 
 -- Behind the last act what is in hand was given up, the account was taken, where it is asked for, and the desks
 -- were ended, which left these registers.
-pub record Ended (s : Script) (account : Option Account) (last : Live) (registers : List (List ℕ))
+pub record SessionEnded (s : Script) (account : Option Account) (last : Live) (registers : List (List ℕ))
     : Type 0 where
   pub closed : Live
-  pub closes : Closes s.head last closed
+  pub closes : SessionCloses s.head last closed
   pub counted : Live
   pub counts : Counts s.account closed account counted
   pub ends : LiveEnds counted registers
@@ -120,7 +120,7 @@ pub record Report (s : Script) (Told : List ℕ → Type 0) : Type 0 where
   pub acts : ActsTold s.head 0 s.acts.items first text last
   pub account : Option Account
   pub registers : List (List ℕ)
-  pub ends : Ended s account last registers
+  pub ends : SessionEnded s account last registers
   pub told : Told (text ++ (finals_text s registers ++ closing_text account))
 
 -- some first acts were done, and this was told

@@ -29,7 +29,7 @@ HeadLines past (line ∷ others) old text new =
     × (text ≡ first ++ rest)
 
 -- lines of the head from the first on, as far as they were heard and told
-pub record HeadTold (Heard : List (List ℕ) → Type 0) (old new : HeadView) (Told : List ℕ → Type 0)
+pub record HeadLinesTold (Heard : List (List ℕ) → Type 0) (old new : HeadView) (Told : List ℕ → Type 0)
     : Type 0 where
   pub taken : List (List ℕ)
   pub heard : Heard taken
@@ -66,17 +66,17 @@ LinesFrom (Some act) head past lines old text new =
     × (text ≡ first ++ rest)
 
 -- that, as far as lines were heard and told
-pub record BodyTold (head : Head) (past : ℕ) (begun : Option Act) (Heard : List (List ℕ) → Type 0)
+pub record BodyTold (head : Head) (past : ℕ) (first_act : Option Act) (Heard : List (List ℕ) → Type 0)
     (old new : Live) (Told : List ℕ → Type 0) : Type 0 where
   pub taken : List (List ℕ)
   pub heard : Heard taken
   pub text : List ℕ
-  pub lines : LinesFrom begun head past taken old text new
+  pub lines : LinesFrom first_act head past taken old text new
   pub told : Told text
 
 -- what the first command asks for, if there is one
-abbrev pub begun : Option First → Option Act
-begun first = option_map (λ f. f.act) first
+abbrev pub first_act : Option First → Option Act
+first_act first = option_map (λ f. f.act) first
 
 -- how many lines stand in front of it
 abbrev pub past_of : Option First → ℕ

@@ -9,8 +9,8 @@ ghost use Rattle.tp_script.specs.Script.{head_view};
 ghost use Rattle.tp_script.specs.Ranges.{IsActInRange};
 ghost use Rattle.tp_workers.specs.Free.{IsFreePass};
 ghost use Rattle.tp_session.specs.Hands.{has_unit};
-ghost use Rattle.tp_session.specs.Left.{Acted, OrSame, Reaches, began_in};
-ghost use Rattle.tp_session.specs.Live.{AccountTold, ClientCounts, CommandTold, IsHeld, Leads, LiveGathers};
+ghost use Rattle.tp_session.specs.Left.{ActDone, OrSame, Reaches, began_in};
+ghost use Rattle.tp_session.specs.Live.{AccountTold, ClientCounts, CommandTold, IsHeldBySession, Leads, LiveGathers};
 ghost use Rattle.tp_session.specs.Live.{TellsAccount, TellsAct, TellsBy, WorkerDid, WorkerTold};
 
 use crate::answers::worker_line;
@@ -23,7 +23,7 @@ use crate::restoring::restore_told;
 use crate::rolling::rollover_told;
 use std::alloc::{AllocError, Global};
 use std::string::String;
-use tp_commands::{Place, count};
+use tp_commands::{Means, Place, count};
 use tp_manager::{Manager, Pass};
 use tp_perform::perform_next;
 use tp_report::{Answer, line};
@@ -37,19 +37,22 @@ fn command_told(
     held: &mut Held,
     command: Command,
 ) -> Result<String, AllocError>
-    requires held { IsHeld behaviour registers pending head.now held.old }
+    requires held { IsHeldBySession behaviour registers pending head.now held.old }
     requires in_range { IsInRange (vec_len head.now.servers) command }
     requires no_race { is_race command ≡ false }
     requires no_rollover { is_rollover command ≡ false }
-    ensures held { IsHeld behaviour registers pending head.now held.new }
+    ensures held { IsHeldBySession behaviour registers pending head.now held.new }
     ensures began { began_in registers held.new ≡ began_in registers held.old }
     ensures tells { IfOk result (λ text. Leads behaviour registers pending (λ old new.
         CommandTold (head_view head.now) command 0 old (string_bytes text) new) held.old held.new) }
 {
-    perform_next(
+    let means = Means {
         alloc,
         head,
-        &held.managed.manager,
+        manager: &held.managed.manager,
+    };
+    perform_next(
+        &means,
         &mut held.managed.keeper,
         held.managed.passes.as_mut_slice(),
         held.servers.as_mut_slice(),
@@ -65,10 +68,10 @@ fn told_by(
     held: &mut Held,
     command: Command,
 ) -> Result<String, AllocError>
-    requires held { IsHeld behaviour registers pending head.now held.old }
+    requires held { IsHeldBySession behaviour registers pending head.now held.old }
     requires in_range { IsInRange (vec_len head.now.servers) command }
     requires no_race { is_race command ≡ false }
-    ensures held { IsHeld behaviour registers pending head.now held.new }
+    ensures held { IsHeldBySession behaviour registers pending head.now held.new }
     ensures went { Reaches behaviour registers pending (OrSame (λ old new. (text : List ℕ)
         × TellsBy (is_rollover command) (head_view head.now) command old text new)) held.old held.new }
     ensures tells { IfOk result (λ text. Leads behaviour registers pending (λ old new.
@@ -83,8 +86,8 @@ fn told_by(
 
 /// All passes gather.
 pub(crate) fn gather(head: &Head, held: &mut Held)
-    requires held { IsHeld behaviour registers pending head.now held.old }
-    ensures held { IsHeld behaviour registers pending head.now held.new }
+    requires held { IsHeldBySession behaviour registers pending head.now held.old }
+    ensures held { IsHeldBySession behaviour registers pending head.now held.new }
     ensures began { began_in registers held.new ≡ began_in registers held.old }
     ensures gathers { Leads behaviour registers pending LiveGathers held.old held.new }
 {
@@ -101,9 +104,9 @@ pub(crate) fn worker_does(
     worker: usize,
     act: &WorkerAct,
 ) -> WorkerAnswer
-    requires held { IsHeld behaviour registers pending head.now held.old }
+    requires held { IsHeldBySession behaviour registers pending head.now held.old }
     requires within { worker < vec_len head.now.workers }
-    ensures held { IsHeld behaviour registers pending head.now held.new }
+    ensures held { IsHeldBySession behaviour registers pending head.now held.new }
     ensures began { began_in registers held.new ≡ began_in registers held.old }
     ensures does { IfSome (slice_get head.now.workers.items worker) (λ it.
         Leads behaviour registers pending (λ old done. WorkerDid it act.now worker old result done)
@@ -132,9 +135,9 @@ fn worker_told(
     worker: usize,
     act: &WorkerAct,
 ) -> Result<String, AllocError>
-    requires held { IsHeld behaviour registers pending head.now held.old }
+    requires held { IsHeldBySession behaviour registers pending head.now held.old }
     requires within { worker < vec_len head.now.workers }
-    ensures held { IsHeld behaviour registers pending head.now held.new }
+    ensures held { IsHeldBySession behaviour registers pending head.now held.new }
     ensures began { began_in registers held.new ≡ began_in registers held.old }
     ensures tells { IfOk result (λ text. Leads behaviour registers pending (λ old new.
         WorkerTold head.now.workers.items act.now worker old (string_bytes text) new) held.old held.new) }
@@ -205,8 +208,8 @@ fn account_line(
 
 /// The client counts the elements, unless a unit of work is open. Answers the line.
 fn client_counts(alloc: Global, head: &Head, held: &mut Held) -> Result<String, AllocError>
-    requires held { IsHeld behaviour registers pending head.now held.old }
-    ensures held { IsHeld behaviour registers pending head.now held.new }
+    requires held { IsHeldBySession behaviour registers pending head.now held.old }
+    ensures held { IsHeldBySession behaviour registers pending head.now held.new }
     ensures began { began_in registers held.new ≡ began_in registers held.old }
     ensures counts { IfOk result (λ text. Leads behaviour registers pending (λ old done.
         ClientCounts old (string_bytes text) done) held.old held.new) }
@@ -222,8 +225,8 @@ fn client_counts(alloc: Global, head: &Head, held: &mut Held) -> Result<String, 
 
 /// The same, after which all gather.
 fn account_told(alloc: Global, head: &Head, held: &mut Held) -> Result<String, AllocError>
-    requires held { IsHeld behaviour registers pending head.now held.old }
-    ensures held { IsHeld behaviour registers pending head.now held.new }
+    requires held { IsHeldBySession behaviour registers pending head.now held.old }
+    ensures held { IsHeldBySession behaviour registers pending head.now held.new }
     ensures began { began_in registers held.new ≡ began_in registers held.old }
     ensures tells { IfOk result (λ text. Leads behaviour registers pending (λ old new.
         AccountTold old (string_bytes text) new) held.old held.new) }
@@ -240,10 +243,10 @@ pub fn act_line(
     held: &mut Held,
     act: &Act,
 ) -> Result<String, AllocError>
-    requires held { IsHeld behaviour registers pending head.now held.old }
+    requires held { IsHeldBySession behaviour registers pending head.now held.old }
     requires in_range { IsActInRange (vec_len head.now.servers) (vec_len head.now.workers) act.now }
-    ensures held { IsHeld behaviour registers pending head.now held.new }
-    ensures went { Reaches behaviour registers pending (Acted head.now act.now) held.old held.new }
+    ensures held { IsHeldBySession behaviour registers pending head.now held.new }
+    ensures went { Reaches behaviour registers pending (ActDone head.now act.now) held.old held.new }
     ensures tells { IfOk result (λ text. Leads behaviour registers pending (λ old new.
         TellsAct head.now act.now old (string_bytes text) new) held.old held.new) }
 {

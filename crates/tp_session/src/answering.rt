@@ -7,10 +7,10 @@ ghost use Rattle.tp_script.specs.Grammar.{body_at};
 ghost use Rattle.tp_script.specs.Script.{head_view};
 ghost use Rattle.tp_session.specs.Answers.{refused_line};
 ghost use Rattle.tp_session.specs.Heard.{HearsFront, IsAllOf, IsSilent, Tells};
-ghost use Rattle.tp_session.specs.Left.{Acted, BodyDone, LineDone, Reaches};
-ghost use Rattle.tp_session.specs.Live.{Begins, IsHeld, Leads, TellsAct};
+ghost use Rattle.tp_session.specs.Left.{ActDone, BodyDone, LineDone, Reaches};
+ghost use Rattle.tp_session.specs.Live.{Begins, IsHeldBySession, Leads, TellsAct};
 ghost use Rattle.tp_session.specs.Reading.{IsLong, IsOver, room, to_come, unused};
-ghost use Rattle.tp_session.specs.Told.{BodyTold, LineTold, begun, past_of};
+ghost use Rattle.tp_session.specs.Told.{BodyTold, LineTold, first_act, past_of};
 
 use crate::acts::act_line;
 use crate::answers::refused_line;
@@ -55,10 +55,10 @@ fn answer(
     act: &Act,
     lines: &mut Lines,
 ) -> Result<(), Fault>
-    requires held { IsHeld behaviour registers pending head.now held.old }
+    requires held { IsHeldBySession behaviour registers pending head.now held.old }
     requires in_range { IsActInRange (vec_len head.now.servers) (vec_len head.now.workers) act.now }
-    ensures held { IsHeld behaviour registers pending head.now held.new }
-    ensures went { Reaches behaviour registers pending (Acted head.now act.now) held.old held.new }
+    ensures held { IsHeldBySession behaviour registers pending head.now held.new }
+    ensures went { Reaches behaviour registers pending (ActDone head.now act.now) held.old held.new }
     ensures left { lines.new.left ≡ lines.old.left }
     ensures unused { unused lines.new ≡ unused lines.old }
     ensures tells { OnOk result ((text : List ℕ)
@@ -85,8 +85,8 @@ pub(crate) fn answer_line(
     number: u64,
     lines: &mut Lines,
 ) -> Result<(), Fault>
-    requires held { IsHeld behaviour registers pending head.now held.old }
-    ensures held { IsHeld behaviour registers pending head.now held.new }
+    requires held { IsHeldBySession behaviour registers pending head.now held.old }
+    ensures held { IsHeldBySession behaviour registers pending head.now held.new }
     ensures went { Reaches behaviour registers pending (LineDone head.now number lines.old.line.items)
         held.old held.new }
     ensures left { lines.new.left ≡ lines.old.left }
@@ -117,11 +117,11 @@ pub fn attend<W: Wire>(
     wire: &mut W,
 ) -> Result<(), Fault>
     requires ready { W.ready wire.old }
-    requires held { IsHeld behaviour registers pending head.now held.old }
+    requires held { IsHeldBySession behaviour registers pending head.now held.old }
     requires asked { W.asked wire.old + lines.old.left < 2 ^ 64 }
     requires few { past + room lines.old + 1 < 2 ^ 64 }
     ensures ready { W.ready wire.new }
-    ensures held { IsHeld behaviour registers pending head.now held.new }
+    ensures held { IsHeldBySession behaviour registers pending head.now held.new }
     ensures went { Reaches behaviour registers pending
         (BodyDone head.now past None (to_come lines.old (W.rest wire.old))) held.old held.new }
     ensures told { OnOk result (Leads behaviour registers pending (λ old new.
@@ -158,13 +158,13 @@ fn answer_from<W: Wire>(
     wire: &mut W,
 ) -> Result<(), Fault>
     requires ready { W.ready wire.old }
-    requires held { IsHeld behaviour registers pending head.now held.old }
+    requires held { IsHeldBySession behaviour registers pending head.now held.old }
     requires asked { W.asked wire.old + lines.old.left < 2 ^ 64 }
     requires in_range { IsActInRange
         (vec_len head.now.servers) (vec_len head.now.workers) first.now.act }
     requires few { first.now.past + room lines.old + 2 < 2 ^ 64 }
     ensures ready { W.ready wire.new }
-    ensures held { IsHeld behaviour registers pending head.now held.new }
+    ensures held { IsHeldBySession behaviour registers pending head.now held.new }
     ensures went { Reaches behaviour registers pending
         (BodyDone head.now first.now.past (Some first.now.act) (to_come lines.old (W.rest wire.old)))
         held.old held.new }
@@ -200,26 +200,26 @@ pub(crate) fn answer_all<W: Wire>(
     wire: &mut W,
 ) -> Result<(), Fault>
     requires ready { W.ready wire.old }
-    requires held { IsHeld behaviour registers pending head.now held.old }
+    requires held { IsHeldBySession behaviour registers pending head.now held.old }
     requires asked { W.asked wire.old + lines.old.left < 2 ^ 64 }
-    requires in_range { IfSome (begun first) (IsActInRange
+    requires in_range { IfSome (first_act first) (IsActInRange
         (vec_len head.now.servers) (vec_len head.now.workers)) }
     requires few { past_of first + room lines.old + 2 < 2 ^ 64 }
     requires ended { first ≡ None → IsSilent (to_come lines.old (W.rest wire.old)) }
     ensures ready { W.ready wire.new }
-    ensures held { IsHeld behaviour registers pending head.now held.new }
+    ensures held { IsHeldBySession behaviour registers pending head.now held.new }
     ensures went { Reaches behaviour registers pending
-        (BodyDone head.now (past_of first) (begun first)
+        (BodyDone head.now (past_of first) (first_act first)
         (to_come lines.old (W.rest wire.old))) held.old held.new }
     ensures told { OnOk result (Leads behaviour registers pending (λ old new.
-        BodyTold head.now (past_of first) (begun first)
+        BodyTold head.now (past_of first) (first_act first)
         (IsAllOf (to_come lines.old (W.rest wire.old))) old new
         (λ text. Tells (W.contents wire.old) (W.contents wire.new)
         lines.new.answers.items (lines.old.answers.items ++ text))) held.old held.new) }
     ensures front { OnErr result (AppendsFront (W.contents wire.old) (W.contents wire.new)
         lines.old.answers.items
         ⊎ Begins behaviour registers pending (λ old last.
-        BodyTold head.now (past_of first) (begun first)
+        BodyTold head.now (past_of first) (first_act first)
         (HearsFront (to_come lines.old (W.rest wire.old))) old last
         (λ text. AppendsFront (W.contents wire.old) (W.contents wire.new)
         (lines.old.answers.items ++ text))) held.old) }

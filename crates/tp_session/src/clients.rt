@@ -7,10 +7,10 @@ ghost use Rattle.tp_report.specs.declared.answer.Answer.TheVariants as answer;
 ghost use Rattle.tp_script.specs.declared.notes.ClientNote.{ClientNote};
 ghost use Rattle.tp_script.specs.declared.notes.TheConstants.{MAX_CLIENTS};
 ghost use Rattle.tp_workers.specs.Free.{IsFreePass};
-ghost use Rattle.tp_session.specs.Clients.{NotedDoes, NowNotes, ReceiveBy, Receives, RegisterBy, SendBy};
+ghost use Rattle.tp_session.specs.Clients.{NotedDoes, NowNotes, ReceiveBy, ReceivesNoted, RegisterBy, SendBy};
 ghost use Rattle.tp_session.specs.Clients.{Sends, gap_text};
 ghost use Rattle.tp_session.specs.Clients.{is_its_own, noting, received_by, send_text, sent_by, taken_text};
-ghost use Rattle.tp_session.specs.Notes.{notes_view, place_of, standing, without_client};
+ghost use Rattle.tp_session.specs.Notes.{notes_view, client_place, number_standing, without_client};
 ghost use Rattle.tp_session.specs.NoteTexts.{forgotten_text, last_text, received_text, sent_text};
 
 use crate::answers::{as_line, body_text};
@@ -136,7 +136,7 @@ fn send_by(
     ensures number { pass.new.number ≡ pass.old.number }
     ensures tells { IfOk result (λ text. (c : ClientNote)
         → slice_get (notes_view notes.old).clients by.entry.place ≡ Some c
-        → SendBy (standing by.entry.number c.sent) manager.now.limits by.entry.name.now stage body
+        → SendBy (number_standing by.entry.number c.sent) manager.now.limits by.entry.name.now stage body
         by.entry.number by.entry.place c
         (noting pass.old (notes_view notes.old)) (string_bytes text) (noting pass.new (notes_view notes.new))) }
 {
@@ -210,7 +210,7 @@ fn take_reply(
     ensures number { pass.new.number ≡ pass.old.number }
     ensures tells { IfOk result (λ text. (c : ClientNote)
         → slice_get (notes_view notes.old).clients by.entry.place ≡ Some c
-        → Receives manager.now.limits by.entry.name.now root by.entry.place c by.entry.number
+        → ReceivesNoted manager.now.limits by.entry.name.now root by.entry.place c by.entry.number
         (noting pass.old (notes_view notes.old)) (string_bytes text) (noting pass.new (notes_view notes.new))) }
 {
     let asked = Asked {
@@ -239,7 +239,7 @@ fn receive_by(
     ensures number { pass.new.number ≡ pass.old.number }
     ensures tells { IfOk result (λ text. (c : ClientNote)
         → slice_get (notes_view notes.old).clients by.entry.place ≡ Some c
-        → ReceiveBy (standing by.entry.number c.received) manager.now.limits by.entry.name.now root
+        → ReceiveBy (number_standing by.entry.number c.received) manager.now.limits by.entry.name.now root
         by.entry.number by.entry.place c
         (noting pass.old (notes_view notes.old)) (string_bytes text) (noting pass.new (notes_view notes.new))) }
 {
@@ -266,7 +266,7 @@ fn receive_by(
 /// Registers a client, unless it is, or there are too many.
 fn register(alloc: Global, notes: &mut Notes, name: &Name) -> Result<String, AllocError>
     ensures { (pass : PassShown) → IfOk result (λ text.
-        RegisterBy (place_of name.now (notes_view notes.old).clients)
+        RegisterBy (client_place name.now (notes_view notes.old).clients)
         (nat_lt (length (notes_view notes.old).clients) MAX_CLIENTS) name.now
         (noting pass (notes_view notes.old)) (string_bytes text) (noting pass (notes_view notes.new))) }
 {
@@ -311,7 +311,7 @@ fn client_does(
 ) -> Result<String, AllocError>
     requires free { IsFreePass manager.now pass.old }
     requires within { place < vec_len notes.old.clients }
-    requires here { place_of name.now (notes_view notes.old).clients ≡ Some place }
+    requires here { client_place name.now (notes_view notes.old).clients ≡ Some place }
     ensures free { IsFreePass manager.now pass.new }
     ensures number { pass.new.number ≡ pass.old.number }
     ensures tells { IfOk result (λ text. NotedDoes manager.now.limits name.now act

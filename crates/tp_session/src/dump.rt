@@ -5,7 +5,7 @@ ghost use Rattle.tp_script.specs.Script.{head_view};
 ghost use Rattle.tp_session.specs.Dump.{dump_lines, dump_text};
 ghost use Rattle.tp_session.specs.Notes.{notes_view};
 ghost use Rattle.tp_session.specs.Left.{began_in};
-ghost use Rattle.tp_session.specs.Live.{DumpTold, FoundAlive, IsHeld, Leads, LiveLooks, Surveyed, TellsDump};
+ghost use Rattle.tp_session.specs.Live.{DumpTold, FoundAlive, IsHeldBySession, Leads, LiveLooks, Surveyed, TellsDump};
 ghost use Rattle.tp_session.specs.Live.{Unsurveyed, has_desk_open};
 
 use crate::acts::{gather, has_place};
@@ -61,8 +61,8 @@ fn dump_text(
 
 /// The passes look for what is alive, and answer it.
 fn survey_held(alloc: Global, head: &Head, held: &mut Held) -> Result<Vec<Survivor>, RollFault>
-    requires held { IsHeld behaviour registers pending head.now held.old }
-    ensures held { IsHeld behaviour registers pending head.now held.new }
+    requires held { IsHeldBySession behaviour registers pending head.now held.old }
+    ensures held { IsHeldBySession behaviour registers pending head.now held.new }
     ensures servers { held.new.servers ≡ held.old.servers }
     ensures places { held.new.places ≡ held.old.places }
     ensures works { held.new.works ≡ held.old.works }
@@ -77,8 +77,8 @@ fn survey_held(alloc: Global, head: &Head, held: &mut Held) -> Result<Vec<Surviv
 
 /// The same. Answers the lines that lead there.
 fn look_for_alive(alloc: Global, head: &Head, held: &mut Held) -> Result<String, AllocError>
-    requires held { IsHeld behaviour registers pending head.now held.old }
-    ensures held { IsHeld behaviour registers pending head.now held.new }
+    requires held { IsHeldBySession behaviour registers pending head.now held.old }
+    ensures held { IsHeldBySession behaviour registers pending head.now held.new }
     ensures began { began_in registers held.new ≡ began_in registers held.old }
     ensures looks { IfOk result (λ text. Leads behaviour registers pending (λ old done.
         LiveLooks old done
@@ -101,8 +101,8 @@ fn look_for_alive(alloc: Global, head: &Head, held: &mut Held) -> Result<String,
 
 /// The same, unless a desk has a unit of work open.
 fn dump_line(alloc: Global, head: &Head, held: &mut Held) -> Result<String, AllocError>
-    requires held { IsHeld behaviour registers pending head.now held.old }
-    ensures held { IsHeld behaviour registers pending head.now held.new }
+    requires held { IsHeldBySession behaviour registers pending head.now held.old }
+    ensures held { IsHeldBySession behaviour registers pending head.now held.new }
     ensures began { began_in registers held.new ≡ began_in registers held.old }
     ensures tells { IfOk result (λ text. Leads behaviour registers pending (λ old done.
         TellsDump (head_view head.now) (has_desk_open old) old (string_bytes text) done) held.old held.new) }
@@ -117,8 +117,8 @@ fn dump_line(alloc: Global, head: &Head, held: &mut Held) -> Result<String, Allo
 /// rollover leads here. With a unit of work open at a desk it is refused with `Busy`, and without the memory for
 /// what is alive with `NoMemory`. Nothing has changed, and all passes gather.
 pub(crate) fn dump_told(alloc: Global, head: &Head, held: &mut Held) -> Result<String, AllocError>
-    requires held { IsHeld behaviour registers pending head.now held.old }
-    ensures held { IsHeld behaviour registers pending head.now held.new }
+    requires held { IsHeldBySession behaviour registers pending head.now held.old }
+    ensures held { IsHeldBySession behaviour registers pending head.now held.new }
     ensures began { began_in registers held.new ≡ began_in registers held.old }
     ensures tells { IfOk result (λ text. Leads behaviour registers pending (λ old new.
         DumpTold (head_view head.now) old (string_bytes text) new) held.old held.new) }

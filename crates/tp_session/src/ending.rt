@@ -12,8 +12,8 @@ ghost use Rattle.tp_commands.specs.Places.{AllLeft, firsts, workers};
 ghost use Rattle.tp_perform.specs.Told.{AllLeftAt, AreReady, after_servers, units_held};
 ghost use Rattle.tp_session.specs.Conversed.{LiveEnds};
 ghost use Rattle.tp_session.specs.Left.{began_at, began_in};
-ghost use Rattle.tp_session.specs.Live.{IsHeld, IsLive, Live};
-ghost use Rattle.tp_session.specs.Hands.{AllHold, GivesUp, hands, unit_of};
+ghost use Rattle.tp_session.specs.Live.{IsHeldBySession, IsLive, Live};
+ghost use Rattle.tp_session.specs.Hands.{AllHold, WorkerGivesUp, hands, unit_of};
 
 use crate::hand::{Holding, give_up};
 use crate::held::Held;
@@ -31,7 +31,7 @@ use tp_server::Server;
 fn give_up_all(manager: &Manager, passes: &mut [Pass], works: &mut [Holding])
     requires holds { AllHold manager.now passes.old works.old }
     ensures holds { AllHold manager.now passes.new works.new }
-    ensures given_up { AllZip GivesUp (hands passes.old works.old) (hands passes.new works.new) }
+    ensures given_up { AllZip WorkerGivesUp (hands passes.old works.old) (hands passes.new works.new) }
 {
     let Some((pass, passes)) = passes.split_first_mut() else {
         return;
@@ -62,7 +62,7 @@ pub(crate) fn end_passes(
     ensures ended { let many = length servers.old in AllEnded
         (places_shown behaviour registers pending (workers many passes.old) servers.old places.old)
         (workers many passes.new) (map (λ server. registers server) servers.new) }
-    ensures given_up { let many = length servers.old in AllZip GivesUp
+    ensures given_up { let many = length servers.old in AllZip WorkerGivesUp
         (hands (after_servers many passes.old) works.old) (hands (after_servers many passes.new) works.new) }
 {
     let Some((_client, others)) = passes.split_first_mut() else {
@@ -75,7 +75,7 @@ pub(crate) fn end_passes(
 
 /// Ends all desks, and has each worker give up what it has in hand.
 pub(crate) fn end_held(head: &Head, held: &mut Held)
-    requires held { IsHeld behaviour registers pending head.now held.old }
+    requires held { IsHeldBySession behaviour registers pending head.now held.old }
     ensures free { All (IsFreePass held.new.managed.manager) held.new.managed.passes.items }
     ensures clear { All (λ server. pending server ≡ None) held.new.servers.items }
     ensures each_server { length held.new.servers.items ≡ length held.old.servers.items }

@@ -1,8 +1,8 @@
 //! A worker outside of the program: what it has in hand, and what its pass does for it.
 ghost use Rattle.std.specs.Prelude.{◌≡◌, ◌≤◌, length};
 ghost use Rattle.tp_model.specs.Steps.{IsServerStage};
-ghost use Rattle.tp_session.specs.Hands.{GivesUp, IsHand, WorkerDoes, hand};
-ghost use Rattle.tp_session.specs.Hands.{TellsAbort, TellsClaim, TellsCommit, TellsNext, TellsTake};
+ghost use Rattle.tp_session.specs.Hands.{WorkerGivesUp, IsHand, WorkerDoes, worker_hand};
+ghost use Rattle.tp_session.specs.Hands.{WorkerTellsAbort, WorkerTellsClaim, WorkerTellsCommit, WorkerTellsNext, WorkerTellsTake};
 
 use tp_desk::Turned;
 use tp_manager::{Manager, Pass};
@@ -78,12 +78,12 @@ pub fn worker_act(
     work: &mut Holding,
     act: &WorkerAct,
 ) -> WorkerAnswer
-    requires holds { IsHand manager.now (hand pass.old work.old) }
+    requires holds { IsHand manager.now (worker_hand pass.old work.old) }
     requires stage { IsServerStage stage }
-    ensures holds { IsHand manager.now (hand pass.new work.new) }
+    ensures holds { IsHand manager.now (worker_hand pass.new work.new) }
     ensures number { pass.new.number ≡ pass.old.number }
     ensures tells { WorkerDoes manager.now.limits stage act.now
-        (hand pass.old work.old) result (hand pass.new work.new) }
+        (worker_hand pass.old work.old) result (worker_hand pass.new work.new) }
 {
     match act {
         WorkerAct::Claim => claim(manager, stage, pass, work),
@@ -96,12 +96,12 @@ pub fn worker_act(
 
 /// `claim NAME`
 fn claim(manager: &Manager, stage: u8, pass: &mut Pass, work: &mut Holding) -> WorkerAnswer
-    requires holds { IsHand manager.now (hand pass.old work.old) }
+    requires holds { IsHand manager.now (worker_hand pass.old work.old) }
     requires stage { IsServerStage stage }
-    ensures holds { IsHand manager.now (hand pass.new work.new) }
+    ensures holds { IsHand manager.now (worker_hand pass.new work.new) }
     ensures number { pass.new.number ≡ pass.old.number }
-    ensures tells { TellsClaim manager.now.limits stage
-        (hand pass.old work.old) result (hand pass.new work.new) }
+    ensures tells { WorkerTellsClaim manager.now.limits stage
+        (worker_hand pass.old work.old) result (worker_hand pass.new work.new) }
 {
     if work.is_busy() {
         return WorkerAnswer::Told(ServerAnswer::Busy);
@@ -118,12 +118,12 @@ fn claim(manager: &Manager, stage: u8, pass: &mut Pass, work: &mut Holding) -> W
 
 /// `next NAME`
 fn next(manager: &Manager, stage: u8, pass: &mut Pass, work: &mut Holding) -> WorkerAnswer
-    requires holds { IsHand manager.now (hand pass.old work.old) }
+    requires holds { IsHand manager.now (worker_hand pass.old work.old) }
     requires stage { IsServerStage stage }
-    ensures holds { IsHand manager.now (hand pass.new work.new) }
+    ensures holds { IsHand manager.now (worker_hand pass.new work.new) }
     ensures number { pass.new.number ≡ pass.old.number }
-    ensures tells { TellsNext manager.now.limits stage
-        (hand pass.old work.old) result (hand pass.new work.new) }
+    ensures tells { WorkerTellsNext manager.now.limits stage
+        (worker_hand pass.old work.old) result (worker_hand pass.new work.new) }
 {
     if work.is_busy() {
         return WorkerAnswer::Told(ServerAnswer::Busy);
@@ -140,10 +140,10 @@ fn next(manager: &Manager, stage: u8, pass: &mut Pass, work: &mut Holding) -> Wo
 
 /// `take NAME ID`
 fn take(manager: &Manager, pass: &mut Pass, work: &mut Holding, id: u32) -> WorkerAnswer
-    requires holds { IsHand manager.now (hand pass.old work.old) }
-    ensures holds { IsHand manager.now (hand pass.new work.new) }
+    requires holds { IsHand manager.now (worker_hand pass.old work.old) }
+    ensures holds { IsHand manager.now (worker_hand pass.new work.new) }
     ensures number { pass.new.number ≡ pass.old.number }
-    ensures tells { TellsTake manager.now.limits id (hand pass.old work.old) result (hand pass.new work.new) }
+    ensures tells { WorkerTellsTake manager.now.limits id (worker_hand pass.old work.old) result (worker_hand pass.new work.new) }
 {
     if work.is_busy() {
         return WorkerAnswer::Told(ServerAnswer::Busy);
@@ -160,12 +160,12 @@ fn take(manager: &Manager, pass: &mut Pass, work: &mut Holding, id: u32) -> Work
 
 /// `commit NAME OUT..`
 fn commit(manager: &Manager, pass: &mut Pass, work: &mut Holding, drafts: &[Draft]) -> WorkerAnswer
-    requires holds { IsHand manager.now (hand pass.old work.old) }
+    requires holds { IsHand manager.now (worker_hand pass.old work.old) }
     requires few { length drafts.now ≤ 4 }
-    ensures holds { IsHand manager.now (hand pass.new work.new) }
+    ensures holds { IsHand manager.now (worker_hand pass.new work.new) }
     ensures number { pass.new.number ≡ pass.old.number }
-    ensures tells { TellsCommit manager.now.limits drafts.now
-        (hand pass.old work.old) result (hand pass.new work.new) }
+    ensures tells { WorkerTellsCommit manager.now.limits drafts.now
+        (worker_hand pass.old work.old) result (worker_hand pass.new work.new) }
 {
     match *work {
         Holding::Nothing => WorkerAnswer::Told(ServerAnswer::NoneOpen),
@@ -183,10 +183,10 @@ fn commit(manager: &Manager, pass: &mut Pass, work: &mut Holding, drafts: &[Draf
 
 /// `abort NAME`
 fn abort(manager: &Manager, pass: &mut Pass, work: &mut Holding) -> WorkerAnswer
-    requires holds { IsHand manager.now (hand pass.old work.old) }
-    ensures holds { IsHand manager.now (hand pass.new work.new) }
+    requires holds { IsHand manager.now (worker_hand pass.old work.old) }
+    ensures holds { IsHand manager.now (worker_hand pass.new work.new) }
     ensures number { pass.new.number ≡ pass.old.number }
-    ensures tells { TellsAbort manager.now.limits (hand pass.old work.old) result (hand pass.new work.new) }
+    ensures tells { WorkerTellsAbort manager.now.limits (worker_hand pass.old work.old) result (worker_hand pass.new work.new) }
 {
     match *work {
         Holding::Nothing => WorkerAnswer::Told(ServerAnswer::NoneOpen),
@@ -209,9 +209,9 @@ fn abort(manager: &Manager, pass: &mut Pass, work: &mut Holding) -> WorkerAnswer
 
 /// Gives up what a worker has in hand, if there is something.
 pub fn give_up(manager: &Manager, pass: &mut Pass, work: &mut Holding)
-    requires holds { IsHand manager.now (hand pass.old work.old) }
-    ensures holds { IsHand manager.now (hand pass.new work.new) }
-    ensures gives_up { GivesUp (hand pass.old work.old) (hand pass.new work.new) }
+    requires holds { IsHand manager.now (worker_hand pass.old work.old) }
+    ensures holds { IsHand manager.now (worker_hand pass.new work.new) }
+    ensures gives_up { WorkerGivesUp (worker_hand pass.old work.old) (worker_hand pass.new work.new) }
 {
     let _ = abort(manager, pass, work);
 }

@@ -8,7 +8,7 @@ ghost use Rattle.tp_script.specs.Grammar.{head_at};
 ghost use Rattle.tp_session.specs.Conversed.{HeadRead, TakesHeadLine};
 ghost use Rattle.tp_session.specs.Heard.{HearsFront, Tells};
 ghost use Rattle.tp_session.specs.Reading.{IsLong, IsOver, Spends, room, to_come, unused};
-ghost use Rattle.tp_session.specs.Told.{HeadTold, begun, past_of};
+ghost use Rattle.tp_session.specs.Told.{HeadLinesTold, first_act, past_of};
 
 use crate::answering::refuse;
 use crate::first::First;
@@ -62,14 +62,14 @@ pub(crate) fn read_head<W: Wire>(
     ensures few { IfOk result (λ first. past_of first + room lines.new + 2 < 2 ^ 64) }
     ensures spends { OnOk result
         (Spends 1 lines.old (W.rest wire.old) lines.new (W.rest wire.new)) }
-    ensures in_range { IfOk result (λ first. IfSome (begun first) (IsActInRange
+    ensures in_range { IfOk result (λ first. IfSome (first_act first) (IsActInRange
         (vec_len head.new.servers) (vec_len head.new.workers))) }
     ensures head { IfOk result (λ first. HeadRead first
         (to_come lines.old (W.rest wire.old)) (to_come lines.new (W.rest wire.new))
         (head_view head.old) (head_view head.new)
         (λ text. Tells (W.contents wire.old) (W.contents wire.new)
         lines.new.answers.items (lines.old.answers.items ++ text))) }
-    ensures front { OnErr result ((new : HeadView) × HeadTold
+    ensures front { OnErr result ((new : HeadView) × HeadLinesTold
         (HearsFront (to_come lines.old (W.rest wire.old))) (head_view head.old) new
         (λ text. AppendsFront (W.contents wire.old) (W.contents wire.new)
         (lines.old.answers.items ++ text))) }

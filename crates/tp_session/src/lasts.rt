@@ -1,7 +1,7 @@
 //! What a worker is told of what it has in hand, and of how its last unit of work ended.
 ghost use Rattle.std.specs.Prelude.{◌≡◌, IfOk, string_bytes};
 ghost use Rattle.tp_workers.specs.Free.{IsFreePass};
-ghost use Rattle.tp_session.specs.Lasts.{HandRead, end_at, holds_text, look_text, lost_text, open_text};
+ghost use Rattle.tp_session.specs.Lasts.{HandRead, end_at, holding_text, found_text, lost_text, open_text};
 
 use crate::answers::body_text;
 use crate::hand::Holding;
@@ -27,7 +27,7 @@ fn holds_text(
     attempt: u8,
     element: &Element,
 ) -> Result<String, AllocError>
-    ensures { IfOk result (λ s. string_bytes s ≡ holds_text unit attempt element.now) }
+    ensures { IfOk result (λ s. string_bytes s ≡ holding_text unit attempt element.now) }
 {
     let id = element.id;
     let root = element.root;
@@ -38,7 +38,7 @@ fn holds_text(
 
 /// One or the other, as the element that the unit had taken was found to stand.
 fn look_text(alloc: Global, unit: u16, element: u32, look: &Look) -> Result<String, AllocError>
-    ensures { IfOk result (λ s. string_bytes s ≡ look_text unit element look.now.status look.now.element) }
+    ensures { IfOk result (λ s. string_bytes s ≡ found_text unit element look.now.status look.now.element) }
 {
     match look.status {
         Status::Held {

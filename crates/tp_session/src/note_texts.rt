@@ -4,7 +4,7 @@ ghost use Rattle.tp_script.specs.Fault.{◌<>◌};
 ghost use Rattle.tp_script.specs.declared.notes.UnitEnd.TheVariants.{Done};
 ghost use Rattle.tp_session.specs.NoteTexts.{end_text, forgotten_text, id_text, last_hand, last_received};
 ghost use Rattle.tp_session.specs.NoteTexts.{last_sent};
-ghost use Rattle.tp_session.specs.NoteTexts.{last_text, received_text, registered_text, reply_text};
+ghost use Rattle.tp_session.specs.NoteTexts.{last_text, received_text, registered_text, last_reply_text};
 ghost use Rattle.tp_session.specs.NoteTexts.{sent_text};
 
 use crate::answers::body_text;
@@ -24,7 +24,7 @@ pub(crate) fn id_text(alloc: Global, id: Option<u32>) -> Result<String, AllocErr
 
 /// A client's last reply.
 pub(crate) fn reply_text(alloc: Global, client: &ClientNote) -> Result<String, AllocError>
-    ensures { IfOk result (λ s. string_bytes s ≡ reply_text client.now) }
+    ensures { IfOk result (λ s. string_bytes s ≡ last_reply_text client.now) }
 {
     let own = id_text(alloc, client.reply)?;
     let family = id_text(alloc, client.root)?;

@@ -3,8 +3,8 @@ ghost use Rattle.std.specs.Prelude.{◌≡◌, ◌==◌, ◌+◌, ◌≤◌, IfO
 ghost use Rattle.std.specs.List.{filter, find};
 ghost use Rattle.std.specs.Option.{option_map};
 ghost use Rattle.tp_script.specs.Script.{head_view};
-ghost use Rattle.tp_session.specs.Live.{IsHeld, Leads, with_notes};
-ghost use Rattle.tp_session.specs.Notes.{client_in, end_at, end_of, ends_at, first_in, goes_on, new_id};
+ghost use Rattle.tp_session.specs.Live.{IsHeldBySession, Leads, with_notes};
+ghost use Rattle.tp_session.specs.Notes.{client_in, noted_end, end_moved, ends_at, first_in, goes_on, new_id};
 ghost use Rattle.tp_session.specs.Notes.{new_root, noted_id};
 ghost use Rattle.tp_session.specs.Notes.{notes_in, notes_of, notes_view, request_in};
 
@@ -104,7 +104,7 @@ fn first_in(moved: &[Moved], count: u8, first: Option<u32>) -> Option<u32>
 
 // How a unit ended, by the ids of another manager.
 fn end_of(moved: &[Moved], how: UnitEnd) -> UnitEnd
-    ensures { result ≡ end_of moved.now how }
+    ensures { result ≡ end_moved moved.now how }
 {
     match how {
         UnitEnd::Done {
@@ -132,7 +132,7 @@ fn end_of(moved: &[Moved], how: UnitEnd) -> UnitEnd
 
 // So do all that are noted.
 fn ends_go_on(moved: &[Moved], ends: &mut [Option<UnitEnd>])
-    ensures { ends.new ≡ map (λ how. option_map (end_of moved.now) how) ends.old }
+    ensures { ends.new ≡ map (λ how. option_map (end_moved moved.now) how) ends.old }
 {
     let Some((end, others)) = ends.split_first_mut() else {
         return;
@@ -157,8 +157,8 @@ impl Notes {
 
 /// What is noted goes on where these elements have gone on.
 pub(crate) fn notes_go_on(head: &Head, held: &mut Held, moved: &[Moved])
-    requires held { IsHeld behaviour registers pending head.now held.old }
-    ensures held { IsHeld behaviour registers pending head.now held.new }
+    requires held { IsHeldBySession behaviour registers pending head.now held.old }
+    ensures held { IsHeldBySession behaviour registers pending head.now held.new }
     ensures goes_on { Leads behaviour registers pending
         (λ old new. new ≡ with_notes (notes_in moved.now old.notes) old) held.old held.new }
 {
@@ -175,7 +175,7 @@ fn find_end(worker: usize, lines: &[EndLine]) -> Option<EndLine>
 }
 
 fn end_at(worker: usize, lines: &[EndLine]) -> Option<UnitEnd>
-    ensures { result ≡ end_at worker lines.now }
+    ensures { result ≡ noted_end worker lines.now }
 {
     let line = find_end(worker, lines)?;
     Some(line.end)

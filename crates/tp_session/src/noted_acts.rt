@@ -1,7 +1,7 @@
 //! What clients of whom notes are kept ask for, and what workers ask of theirs, performed on what is held.
 ghost use Rattle.std.specs.Prelude.{◌≡◌, ◌<◌, IfOk, string_bytes, vec_len};
 ghost use Rattle.tp_session.specs.Left.{began_in};
-ghost use Rattle.tp_session.specs.Live.{IsHeld, LastDid, LastTold, Leads, NotedDid, NotedTold};
+ghost use Rattle.tp_session.specs.Live.{IsHeldBySession, LastDid, LastTold, Leads, NotedDid, NotedTold};
 
 use crate::acts::gather;
 use crate::answers::as_line;
@@ -22,8 +22,8 @@ fn noted_does(
     name: &Name,
     act: NotedAct,
 ) -> Result<String, AllocError>
-    requires held { IsHeld behaviour registers pending head.now held.old }
-    ensures held { IsHeld behaviour registers pending head.now held.new }
+    requires held { IsHeldBySession behaviour registers pending head.now held.old }
+    ensures held { IsHeldBySession behaviour registers pending head.now held.new }
     ensures began { began_in registers held.new ≡ began_in registers held.old }
     ensures does { IfOk result (λ text. Leads behaviour registers pending (λ old done.
         NotedDid name.now act old (string_bytes text) done) held.old held.new) }
@@ -46,8 +46,8 @@ pub(crate) fn noted_told(
     name: &Name,
     act: NotedAct,
 ) -> Result<String, AllocError>
-    requires held { IsHeld behaviour registers pending head.now held.old }
-    ensures held { IsHeld behaviour registers pending head.now held.new }
+    requires held { IsHeldBySession behaviour registers pending head.now held.old }
+    ensures held { IsHeldBySession behaviour registers pending head.now held.new }
     ensures began { began_in registers held.new ≡ began_in registers held.old }
     ensures tells { IfOk result (λ text. Leads behaviour registers pending (λ old new.
         NotedTold name.now act old (string_bytes text) new) held.old held.new) }
@@ -59,9 +59,9 @@ pub(crate) fn noted_told(
 
 /// What the worker at this place has in hand, and how its last unit ended. Answers the line.
 fn last_of(alloc: Global, head: &Head, held: &mut Held, worker: usize) -> Result<String, AllocError>
-    requires held { IsHeld behaviour registers pending head.now held.old }
+    requires held { IsHeldBySession behaviour registers pending head.now held.old }
     requires within { worker < vec_len head.now.workers }
-    ensures held { IsHeld behaviour registers pending head.now held.new }
+    ensures held { IsHeldBySession behaviour registers pending head.now held.new }
     ensures began { began_in registers held.new ≡ began_in registers held.old }
     ensures does { IfOk result (λ text. Leads behaviour registers pending (λ old done.
         LastDid head.now.workers.items worker old (string_bytes text) done) held.old held.new) }
@@ -86,9 +86,9 @@ pub(crate) fn last_told(
     held: &mut Held,
     worker: usize,
 ) -> Result<String, AllocError>
-    requires held { IsHeld behaviour registers pending head.now held.old }
+    requires held { IsHeldBySession behaviour registers pending head.now held.old }
     requires within { worker < vec_len head.now.workers }
-    ensures held { IsHeld behaviour registers pending head.now held.new }
+    ensures held { IsHeldBySession behaviour registers pending head.now held.new }
     ensures began { began_in registers held.new ≡ began_in registers held.old }
     ensures tells { IfOk result (λ text. Leads behaviour registers pending (λ old new.
         LastTold head.now.workers.items worker old (string_bytes text) new) held.old held.new) }

@@ -3,11 +3,11 @@ ghost use Rattle.std.specs.Prelude.{◌≡◌, ◌<◌, IfSome, OnErr, OnOk, len
 ghost use Rattle.std.specs.List.{filter};
 ghost use Rattle.tp_script.specs.Script.{head_view};
 ghost use Rattle.tp_script.specs.declared.notes.TheConstants.{MAX_CLIENTS};
-ghost use Rattle.tp_session.specs.Notes.{client_in, end_at, end_in, end_of, ends_at, ends_by, goes_on};
-ghost use Rattle.tp_session.specs.Notes.{is_named, lost_one};
+ghost use Rattle.tp_session.specs.Notes.{client_in, noted_end, end_in, end_moved, ends_at, ends_by, goes_on};
+ghost use Rattle.tp_session.specs.Notes.{has_name, lost_one};
 ghost use Rattle.tp_session.specs.Notes.{new_client, new_id, new_root, noted_id, notes_in, notes_of};
 ghost use Rattle.tp_session.specs.Notes.{notes_view};
-ghost use Rattle.tp_session.specs.Notes.{place_of, request_in, standing, with_client, with_end};
+ghost use Rattle.tp_session.specs.Notes.{client_place, request_in, number_standing, with_new_client, with_unit_end};
 ghost use Rattle.tp_session.specs.Notes.{without_client};
 
 use crate::hand::{Holding, WorkerAnswer};
@@ -44,7 +44,7 @@ pub enum Standing {
 impl Standing {
     /// How a number stands to this count.
     pub(crate) fn of(number: u64, count: u64) -> Standing
-        ensures { result ≡ standing number count }
+        ensures { result ≡ number_standing number count }
     {
         if number == count {
             Standing::Again
@@ -60,14 +60,14 @@ impl Standing {
 
 // Whether two names are the same.
 fn is_named(name: &Name, other: &Name) -> bool
-    ensures { result ≡ is_named name.now other.now }
+    ensures { result ≡ has_name name.now other.now }
 {
     other.as_str() == name.as_str()
 }
 
 /// The place of the client of this name.
 pub(crate) fn place_of(name: &Name, clients: &[ClientNote]) -> Option<usize>
-    ensures found { result ≡ place_of name.now clients.now }
+    ensures found { result ≡ client_place name.now clients.now }
     ensures within { IfSome result (λ place. place < length clients.now) }
 {
     clients
@@ -140,14 +140,14 @@ fn end_in(work: Holding, answer: WorkerAnswer) -> Option<UnitEnd>
 
 // Without the note of the client of this name.
 fn forget_client(name: &Name, clients: &mut Vec<ClientNote>)
-    ensures { clients.new.items ≡ filter (λ c. not (is_named name.now c.name)) clients.old.items }
+    ensures { clients.new.items ≡ filter (λ c. not (has_name name.now c.name)) clients.old.items }
 {
     clients.retain(|client| !is_named(name, &client.name));
 }
 
 // Without its requests.
 fn forget_requests(name: &Name, requests: &mut Vec<RequestNote>)
-    ensures { requests.new.items ≡ filter (λ r. not (is_named name.now r.client)) requests.old.items }
+    ensures { requests.new.items ≡ filter (λ r. not (has_name name.now r.client)) requests.old.items }
 {
     requests.retain(|request| !is_named(name, &request.client));
 }
@@ -155,7 +155,7 @@ fn forget_requests(name: &Name, requests: &mut Vec<RequestNote>)
 impl Notes {
     /// The client of this name is registered.
     pub(crate) fn add(&mut self, name: &Name) -> Result<(), AllocError>
-        ensures added { OnOk result (notes_view self.new ≡ with_client name.now (notes_view self.old)) }
+        ensures added { OnOk result (notes_view self.new ≡ with_new_client name.now (notes_view self.old)) }
         ensures kept { OnErr result (notes_view self.new ≡ notes_view self.old) }
     {
         self.clients.push(new_client(name))?;
@@ -172,7 +172,7 @@ impl Notes {
 
     /// A worker that had this in hand was answered this.
     pub(crate) fn note_end(&mut self, worker: usize, work: Holding, answer: WorkerAnswer)
-        ensures { notes_view self.new ≡ with_end work answer worker (notes_view self.old) }
+        ensures { notes_view self.new ≡ with_unit_end work answer worker (notes_view self.old) }
     {
         let Some(how) = end_in(work, answer) else {
             return;

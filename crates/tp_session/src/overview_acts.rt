@@ -3,7 +3,7 @@ ghost use Rattle.std.specs.Prelude.{◌≡◌, IfOk, string_bytes};
 ghost use Rattle.tp_script.specs.Script.{head_view};
 ghost use Rattle.tp_script.specs.declared.script.Overview.TheVariants as overviews;
 ghost use Rattle.tp_session.specs.Left.{began_in};
-ghost use Rattle.tp_session.specs.Live.{IsHeld, Leads, OverviewDid, OverviewTold};
+ghost use Rattle.tp_session.specs.Live.{IsHeldBySession, Leads, OverviewDid, OverviewTold};
 ghost use Rattle.tp_session.specs.Overviews.{room_told};
 
 use crate::acts::gather;
@@ -16,7 +16,7 @@ use tp_server::Server;
 
 /// What is left to all passes. Answers the line.
 fn room_of(alloc: Global, head: &Head, held: &Held) -> Result<String, AllocError>
-    requires held { IsHeld behaviour registers pending head.now held.now }
+    requires held { IsHeldBySession behaviour registers pending head.now held.now }
     ensures { IfOk result (λ text. string_bytes text
         ≡ room_told (head_view head.now) held.now.managed.manager.limits held.now.managed.passes.items) }
 {
@@ -30,8 +30,8 @@ fn room_of(alloc: Global, head: &Head, held: &Held) -> Result<String, AllocError
 
 /// What all have in hand. Answers the line.
 fn holds_of(alloc: Global, head: &Head, held: &mut Held) -> Result<String, AllocError>
-    requires held { IsHeld behaviour registers pending head.now held.old }
-    ensures held { IsHeld behaviour registers pending head.now held.new }
+    requires held { IsHeldBySession behaviour registers pending head.now held.old }
+    ensures held { IsHeldBySession behaviour registers pending head.now held.new }
     ensures began { began_in registers held.new ≡ began_in registers held.old }
     ensures does { IfOk result (λ text. Leads behaviour registers pending (λ old done.
         OverviewDid (head_view head.now) overviews.Holds old (string_bytes text) done) held.old held.new) }
@@ -53,8 +53,8 @@ fn overview_of(
     held: &mut Held,
     what: Overview,
 ) -> Result<String, AllocError>
-    requires held { IsHeld behaviour registers pending head.now held.old }
-    ensures held { IsHeld behaviour registers pending head.now held.new }
+    requires held { IsHeldBySession behaviour registers pending head.now held.old }
+    ensures held { IsHeldBySession behaviour registers pending head.now held.new }
     ensures began { began_in registers held.new ≡ began_in registers held.old }
     ensures does { IfOk result (λ text. Leads behaviour registers pending (λ old done.
         OverviewDid (head_view head.now) what old (string_bytes text) done) held.old held.new) }
@@ -72,8 +72,8 @@ pub(crate) fn overview_told(
     held: &mut Held,
     what: Overview,
 ) -> Result<String, AllocError>
-    requires held { IsHeld behaviour registers pending head.now held.old }
-    ensures held { IsHeld behaviour registers pending head.now held.new }
+    requires held { IsHeldBySession behaviour registers pending head.now held.old }
+    ensures held { IsHeldBySession behaviour registers pending head.now held.new }
     ensures began { began_in registers held.new ≡ began_in registers held.old }
     ensures tells { IfOk result (λ text. Leads behaviour registers pending (λ old new.
         OverviewTold (head_view head.now) what old (string_bytes text) new) held.old held.new) }

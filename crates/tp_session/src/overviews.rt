@@ -8,7 +8,7 @@ ghost use Rattle.tp_manager.specs.Shown.{IsOf};
 ghost use Rattle.tp_script.specs.Fault.{◌<>◌};
 ghost use Rattle.tp_script.specs.Script.{head_view};
 ghost use Rattle.tp_workers.specs.Free.{IsFreePass};
-ghost use Rattle.tp_session.specs.Overviews.{HolderRead, HoldersRead, attempt_in, attempt_text, held_at};
+ghost use Rattle.tp_session.specs.Overviews.{HolderRead, HoldersRead, attempt_told, attempt_text, desk_holding};
 ghost use Rattle.tp_session.specs.Overviews.{holder_text, holds_text, left_text, left_texts, names_of};
 ghost use Rattle.tp_session.specs.Overviews.{pass_names, room_of, room_told};
 
@@ -129,7 +129,7 @@ pub(crate) fn room_line(
 
 /// What a desk has in hand.
 fn held_at(place: &Place) -> Holding
-    ensures { result ≡ held_at (work_in place.now.aside) }
+    ensures { result ≡ desk_holding (work_in place.now.aside) }
 {
     match &place.aside {
         Some(aside) => match aside.in_hand() {
@@ -146,7 +146,7 @@ pub(crate) fn in_hands(
     places: &[Place],
     works: &[Holding],
 ) -> Result<Vec<Holding>, AllocError>
-    ensures { IfOk result (λ all. all.items ≡ map (λ p. held_at (work_in p.aside)) places.now ++ works.now) }
+    ensures { IfOk result (λ all. all.items ≡ map (λ p. desk_holding (work_in p.aside)) places.now ++ works.now) }
 {
     let mut all = Vec::new(alloc);
     for place in places {
@@ -160,7 +160,7 @@ pub(crate) fn in_hands(
 
 /// In which attempt a unit holds its element, as that was found to stand.
 fn attempt_in(alloc: Global, unit: u16, look: &Look) -> Result<String, AllocError>
-    ensures { IfOk result (λ s. string_bytes s ≡ attempt_in unit look.now.status) }
+    ensures { IfOk result (λ s. string_bytes s ≡ attempt_told unit look.now.status) }
 {
     match look.status {
         Status::Held {

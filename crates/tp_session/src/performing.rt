@@ -7,8 +7,8 @@ ghost use Rattle.tp_perform.specs.Told.{AllLeftAt};
 ghost use Rattle.tp_report.specs.Written.{AppendsFront};
 ghost use Rattle.tp_script.specs.Passes.{racing};
 ghost use Rattle.tp_session.specs.Left.{Reaches};
-ghost use Rattle.tp_session.specs.Live.{Begins, IsHeld, IsLive, Leads, Live};
-ghost use Rattle.tp_session.specs.Performed.{ActsDone, ActsTold, Ended};
+ghost use Rattle.tp_session.specs.Live.{Begins, IsHeldBySession, IsLive, Leads, Live};
+ghost use Rattle.tp_session.specs.Performed.{ActsDone, ActsTold, SessionEnded};
 ghost use Rattle.tp_workers.specs.Free.{IsFreePass};
 
 use crate::closing::{close_all, take_account};
@@ -30,10 +30,10 @@ fn perform_all<T: Threads + Sync, W: Sink>(
     held: &mut Held,
     writer: &mut W,
 ) -> Result<(), Fault>
-    requires held { IsHeld behaviour registers pending script.now.head held.old }
+    requires held { IsHeldBySession behaviour registers pending script.now.head held.old }
     requires room { length script.now.head.workers.items + racing script.now.acts.items
         ≤ length held.old.works.items }
-    ensures held { IsHeld behaviour registers pending script.now.head held.new }
+    ensures held { IsHeldBySession behaviour registers pending script.now.head held.new }
     ensures went { Reaches behaviour registers pending (λ old new.
         ActsDone script.now old new (λ text. Unit {0})) held.old held.new }
     ensures told { OnOk result (Leads behaviour registers pending (λ old new. (text : List ℕ)
@@ -68,7 +68,7 @@ pub fn perform<T: Threads + Sync, W: Sink>(
     held: &mut Held,
     writer: &mut W,
 ) -> Result<Option<Account>, Fault>
-    requires held { IsHeld behaviour registers pending script.now.head held.old }
+    requires held { IsHeldBySession behaviour registers pending script.now.head held.old }
     requires room { length script.now.head.workers.items + racing script.now.acts.items
         ≤ length held.old.works.items }
     ensures free { All (IsFreePass held.new.managed.manager) held.new.managed.passes.items }
@@ -81,7 +81,7 @@ pub fn perform<T: Threads + Sync, W: Sink>(
     ensures told { IfOk result (λ account. Begins behaviour registers pending (λ old last. (text : List ℕ)
         × ActsTold script.now.head 0 script.now.acts.items old text last
         × Appends (W.contents writer.old) (W.contents writer.new) text
-        × Ended script.now account last (map (λ server. registers server) held.new.servers.items)) held.old) }
+        × SessionEnded script.now account last (map (λ server. registers server) held.new.servers.items)) held.old) }
     ensures front { OnErr result (Begins behaviour registers pending (λ old last.
         ActsDone script.now old last (AppendsFront (W.contents writer.old) (W.contents writer.new))) held.old) }
     ensures write { IsErrOf result Fault.Write → IsTrue (W.has_failed writer.new) }

@@ -4,14 +4,14 @@ ghost use Rattle.tp_script.specs.Passes.{is_race, racers as racers_of_command, r
 ghost use Rattle.tp_script.specs.Ranges.{IsInRange, IsScriptAct};
 ghost use Rattle.tp_script.specs.Script.{head_view};
 ghost use Rattle.tp_session.specs.Left.{OrSame, Reaches, began_in};
-ghost use Rattle.tp_session.specs.Live.{ActTold, CommandTold, IsHeld, Leads};
+ghost use Rattle.tp_session.specs.Live.{ActTold, CommandTold, IsHeldBySession, Leads};
 
 use crate::acts::act_line;
 use crate::held::Held;
 use std::alloc::{AllocError, Global};
 use std::string::String;
 use std::thread::Threads;
-use tp_perform::race_next;
+use tp_perform::{Racing, race_next};
 use tp_script::{Act, Command, Head};
 use tp_server::Server;
 
@@ -24,27 +24,33 @@ fn race_told<T: Threads + Sync>(
     raced: usize,
     command: Command,
 ) -> Result<String, AllocError>
-    requires held { IsHeld behaviour registers pending head.now held.old }
+    requires held { IsHeldBySession behaviour registers pending head.now held.old }
     requires in_range { IsInRange (vec_len head.now.servers) command }
     requires race { is_race command ≡ true }
     requires room { vec_len head.now.workers + raced + racers_of_command command ≤ length held.old.works.items }
-    ensures held { IsHeld behaviour registers pending head.now held.new }
+    ensures held { IsHeldBySession behaviour registers pending head.now held.new }
     ensures began { began_in registers held.new ≡ began_in registers held.old }
     ensures tells { IfOk result (λ text. Leads behaviour registers pending (λ old new.
         CommandTold (head_view head.now) command (length head.now.workers.items + raced)
         old (string_bytes text) new) held.old held.new) }
 {
-    race_next(
+    let Command::Race(plan) = command else {
+        unreachable!();
+    };
+    let racing = Racing {
         rt,
         alloc,
         head,
-        &held.managed.manager,
+        manager: &held.managed.manager,
+        plan,
+        behind: head.workers.len() + raced,
+    };
+    race_next(
+        &racing,
         &mut held.managed.keeper,
         held.managed.passes.as_mut_slice(),
         held.servers.as_mut_slice(),
         held.places.as_mut_slice(),
-        head.workers.len() + raced,
-        command,
     )
 }
 
@@ -58,10 +64,10 @@ pub fn act_told<T: Threads + Sync>(
     raced: usize,
     act: &Act,
 ) -> Result<String, AllocError>
-    requires held { IsHeld behaviour registers pending head.now held.old }
+    requires held { IsHeldBySession behaviour registers pending head.now held.old }
     requires in_range { IsScriptAct (vec_len head.now.servers) (vec_len head.now.workers) act.now }
     requires room { vec_len head.now.workers + raced + racers_of act.now ≤ length held.old.works.items }
-    ensures held { IsHeld behaviour registers pending head.now held.new }
+    ensures held { IsHeldBySession behaviour registers pending head.now held.new }
     ensures went { Reaches behaviour registers pending (OrSame (λ old new. (text : List ℕ)
         × ActTold head.now raced act.now old text new)) held.old held.new }
     ensures tells { IfOk result (λ text. Leads behaviour registers pending (λ old new.

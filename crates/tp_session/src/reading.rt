@@ -1,6 +1,6 @@
 //! The lines of a wire, one by one, and the answers that are not written yet.
 ghost use Rattle.std.specs.Prelude.{◌≡◌, ◌≤◌, ◌<◌, ◌+◌, ◌^◌, ◌==◌, ◌++◌, ◌⊎◌, [], false, true, IfOk, IsErrOf};
-ghost use Rattle.std.specs.Prelude.{IsTrue, OnErr, OnOk, length, position, take, vec_len};
+ghost use Rattle.std.specs.Prelude.{IsTrue, OnErr, OnOk, length, position, take, vec_capacity, vec_len};
 ghost use Rattle.tp_session.specs.declared.reading.TheConstants.{MAX_ASKED, MAX_KEPT};
 
 use crate::wire::Wire;
@@ -81,9 +81,12 @@ impl Lines {
         self.answers.as_slice()
     }
 
-    /// Adds an answer, which is written before the wire is asked again.
+    /// Adds an answer, which is written before the wire is asked again. It fails only where there is no room
+    /// for it yet.
     pub fn tell(&mut self, text: &[u8]) -> Result<(), AllocError>
         ensures told { OnOk result (self.new.answers.items ≡ self.old.answers.items ++ text.now) }
+        ensures full { OnErr result
+            (vec_capacity self.old.answers < vec_len self.old.answers + length text.now) }
         ensures left { self.new.left ≡ self.old.left }
         ensures unused { unused self.new ≡ unused self.old }
         ensures line { self.new.line ≡ self.old.line }

@@ -16,7 +16,7 @@ ghost use Rattle.tp_session.specs.Carried.{lost_works};
 ghost use Rattle.tp_session.specs.Hands.{unit_of};
 ghost use Rattle.tp_session.specs.declared.hand.Holding.TheVariants.{Nothing};
 ghost use Rattle.tp_session.specs.Left.{OrSame, Reaches};
-ghost use Rattle.tp_session.specs.Live.{HoldsUnits, IsHeld, Leads, RestoreTold, status_at, status_in};
+ghost use Rattle.tp_session.specs.Live.{HoldsUnits, IsHeldBySession, Leads, RestoreTold, status_at, status_before};
 ghost use Rattle.tp_session.specs.Live.{survivor_of};
 ghost use Rattle.tp_session.specs.Live.{survivors_of, works_in};
 
@@ -48,7 +48,7 @@ fn status_at(limit: u8, attempts: u8) -> Status
 
 /// The same, before a unit took it, if one holds it.
 fn status_in(limit: u8, holder: Option<usize>, attempts: u8) -> Status
-    ensures { result ≡ status_in limit holder attempts }
+    ensures { result ≡ status_before limit holder attempts }
 {
     match holder {
         Some(_worker) => Status::Waiting {
@@ -163,9 +163,9 @@ fn restore_held(
     held: &mut Held,
     survivors: &[Survivor],
 ) -> Result<Vec<Moved>, RollFault>
-    requires held { IsHeld behaviour registers pending head.now held.old }
+    requires held { IsHeldBySession behaviour registers pending head.now held.old }
     requires described { survivors.now ≡ survivors_of (head_view head.now) }
-    ensures held { IsHeld behaviour registers pending head.now held.new }
+    ensures held { IsHeldBySession behaviour registers pending head.now held.new }
     ensures restored { IfOk result (λ moved. Leads behaviour registers pending (λ old new.
         HoldsUnits old × (Restored survivors.now old.stand moved.items new.stand
         × (new.works ≡ works_in new.stand moved.items (lost_works head.now.lost.items 0 old.works)))
@@ -193,9 +193,9 @@ fn stand_again(
     held: &mut Held,
     survivors: &[Survivor],
 ) -> Result<String, AllocError>
-    requires held { IsHeld behaviour registers pending head.now held.old }
+    requires held { IsHeldBySession behaviour registers pending head.now held.old }
     requires described { survivors.now ≡ survivors_of (head_view head.now) }
-    ensures held { IsHeld behaviour registers pending head.now held.new }
+    ensures held { IsHeldBySession behaviour registers pending head.now held.new }
     ensures went { Reaches behaviour registers pending (λ old new. (text : List ℕ)
         × RestoreTold (head_view head.now) old text new) held.old held.new }
     ensures tells { IfOk result (λ text. Leads behaviour registers pending (λ old new.
@@ -227,8 +227,8 @@ pub(crate) fn restore_told(
     head: &Head,
     held: &mut Held,
 ) -> Result<String, AllocError>
-    requires held { IsHeld behaviour registers pending head.now held.old }
-    ensures held { IsHeld behaviour registers pending head.now held.new }
+    requires held { IsHeldBySession behaviour registers pending head.now held.old }
+    ensures held { IsHeldBySession behaviour registers pending head.now held.new }
     ensures went { Reaches behaviour registers pending (OrSame (λ old new. (text : List ℕ)
         × RestoreTold (head_view head.now) old text new)) held.old held.new }
     ensures tells { IfOk result (λ text. Leads behaviour registers pending (λ old new.

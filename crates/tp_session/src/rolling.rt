@@ -8,7 +8,7 @@ ghost use Rattle.tp_perform.specs.Told.{AreReady, IsScene, units_held};
 ghost use Rattle.tp_script.specs.Script.{head_view};
 ghost use Rattle.tp_session.specs.Hands.{unit_of};
 ghost use Rattle.tp_session.specs.Left.{Reaches};
-ghost use Rattle.tp_session.specs.Live.{HoldsUnits, IsHeld, Leads, RolloverTold, works_in};
+ghost use Rattle.tp_session.specs.Live.{HoldsUnits, IsHeldBySession, Leads, RolloverTold, works_in};
 ghost use Rattle.tp_session.specs.declared.hand.Holding.TheVariants.{Nothing};
 
 use crate::answers::rolled_line;
@@ -73,8 +73,8 @@ fn roll_over_works(
 
 /// The same, of what is held.
 fn roll_over_held(alloc: Global, head: &Head, held: &mut Held) -> Result<Vec<Moved>, RollFault>
-    requires held { IsHeld behaviour registers pending head.now held.old }
-    ensures held { IsHeld behaviour registers pending head.now held.new }
+    requires held { IsHeldBySession behaviour registers pending head.now held.old }
+    ensures held { IsHeldBySession behaviour registers pending head.now held.new }
     ensures rolled { IfOk result (λ moved. Leads behaviour registers pending (λ old new.
         HoldsUnits old × (RolledOver old.stand moved.items new.stand
         × (new.works ≡ works_in new.stand moved.items old.works)) × (new.notes ≡ old.notes))
@@ -100,8 +100,8 @@ pub(crate) fn rollover_told(
     head: &Head,
     held: &mut Held,
 ) -> Result<String, AllocError>
-    requires held { IsHeld behaviour registers pending head.now held.old }
-    ensures held { IsHeld behaviour registers pending head.now held.new }
+    requires held { IsHeldBySession behaviour registers pending head.now held.old }
+    ensures held { IsHeldBySession behaviour registers pending head.now held.new }
     ensures went { Reaches behaviour registers pending (λ old new. (text : List ℕ)
         × RolloverTold (head_view head.now) old text new) held.old held.new }
     ensures tells { IfOk result (λ text. Leads behaviour registers pending (λ old new.

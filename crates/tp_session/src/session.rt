@@ -18,9 +18,9 @@ ghost use Rattle.tp_session.specs.Heard.{HearsFront, IsAllOf, IsSilent, Tells};
 ghost use Rattle.tp_commands.specs.Places.{workers};
 ghost use Rattle.tp_perform.specs.Told.{AllLeftAt};
 ghost use Rattle.tp_session.specs.Left.{BodyDone};
-ghost use Rattle.tp_session.specs.Live.{Begins, IsHeld, IsLive, Live};
+ghost use Rattle.tp_session.specs.Live.{Begins, IsHeldBySession, IsLive, Live};
 ghost use Rattle.tp_session.specs.Reading.{IsLong, IsOver, room, to_come};
-ghost use Rattle.tp_session.specs.Told.{BodyTold, begun, past_of};
+ghost use Rattle.tp_session.specs.Told.{BodyTold, first_act, past_of};
 ghost use Rattle.tp_session.specs.declared.reading.TheConstants.{MAX_ASKED};
 
 use crate::answering::answer_all;
@@ -112,15 +112,15 @@ fn hold<W: Wire>(
 ) -> Result<(), Fault>
     requires ready { W.ready wire.old }
     requires asked { W.asked wire.old + lines.old.left < 2 ^ 64 }
-    requires in_range { IfSome (begun first) (IsActInRange
+    requires in_range { IfSome (first_act first) (IsActInRange
         (vec_len head.now.servers) (vec_len head.now.workers)) }
     requires few { past_of first + room lines.old + 2 < 2 ^ 64 }
     requires ended { first ≡ None → IsSilent (to_come lines.old (W.rest wire.old)) }
     ensures ready { W.ready wire.new }
-    ensures told { OnOk result (BodyWhole head.now (past_of first) (begun first)
+    ensures told { OnOk result (BodyWhole head.now (past_of first) (first_act first)
         (to_come lines.old (W.rest wire.old))
         (λ text. Appends (W.contents wire.old) (W.contents wire.new) (lines.old.answers.items ++ text))) }
-    ensures front { OnErr result (BodyFront head.now (past_of first) (begun first)
+    ensures front { OnErr result (BodyFront head.now (past_of first) (first_act first)
         (to_come lines.old (W.rest wire.old))
         (λ text. AppendsFront (W.contents wire.old) (W.contents wire.new)
         (lines.old.answers.items ++ text))) }
@@ -150,15 +150,15 @@ fn with_managed<W: Wire>(
     requires ready { W.ready wire.old }
     requires new { IsNewManaged (limits_of (head_view head.now) 0) managed }
     requires asked { W.asked wire.old + lines.old.left < 2 ^ 64 }
-    requires in_range { IfSome (begun first) (IsActInRange
+    requires in_range { IfSome (first_act first) (IsActInRange
         (vec_len head.now.servers) (vec_len head.now.workers)) }
     requires few { past_of first + room lines.old + 2 < 2 ^ 64 }
     requires ended { first ≡ None → IsSilent (to_come lines.old (W.rest wire.old)) }
     ensures ready { W.ready wire.new }
-    ensures told { OnOk result (BodyWhole head.now (past_of first) (begun first)
+    ensures told { OnOk result (BodyWhole head.now (past_of first) (first_act first)
         (to_come lines.old (W.rest wire.old))
         (λ text. Appends (W.contents wire.old) (W.contents wire.new) (lines.old.answers.items ++ text))) }
-    ensures front { OnErr result (BodyFront head.now (past_of first) (begun first)
+    ensures front { OnErr result (BodyFront head.now (past_of first) (first_act first)
         (to_come lines.old (W.rest wire.old))
         (λ text. AppendsFront (W.contents wire.old) (W.contents wire.new)
         (lines.old.answers.items ++ text))) }
@@ -196,15 +196,15 @@ fn with_servers<W: Wire>(
         ≡ map (λ line. line.registers) head.now.servers.items }
     requires clear { All (λ server. pending server ≡ None) servers.items }
     requires asked { W.asked wire.old + lines.old.left < 2 ^ 64 }
-    requires in_range { IfSome (begun first) (IsActInRange
+    requires in_range { IfSome (first_act first) (IsActInRange
         (vec_len head.now.servers) (vec_len head.now.workers)) }
     requires few { past_of first + room lines.old + 2 < 2 ^ 64 }
     requires ended { first ≡ None → IsSilent (to_come lines.old (W.rest wire.old)) }
     ensures ready { W.ready wire.new }
-    ensures told { OnOk result (BodyWhole head.now (past_of first) (begun first)
+    ensures told { OnOk result (BodyWhole head.now (past_of first) (first_act first)
         (to_come lines.old (W.rest wire.old))
         (λ text. Appends (W.contents wire.old) (W.contents wire.new) (lines.old.answers.items ++ text))) }
-    ensures front { OnErr result (BodyFront head.now (past_of first) (begun first)
+    ensures front { OnErr result (BodyFront head.now (past_of first) (first_act first)
         (to_come lines.old (W.rest wire.old))
         (λ text. AppendsFront (W.contents wire.old) (W.contents wire.new)
         (lines.old.answers.items ++ text))) }
@@ -241,9 +241,9 @@ pub fn answer_to_end<W: Wire>(
     wire: &mut W,
 ) -> Result<(), Fault>
     requires ready { W.ready wire.old }
-    requires held { IsHeld behaviour registers pending head.now held.old }
+    requires held { IsHeldBySession behaviour registers pending head.now held.old }
     requires asked { W.asked wire.old + lines.old.left < 2 ^ 64 }
-    requires in_range { IfSome (begun first) (IsActInRange
+    requires in_range { IfSome (first_act first) (IsActInRange
         (vec_len head.now.servers) (vec_len head.now.workers)) }
     requires few { past_of first + room lines.old + 2 < 2 ^ 64 }
     requires ended { first ≡ None → IsSilent (to_come lines.old (W.rest wire.old)) }
@@ -252,12 +252,12 @@ pub fn answer_to_end<W: Wire>(
     ensures clear { All (λ server. pending server ≡ None) held.new.servers.items }
     ensures each_server { length held.new.servers.items ≡ length held.old.servers.items }
     ensures left { (before : Live) × (last : Live) × IsLive behaviour registers pending held.old before
-        × BodyDone head.now (past_of first) (begun first)
+        × BodyDone head.now (past_of first) (first_act first)
         (to_come lines.old (W.rest wire.old)) before last
         × AllLeftAt behaviour registers last.stand.scene.places
         (workers (length held.old.servers.items) held.new.managed.passes.items) held.new.servers.items }
     ensures told { OnOk result (Begins behaviour registers pending (λ old last.
-        BodyTold head.now (past_of first) (begun first)
+        BodyTold head.now (past_of first) (first_act first)
         (IsAllOf (to_come lines.old (W.rest wire.old))) old last
         (λ text. Tells (W.contents wire.old) (W.contents wire.new)
         lines.new.answers.items (lines.old.answers.items ++ text))
@@ -265,7 +265,7 @@ pub fn answer_to_end<W: Wire>(
     ensures front { OnErr result (AppendsFront (W.contents wire.old) (W.contents wire.new)
         lines.old.answers.items
         ⊎ Begins behaviour registers pending (λ old last.
-        BodyTold head.now (past_of first) (begun first)
+        BodyTold head.now (past_of first) (first_act first)
         (HearsFront (to_come lines.old (W.rest wire.old))) old last
         (λ text. AppendsFront (W.contents wire.old) (W.contents wire.new)
         (lines.old.answers.items ++ text))) held.old) }

@@ -3,7 +3,7 @@ use Rattle.std.proofs.Common.{◌≡◌, ◌<◌, ℕ, Some, [], ◌∷◌, ◌+
 use mathlib.Core.List.{IsPrefix}
 use Rattle.tp_model.specs.declared.types.Limits.{Limits}
 use Rattle.tp_model.specs.History.{here, there, events_by}
-use Rattle.tp_model.specs.Passes.{IsOwnOpen, IsRun}
+use Rattle.tp_model.specs.Passes.{AreEnded, IsOwnOpen, IsRun}
 use Rattle.tp_model.specs.Steps.{IsLegal}
 use Rattle.tp_model.proofs.Bridges.{begins_refl}
 use Rattle.tp_rule.specs.Steps.{IsSo, SeatsMeet}
@@ -18,7 +18,7 @@ use Rattle.tp_manager.specs.CallSteps.{Acted, IsKnown, Steady}
 
 -- a pass that has seen more, and done nothing else
 module _ (l : Limits) (v w : View) (s : Steady l v) (one : IsOnePass w) (lim : w.limits ≡ l) (legal : IsLegal l w.seen) (begins : IsPrefix v.seen w.seen) (own : (hand w).mine ≡ events_by (hand w).number w.seen)
-    (open_own : (u : ℕ) → (hand w).open_unit ≡ Some u → IsOwnOpen w.seen (hand w).number u)
+    (open_own : (u : ℕ) → (hand w).open_unit ≡ Some u → IsOwnOpen w.seen (hand w).number u) (ended : AreEnded w.seen (hand w).number (hand w).open_unit)
     (number : (hand w).number ≡ (hand v).number) (run : IsRun l w.seen (hand w).number (hand w).blocks (hand w).next (hand w).left) (known : IsKnown l w) where
   pub steady_seen : Steady l w
   steady_seen = record {
@@ -29,6 +29,7 @@ module _ (l : Limits) (v w : View) (s : Steady l v) (one : IsOnePass w) (lim : w
       own = own;
       run = run;
       open_own = open_own;
+      ended = ended;
     };
     known = known;
   }
@@ -38,12 +39,12 @@ module _ (l : Limits) (v w x y : View) (sv : Steady l v) (sw : Steady l w) (m : 
   legal = subst (λ (z : Limits). IsLegal z x.seen) sv.pass.1 m.legal
 
   steady_first : Steady l x
-  steady_first = let h = m.first_is in steady_seen l v x sv m.first_one (m.limits.0 ∙ sv.pass.1) legal m.first_saw m.mine.0 m.open_own.0 (ap (λ (a : Hand). a.number) h)
+  steady_first = let h = m.first_is in steady_seen l v x sv m.first_one (m.limits.0 ∙ sv.pass.1) legal m.first_saw m.mine.0 m.open_own.0 m.ended.0 (ap (λ (a : Hand). a.number) h)
       (subst (λ (z : Limits). IsRun z x.seen (hand x).number (hand x).blocks (hand x).next (hand x).left) sv.pass.1 m.run.0)
       (λ z q. subst (λ (k : Limits). IsSo k x.seen z) sv.pass.1 (m.is_so.0 z q))
 
   steady_second : Steady l y
-  steady_second = let h = m.second_is in steady_seen l w y sw m.second_one (m.limits.1 ∙ sv.pass.1) (subst (IsLegal l) m.same legal) (subst (IsPrefix w.seen) m.same m.second_saw) m.mine.1 m.open_own.1
+  steady_second = let h = m.second_is in steady_seen l w y sw m.second_one (m.limits.1 ∙ sv.pass.1) (subst (IsLegal l) m.same legal) (subst (IsPrefix w.seen) m.same m.second_saw) m.mine.1 m.open_own.1 m.ended.1
       (ap (λ (a : Hand). a.number) h) (subst (λ (z : Limits). IsRun z y.seen (hand y).number (hand y).blocks (hand y).next (hand y).left) sv.pass.1 m.run.1)
       (λ z q. subst (λ (k : Limits). IsSo k y.seen z) sv.pass.1 (m.is_so.1 z q))
 

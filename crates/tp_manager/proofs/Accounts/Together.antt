@@ -8,7 +8,7 @@ use Rattle.tp_model.specs.declared.types.Limits.{Limits}
 use Rattle.tp_model.specs.declared.event.Event.{Event}
 use Rattle.tp_model.specs.declared.trace.StepKind.TheVariants as kinds
 use Rattle.tp_model.specs.History.{In, here, there, events_by}
-use Rattle.tp_model.specs.Passes.{IsOwnOpen, IsRun}
+use Rattle.tp_model.specs.Passes.{AreEnded, IsOwnOpen, IsRun}
 use Rattle.tp_model.specs.Steps.{IsLegal}
 use Rattle.tp_model.proofs.Bridges.{append_nil, begins_refl, begins_trans, in_left, in_right}
 use Rattle.tp_rule.specs.Views.{HasPass, IsOnePass, first_hand, hand}
@@ -62,6 +62,9 @@ module _ (l : Limits) (v o j m w x : View) (sv : Steady l v) (join : j ≡ joine
   met_open : (a : Hand) → In a m.hands → (u : ℕ) → a.open_unit ≡ Some u → IsOwnOpen w.seen a.number u
   met_open a p u is = subst (λ h. IsOwnOpen h a.number u) (sym first_seen) (g.open_own a p u is)
 
+  met_ended : (a : Hand) → In a m.hands → AreEnded w.seen a.number a.open_unit
+  met_ended a p = subst (λ h. AreEnded h a.number a.open_unit) (sym first_seen) (g.ended a p)
+
   met_run : (a : Hand) → In a m.hands → IsRun l w.seen a.number a.blocks a.next a.left
   met_run a p = subst (λ h. IsRun l h a.number a.blocks a.next a.left) (sym first_seen) (subst (λ (z : Limits). IsRun z m.seen a.number a.blocks a.next a.left) (ap (λ (z : View). z.limits) join ∙ sv.pass.1) (g.run a p))
 
@@ -88,6 +91,7 @@ module _ (l : Limits) (v o j m w x : View) (sv : Steady l v) (join : j ≡ joine
       (subst (λ (z : Limits). IsLegal z w.seen) (ap (λ (z : View). z.limits) join ∙ sv.pass.1) (subst (IsLegal j.limits) (sym first_seen) g.legal)) met_begins
       (ap (λ (a : Hand). a.mine) h ∙ (met_mine A A_in ∙ ap (λ (a : Hand). events_by a.number w.seen) (sym h)))
       (λ u is. subst (λ (a : Hand). IsOwnOpen w.seen a.number u) (sym h) (met_open A A_in u (sym (ap (λ (a : Hand). a.open_unit) h) ∙ is)))
+      (subst (λ (a : Hand). AreEnded w.seen a.number a.open_unit) (sym h) (met_ended A A_in))
       (ap (λ (a : Hand). a.number) h) (subst (λ (a : Hand). IsRun l w.seen a.number a.blocks a.next a.left) (sym h) (met_run A A_in)) (λ z q. met_known z (subst (λ (u : View). Knows u z) first q))
 
   met_trace : (hand w).trace ≡ (hand v).trace ++ seat_load v.seen ∷ load w.seen ∷ seat_load w.seen ∷ []
@@ -111,6 +115,7 @@ module _ (l : Limits) (v o j m w x : View) (sv : Steady l v) (join : j ≡ joine
     hands = second_hands ∙ ap (λ h. map (noted kinds.Load h) o.hands) (sym first_seen);
     mine = λ a p. met_mine a (in_others a p);
     open_own = λ a p u is. met_open a (in_others a p) u is;
+    ended = λ a p. met_ended a (in_others a p);
     run = λ a p. met_run a (in_others a p);
     known = λ z q. subst (λ h. IsSo l h z) (first_seen ∙ sym (ap (λ (z : View). z.seen) second)) (met_known z (subst (λ (u : View). Knows u z) second q));
     knows = λ z q. subst (λ (u : View). Knows u z) (sym second) (met_knows z (in_right v.known q));
@@ -174,6 +179,7 @@ module _ (l : Limits) (p q r s t o x : View) (h g : List Event) (sp : Steady l p
   t_steady = let k = t_is in steady_seen l p t sp (t_hands ∙ ap (λ (a : Hand). a ∷ []) (sym k)) (ap (λ (z : View). z.limits) first ∙ look.limits) (subst (IsLegal l) (sym t_seen) legal) t_begins
       (ap (λ (a : Hand). a.mine) k ∙ (look.mine N N_in ∙ (ap (events_by N.number) (sym t_seen) ∙ ap (λ (a : Hand). events_by a.number t.seen) (sym k))))
       (λ u is. subst (λ (a : Hand). IsOwnOpen t.seen a.number u) (sym k) (subst (λ z. IsOwnOpen z N.number u) (sym t_seen) (look.open_own N N_in u (sym (ap (λ (a : Hand). a.open_unit) k) ∙ is))))
+      (subst (λ (a : Hand). AreEnded t.seen a.number a.open_unit) (sym k) (subst (λ z. AreEnded z N.number N.open_unit) (sym t_seen) (look.ended N N_in)))
       (ap (λ (a : Hand). a.number) k) (subst (λ (a : Hand). IsRun l t.seen a.number a.blocks a.next a.left) (sym k) (subst (λ z. IsRun l z N.number N.blocks N.next N.left) (sym t_seen) (look.run N N_in))) (λ z i. let e = first in subst (λ h. IsSo l h z) (look.seen ∙ sym t_seen) (look.known z (subst (λ (u : View). Knows u z) first i)))
 
   all_known : (z : Known) → In z (q.known ++ o.known) → Knows s z
@@ -204,6 +210,7 @@ module _ (l : Limits) (p q r s t o x : View) (h g : List Event) (sp : Steady l p
     hands = x_hands;
     mine = λ a i. look.mine a (in_rest a i);
     open_own = λ a i u is. look.open_own a (in_rest a i) u is;
+    ended = λ a i. look.ended a (in_rest a i);
     run = λ a i. look.run a (in_rest a i);
     known = λ z i. subst (λ h. IsSo l h z) (sym (ap (λ (v : View). v.seen) second)) (look.known z (subst (λ (u : View). Knows u z) second i));
     knows = λ z i. subst (λ (u : View). Knows u z) (sym second) (all_known z (in_right q.known i));

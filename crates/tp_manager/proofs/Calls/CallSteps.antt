@@ -7,7 +7,7 @@ use Rattle.tp_model.specs.declared.trace.StepKind.{StepKind}
 use Rattle.tp_model.specs.declared.trace.TraceEntry.{TraceEntry}
 use Rattle.tp_model.specs.History.{In, here, events_by}
 use Rattle.tp_model.specs.Steps.{IsLegal}
-use Rattle.tp_model.specs.Passes.{HasLook, IsOwnOpen, IsPassView, IsPoint, IsRun, looks, opening_of}
+use Rattle.tp_model.specs.Passes.{AreEnded, HasLook, IsOwnOpen, IsPassView, IsPoint, IsRun, looks, opening_of}
 use Rattle.tp_model.proofs.Bridges.{append_nil, begins_refl, begins_trans}
 use Rattle.tp_rule.specs.Views.{IsOnePass, hand}
 use Rattle.tp_rule.specs.Steps.{Grew, IsSo, noted, unchanged}
@@ -17,9 +17,9 @@ use Rattle.tp_rule.proofs.Reading.{one_after, grew_begins}
 use Rattle.tp_manager.specs.Calls.{Follows, AtPoint, HasLooked, steps_of, opening}
 use Rattle.tp_manager.specs.Shown.{AllRise, Climbs, NoneFalls, marks_of, Spot, PassShown, shown}
 use Rattle.tp_manager.specs.CallSteps.{Steady, Stepped, Looked, Acted, opening_in, pass_in, with_trace}
-use Rattle.tp_manager.specs.Marks.{MayRemember, Remembers, RemembersAll}
+use Rattle.tp_manager.specs.Marks.{MayRemember, Recalls, Remembers, RemembersGaps}
 use Rattle.tp_manager.specs.Scans.{Sought}
-use Rattle.tp_manager.proofs.Marks.Useless.{Goes, may_later}
+use Rattle.tp_manager.proofs.Marks.Useless.{Goes, may_later, rose_later}
 use Rattle.tp_manager.proofs.Calls.Points.{opening_one, opening_later, opening_kept, opens_later, has_more, drop_steps}
 
 module _ (l : Limits) (kind : StepKind) (f : Hand → Hand) (es : List Event) (v w : View) (s : Steady l v) (g : Grew kind f es v w) where
@@ -41,6 +41,9 @@ module _ (l : Limits) (kind : StepKind) (f : Hand → Hand) (es : List Event) (v
   grew_open : (u : ℕ) → (hand w).open_unit ≡ Some u → IsOwnOpen w.seen (hand w).number u
   grew_open = g.open_own (hand w) (subst (λ (hs : List Hand). In (hand w) hs) (sym grew_one.0) here)
 
+  grew_ended : AreEnded w.seen (hand w).number (hand w).open_unit
+  grew_ended = g.ended (hand w) (subst (λ (hs : List Hand). In (hand w) hs) (sym grew_one.0) here)
+
   grew_run : IsRun l w.seen (hand w).number (hand w).blocks (hand w).next (hand w).left
   grew_run = subst (λ (z : Limits). IsRun z w.seen (hand w).number (hand w).blocks (hand w).next (hand w).left) s.pass.1 (g.run (hand w) (subst (λ (hs : List Hand). In (hand w) hs) (sym grew_one.0) here))
 
@@ -53,6 +56,7 @@ module _ (l : Limits) (kind : StepKind) (f : Hand → Hand) (es : List Event) (v
       own = grew_own;
       run = grew_run;
       open_own = grew_open;
+      ended = grew_ended;
     };
     known = λ x q. subst (λ (z : Limits). IsSo z w.seen x) s.pass.1 (g.is_so x q);
   }
@@ -199,6 +203,12 @@ remembers_kind c lows l n ms v w a r p some =
     subst (λ (z : Limits). MayRemember z c w p (slice_index lows p)) (sym a.steady.pass.1)
     (may_later l c v w p (slice_index lows p) g (subst (λ (z : Limits). MayRemember z c v p (slice_index lows p)) a.limits (r p some)))
 
+-- and so is a gap
+pub gaps_kind : (c : ℕ) (gaps : List ℕ) (l : Limits) (n : ℕ) (ms : List TraceEntry) (v w : View) → Stepped l n ms v w → RemembersGaps c v gaps → RemembersGaps c w gaps
+gaps_kind c gaps l n ms v w a r p =
+    let g : Goes l v w = record { limits = (a.limits, a.steady.pass.1); legal = a.steady.shows.legal; begins = walked_begins l n ms v w a; knows = a.knows } in
+    rose_later l c v w _ _ g (r p)
+
 -- and so of all kinds
-pub remembers : (lows : List (List ℕ)) (l : Limits) (n : ℕ) (ms : List TraceEntry) (v w : View) → Stepped l n ms v w → RemembersAll v lows → RemembersAll w lows
-remembers lows l n ms v w a r c = remembers_kind c (marks_of lows c) l n ms v w a (r c)
+pub remembers : {gaps : List (List ℕ)} (lows : List (List ℕ)) (l : Limits) (n : ℕ) (ms : List TraceEntry) (v w : View) → Stepped l n ms v w → Recalls v lows gaps → Recalls w lows gaps
+remembers lows l n ms v w a r = record { marks = λ c. remembers_kind c (marks_of lows c) l n ms v w a (r.marks c); gaps = λ c. gaps_kind c _ l n ms v w a (r.gaps c) }

@@ -1,16 +1,18 @@
 -- A pass that was just given out.
 use Rattle.std.proofs.Common.{◌≡◌, ℕ, zero, suc, ◌+◌, ◌-◌, ◌*◌, ◌<◌, ◌≤◌, List, [], ◌∷◌, length, replicate, slice_index, sym, refl, ap, ◌∙◌, subst, arith, None, inl}
 use Rattle.std.proofs.lemmas.List.{get_or-replicate, get_or_past, length-replicate}
+use Rattle.tp_manager.specs.Marks.{gap_in}
 use mathlib.Core.Logic.{dite}
 use native.Mathlib.Decide.{dec_le}
 use Rattle.tp_model.specs.declared.types.Limits.{Limits}
 use Rattle.tp_model.specs.declared.event.Event.{Event}
 use Rattle.tp_model.specs.declared.trace.StepKind.TheVariants as kinds
-use Rattle.tp_model.specs.History.{IsUnborn, events_by}
+use Rattle.tp_model.specs.History.{IsClaim, IsUnborn, claim_of, events_by}
 use Rattle.tp_model.specs.Steps.{AreLimits, IsLegal}
 use Rattle.tp_model.specs.Passes.{IsPassView, IsRun}
 use Rattle.tp_model.proofs.Bridges.{in_none}
 use Rattle.tp_model.proofs.Histories.{legal_empty}
+use Rattle.tp_model.proofs.Takings.{own_claim}
 use Rattle.tp_rule.specs.Views.{SeatShown, first_hand, first_view, fresh, fresh_from, hand, view_of}
 use Rattle.tp_rule.specs.Steps.{IsSo, Knows, handed_out, handed_on, front_of, rest_of, looked, noted}
 use Rattle.tp_rule.specs.declared.view.Hand.{Hand}
@@ -90,6 +92,9 @@ module _ (seat : SeatShown) (l : Limits) (given : ℕ) (k : Keeps seat l given) 
     fresh_none : events_by given (view_of next).seen ≡ []
     fresh_none = ap (events_by given) fresh_seen ∙ k.none given (omega arith)
 
+    unclaimed : (c u i n : ℕ) → events_by c (view_of next).seen ≡ [] → IsClaim (view_of next).seen c u i n → ⊥
+    unclaimed c u i n none claim = let own = own_claim (view_of next).seen u (record { pass = c; item = i; attempt = n }) claim in let gone = ap (λ h. claim_of h u) none in cc
+
     fresh_legal : IsLegal l (view_of next).seen
     fresh_legal = subst (IsLegal l) (sym fresh_seen) k.legal
 
@@ -115,6 +120,7 @@ module _ (seat : SeatShown) (l : Limits) (given : ℕ) (k : Keeps seat l given) 
             usable = λ i low high. inl ((let more = still_below in omega arith), low, high);
           };
           open_own = λ u is. let none : (hand (view_of next)).open_unit ≡ None = ap (λ (a : Hand). a.open_unit) h in absurd cc;
+          ended = λ u i n claim not. absurd (unclaimed (hand (view_of next)).number u i n (ap (λ c. events_by c (view_of next).seen) number ∙ fresh_none) claim);
         }
 
     fresh_known : IsKnown (view_of next).limits (view_of next)
@@ -144,3 +150,7 @@ pub no_lows : (m n c p : ℕ) → slice_index (marks_of (replicate m (replicate 
 no_lows m n c p = let all = replicate m (replicate n 0) in dite (dec_le (suc c) m)
     (λ less. ap (λ (row : List ℕ). slice_index row p) (get_or-replicate m c (replicate n 0) [] less) ∙ none_in n p)
     (λ not. ap (λ (row : List ℕ). slice_index row p) (get_or_past all c [] (subst (λ z. z ≤ c) (sym (length-replicate m (replicate n 0))) (omega arith))))
+
+-- nor a gap
+pub no_gaps : (m n c p : ℕ) → gap_in (marks_of (replicate m (replicate n 0)) c) p ≡ (0, 0)
+no_gaps m n c p = λ i. (no_lows m n c (2 * p) i, no_lows m n c (2 * p + 1) i)

@@ -5,7 +5,7 @@ use Rattle.tp_model.specs.declared.types.Limits.{Limits}
 use Rattle.tp_model.specs.declared.event.Event.{Event}
 use Rattle.tp_model.specs.declared.trace.StepKind.{StepKind}
 use Rattle.tp_model.specs.History.{In, events_by}
-use Rattle.tp_model.specs.Passes.{IsOwnOpen, IsRun, looks, opening_of}
+use Rattle.tp_model.specs.Passes.{AreEnded, IsOwnOpen, IsRun, looks, opening_of}
 use Rattle.tp_model.specs.Steps.{IsLegal}
 use Rattle.tp_model.proofs.Bridges.{begins_refl}
 use Rattle.tp_rule.specs.Views.{IsOnePass, hand}
@@ -43,6 +43,8 @@ module _ (l : Limits) (kind : StepKind) (f : Hand → Hand) (known : List Known)
           run = subst (λ (a : Hand). IsRun l w.seen a.number a.blocks a.next a.left) (sym h) (subst (λ z. IsRun l z (f (hand v)).number (f (hand v)).blocks (f (hand v)).next (f (hand v)).left) (sym unseen_seen) run);
           open_own = λ u is. let same : (hand v).open_unit ≡ Some u = sym (ap (λ (a : Hand). a.open_unit) h ∙ open_unit) ∙ is in
               subst (λ (z : List Event × ℕ). IsOwnOpen z.0 z.1 u) (λ i. (sym unseen_seen i, sym c i)) (s.shows.open_own u same);
+          ended = λ u i n claim not.
+              subst (λ (z : List Event × ℕ). AreEnded z.0 z.1 (hand v).open_unit) (λ k. (sym unseen_seen k, sym c k)) s.shows.ended u i n claim (λ is. not (ap (λ (a : Hand). a.open_unit) h ∙ (open_unit ∙ is)));
         };
         known = λ x q. subst (λ h. IsSo l h x) (sym unseen_seen) (so x (subst (λ (z : View). Knows z x) is q));
       }

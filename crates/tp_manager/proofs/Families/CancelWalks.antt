@@ -1,5 +1,5 @@
 -- A walk that cancels.
-use Rattle.std.proofs.Common.{◌≡◌, ◌≢◌, ◌⊎◌, ◌↔◌, ℕ, ◌+◌, ◌<◌, ◌≤◌, true, false, Some, List, [], ◌∷◌, ◌++◌, length, refl, sym, ◌∙◌, ap, subst, inl, inr, ⊎_elim, arith, length-append, mul-le-mul_right}
+use Rattle.std.proofs.Common.{◌≡◌, ◌≢◌, ◌⊎◌, ◌↔◌, ℕ, ◌+◌, ◌<◌, ◌≤◌, true, false, Some, List, [], ◌∷◌, ◌++◌, length, refl, sym, ◌∙◌, ap, subst, inl, inr, ⊎_elim, arith, length-append}
 use Rattle.std.proofs.lemmas.Bool.{cases_eq}
 use mathlib.Core.List.{IsPrefix}
 use Rattle.tp_model.specs.declared.types.Element.{Element}
@@ -28,18 +28,19 @@ use Rattle.tp_rule.specs.Views.{hand}
 use Rattle.tp_rule.specs.declared.view.View.{View}
 use Rattle.tp_manager.specs.declared.cancelling.Ended.{Ended}
 use Rattle.tp_manager.specs.declared.cancelling.Ended.TheVariants.{Killed, Outputs, Before}
-use Rattle.tp_manager.specs.Bounds.{end_steps, ends_steps}
+use Rattle.tp_manager.specs.Bounds.{each_end_steps, end_steps_at}
 use Rattle.tp_manager.specs.Cancels.{IsDoneAt, IsTarget}
-use Rattle.tp_manager.specs.Endings.{Cancelling, CancelsIn, EndsAt, IsWalkedOut, IsEnded, IsUnworked, killed_in, killed_there}
+use Rattle.tp_manager.specs.Endings.{Cancelling, CancelsIn, EndsAt, IsWalkedOut, IsEnded, IsUnworked, gone_steps, killed_in, killed_there}
 use Rattle.tp_manager.specs.Families.{IsOutputFrom, Reached, and_from}
 use Rattle.tp_manager.specs.Kills.{FailsIn, IsPastKill, KillsIn}
 use Rattle.tp_manager.specs.CallSteps.{Looked, Steady}
 use Rattle.tp_manager.proofs.Families.Cancels.{killed_append, none_killed, swept_begins, swept_few, swept_freed, swept_looked, swept_slain, swept_then, target_later}
 use Rattle.tp_manager.proofs.Accounts.Counts.{count_most}
 use Rattle.tp_manager.proofs.Calls.Gains.{gained_begins}
+use Rattle.tp_manager.proofs.Families.EndSums.{gone_few, gone_more, gone_none}
 use Rattle.tp_manager.proofs.Families.InTurn.{done_wider, turns_more, turns_wider}
 use Rattle.tp_manager.proofs.Families.ReplyWalks.{committed_if}
-use Rattle.tp_manager.proofs.Families.Trees.{all_gone, gone_before, gone_either, gone_here, outputs_from, tree_begins, tree_few, tree_on}
+use Rattle.tp_manager.proofs.Families.Trees.{all_gone, gone_before, gone_either, gone_here, outputs_from, tree_begins, tree_on}
 use Rattle.tp_manager.proofs.Calls.CallSteps.{looked_begins, looked_none}
 
 -- who is consumed was taken by that unit, which was committed
@@ -152,7 +153,7 @@ module _ (l : Limits) (root : ℕ) where
       let at_least : t.1 ≤ j = omega arith in let below : j < t.1 + t.2 = omega arith in
       (record { unit = t.0; consumed = t.3; first = t.1; count = t.2; ended = t.4; low = at_least; high = below }, t.5 j at_least below)
 
-  pub cancelling_begins : (Left : ℕ → Type 0) (v : View) → Steady l v → IsRequest v.seen root → Left root → ((i : ℕ) → Left i → i ≡ root) → Cancelling l 0 root 0 0 Left v v
+  pub cancelling_begins : (Left : ℕ → Type 0) (v : View) → Steady l v → IsRequest v.seen root → Left root → ((i : ℕ) → Left i → i ≡ root) → Cancelling l root 0 0 Left v v
   cancelling_begins Left v steady request left only = record {
     gone = λ i. false;
     tree = tree_begins l root Left v.seen steady.shows.legal request left only;
@@ -163,15 +164,15 @@ module _ (l : Limits) (root : ℕ) where
     in_order = tt;
     done = λ i is. absurd cc;
     events = [];
-    swept = swept_looked l root 0 v v (looked_none l v steady);
+    swept = swept_few l root 0 (gone_steps l (λ i. false) v.seen) [] v v (let none = gone_none l v.seen in omega arith) (swept_looked l root 0 v v (looked_none l v steady));
     counted = refl;
     turns = refl;
     few = omega arith;
   }
 
   -- the element that is taken is born, and of the family
-  pub cancelling_there : (n k killed i : ℕ) (Left : ℕ → Type 0) (v w : View) → Cancelling l n root k killed Left v w → Left i → (i < rows_of l) × IsOfFamily w.seen root i
-  cancelling_there n k killed i Left v w t left =
+  pub cancelling_there : (k killed i : ℕ) (Left : ℕ → Type 0) (v w : View) → Cancelling l root k killed Left v w → Left i → (i < rows_of l) × IsOfFamily w.seen root i
+  cancelling_there k killed i Left v w t left =
       let c = t.tree.each i (inl left) in let legal = t.swept.gained.walk.steady.shows.legal in
       let inside = births_inside l w.seen legal c.0 (is_born w.seen i c.0 c.1) in let id = element_of-id w.seen i c.0 c.1 in
       (omega arith, (c.0, c.1, c.2))
@@ -182,11 +183,11 @@ module _ (l : Limits) (root : ℕ) where
   killed_one i (Outputs f m) = omega arith
 
   -- one element more
-  module _ (n m k killed i : ℕ) (Left Next Adds : ℕ → Type 0) (r : Ended) (v w y : View) (left : Left i) (least : (j : ℕ) → Left j → i ≤ j)
+  module _ (k killed i : ℕ) (Left Next Adds : ℕ → Type 0) (r : Ended) (v w y : View) (left : Left i) (least : (j : ℕ) → Left j → i ≤ j)
       (only : (j : ℕ) → Next j → (Left j × (j ≢ i)) ⊎ Adds j) (kept : (j : ℕ) → Left j → j ≢ i → Next j) (adds : (j : ℕ) → Adds j → IsOutputFrom y.seen root i j × LeadsTo l.attempts y.seen i j)
-      (s : Cancelling l n root k killed Left v w) (e : EndsAt l m root i r w y) (here_done : IsWalkedOut l Next y.seen i) where
+      (s : Cancelling l root k killed Left v w) (of : IsOfFamily w.seen root i) (e : EndsAt l (end_steps_at l of.0) root i r w y) (here_done : IsWalkedOut l Next y.seen i) where
     begins : IsPrefix w.seen y.seen
-    begins = swept_begins l root m e.events w y e.swept
+    begins = swept_begins l root (end_steps_at l of.0) e.events w y e.swept
 
     legal : IsLegal l y.seen
     legal = e.swept.gained.walk.steady.shows.legal
@@ -221,10 +222,10 @@ module _ (l : Limits) (root : ℕ) where
         led : (a j : ℕ) → In a s.walk → LeadsTo l.attempts y.seen a j → LeadsTo l.attempts w.seen a j
         led a j p t = (done_leads a j (Reached Left s.gone) w.seen y.seen legal begins (s.done a (s.only a p)) t).0
 
-    pub cancelling_on : Cancelling l (n + m) root (k + 1) (killed + length (killed_there i r)) Next v y
+    pub cancelling_on : Cancelling l root (k + 1) (killed + length (killed_there i r)) Next v y
     cancelling_on = record {
       gone = and_from i s.gone;
-      tree = tree_on l root k i Left Next Adds s.gone w.seen y.seen begins (cancelling_there n k killed i Left v w s left).0 left only kept (λ j a. (adds j a).0) s.tree;
+      tree = tree_on l root k i Left Next Adds s.gone w.seen y.seen begins (cancelling_there k killed i Left v w s left).0 left only kept (λ j a. (adds j a).0) s.tree;
       walk = s.walk ++ i ∷ [];
       walked = λ j is. ⊎_elim (λ q. subst (λ z. In z (s.walk ++ i ∷ [])) (sym q) (in_right s.walk here)) (λ old. in_left (i ∷ []) (s.walked j old)) (gone_either i s.gone j is);
       only = λ j p. ⊎_elim (λ old. gone_before i s.gone j (s.only j old)) (λ last. subst (λ z. and_from i s.gone z ≡ true) (sym (in_one last)) (gone_here i s.gone)) (in_either s.walk (i ∷ []) p);
@@ -235,12 +236,13 @@ module _ (l : Limits) (root : ℕ) where
           (λ old. done_later j (Reached Left s.gone) (Reached Next (and_from i s.gone)) w.seen y.seen legal begins more (s.done j old))
           (gone_either i s.gone j is);
       events = s.events ++ e.events;
-      swept = swept_then l root n m s.events e.events v w y s.swept e.swept;
+      swept = swept_few l root (gone_steps l s.gone w.seen + end_steps_at l of.0) (gone_steps l (and_from i s.gone) y.seen) (s.events ++ e.events) v y
+          (gone_more l i s.gone w.seen y.seen of.0 begins of.1 (s.tree.apart i left)) (swept_then l root (gone_steps l s.gone w.seen) (end_steps_at l of.0) s.events e.events v w y s.swept e.swept);
       counted = ap length (killed_append s.events e.events ∙ ap (λ z. killed_in s.events ++ z) e.killed) ∙ (length-append (killed_in s.events) (killed_there i r) ∙ ap (λ z. z + length (killed_there i r)) s.counted);
       turns = turns_more l (hand v).number root v.seen y.seen s.walk s.events i e.events
           (turns_wider l (hand v).number root v.seen v.seen w.seen y.seen s.walk s.events (begins_refl v.seen) begins s.turns)
           (subst (λ k. IsDoneAt l k root v.seen y.seen i e.events) s.swept.gained.walk.number
-          (done_wider l (hand w).number root v.seen w.seen y.seen y.seen i e.events (swept_begins l root n s.events v w s.swept) (begins_refl y.seen) e.at));
+          (done_wider l (hand w).number root v.seen w.seen y.seen y.seen i e.events (swept_begins l root (gone_steps l s.gone w.seen) s.events v w s.swept) (begins_refl y.seen) e.at));
       few = let one = killed_one i r in let few = s.few in omega arith;
     }
       where
@@ -254,52 +256,35 @@ module _ (l : Limits) (root : ℕ) where
             r
 
   -- no unit takes it: it leads to nothing
-  pub cancelling_unworked : (n m k killed i : ℕ) (Left Less : ℕ → Type 0) (r : Ended) (v w y : View) → Left i → ((j : ℕ) → Left j → i ≤ j) → ((j : ℕ) → Less j ↔ (Left j × (j ≢ i)))
-      → Cancelling l n root k killed Left v w → EndsAt l m root i r w y → IsUnworked l i y.seen → Cancelling l (n + m) root (k + 1) (killed + length (killed_there i r)) Less v y
-  cancelling_unworked n m k killed i Left Less r v w y left least less s e t =
-      cancelling_on n m k killed i Left Less (λ j. ⊥) r v w y left least (λ j x. inl ((less j).0 x)) (λ j old differ. (less j).1 (old, differ)) (λ j none. absurd none) s e (inl t)
+  pub cancelling_unworked : (k killed i : ℕ) (Left Less : ℕ → Type 0) (r : Ended) (v w y : View) → Left i → ((j : ℕ) → Left j → i ≤ j) → ((j : ℕ) → Less j ↔ (Left j × (j ≢ i)))
+      → Cancelling l root k killed Left v w → (of : IsOfFamily w.seen root i) → EndsAt l (end_steps_at l of.0) root i r w y → IsUnworked l i y.seen → Cancelling l root (k + 1) (killed + length (killed_there i r)) Less v y
+  cancelling_unworked k killed i Left Less r v w y left least less s of e t =
+      cancelling_on k killed i Left Less (λ j. ⊥) r v w y left least (λ j x. inl ((less j).0 x)) (λ j old differ. (less j).1 (old, differ)) (λ j none. absurd none) s of e (inl t)
 
   -- a unit had consumed it: the walk comes to its outputs
-  pub cancelling_outputs : (n m k killed i first count : ℕ) (Left Less Next : ℕ → Type 0) (v w y : View) → Left i → ((j : ℕ) → Left j → i ≤ j) → ((j : ℕ) → Less j ↔ (Left j × (j ≢ i)))
-      → ((j : ℕ) → Next j ↔ (Less j ⊎ ((first ≤ j) × (j < first + count)))) → Cancelling l n root k killed Left v w → EndsAt l m root i (Outputs first count) w y
-      → Cancelling l (n + m) root (k + 1) (killed + 0) Next v y
-  cancelling_outputs n m k killed i first count Left Less Next v w y left least less next s e =
-      let t = e.is in let c = s.tree.each i (inl left) in let begins = swept_begins l root m e.events w y e.swept in let legal = e.swept.gained.walk.steady.shows.legal in
-      cancelling_on n m k killed i Left Next (λ j. (first ≤ j) × (j < first + count)) (Outputs first count) v w y left least
+  pub cancelling_outputs : (k killed i first count : ℕ) (Left Less Next : ℕ → Type 0) (v w y : View) → Left i → ((j : ℕ) → Left j → i ≤ j) → ((j : ℕ) → Less j ↔ (Left j × (j ≢ i)))
+      → ((j : ℕ) → Next j ↔ (Less j ⊎ ((first ≤ j) × (j < first + count)))) → Cancelling l root k killed Left v w → (of : IsOfFamily w.seen root i) → EndsAt l (end_steps_at l of.0) root i (Outputs first count) w y
+      → Cancelling l root (k + 1) (killed + 0) Next v y
+  cancelling_outputs k killed i first count Left Less Next v w y left least less next s of e =
+      let t = e.is in let c = s.tree.each i (inl left) in let begins = swept_begins l root (end_steps_at l of.0) e.events w y e.swept in let legal = e.swept.gained.walk.steady.shows.legal in
+      cancelling_on k killed i Left Next (λ j. (first ≤ j) × (j < first + count)) (Outputs first count) v w y left least
       (λ j x. ⊎_elim (λ old. inl ((less j).0 old)) (λ new. inr new) ((next j).0 x))
       (λ j old differ. (next j).1 (inl ((less j).1 (old, differ))))
       (λ j range. (
         outputs_from l root y.seen i t.0 first count j t.1 c.0 legal (found_later w.seen y.seen begins i c.0 c.1) c.2 t.2 t.3 t.5 range.0 range.1,
         record { unit = t.0; consumed = t.4; first = first; count = count; ended = t.5; low = range.0; high = range.1 },
       ))
-      s e (inr (t.0, first, count, t.4, t.5, λ j low high. (next j).1 (inr (low, high))))
-
-  pub cancelling_few : (n m k killed : ℕ) (Left : ℕ → Type 0) (v w : View) → n ≤ m → Cancelling l n root k killed Left v w → Cancelling l m root k killed Left v w
-  cancelling_few n m k killed Left v w le s = record {
-    gone = s.gone;
-    tree = s.tree;
-    walk = s.walk;
-    walked = s.walked;
-    only = s.only;
-    up = s.up;
-    in_order = s.in_order;
-    done = s.done;
-    events = s.events;
-    swept = swept_few l root n m s.events v w le s.swept;
-    counted = s.counted;
-    turns = s.turns;
-    few = s.few;
-  }
+      s of e (inr (t.0, first, count, t.4, t.5, λ j low high. (next j).1 (inr (low, high))))
 
   -- it goes on from no more elements than there are rows
-  pub cancelling_most : (n k killed : ℕ) (Left : ℕ → Type 0) (v w : View) → Cancelling l n root k killed Left v w → k ≤ rows_of l
-  cancelling_most n k killed Left v w s = let all = count_most s.gone (rows_of l) in let k_is = s.tree.counted in omega arith
+  pub cancelling_most : (k killed : ℕ) (Left : ℕ → Type 0) (v w : View) → Cancelling l root k killed Left v w → k ≤ rows_of l
+  cancelling_most k killed Left v w s = let all = count_most s.gone (rows_of l) in let k_is = s.tree.counted in omega arith
 
   -- nothing is left: the family is settled
-  pub cancelling_ends : (k killed : ℕ) (Left : ℕ → Type 0) (v w : View) → ((i : ℕ) → ¬ Left i) → Cancelling l (ends_steps l k) root k killed Left v w → CancelsIn l (ends_steps l (length (family w.seen root))) root killed v w
+  pub cancelling_ends : (k killed : ℕ) (Left : ℕ → Type 0) (v w : View) → ((i : ℕ) → ¬ Left i) → Cancelling l root k killed Left v w → CancelsIn l (each_end_steps l (family w.seen root)) root killed v w
   cancelling_ends k killed Left v w none s = record {
     events = s.events;
-    swept = swept_few l root (ends_steps l k) (ends_steps l (length (family w.seen root))) s.events v w (mul-le-mul_right (end_steps l) (tree_few l root k Left s.gone w.seen legal s.tree)) s.swept;
+    swept = swept_few l root (gone_steps l s.gone w.seen) (each_end_steps l (family w.seen root)) s.events v w (gone_few l root s.gone w.seen legal of_root) s.swept;
     counted = s.counted;
     walk = s.walk;
     in_order = s.in_order;
@@ -310,6 +295,9 @@ module _ (l : Limits) (root : ℕ) where
     where
       legal : IsLegal l w.seen
       legal = s.swept.gained.walk.steady.shows.legal
+
+      of_root : (x : Element) → element_of w.seen x.id ≡ Some x → s.gone x.id ≡ true → x.root ≡ root
+      of_root x born is = let c = s.tree.each x.id (inr is) in let same : c.0 ≡ x = (let a = c.1 in cc) in ap (λ (z : Element). z.root) (sym same) ∙ c.2
 
       come : (j : ℕ) → IsReached l.attempts w.seen root s.walk j → Reached Left s.gone j
       come j (inl q) = subst (Reached Left s.gone) (sym q) s.tree.root_too

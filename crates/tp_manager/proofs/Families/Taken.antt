@@ -8,17 +8,22 @@ use Rattle.tp_model.specs.declared.types.Refusal.{Refusal}
 use Rattle.tp_model.specs.declared.types.Refusal.TheVariants as refusals
 use Rattle.tp_model.specs.declared.types.Status.TheVariants.{Killed}
 use Rattle.tp_model.specs.declared.event.Event.{Event}
+use Rattle.tp_model.specs.declared.event.Event.TheVariants.{Kill}
 use Rattle.tp_model.specs.Families.{family}
-use Rattle.tp_model.specs.History.{element_of, status_of}
+use Rattle.tp_model.specs.History.{IsSettled, element_of, status_of}
 use Rattle.tp_model.specs.Steps.{IsLegal, rows_of}
 use Rattle.tp_model.proofs.Bridges.{begins_refl, begins_trans, element_of-id, found_later, is_born}
+use Rattle.tp_model.proofs.Histories.{legal_start, status_of-snoc}
 use Rattle.tp_model.proofs.Later.{births_inside}
+use Rattle.tp_model.proofs.LawProofs.{settled_stay}
+use Rattle.tp_model.proofs.Lists.{if_same}
+use Rattle.tp_rule.specs.Views.{hand}
 use Rattle.tp_rule.specs.declared.view.View.{View}
 use Rattle.tp_manager.specs.declared.row_reads.Birth.{Birth}
-use Rattle.tp_manager.specs.Bounds.{collect_steps, one_take_steps, takes_steps, walk_steps}
+use Rattle.tp_manager.specs.Bounds.{collect_steps, one_take_steps, walk_steps}
 use Rattle.tp_manager.specs.Families.{IsAsked, Listed, Taken, Taking, WereKilled, count_below, in_family, is_member}
 use Rattle.tp_manager.specs.Kills.{Slain}
-use Rattle.tp_manager.specs.Lists.{HasReply, IsReply}
+use Rattle.tp_manager.specs.Lists.{HasReply, IsReply, killed_between}
 use Rattle.tp_manager.specs.Looks.{IsBornAs}
 use Rattle.tp_manager.specs.Releases.{IsPastCollect}
 use Rattle.tp_manager.specs.Requeues.{IsBetween}
@@ -27,7 +32,8 @@ use Rattle.tp_manager.proofs.Accounts.Counts.{count_le, count_most, count_rises}
 use Rattle.tp_manager.proofs.Calls.Gains.{gained_begins, gained_few}
 use Rattle.tp_manager.proofs.Kills.OneKill.{freed_looked, freed_slain}
 use Rattle.tp_manager.proofs.Kills.Releases.{head_stage}
-use Rattle.tp_manager.proofs.Families.Trees.{family_grows, members_are}
+use Rattle.tp_manager.proofs.Families.KilledMeanwhile.{killed_more, killed_one, not_killed}
+use Rattle.tp_manager.proofs.Families.Trees.{family_grows}
 use Rattle.tp_manager.proofs.Calls.CallSteps.{looked_begins, looked_few, looked_none, looked_then}
 
 -- why a reply wasn't collected: another was quicker
@@ -80,14 +86,10 @@ module _ (l : Limits) (root : ℕ) where
       go i (Some x) e is = ap (is_member root) (found_later a b begins i x e ∙ sym e) ∙ is
 
   pub taking_begins : (v : View) → Steady l v → Taking l root 0 0 v v
-  taking_begins v s = record { looked = looked_few l 0 (0 * one_take_steps (length (family v.seen root))) v v (omega arith) (looked_none l v s); killed = λ x born reply less. absurd (omega arith); tries = omega arith; inside = omega arith }
+  taking_begins v s = record { looked = looked_few l 0 (0 * one_take_steps (length (family v.seen root))) v v (omega arith) (looked_none l v s); killed = λ x born reply less. absurd (omega arith); tries = omega arith; lost = omega arith; inside = omega arith }
 
   sum_few : (k a b z : ℕ) → a ≤ z → b ≤ z → k * a + b ≤ (k + 1) * z
   sum_few k a b z first second = let all : k * a ≤ k * z = mul-le-mul_left k first in omega arith
-
-  -- this many others were quicker: each one took another reply of the family
-  tries_few : (from k : ℕ) (v w : View) → IsLegal l w.seen → Taking l root from k v w → k ≤ length (family w.seen root)
-  tries_few from k v w legal t = let up = count_rises (in_family root w.seen) from (rows_of l) t.inside in let all = members_are root l w.seen legal in let tries = t.tries in omega arith
 
   pub taking_most : (from k : ℕ) (v w : View) → Taking l root from k v w → k ≤ rows_of l
   taking_most from k v w t = let up = count_rises (in_family root w.seen) from (rows_of l) t.inside in let most = count_most (in_family root w.seen) (rows_of l) in let tries = t.tries in omega arith
@@ -113,17 +115,14 @@ module _ (l : Limits) (root : ℕ) where
           let all = sum_few k (one_take_steps (length (family w.seen root))) (one_take_steps (length (family x.seen root))) (one_take_steps (length (family y root))) (omega arith) (omega arith) in
           omega arith
 
-      last : (y : List Event) → IsPrefix x.seen y → (k + 1) * one_take_steps (length (family y root)) ≤ takes_steps (length (family y root))
-      last y on =
-          let f = length (family y root) in
-          let one = family_grows w.seen x.seen root after in let two = family_grows x.seen y root on in
-          let tries = tries_few from k v w t.looked.walk.steady.shows.legal t in
-          let tries_are : k ≤ f = omega arith in
-          mul-le-mul_right (one_take_steps f) (omega arith)
+      last : (y : List Event) (walks : ℕ) → k + 1 ≤ walks → (k + 1) * one_take_steps (length (family y root)) ≤ walks * one_take_steps (length (family y root))
+      last y walks le = mul-le-mul_right (one_take_steps (length (family y root))) le
 
-    pub taken_none : Listed l root from None w x → Taken l (takes_steps (length (family x.seen root))) root v x None
+    pub taken_none : Listed l root from None w x → Taken l ((killed_between l root v.seen x.seen + 1) * one_take_steps (length (family x.seen root))) root v x None
     taken_none s = (
-      (let a = few None s x.seen (begins_refl x.seen) in let b = last None s x.seen (begins_refl x.seen) in looked_few l _ (takes_steps (length (family x.seen root))) v x (omega arith) (both None s)),
+      (let lost = t.lost in let more = killed_more l root v.seen w.seen x.seen (legal None s) (after None s) in
+          let a = few None s x.seen (begins_refl x.seen) in let b = last None s x.seen (killed_between l root v.seen x.seen + 1) (omega arith) in
+          looked_few l _ ((killed_between l root v.seen x.seen + 1) * one_take_steps (length (family x.seen root))) v x (omega arith) (both None s)),
       killed_both from None (λ i. Unit {0}) v.seen w.seen x.seen (before None s) (after None s) t.killed s.killed (λ i all low. (low, tt)),
     )
 
@@ -134,14 +133,25 @@ module _ (l : Limits) (root : ℕ) where
       killed : WereKilled l root (λ i. i < id) v.seen x.seen
       killed = killed_both from (Some id) (λ i. i < id) v.seen w.seen x.seen (before (Some id) s) (after (Some id) s) t.killed s.killed (λ i less low. (low, less))
 
-      pub taken_some : (e : Element) → Slain l collect_steps id [] x y → element_of y.seen id ≡ Some e → IsPrefix x.seen y.seen → Taken l (takes_steps (length (family y.seen root))) root v y (Some e)
+      -- it waited since the collection began, and was killed now
+      lost_one : IsLegal l y.seen → IsPrefix x.seen y.seen → status_of l.attempts y.seen id ≡ Killed → k + 1 ≤ killed_between l root v.seen y.seen
+      lost_one now on gone =
+          let p = s.found.1 in let e = there_is in let lost = t.lost in
+          let whole : IsLegal l p.0 = legal_start l p.0 p.2.0 (subst (IsLegal l) (sym p.2.1) (legal (Some id) s)) in
+          let one = killed_one l root v.seen w.seen y.seen id e.0 now (begins_trans w.seen x.seen y.seen (after (Some id) s) on) (found_later x.seen y.seen on id e.0 e.1) e.2
+          (not_killed l v.seen p.0 id whole (begins_trans v.seen w.seen p.0 (before (Some id) s) p.1) p.3.3) (not_killed l w.seen p.0 id whole p.1 p.3.3) gone in
+          omega arith
+
+      pub taken_some : (e : Element) → Slain l collect_steps id [] x y → element_of y.seen id ≡ Some e → IsPrefix x.seen y.seen → Taken l (killed_between l root v.seen y.seen * one_take_steps (length (family y.seen root))) root v y (Some e)
       taken_some e one born on =
           let own : e.id ≡ id = element_of-id y.seen id e born in
           let n = k * one_take_steps (length (family w.seen root)) + walk_steps (length (family x.seen root)) in
           let all = freed_slain l n collect_steps id [] [] v x y (freed_looked l n id v x (both (Some id) s)) one in
-          let a = few (Some id) s y.seen on in let b = last (Some id) s y.seen on in
-          subst (λ i. Slain l (takes_steps (length (family y.seen root))) i [] v y × (element_of y.seen i ≡ Some e) × IsReply root e × WereKilled l root (λ j. j < i) v.seen y.seen) (sym own) (
-            record { gained = gained_few l (n + collect_steps) (takes_steps (length (family y.seen root))) _ v y (omega arith) all.gained; before = all.before; begins = all.begins; ends = all.ends; aborts = all.aborts },
+          let walks = killed_between l root v.seen y.seen in
+          let gone : status_of l.attempts y.seen id ≡ Killed = ap (λ h. status_of l.attempts h id) one.ends ∙ (status_of-snoc l.attempts one.before (Kill (hand x).number id) id ∙ if_same id id Killed (status_of l.attempts one.before id) refl) in
+          let a = few (Some id) s y.seen on in let b = last (Some id) s y.seen walks (lost_one one.gained.walk.steady.shows.legal on gone) in
+          subst (λ i. Slain l (walks * one_take_steps (length (family y.seen root))) i [] v y × (element_of y.seen i ≡ Some e) × IsReply root e × WereKilled l root (λ j. j < i) v.seen y.seen) (sym own) (
+            record { gained = gained_few l (n + collect_steps) (walks * one_take_steps (length (family y.seen root))) _ v y (omega arith) all.gained; before = all.before; begins = all.begins; ends = all.ends; aborts = all.aborts },
             born,
             same e born on,
             killed_later (λ j. j < id) v.seen x.seen y.seen on killed,
@@ -158,6 +168,7 @@ module _ (l : Limits) (root : ℕ) where
           | inr high ↦ (let own : e.id ≡ id = omega arith in subst (λ i. IsBetween v.seen y.seen (λ h. status_of l.attempts h i ≡ Killed)) (sym own) (gone.0, begins_trans v.seen x.seen gone.0 (looked_begins l _ v x (both (Some id) s)) gone.1, gone.2, gone.3))
         ];
         tries = more on;
+        lost = lost_one b.walk.steady.shows.legal on (settled_stay l gone.0 y.seen id b.walk.steady.shows.legal gone.2 (subst IsSettled (sym gone.3) tt) ∙ gone.3);
         inside = let e = there_is in let less = births_inside l x.seen (legal (Some id) s) e.0 (is_born x.seen id e.0 e.1) in let own = element_of-id x.seen id e.0 e.1 in omega arith;
       }
         where

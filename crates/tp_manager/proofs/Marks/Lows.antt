@@ -12,7 +12,7 @@ use Rattle.tp_rule.specs.Rule.{IsInside}
 use Rattle.tp_manager.specs.Shown.{AllRise, NoneFalls, marks_of}
 use Rattle.tp_manager.specs.Bounds.{claim_next_steps_left, claim_steps_left, drawn_steps, listing_steps_left, look_steps, low_sum, marked_steps, rows_left, scan_steps, spare_left, try_steps}
 use Rattle.tp_manager.specs.CallSteps.{IsKnown, Steady}
-use Rattle.tp_manager.specs.Marks.{MayRemember, Remembers, RemembersAll, RisesAt}
+use Rattle.tp_manager.specs.Marks.{MayRemember, Recalls, Remembers, RemembersAll, RemembersGaps, RisesAt}
 use Rattle.tp_manager.proofs.Marks.Raises.{low_any}
 use Rattle.tp_manager.proofs.Marks.Useless.{may_inside}
 
@@ -112,10 +112,22 @@ rises_in lows row c inside rises d p = dite (ℕ_discrete d c)
     (λ same. subst (λ z. slice_index (marks_of lows z) p ≤ slice_index (marks_of (set lows c row) z) p) (sym same) (subst (λ z. slice_index (marks_of lows c) p ≤ slice_index z p) (sym (get_or-set_same lows c row [] inside)) (rises p)))
     (λ other. subst (λ z. slice_index (marks_of lows d) p ≤ slice_index z p) (sym (get_or-set_other lows c d row [] other)) (omega arith))
 
-pub remembers_in : (lows : List (List ℕ)) (row : List ℕ) (c : ℕ) (v : View) → c < length lows → Remembers c v row → RemembersAll v lows → RemembersAll v (set lows c row)
-remembers_in lows row c v inside one all d = dite (ℕ_discrete d c)
-    (λ same. subst (λ z. Remembers z v (marks_of (set lows c row) z)) (sym same) (subst (Remembers c v) (sym (get_or-set_same lows c row [] inside)) one))
-    (λ other. subst (Remembers d v) (sym (get_or-set_other lows c d row [] other)) (all d))
+pub remembers_in : {gaps : List (List ℕ)} (lows : List (List ℕ)) (row : List ℕ) (c : ℕ) (v : View) → c < length lows → Remembers c v row → Recalls v lows gaps → Recalls v (set lows c row) gaps
+remembers_in lows row c v inside one all = record {
+  marks = λ d. dite (ℕ_discrete d c)
+      (λ same. subst (λ z. Remembers z v (marks_of (set lows c row) z)) (sym same) (subst (Remembers c v) (sym (get_or-set_same lows c row [] inside)) one))
+      (λ other. subst (Remembers d v) (sym (get_or-set_other lows c d row [] other)) (all.marks d));
+  gaps = all.gaps;
+}
+
+-- nor do the gaps
+pub recalls_in : {lows : List (List ℕ)} (gaps : List (List ℕ)) (row : List ℕ) (c : ℕ) (v : View) → c < length gaps → RemembersGaps c v row → Recalls v lows gaps → Recalls v lows (set gaps c row)
+recalls_in gaps row c v inside one all = record {
+  marks = all.marks;
+  gaps = λ d. dite (ℕ_discrete d c)
+      (λ same. subst (λ z. RemembersGaps z v (marks_of (set gaps c row) z)) (sym same) (subst (RemembersGaps c v) (sym (get_or-set_same gaps c row [] inside)) one))
+      (λ other. subst (RemembersGaps d v) (sym (get_or-set_other gaps c d row [] other)) (all.gaps d));
+}
 
 -- what is remembered of a mark is so in what was seen
 pub low_is : (l : Limits) (v : View) (lows : List (List ℕ)) (c p n : ℕ) → Steady l v → RemembersAll v lows → n ≡ slice_index (marks_of lows c) p → IsLow l c v.seen p n

@@ -12,7 +12,7 @@ use Rattle.tp_model.specs.History.{IsSettled, IsUnborn, element_of, status_of}
 use Rattle.tp_model.proofs.Bridges.{begins_refl, begins_trans, found_later}
 use Rattle.tp_rule.specs.Rule.{Concerns, IsInside, IsOther, IsSettledRow}
 use Rattle.tp_rule.proofs.Tellings.{inside_below, other_full}
-use Rattle.tp_rule.specs.Steps.{AreFinishedFor, HasAside, HasDead, IsLow, IsSo, Knows, RaisesMark, noted, unchanged}
+use Rattle.tp_rule.specs.Steps.{AreFinishedFor, HasAside, HasDead, IsLow, IsSo, Knows, KnowsUseless, RaisesMark, noted, unchanged}
 use Rattle.tp_rule.specs.Views.{hand}
 use Rattle.tp_rule.specs.declared.view.Hand.{Hand}
 use Rattle.tp_rule.specs.declared.view.Known.TheVariants.{PartMark, RowHead}
@@ -156,6 +156,14 @@ module _ (l : Limits) where
   -- what is over is passed by
   pub over_passed : (stage : ℕ) (h : List Event) (p n i : ℕ) → 1 ≤ stage → AreFinishedFor l stage h p n → p * l.rows ≤ i → i < p * l.rows + n → PassedBy l stage i h h
   over_passed stage h p n i server over low high x born st = (h, begins_refl h, begins_refl h, not_waiting (status_of l.attempts h i) (over i low high x born (concerned stage x.stage server st)))
+
+  -- and so is what the seat knows of no use
+  pub useless_passed : (stage : ℕ) (v : View) (i : ℕ) → 1 ≤ stage → Steady l v → KnowsUseless v stage i → PassedBy l stage i v.seen v.seen
+  useless_passed stage v i server s u x born st = ⊎_elim
+      (λ d. ⊎_elim
+      (λ t. (v.seen, begins_refl v.seen, begins_refl v.seen, not_waiting (status_of l.attempts v.seen i) (subst (λ (z : Limits). IsSettled (status_of z.attempts v.seen i)) s.pass.1 t.2)))
+      (λ e. absurd (dead_over v i s e x born)) d)
+      (λ a. absurd (aside_is stage v i s a x born (concerned stage x.stage server st))) u
 
   -- a scan that begins at row x, or after it where that row is done
   abbrev pub IsPast : ℕ → ℕ → ℕ → Option ℕ → Type 0

@@ -71,6 +71,9 @@ module _ (l : Limits) (n m : ℕ) (ms ns : List TraceEntry) (v w x : View) (a : 
   pub rests_behind : (stage p k : ℕ) → HasLook ms → RestsAt l stage p k v w → RestsAt l stage p k v x
   rests_behind stage p k look rests = ⊎_elim (λ end. inl end) (λ was. inr (use_behind stage (p * l.rows + k) look was)) rests
 
+  pub spare_behind : (stage end k : ℕ) → HasLook ms → SpareRests l stage end k v w → SpareRests l stage end k v x
+  spare_behind stage end k look rests = ⊎_elim (λ past. inl past) (λ was. inr (use_behind stage (part_rows l + k) look was)) rests
+
 -- a row that was of use after a look
 module _ (l : Limits) (n m : ℕ) (ns : List TraceEntry) (v w y x : View) (a : Acted l n v w) (b : Stepped l m ns w x) (same : x.seen ≡ y.seen) where
   opening_seen : IsPrefix (opening_in v x) w.seen

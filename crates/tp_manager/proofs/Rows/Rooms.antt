@@ -91,6 +91,10 @@ module _ (l : Limits) (p m q : PassShown) where
       (λ t. follows_within n (room_steps l rows + n) p q (omega arith) (subst (λ z. Follows n z q) t.1 f))
       (λ t. follows_then (room_steps l rows) n p m q t.4 f) room
 
+  -- where rows enough were left, the look for room made no step
+  pub room_left : (rows n : ℕ) → rows ≤ p.left → HasRoom l rows p m → Follows n m q → Follows n p q
+  room_left rows n enough room f = ⊎_elim (λ t. subst (λ z. Follows n z q) t.1 f) (λ t. absurd (let out = t.0 in omega arith)) room
+
   -- rows of the block that was drawn
   uses_block : (k first b : ℕ) → 0 < k → k ≤ 8 → p.left < k → p.seen_blocks ≤ b → b < q.seen_blocks → UsesRows k first (on_block b p m) q → UsesRows k first p q
   uses_block k first b some few less fresh seen uses = ⊎_elim

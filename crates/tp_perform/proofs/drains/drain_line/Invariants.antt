@@ -5,7 +5,7 @@ use Rattle.tp_desk.specs.Steady.{shown}
 use Rattle.tp_workers.specs.Free.{numbers}
 use Rattle.tp_commands.specs.Places.{firsts}
 use Rattle.tp_perform.specs.Told.{AreReady, units_held}
-use Rattle.tp_perform.specs.Units.{units_left}
+use Rattle.tp_perform.specs.Units.{all_units_left}
 use Rattle.tp_perform.proofs.Rounds.{WentRounds}
 use Rattle.tp_perform.proofs.drains.drain_line.Given as goal
 
@@ -24,4 +24,4 @@ invariant-rounds g l = record {
 }
 
 abbrev pub decreases-rounds : goal.decreases-rounds
-decreases-rounds g l = units_left l.manager.limits l.passes
+decreases-rounds g l = all_units_left l.manager.limits l.passes

@@ -5,7 +5,7 @@ use Rattle.tp_desk.specs.Steady.{shown}
 use Rattle.tp_workers.specs.Free.{numbers}
 use Rattle.tp_commands.specs.Places.{firsts}
 use Rattle.tp_perform.specs.Told.{AreReady, units_held}
-use Rattle.tp_perform.specs.Units.{units_left}
+use Rattle.tp_perform.specs.Units.{all_units_left}
 use Rattle.tp_perform.proofs.Rounds.{Turned}
 use Rattle.tp_perform.proofs.UnitsUsed.{count}
 use Rattle.tp_perform.proofs.drains.round.Given as goal
@@ -22,5 +22,5 @@ invariant-loop-at g l = record {
   numbered : numbers l.passes ≡ numbers l.fn.passes;
   held : units_held (length l.fn.servers) l.passes ≡ units_held (length l.fn.servers) l.fn.passes;
   turns : Turned (shown (λ z. (goal.Server-dyn g z).behaviour z.1)) (shown (λ z. (goal.Server-dyn g z).registers z.1)) (shown (λ z. (goal.Server-dyn g z).pending z.1)) l.order l.manager l.at l.fn.keeper l.fn.passes l.fn.servers l.fn.places l.claims l.keeper l.passes l.servers l.places;
-  fewer : count l.claims + units_left l.manager.limits l.passes ≤ units_left l.manager.limits l.fn.passes;
+  fewer : count l.claims + all_units_left l.manager.limits l.passes ≤ all_units_left l.manager.limits l.fn.passes;
 }

@@ -18,17 +18,17 @@ pub sum-sum-requires : goal.sum-sum-requires
 sum-sum-requires g c = lie_servers (λ b. (goal.Server-dyn g (b.vtable, b.value)).behaviour b.value) (λ b. (goal.Server-dyn g (b.vtable, b.value)).registers b.value) (λ b. (goal.Server-dyn g (b.vtable, b.value)).pending b.value) c.args.passes.now c.args.servers.now c.args.places.now c.requires.lie
 
 pub returns-in-Client-clause-tells : goal.returns-in-Client-clause-tells
-returns-in-Client-clause-tells g c = rw c.in-Client.is (client_told c.client_line.result string_bytes _ _ c.args.manager.now.limits c.in-Client.act (record { places = refl; racers = refl }) c.client_line.ensures.tells)
+returns-in-Client-clause-tells g c = rw c.in-Client.is (client_told c.client_line.result string_bytes _ _ c.args.means.now.manager.now.limits c.in-Client.act (record { places = refl; racers = refl }) c.client_line.ensures.tells)
 
 pub returns-in-Desk-clause-tells : goal.returns-in-Desk-clause-tells
-returns-in-Desk-clause-tells g c = rw c.in-Desk.is (server_told c.desk_line.result string_bytes _ _ c.args.manager.now c.args.head.now.servers.items _ c.in-Desk.server (record { client = refl; racers = refl })
-    (rw c.in-Desk.is at c.requires.in_range) (rw c.as_slice-named.ensures.value at c.desk_line.ensures.tells))
+returns-in-Desk-clause-tells g c = rw c.in-Desk.is (server_told c.desk_line.result string_bytes _ _ c.args.means.now.manager.now c.args.means.now.head.now.servers.items _ c.in-Desk.server (record { client = refl; racers = refl })
+    (rw c.in-Desk.is at c.requires.in_range) c.desk_line.ensures.tells)
 
 pub returns-in-Balance-clause-tells : goal.returns-in-Balance-clause-tells
 returns-in-Balance-clause-tells g c =
     let within = rw c.in-Balance.is at c.requires.in_range in
     rw c.in-Balance.is (balance_told c.balance_line.result string_bytes _ _ (λ b. (goal.Server-dyn g (b.vtable, b.value)).behaviour b.value) (λ b. (goal.Server-dyn g (b.vtable, b.value)).registers b.value) (λ b. (goal.Server-dyn g (b.vtable, b.value)).pending b.value)
-    c.args.passes.now c.args.servers.now c.args.places.now c.args.head.now.servers.items c.in-Balance.server c.in-Balance.k c.args.client.now c.index-servers-server.result c.index-places-server.result c.index-named-server.result
+    c.args.passes.now c.args.servers.now c.args.places.now c.args.means.now.head.now.servers.items c.in-Balance.server c.in-Balance.k c.args.client.now c.index-servers-server.result c.index-places-server.result c.index-named-server.result
     within (omega (arith, within, c.requires.as_many)) c.requires.lie (rw c.as_slice-named.ensures.value at c.index-named-server.is) refl refl c.balance_line.ensures.text)
 
 pub returns-in-Sum-clause-tells : goal.returns-in-Sum-clause-tells

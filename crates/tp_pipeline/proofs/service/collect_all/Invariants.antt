@@ -1,7 +1,7 @@
 use Rattle.std.proofs.Common.{◌≡◌, ◌≤◌, ◌+◌, length}
 use Rattle.tp_desk.specs.Steady.{shown}
 use Rattle.tp_crew.specs.Crew.{IsSteadyCrew}
-use Rattle.tp_pipeline.specs.Books.{GoesOn, IsStaffed}
+use Rattle.tp_pipeline.specs.Books.{CrewGoesOn, IsStaffed}
 use Rattle.tp_pipeline.specs.Ends.{AddUp}
 use Rattle.tp_pipeline.proofs.service.collect_all.Given as goal
 
@@ -9,7 +9,7 @@ abbrev pub invariant-loop-past : goal.invariant-loop-past
 invariant-loop-past g l = record {
   steady : IsSteadyCrew (shown (λ v. (goal.Server-dyn g v).behaviour v.1)) (shown (λ v. (goal.Server-dyn g v).registers v.1)) (shown (λ v. (goal.Server-dyn g v).pending v.1)) l.crew;
   staffed : IsStaffed l.crew;
-  goes_on : GoesOn (shown (λ v. (goal.Server-dyn g v).behaviour v.1)) (shown (λ v. (goal.Server-dyn g v).registers v.1)) l.fn.crew l.crew;
+  goes_on : CrewGoesOn (shown (λ v. (goal.Server-dyn g v).behaviour v.1)) (shown (λ v. (goal.Server-dyn g v).registers v.1)) l.fn.crew l.crew;
   add_up : AddUp l.books;
   submitted : l.books.submitted ≡ l.fn.books.submitted;
   more : l.count ≤ length l.books.roots.items + l.past;

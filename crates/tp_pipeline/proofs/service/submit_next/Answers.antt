@@ -1,6 +1,7 @@
 use Rattle.std.proofs.Common.{arith, refl}
 use Rattle.tp_pipeline.proofs.Careers.{goes_further, goes_same}
-use Rattle.tp_pipeline.proofs.Submitting.{submits_more, submits_none}
+use Rattle.tp_pipeline.specs.Stops.{StopsBehind}
+use Rattle.tp_pipeline.proofs.Submitting.{err_as, submits_more, submits_none}
 use Rattle.tp_pipeline.proofs.service.submit_next.Goals as goal
 
 pub loop-one-preserved : goal.loop-one-preserved
@@ -22,3 +23,8 @@ loop-one-init g c = record {
   few = c.requires.few;
   submits = submits_none _ _;
 }
+
+pub returns-in_err-submit_one-clause-stops : goal.returns-in_err-submit_one-clause-stops
+returns-in_err-submit_one-clause-stops g c =
+    err_as c.from_residual.result c.in_err-submit_one.field-0.0 (StopsBehind c.args.books.now.submitted c.args.crew.now c.submit_one.new.crew) c.from_residual.ensures.1
+    (c.loop-one.books.submitted, c.loop-one.crew, c.loop-one.invariant.submits, c.in_err-submit_one.ensures.stops)

@@ -1,5 +1,5 @@
 use Rattle.std.proofs.Common.{◌+◌, ◌∙◌, arith, get_or, subst, sym, take}
-use Rattle.tp_rollover.specs.Closing.{KillsEach}
+use Rattle.tp_rollover.specs.Closing.{KillsAllMoved}
 use Rattle.tp_rollover.specs.declared.moved.Moved.{Moved}
 use Rattle.tp_rollover.proofs.Calling.{at_place}
 use Rattle.tp_rollover.proofs.KillRuns.{nothing, one_killed}
@@ -31,7 +31,7 @@ loop-place-preserved c =
       own = (c.kill.ensures.own, c.kill.ensures.follows.number ∙ was.own.1);
       free = c.kill.ensures.open_unit;
       made = makes_more i (i + 1) _ c.args.pass.now c.loop-place.pass c.kill.new.pass (omega arith) was.made c.kill.ensures.follows;
-      ran = subst (λ ms. KillsEach l ms c.args.pass.now c.kill.new.pass) (sym (take_more c.args.moved.now i nothing (omega (arith, c.loop-place-test.true))))
+      ran = subst (λ ms. KillsAllMoved l ms c.args.pass.now c.kill.new.pass) (sym (take_more c.args.moved.now i nothing (omega (arith, c.loop-place-test.true))))
           (one_killed l (take i c.args.moved.now) one c.in-Ok._killed c.args.pass.now c.loop-place.pass c.kill.new.pass was.ran
           (record { limits = c.kill.ensures.own.1; turn = c.kill.ensures.turn; follows = c.kill.ensures.follows; says = c.in-Ok.ensures.answer }));
     }

@@ -1,6 +1,6 @@
 use Rattle.std.proofs.Common.{◌∙◌, ◌+◌, ◌-◌, ap, arith, length, subst}
 use Rattle.std.specs.Option.{option_and_then}
-use Rattle.tp_rollover.specs.Anew.{tried}
+use Rattle.tp_rollover.specs.Anew.{attempts_made}
 use Rattle.tp_rollover.specs.Bounds.{AllMake, attempt_steps}
 use Rattle.tp_rollover.specs.Lone.{lone}
 use Rattle.tp_rollover.proofs.Agreeing.{stops_first}
@@ -15,7 +15,7 @@ returns-in_default-clause-gives c =
 
 pub returns-in_err-attempt_by-clause-gives : goal.returns-in_err-attempt_by-clause-gives
 returns-in_err-attempt_by-clause-gives c =
-    stops_first c.from_residual.result c.in_err-attempt_by.field-0.0 _ _ _ c.from_residual.ensures.1 (λ after. tried (length c.args.passes.now) c.args.kept.now c.args.id (c.args.times - (c.loop-time._time + 1)) (c.in-Some.at, after)) _
+    stops_first c.from_residual.result c.in_err-attempt_by.field-0.0 _ _ _ c.from_residual.ensures.1 (λ after. attempts_made (length c.args.passes.now) c.args.kept.now c.args.id (c.args.times - (c.loop-time._time + 1)) (c.in-Some.at, after)) _
     (c.loop-time.invariant.goes_on
     ∙ tried_at (length c.args.passes.now) (length c.loop-time.passes) c.args.kept.now c.args.id c.args.times c.loop-time._time c.loop-time.from (lone c.args.manager.now c.loop-time.keeper c.loop-time.passes) c.loop-time-test.true c.loop-time.auto.passes c.in-Some.at (c.in-Some.ensures.first c.loop-time.keeper.seen))
     c.in_err-attempt_by.ensures.gives
@@ -33,5 +33,5 @@ loop-time-preserved c =
           omega (arith, more, i.made, made));
       goes_on = i.goes_on
           ∙ (tried_at (length c.args.passes.now) (length c.loop-time.passes) c.args.kept.now c.args.id c.args.times c.loop-time._time c.loop-time.from (lone c.args.manager.now c.loop-time.keeper c.loop-time.passes) c.loop-time-test.true c.loop-time.auto.passes c.in-Some.at (c.in-Some.ensures.first c.loop-time.keeper.seen)
-          ∙ ap (option_and_then (λ after. tried (length c.args.passes.now) c.args.kept.now c.args.id (c.args.times - (c.loop-time._time + 1)) (c.in-Some.at, after))) c.in_ok-attempt_by.ensures.gives);
+          ∙ ap (option_and_then (λ after. attempts_made (length c.args.passes.now) c.args.kept.now c.args.id (c.args.times - (c.loop-time._time + 1)) (c.in-Some.at, after))) c.in_ok-attempt_by.ensures.gives);
     }

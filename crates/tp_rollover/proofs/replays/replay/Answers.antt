@@ -1,6 +1,6 @@
 use Rattle.std.proofs.Common.{◌*◌, arith, refl, subst}
 use Rattle.tp_model.specs.declared.types.Limits.{Limits}
-use Rattle.tp_rollover.specs.Bounds.{AllMake, IsWithin, attempt_steps}
+use Rattle.tp_rollover.specs.Bounds.{AllMake, IsWithinLimits, attempt_steps}
 use Rattle.tp_rollover.proofs.Steps.{replayed, rounds_within}
 use Rattle.tp_rollover.proofs.replays.replay.Goals as goal
 
@@ -11,7 +11,7 @@ returns-in_err-rounds-clause-steps c =
 
 pub returns-clause-steps : goal.returns-clause-steps
 returns-clause-steps c =
-    let within = subst (λ (l : Limits). IsWithin l c.args.one) c.limits.ensures (c.if-not-is_within.ensures refl) in
+    let within = subst (λ (l : Limits). IsWithinLimits l c.args.one) c.limits.ensures (c.if-not-is_within.ensures refl) in
     let few = within.0 in
     let times = c.in-Some.ensures in
     let made = subst (λ z. AllMake (c.in-Some.times * attempt_steps c.args.manager.now.limits z) c.rounds.new.keeper c.rounds.new.passes c.attempts.new.keeper c.attempts.new.passes) c.rounds.ensures.lone.1 c.attempts.ensures.steps in

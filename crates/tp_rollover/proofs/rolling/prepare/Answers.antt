@@ -7,7 +7,7 @@ use Rattle.tp_rollover.proofs.Sums.{most_for}
 use Rattle.tp_rollover.proofs.rolling.prepare.Goals as goal
 
 pub returns-clause-lone : goal.returns-clause-lone
-returns-clause-lone c = on_ok c.stand_again.result _ (record { kept = c.find_all.ensures.keeper.0; own = c.find_all.ensures.own; together = c.in_ok-alive.ensures.together })
+returns-clause-lone c = on_ok c.stand_again.result _ (record { kept = c.find_all.ensures.keeper.0; own = c.find_all.ensures.own; together = c.find_all.ensures.together })
 
 pub returns-clause-steps : goal.returns-clause-steps
 returns-clause-steps c =
@@ -22,15 +22,15 @@ pub returns-clause-ready : goal.returns-clause-ready
 returns-clause-ready c =
     let e = c.in_ok-alive.ensures in
     if_ok c.stand_again.result _ _ (λ moved t. record {
-      history = e.history;
-      old_together = e.together;
+      history = c.find_all.ensures.history;
+      old_together = c.find_all.ensures.together;
       new_together = t.together;
       survivors = c.deref.result.now;
       found = subst (AreSurvivors c.args.old.now.limits c.find_all.new.keeper.seen) (sym c.deref.ensures.value) e.found;
       in_hand = subst (AreInHand c.args.old_passes.now) (sym c.deref.ensures.value) e.in_hand;
       again = t.again;
       hands = t.hands;
-      some = e.some;
+      some = c.find_all.ensures.some;
     }) c.stand_again.ensures.restored
 
 pub returns-clause-computed : goal.returns-clause-computed
@@ -39,7 +39,7 @@ returns-clause-computed c fresh =
     made_so c.stand_again.result _ _ _ (c.stand_again.ensures.computed fresh) (λ moved made. record {
       keeper = c.find_all.new.keeper;
       looked = c.find_all.new.passes;
-      together = e.together;
+      together = c.find_all.ensures.together;
       stay = e.stays;
       survivors = c.deref.result.now;
       found = subst (AreSurvivors c.args.old.now.limits c.find_all.new.keeper.seen) (sym c.deref.ensures.value) e.found;
@@ -53,7 +53,7 @@ returns-clause-would_not_fit c fresh full =
     record {
       keeper = c.find_all.new.keeper;
       looked = c.find_all.new.passes;
-      together = e.together;
+      together = c.find_all.ensures.together;
       stay = e.stays;
       survivors = c.deref.result.now;
       found = subst (AreSurvivors c.args.old.now.limits c.find_all.new.keeper.seen) (sym c.deref.ensures.value) e.found;

@@ -28,6 +28,7 @@ loop-preserved g c =
     record {
       bytes = rw grown (read_more _ _ _ _ _ c.loop.invariant.bytes c.in_ok-n.ensures.bytes.0);
       short = omega arith;
+      reserved = omega (arith, c.loop.invariant.reserved, c.in_ok-extend_from_slice.ensures.capacity);
       some = omega (arith, longer, c.loop.invariant.some, c.if-n-eq0.false, c.loop.read.ok.0, c.extend_from_slice.new.self.ok.0);
       once = omega arith;
     }

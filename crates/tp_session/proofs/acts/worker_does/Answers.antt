@@ -3,7 +3,7 @@ use Rattle.std.specs.Vec.{with_item}
 use Rattle.tp_manager.specs.Shown.{IsOf}
 use Rattle.tp_session.specs.Hands.{unit_of}
 use Rattle.tp_session.proofs.ActLemmas.{worker_held, worker_leads}
-use Rattle.tp_session.specs.Notes.{notes_view, with_end}
+use Rattle.tp_session.specs.Notes.{notes_view, with_unit_end}
 use Rattle.tp_session.proofs.ClientLemmas.{same_at}
 use Rattle.tp_session.proofs.PassLemmas.{worker_holds}
 use Rattle.tp_session.proofs.TellLemmas.{some_at}
@@ -37,4 +37,4 @@ returns-clause-does g c =
     let same_work = same_at c.args.held.now.works.items c.args.worker c.index-work.result.now c.index_mut.result.now here c.index-work.ensures c.index_mut.ensures.value in
     some_at c.args.head.now.workers.items c.args.worker c.index.result.now _ within c.index.ensures
     (worker_leads (λ b. (goal.Server-dyn g (b.vtable, b.value)).behaviour b.value) (λ b. (goal.Server-dyn g (b.vtable, b.value)).registers b.value) (λ b. (goal.Server-dyn g (b.vtable, b.value)).pending b.value) c.args.head.now c.args.worker (1 + c.len.result + c.args.worker) c.worker_act-answer.new.pass c.worker_act-answer.new.work c.args.held.now (record { managed = record { manager = c.args.held.now.managed.manager; keeper = c.args.held.now.managed.keeper; passes = with_item c.args.held.now.managed.passes (1 + c.len.result + c.args.worker) c.worker_act-answer.new.pass }; servers = c.args.held.now.servers; places = c.args.held.now.places; works = with_item c.args.held.now.works c.args.worker c.worker_act-answer.new.work; notes = c.note_end.new.self }) c.requires.held within at_is refl refl refl refl refl refl
-    c.worker_act-answer.result c.index_mut.result.now (subst (λ e. notes_view c.note_end.new.self ≡ with_end e c.worker_act-answer.result c.args.worker (notes_view c.args.held.now.notes)) same_work c.note_end.ensures) c.index.result.now c.args.act.now c.index_mut-pass.result.now c.index_mut-pass.ensures.value c.index_mut.ensures.value c.worker_act-answer.ensures.tells)
+    c.worker_act-answer.result c.index_mut.result.now (subst (λ e. notes_view c.note_end.new.self ≡ with_unit_end e c.worker_act-answer.result c.args.worker (notes_view c.args.held.now.notes)) same_work c.note_end.ensures) c.index.result.now c.args.act.now c.index_mut-pass.result.now c.index_mut-pass.ensures.value c.index_mut.ensures.value c.worker_act-answer.ensures.tells)

@@ -1,6 +1,6 @@
 use Rattle.std.proofs.Common.{◌≡◌, ◌+◌, ◌≤◌, ◌++◌, None, length}
 use Rattle.tp_session.specs.Heard.{Hears, Tells}
-use Rattle.tp_session.specs.Live.{IsHeld, Leads}
+use Rattle.tp_session.specs.Live.{IsHeldBySession, Leads}
 use Rattle.tp_session.specs.Reading.{Spends, room, to_come}
 use Rattle.tp_session.specs.Told.{BodyTold}
 use Rattle.tp_session.proofs.answering.attend.Given as goal
@@ -8,7 +8,7 @@ use Rattle.tp_session.proofs.answering.attend.Given as goal
 -- the lines so far
 abbrev pub invariant-loop-number : goal.invariant-loop-number
 invariant-loop-number g l = record {
-  held : IsHeld (λ b. (goal.Server-dyn g (b.vtable, b.value)).behaviour b.value) (λ b. (goal.Server-dyn g (b.vtable, b.value)).registers b.value) (λ b. (goal.Server-dyn g (b.vtable, b.value)).pending b.value) l.head l.held;
+  held : IsHeldBySession (λ b. (goal.Server-dyn g (b.vtable, b.value)).behaviour b.value) (λ b. (goal.Server-dyn g (b.vtable, b.value)).registers b.value) (λ b. (goal.Server-dyn g (b.vtable, b.value)).pending b.value) l.head l.held;
   ready : g.W.Wire.ready l.wire;
   asked : g.W.Wire.asked l.wire + l.lines.left ≡ g.W.Wire.asked l.fn.wire + l.fn.lines.left;
   room : l.number + room l.lines ≤ l.past + room l.fn.lines;

@@ -3,7 +3,7 @@ use Rattle.std.specs.Prelude.{string_bytes}
 use Rattle.std.proofs.lemmas.Result.{IfOk-weaker}
 use Rattle.tp_script.specs.declared.notes.ClientNote.{ClientNote}
 use Rattle.tp_session.specs.Clients.{NextReceive, ReceiveBy, noting}
-use Rattle.tp_session.specs.Notes.{notes_view, standing}
+use Rattle.tp_session.specs.Notes.{notes_view, number_standing}
 use Rattle.tp_session.specs.declared.notes.Standing.TheVariants.{Next, Again, Earlier, Later}
 use Rattle.tp_session.proofs.ClientLemmas.{note_at, of_note}
 use Rattle.tp_session.proofs.clients.receive_by.Goals as goal
@@ -13,8 +13,8 @@ returns-then-is_its_own-clause-tells c =
     let items = c.args.notes.now.clients.items in
     let note = c.index-note.result.now in
     let within : c.args.by.place < length items = omega (arith, c.requires.within, c.args.notes.now.clients.ok.0) in
-    let stands : Next ≡ standing c.args.by.number note.received = sym c.in-Next.is ∙ c.of.ensures in
-    IfOk-weaker c.take_reply.result _ _ (λ text so. of_note items c.args.by.place note within c.index-note.ensures (λ (x : ClientNote). ReceiveBy (standing c.args.by.number x.received) c.args.manager.now.limits c.args.by.name.now c.args.root c.args.by.number c.args.by.place x (noting c.args.pass.now (notes_view c.args.notes.now)) (string_bytes text) (noting c.take_reply.new.pass (notes_view c.take_reply.new.notes)))
+    let stands : Next ≡ number_standing c.args.by.number note.received = sym c.in-Next.is ∙ c.of.ensures in
+    IfOk-weaker c.take_reply.result _ _ (λ text so. of_note items c.args.by.place note within c.index-note.ensures (λ (x : ClientNote). ReceiveBy (number_standing c.args.by.number x.received) c.args.manager.now.limits c.args.by.name.now c.args.root c.args.by.number c.args.by.place x (noting c.args.pass.now (notes_view c.args.notes.now)) (string_bytes text) (noting c.take_reply.new.pass (notes_view c.take_reply.new.notes)))
     (subst (λ st. ReceiveBy st c.args.manager.now.limits c.args.by.name.now c.args.root c.args.by.number c.args.by.place note (noting c.args.pass.now (notes_view c.args.notes.now)) (string_bytes text) (noting c.take_reply.new.pass (notes_view c.take_reply.new.notes))) stands (subst (λ b. NextReceive b c.args.manager.now.limits c.args.by.name.now c.args.root c.args.by.number c.args.by.place note (noting c.args.pass.now (notes_view c.args.notes.now)) (string_bytes text) (noting c.take_reply.new.pass (notes_view c.take_reply.new.notes))) (sym c.if-is_its_own.true ∙ (rw c.as_slice.ensures.value at c.is_its_own.ensures)) (so note (note_at items c.args.by.place note within c.index-note.ensures))))) c.take_reply.ensures.tells
 
 pub returns-else-is_its_own-clause-tells : goal.returns-else-is_its_own-clause-tells
@@ -22,8 +22,8 @@ returns-else-is_its_own-clause-tells c =
     let items = c.args.notes.now.clients.items in
     let note = c.index-note.result.now in
     let within : c.args.by.place < length items = omega (arith, c.requires.within, c.args.notes.now.clients.ok.0) in
-    let stands : Next ≡ standing c.args.by.number note.received = sym c.in-Next.is ∙ c.of.ensures in
-    IfOk-weaker c.refused.result _ _ (λ text so. of_note items c.args.by.place note within c.index-note.ensures (λ (x : ClientNote). ReceiveBy (standing c.args.by.number x.received) c.args.manager.now.limits c.args.by.name.now c.args.root c.args.by.number c.args.by.place x (noting c.args.pass.now (notes_view c.args.notes.now)) (string_bytes text) (noting c.args.pass.now (notes_view c.args.notes.now)))
+    let stands : Next ≡ number_standing c.args.by.number note.received = sym c.in-Next.is ∙ c.of.ensures in
+    IfOk-weaker c.refused.result _ _ (λ text so. of_note items c.args.by.place note within c.index-note.ensures (λ (x : ClientNote). ReceiveBy (number_standing c.args.by.number x.received) c.args.manager.now.limits c.args.by.name.now c.args.root c.args.by.number c.args.by.place x (noting c.args.pass.now (notes_view c.args.notes.now)) (string_bytes text) (noting c.args.pass.now (notes_view c.args.notes.now)))
     (subst (λ st. ReceiveBy st c.args.manager.now.limits c.args.by.name.now c.args.root c.args.by.number c.args.by.place note (noting c.args.pass.now (notes_view c.args.notes.now)) (string_bytes text) (noting c.args.pass.now (notes_view c.args.notes.now))) stands (subst (λ b. NextReceive b c.args.manager.now.limits c.args.by.name.now c.args.root c.args.by.number c.args.by.place note (noting c.args.pass.now (notes_view c.args.notes.now)) (string_bytes text) (noting c.args.pass.now (notes_view c.args.notes.now))) (sym c.if-is_its_own.false ∙ (rw c.as_slice.ensures.value at c.is_its_own.ensures)) (so, refl)))) c.refused.ensures
 
 pub returns-in_ok-text-in-Again-clause-tells : goal.returns-in_ok-text-in-Again-clause-tells
@@ -31,8 +31,8 @@ returns-in_ok-text-in-Again-clause-tells c =
     let items = c.args.notes.now.clients.items in
     let note = c.index-note.result.now in
     let within : c.args.by.place < length items = omega (arith, c.requires.within, c.args.notes.now.clients.ok.0) in
-    let stands : Again ≡ standing c.args.by.number note.received = sym c.in-Again.is ∙ c.of.ensures in
-    IfOk-weaker c.received_line.result _ _ (λ text so. of_note items c.args.by.place note within c.index-note.ensures (λ (x : ClientNote). ReceiveBy (standing c.args.by.number x.received) c.args.manager.now.limits c.args.by.name.now c.args.root c.args.by.number c.args.by.place x (noting c.args.pass.now (notes_view c.args.notes.now)) (string_bytes text) (noting c.args.pass.now (notes_view c.args.notes.now)))
+    let stands : Again ≡ number_standing c.args.by.number note.received = sym c.in-Again.is ∙ c.of.ensures in
+    IfOk-weaker c.received_line.result _ _ (λ text so. of_note items c.args.by.place note within c.index-note.ensures (λ (x : ClientNote). ReceiveBy (number_standing c.args.by.number x.received) c.args.manager.now.limits c.args.by.name.now c.args.root c.args.by.number c.args.by.place x (noting c.args.pass.now (notes_view c.args.notes.now)) (string_bytes text) (noting c.args.pass.now (notes_view c.args.notes.now)))
     (subst (λ st. ReceiveBy st c.args.manager.now.limits c.args.by.name.now c.args.root c.args.by.number c.args.by.place note (noting c.args.pass.now (notes_view c.args.notes.now)) (string_bytes text) (noting c.args.pass.now (notes_view c.args.notes.now))) stands ((rw (c.as_str.ensures.value, c.in_ok-text-in-Again.ensures) at so), refl))) c.received_line.ensures
 
 pub returns-in-Earlier-clause-tells : goal.returns-in-Earlier-clause-tells
@@ -40,8 +40,8 @@ returns-in-Earlier-clause-tells c =
     let items = c.args.notes.now.clients.items in
     let note = c.index-note.result.now in
     let within : c.args.by.place < length items = omega (arith, c.requires.within, c.args.notes.now.clients.ok.0) in
-    let stands : Earlier ≡ standing c.args.by.number note.received = sym c.in-Earlier.is ∙ c.of.ensures in
-    IfOk-weaker c.received_line-in-Earlier.result _ _ (λ text so. of_note items c.args.by.place note within c.index-note.ensures (λ (x : ClientNote). ReceiveBy (standing c.args.by.number x.received) c.args.manager.now.limits c.args.by.name.now c.args.root c.args.by.number c.args.by.place x (noting c.args.pass.now (notes_view c.args.notes.now)) (string_bytes text) (noting c.args.pass.now (notes_view c.args.notes.now)))
+    let stands : Earlier ≡ number_standing c.args.by.number note.received = sym c.in-Earlier.is ∙ c.of.ensures in
+    IfOk-weaker c.received_line-in-Earlier.result _ _ (λ text so. of_note items c.args.by.place note within c.index-note.ensures (λ (x : ClientNote). ReceiveBy (number_standing c.args.by.number x.received) c.args.manager.now.limits c.args.by.name.now c.args.root c.args.by.number c.args.by.place x (noting c.args.pass.now (notes_view c.args.notes.now)) (string_bytes text) (noting c.args.pass.now (notes_view c.args.notes.now)))
     (subst (λ st. ReceiveBy st c.args.manager.now.limits c.args.by.name.now c.args.root c.args.by.number c.args.by.place note (noting c.args.pass.now (notes_view c.args.notes.now)) (string_bytes text) (noting c.args.pass.now (notes_view c.args.notes.now))) stands (so, refl))) c.received_line-in-Earlier.ensures
 
 pub returns-in-Later-clause-tells : goal.returns-in-Later-clause-tells
@@ -49,6 +49,6 @@ returns-in-Later-clause-tells c =
     let items = c.args.notes.now.clients.items in
     let note = c.index-note.result.now in
     let within : c.args.by.place < length items = omega (arith, c.requires.within, c.args.notes.now.clients.ok.0) in
-    let stands : Later ≡ standing c.args.by.number note.received = sym c.in-Later.is ∙ c.of.ensures in
-    IfOk-weaker c.gap.result _ _ (λ text so. of_note items c.args.by.place note within c.index-note.ensures (λ (x : ClientNote). ReceiveBy (standing c.args.by.number x.received) c.args.manager.now.limits c.args.by.name.now c.args.root c.args.by.number c.args.by.place x (noting c.args.pass.now (notes_view c.args.notes.now)) (string_bytes text) (noting c.args.pass.now (notes_view c.args.notes.now)))
+    let stands : Later ≡ number_standing c.args.by.number note.received = sym c.in-Later.is ∙ c.of.ensures in
+    IfOk-weaker c.gap.result _ _ (λ text so. of_note items c.args.by.place note within c.index-note.ensures (λ (x : ClientNote). ReceiveBy (number_standing c.args.by.number x.received) c.args.manager.now.limits c.args.by.name.now c.args.root c.args.by.number c.args.by.place x (noting c.args.pass.now (notes_view c.args.notes.now)) (string_bytes text) (noting c.args.pass.now (notes_view c.args.notes.now)))
     (subst (λ st. ReceiveBy st c.args.manager.now.limits c.args.by.name.now c.args.root c.args.by.number c.args.by.place note (noting c.args.pass.now (notes_view c.args.notes.now)) (string_bytes text) (noting c.args.pass.now (notes_view c.args.notes.now))) stands (so, refl))) c.gap.ensures

@@ -7,7 +7,7 @@ use Rattle.tp_commands.specs.Places.{workers}
 use Rattle.tp_perform.specs.Told.{AllLeftAt, after_servers}
 use Rattle.tp_perform.proofs.Began.{left_at}
 use Rattle.tp_perform.proofs.Chains.{all_steady}
-use Rattle.tp_session.specs.Hands.{GivesUp, hands}
+use Rattle.tp_session.specs.Hands.{WorkerGivesUp, hands}
 use Rattle.tp_session.proofs.ActLemmas.{refilled}
 use Rattle.tp_session.proofs.PassLemmas.{racers_are}
 use Rattle.tp_session.proofs.ending.end_held.Goals as goal
@@ -50,8 +50,8 @@ returns-clause-ends g c last is =
       steady = subst (All IsSteadyPlace) (sym is.scene.1) (all_steady (λ b. (goal.Server-dyn g (b.vtable, b.value)).behaviour b.value) (λ b. (goal.Server-dyn g (b.vtable, b.value)).registers b.value) (λ b. (goal.Server-dyn g (b.vtable, b.value)).pending b.value) _ _ _ held.ready.lie);
       workers = after_servers n c.end_passes.new.passes;
       works = c.end_passes.new.works;
-      given_up = subst (λ rs. AllZip GivesUp (hands rs last.works) (hands (after_servers n c.end_passes.new.passes) c.end_passes.new.works)) (sym (racers_are (λ b. (goal.Server-dyn g (b.vtable, b.value)).behaviour b.value) (λ b. (goal.Server-dyn g (b.vtable, b.value)).registers b.value) (λ b. (goal.Server-dyn g (b.vtable, b.value)).pending b.value) c.args.held.now.managed.passes.items c.args.held.now.servers.items c.args.held.now.places.items last.stand.scene is.scene))
-          (subst (λ ws. AllZip GivesUp (hands (after_servers n c.args.held.now.managed.passes.items) ws) (hands (after_servers n c.end_passes.new.passes) c.end_passes.new.works)) (sym is.works) given);
+      given_up = subst (λ rs. AllZip WorkerGivesUp (hands rs last.works) (hands (after_servers n c.end_passes.new.passes) c.end_passes.new.works)) (sym (racers_are (λ b. (goal.Server-dyn g (b.vtable, b.value)).behaviour b.value) (λ b. (goal.Server-dyn g (b.vtable, b.value)).registers b.value) (λ b. (goal.Server-dyn g (b.vtable, b.value)).pending b.value) c.args.held.now.managed.passes.items c.args.held.now.servers.items c.args.held.now.places.items last.stand.scene is.scene))
+          (subst (λ ws. AllZip WorkerGivesUp (hands (after_servers n c.args.held.now.managed.passes.items) ws) (hands (after_servers n c.end_passes.new.passes) c.end_passes.new.works)) (sym is.works) given);
     }
 
 pub returns-clause-left : goal.returns-clause-left

@@ -1,14 +1,14 @@
 use Rattle.std.proofs.Common.{◌≡◌, ◌+◌, ℕ, List, drop, length, take}
 use Rattle.std.specs.Io.KnownBytes.{Appends}
 use Rattle.tp_script.specs.Passes.{racing}
-use Rattle.tp_session.specs.Live.{IsHeld, Leads}
+use Rattle.tp_session.specs.Live.{IsHeldBySession, Leads}
 use Rattle.tp_session.specs.Performed.{ActsTold}
 use Rattle.tp_session.proofs.performing.perform_all.Given as goal
 
 -- the acts so far
 abbrev pub invariant-loop-act : goal.invariant-loop-act
 invariant-loop-act g l = record {
-  held : IsHeld (λ b. (goal.Server-dyn g (b.vtable, b.value)).behaviour b.value) (λ b. (goal.Server-dyn g (b.vtable, b.value)).registers b.value) (λ b. (goal.Server-dyn g (b.vtable, b.value)).pending b.value) l.script.head l.held;
+  held : IsHeldBySession (λ b. (goal.Server-dyn g (b.vtable, b.value)).behaviour b.value) (λ b. (goal.Server-dyn g (b.vtable, b.value)).registers b.value) (λ b. (goal.Server-dyn g (b.vtable, b.value)).pending b.value) l.script.head l.held;
   works : length l.held.works.items ≡ length l.fn.held.works.items;
   raced : l.raced ≡ racing (take l.act-index l.script.acts.items);
   left : l.raced + racing (drop l.act-index l.script.acts.items) ≡ racing l.script.acts.items;

@@ -8,6 +8,7 @@ use Rattle.tp_commands.proofs.Lies.{lie_servers}
 use Rattle.tp_perform.specs.Told.{units_held}
 use Rattle.tp_script.specs.Passes.{racers}
 use Rattle.tp_script.specs.Script.{head_view}
+use Rattle.tp_script.specs.declared.script.Command.TheVariants as command
 use Rattle.tp_session.specs.Live.{CommandTold, Leads}
 use Rattle.tp_session.proofs.ActLemmas.{at_of, command_leads, held_of, refilled}
 use Rattle.tp_session.proofs.LeftLemmas.{began_refilled}
@@ -18,7 +19,7 @@ pub race_next-requires-clause-free : goal.race_next-requires-clause-free
 race_next-requires-clause-free g c κs lives =
     let held = c.requires.held in
     let k : (c.len.result + c.args.raced) ≡ length c.args.head.now.workers.items + c.args.raced = omega (arith, c.len.ensures, c.args.head.now.workers.ok.0) in
-    rw (c.as_mut_slice.ensures.value, c.as_mut_slice-2.ensures.value) (race_free c.args.held.now.managed.manager (length c.args.held.now.servers.items) (length c.args.head.now.workers.items) c.args.raced (c.len.result + c.args.raced) (racers c.args.command) c.args.held.now.managed.passes.items c.args.held.now.works.items k held.ready.own held.in_hand held.racers)
+    rw (c.as_mut_slice.ensures.value, c.as_mut_slice-2.ensures.value) (race_free c.args.held.now.managed.manager (length c.args.held.now.servers.items) (length c.args.head.now.workers.items) c.args.raced (c.len.result + c.args.raced) (racers (command.Race c.in-Race.plan)) c.args.held.now.managed.passes.items c.args.held.now.works.items k held.ready.own held.in_hand held.racers)
 
 pub race_next-requires-clause-as_many : goal.race_next-requires-clause-as_many
 race_next-requires-clause-as_many g c κs lives =
@@ -41,14 +42,14 @@ returns-clause-tells g c =
     let ss = c.race_next.auto.servers ∙ ap length c.as_mut_slice-2.ensures.value in
     let os = c.race_next.auto.places ∙ ap length c.as_mut_slice-3.ensures.value in
     let k : (c.len.result + c.args.raced) ≡ length c.args.head.now.workers.items + c.args.raced = omega (arith, c.len.ensures, c.args.head.now.workers.ok.0) in
-    let told = IfOk-weaker c.race_next.result _ _ (λ text t. command_leads (λ b. (goal.Server-dyn g (b.vtable, b.value)).behaviour b.value) (λ b. (goal.Server-dyn g (b.vtable, b.value)).registers b.value) (λ b. (goal.Server-dyn g (b.vtable, b.value)).pending b.value) c.args.head.now c.args.command (c.len.result + c.args.raced) c.args.held.now (record { managed = record { manager = c.args.held.now.managed.manager; keeper = c.race_next.new.keeper; passes = with_items c.args.held.now.managed.passes c.race_next.new.passes }; servers = with_items c.args.held.now.servers c.race_next.new.servers; places = record { items = refill (length c.args.held.now.places.items) c.args.held.now.places.items c.race_next.new.places }; works = c.args.held.now.works; notes = c.args.held.now.notes }) (string_bytes text) refl refl refl (
+    let told = IfOk-weaker c.race_next.result _ _ (λ text t. command_leads (λ b. (goal.Server-dyn g (b.vtable, b.value)).behaviour b.value) (λ b. (goal.Server-dyn g (b.vtable, b.value)).registers b.value) (λ b. (goal.Server-dyn g (b.vtable, b.value)).pending b.value) c.args.head.now (command.Race c.in-Race.plan) (c.len.result + c.args.raced) c.args.held.now (record { managed = record { manager = c.args.held.now.managed.manager; keeper = c.race_next.new.keeper; passes = with_items c.args.held.now.managed.passes c.race_next.new.passes }; servers = with_items c.args.held.now.servers c.race_next.new.servers; places = record { items = refill (length c.args.held.now.places.items) c.args.held.now.places.items c.race_next.new.places }; works = c.args.held.now.works; notes = c.args.held.now.notes }) (string_bytes text) refl refl refl (
       t.0,
       t.1,
       (rw (c.as_mut_slice.ensures.value, c.as_mut_slice-2.ensures.value, c.as_mut_slice-3.ensures.value) at t.2),
       t.3,
       at_of (λ b. (goal.Server-dyn g (b.vtable, b.value)).behaviour b.value) (λ b. (goal.Server-dyn g (b.vtable, b.value)).registers b.value) (λ b. (goal.Server-dyn g (b.vtable, b.value)).pending b.value) (record { managed = record { manager = c.args.held.now.managed.manager; keeper = c.race_next.new.keeper; passes = with_items c.args.held.now.managed.passes c.race_next.new.passes }; servers = with_items c.args.held.now.servers c.race_next.new.servers; places = record { items = refill (length c.args.held.now.places.items) c.args.held.now.places.items c.race_next.new.places }; works = c.args.held.now.works; notes = c.args.held.now.notes }) n.passes n.servers n.places t.1 (refilled _ _ _ c.args.held.now.managed.passes.ok.0 ps) (refilled _ _ _ c.args.held.now.servers.ok.0 ss) (refilled _ _ _ refl os) t.4,
     )) c.race_next.ensures.tells in
-    subst (λ r. IfOk c.race_next.result (λ text. Leads (λ b. (goal.Server-dyn g (b.vtable, b.value)).behaviour b.value) (λ b. (goal.Server-dyn g (b.vtable, b.value)).registers b.value) (λ b. (goal.Server-dyn g (b.vtable, b.value)).pending b.value) (λ old new. CommandTold (head_view c.args.head.now) c.args.command r old (string_bytes text) new) c.args.held.now (record { managed = record { manager = c.args.held.now.managed.manager; keeper = c.race_next.new.keeper; passes = with_items c.args.held.now.managed.passes c.race_next.new.passes }; servers = with_items c.args.held.now.servers c.race_next.new.servers; places = record { items = refill (length c.args.held.now.places.items) c.args.held.now.places.items c.race_next.new.places }; works = c.args.held.now.works; notes = c.args.held.now.notes }))) k told
+    rw c.in-Race.is (subst (λ r. IfOk c.race_next.result (λ text. Leads (λ b. (goal.Server-dyn g (b.vtable, b.value)).behaviour b.value) (λ b. (goal.Server-dyn g (b.vtable, b.value)).registers b.value) (λ b. (goal.Server-dyn g (b.vtable, b.value)).pending b.value) (λ old new. CommandTold (head_view c.args.head.now) (command.Race c.in-Race.plan) r old (string_bytes text) new) c.args.held.now (record { managed = record { manager = c.args.held.now.managed.manager; keeper = c.race_next.new.keeper; passes = with_items c.args.held.now.managed.passes c.race_next.new.passes }; servers = with_items c.args.held.now.servers c.race_next.new.servers; places = record { items = refill (length c.args.held.now.places.items) c.args.held.now.places.items c.race_next.new.places }; works = c.args.held.now.works; notes = c.args.held.now.notes }))) k told)
 
 pub returns-clause-began : goal.returns-clause-began
 returns-clause-began g c =

@@ -1,16 +1,18 @@
-use Rattle.std.proofs.Common.{◌≡◌, ◌≤◌, ◌++◌, ℕ, length, sym, ◌∙◌, ap, refl, arith, subst, mul-le-mul_right, None}
+use Rattle.std.proofs.Common.{◌≡◌, ◌≤◌, ◌++◌, ℕ, List, length, sym, ◌∙◌, ap, refl, arith, subst, mul-le-mul_right, None}
 use Rattle.tp_model.specs.declared.types.Limits.{Limits}
+use Rattle.tp_model.specs.declared.types.Element.{Element}
 use Rattle.tp_model.specs.Families.{IsRequest, family}
 use Rattle.tp_model.specs.Steps.{rows_of}
 use Rattle.tp_rule.specs.Tables.{table_limits}
 use Rattle.tp_rule.specs.Views.{hand, seen_by, view_of}
 use Rattle.tp_manager.specs.Shown.{ManagerShown, PassShown, shown, spot}
-use Rattle.tp_manager.specs.Bounds.{cancel_steps, end_steps, ends_steps, family_cancel_steps, root_steps}
+use Rattle.tp_manager.specs.Bounds.{cancel_steps, each_end_steps, end_steps, family_cancel_steps, lean_cancel_steps, root_steps}
 use Rattle.tp_manager.specs.Calls.{Follows}
 use Rattle.tp_manager.specs.Cancels.{Cancels}
 use Rattle.tp_manager.specs.Endings.{CancelsIn}
 use Rattle.tp_manager.specs.BetweenCalls.{Rests}
 use Rattle.tp_manager.proofs.Families.Answered.{request_inside}
+use Rattle.tp_manager.proofs.Families.EndSums.{ends_most}
 use Rattle.tp_manager.proofs.Families.InTurn.{cancels_after}
 use Rattle.tp_manager.proofs.Families.Cancels.{rests_swept, cancels_shown, request_later, swept_begins}
 use Rattle.tp_manager.proofs.Calls.Passes.{rests_looked, quiet_looked, point_none, task_none}
@@ -35,13 +37,13 @@ no_task c = task_none c.pass.inside.task (sym c.pass.invariant.0.open_is ∙ fre
 rests : (c : After-rows) → Rests c.pass.inside.seat c.pass.inside.number c.pass.inside.run c.pass.inside.used None
 rests c = subst (λ t. Rests c.pass.inside.seat c.pass.inside.number c.pass.inside.run c.pass.inside.used t) (no_task c) c.pass.invariant.0
 
--- how many elements the family has at the end
-abbrev size : (c : After-cancel_family-killed) → ℕ
-size c = length (family (seen_by c.cancel_family-killed.new.seat) c.args.root)
+-- the family at the end
+abbrev all_of : (c : After-cancel_family-killed) → List Element
+all_of c = family (seen_by c.cancel_family-killed.new.seat) c.args.root
 
-whole : (c : After-cancel_family-killed) → CancelsIn (table_limits c.self.inside.shared.words) (family_cancel_steps (table_limits c.self.inside.shared.words) (size c)) c.args.root c.cancel_family-killed.result (view_of c.pass.inside.seat) (view_of c.cancel_family-killed.new.seat)
+whole : (c : After-cancel_family-killed) → CancelsIn (table_limits c.self.inside.shared.words) (lean_cancel_steps (table_limits c.self.inside.shared.words) (all_of c)) c.args.root c.cancel_family-killed.result (view_of c.pass.inside.seat) (view_of c.cancel_family-killed.new.seat)
 whole c = let l : Limits = table_limits c.self.inside.shared.words in
-    cancels_after l c.args.root root_steps (ends_steps l (size c)) c.cancel_family-killed.result (view_of c.pass.inside.seat) (view_of c.is_request.new.seat) (view_of c.cancel_family-killed.new.seat)
+    cancels_after l c.args.root root_steps (each_end_steps l (all_of c)) c.cancel_family-killed.result (view_of c.pass.inside.seat) (view_of c.is_request.new.seat) (view_of c.cancel_family-killed.new.seat)
     (looked l root_steps _ _ c.is_request.ensures.acted) c.cancel_family-killed.ensures.told
 
 -- no request
@@ -68,6 +70,9 @@ returns-then-not-is_request-clause-follows c = refused (goal.at.returns-then-not
 pub returns-then-not-is_request-clause-few : goal.returns-then-not-is_request-clause-few
 returns-then-not-is_request-clause-few c = refused (goal.at.returns-then-not-is_request-clause-few c).After-is_request (family_cancel_steps c.args.self.now.limits (length (family (seen_by c.is_request.new.seat) c.args.root))) (omega arith)
 
+pub returns-then-not-is_request-clause-lean : goal.returns-then-not-is_request-clause-lean
+returns-then-not-is_request-clause-lean c = refused (goal.at.returns-then-not-is_request-clause-lean c).After-is_request (lean_cancel_steps c.args.self.now.limits (family (seen_by c.is_request.new.seat) c.args.root)) (omega arith)
+
 pub returns-then-not-is_request-clause-answer : goal.returns-then-not-is_request-clause-answer
 returns-then-not-is_request-clause-answer c = let l : Limits = table_limits c.self.inside.shared.words in let a = c.is_request.ensures.acted in let v = view_of c.pass.inside.seat in let x = view_of c.is_request.new.seat in
     let t = spot c.pass.inside.seat.table c.pass.inside.lows c.pass.inside.run.drawn c.pass.inside.from in let t' = spot c.is_request.new.seat.table c.pass.inside.lows c.pass.inside.run.drawn c.pass.inside.from in (
@@ -85,17 +90,23 @@ invariant_of-pass-2 c = let at = goal.at.invariant_of-pass-2 c in let k = whole 
   remembers c.pass.inside.lows _ _ _ _ _ k.swept.gained.walk c.pass.invariant.1,
 )
 
-within : (c : After-cancel_family-killed) (m : ℕ) → family_cancel_steps (table_limits c.self.inside.shared.words) (size c) ≤ m → Follows m c.args.pass.now (shown (spot c.cancel_family-killed.new.seat.table c.pass.inside.lows c.pass.inside.run.drawn c.pass.inside.from) (view_of c.cancel_family-killed.new.seat))
+within : (c : After-cancel_family-killed) (m : ℕ) → lean_cancel_steps (table_limits c.self.inside.shared.words) (all_of c) ≤ m → Follows m c.args.pass.now (shown (spot c.cancel_family-killed.new.seat.table c.pass.inside.lows c.pass.inside.run.drawn c.pass.inside.from) (view_of c.cancel_family-killed.new.seat))
 within c m le = follows (spot c.pass.inside.seat.table c.pass.inside.lows c.pass.inside.run.drawn c.pass.inside.from) (spot c.cancel_family-killed.new.seat.table c.pass.inside.lows c.pass.inside.run.drawn c.pass.inside.from) (climbs_same c.pass.inside.lows c.pass.inside.run.drawn) (view_of c.pass.inside.seat) (view_of c.cancel_family-killed.new.seat) c.args.pass.now c.pass.view_is _ _ _ (whole c).swept.gained.walk m le
 
 pub returns-clause-follows : goal.returns-clause-follows
 returns-clause-follows c = let at = goal.at.returns-clause-follows c in let l : Limits = table_limits c.self.inside.shared.words in let w = at.After-cancel_family-killed in
     let few = mul-le-mul_right (end_steps l) (family_few l c.args.root (seen_by c.cancel_family-killed.new.seat) (whole w).swept.gained.walk.steady.shows.legal) in
-    within w (cancel_steps c.args.self.now.limits) (subst (λ (z : Limits). family_cancel_steps l (size w) ≤ cancel_steps z) (limits at.After-rows) (omega arith))
+    let each = ends_most l (all_of w) in
+    within w (cancel_steps c.args.self.now.limits) (subst (λ (z : Limits). lean_cancel_steps l (all_of w) ≤ cancel_steps z) (limits at.After-rows) (omega arith))
 
 pub returns-clause-few : goal.returns-clause-few
 returns-clause-few c = let at = goal.at.returns-clause-few c in let l : Limits = table_limits c.self.inside.shared.words in let w = at.After-cancel_family-killed in
-    within w (family_cancel_steps c.args.self.now.limits (size w)) (subst (λ (z : Limits). family_cancel_steps l (size w) ≤ family_cancel_steps z (size w)) (limits at.After-rows) (omega arith))
+    let each = ends_most l (all_of w) in
+    within w (family_cancel_steps c.args.self.now.limits (length (all_of w))) (subst (λ (z : Limits). lean_cancel_steps l (all_of w) ≤ family_cancel_steps z (length (all_of w))) (limits at.After-rows) (omega arith))
+
+pub returns-clause-lean : goal.returns-clause-lean
+returns-clause-lean c = let at = goal.at.returns-clause-lean c in let l : Limits = table_limits c.self.inside.shared.words in let w = at.After-cancel_family-killed in
+    within w (lean_cancel_steps c.args.self.now.limits (all_of w)) (subst (λ (z : Limits). lean_cancel_steps l (all_of w) ≤ lean_cancel_steps z (all_of w)) (limits at.After-rows) (omega arith))
 
 pub returns-clause-looks : goal.returns-clause-looks
 returns-clause-looks c = λ _. let l : Limits = table_limits c.self.inside.shared.words in let a = c.is_request.ensures.acted in let k = c.cancel_family-killed.ensures.told.swept.gained in

@@ -9,9 +9,9 @@ use Rattle.tp_manager.proofs.Marks.Rests.{rests_before, rests_shown, spare_befor
 use Rattle.tp_manager.specs.Bounds.{claim_steps, claim_steps_left, marked_steps, part_steps, spare_left, try_steps}
 use Rattle.tp_manager.specs.Calls.{Claims, Takes}
 use Rattle.tp_manager.specs.CallSteps.{Steady}
-use Rattle.tp_manager.specs.Marks.{RemembersAll}
+use Rattle.tp_manager.specs.Marks.{Recalls}
 use Rattle.tp_manager.proofs.Calls.CallSteps.{follows, remembers}
-use Rattle.tp_manager.proofs.Marks.Lows.{claim_few, claim_shown, marked_most, remembers_in, rises_in}
+use Rattle.tp_manager.proofs.Marks.Lows.{claim_few, claim_shown, marked_most, recalls_in, remembers_in, rises_in}
 use Rattle.tp_manager.proofs.Calls.Passes.{done_walked, drawn_walked, rests_drawn, steady_at}
 use Rattle.tp_manager.proofs.Claims.UnitsChosen.{chose_steady, chose_walked, chose_rests, idle_walked, idle_answer, took_walked, took_answer, took_first, took_rests}
 use Rattle.tp_manager.proofs.manager.Manager.claim.Goals as goal
@@ -33,8 +33,11 @@ not c = subst (λ (z : Limits). ¬ (c.pass.inside.used ≡ z.units)) (sym c.self
 kinds : (c : After-choose_unit) → c.args.stage < length c.pass.inside.lows
 kinds c = let all = c.pass.told in let top = c.requires.stage.1 in omega arith
 
+wide : (c : After-choose_unit) → c.args.stage < length c.pass.inside.gaps
+wide c = let all = c.pass.told in let top = c.requires.stage.1 in omega arith
+
 -- the choice of a unit leaves what is remembered
-known : (c : After-choose_unit) → RemembersAll (view_of c.choose_unit.new.seat) c.pass.inside.lows
+known : (c : After-choose_unit) → Recalls (view_of c.choose_unit.new.seat) c.pass.inside.lows c.pass.inside.gaps
 known c = remembers c.pass.inside.lows _ _ _ _ _ (chose_walked _ _ _ _ (steady c) c.choose_unit.ensures.chooses) c.pass.invariant.1
 
 most : (l k : Limits) (lows : List ℕ) → l ≡ k → 1 + marked_steps l try_steps lows ≤ claim_steps k
@@ -45,17 +48,23 @@ most l k lows same = subst (λ (z : Limits). 1 + marked_steps l try_steps lows �
 few : (c : After-choose_unit) → 1 + marked_steps (table_limits c.self.inside.shared.words) try_steps (marks_of c.pass.inside.lows c.args.stage) ≤ claim_steps_left c.args.self.now.limits (marks_of c.args.pass.now.lows c.args.stage)
 few c = let l : Limits = table_limits c.self.inside.shared.words in
     claim_shown l c.args.self.now.limits (marks_of c.pass.inside.lows c.args.stage) (marks_of c.args.pass.now.lows c.args.stage) _ (limits c) (ap (λ (p : PassShown). marks_of p.lows c.args.stage) c.pass.view_is)
-    (claim_few l (marks_of c.pass.inside.lows c.args.stage) c.args.stage (view_of c.pass.inside.seat) (lim c) (steady c).known (c.pass.invariant.1 c.args.stage))
+    (claim_few l (marks_of c.pass.inside.lows c.args.stage) c.args.stage (view_of c.pass.inside.seat) (lim c) (steady c).known (c.pass.invariant.1.marks c.args.stage))
 
 pub scan-requires-clause-remembers : goal.scan-requires-clause-remembers
-scan-requires-clause-remembers c = known (goal.at.scan-requires-clause-remembers c).After-choose_unit c.args.stage
+scan-requires-clause-remembers c = (known (goal.at.scan-requires-clause-remembers c).After-choose_unit).marks c.args.stage
+
+pub scan-requires-clause-gaps : goal.scan-requires-clause-gaps
+scan-requires-clause-gaps c = (known (goal.at.scan-requires-clause-gaps c).After-choose_unit).gaps c.args.stage
 
 pub scan-requires-clause-drawn : goal.scan-requires-clause-drawn
 scan-requires-clause-drawn c = let at = (goal.at.scan-requires-clause-drawn c).After-choose_unit in
     drawn_walked (table_limits c.self.inside.shared.words) _ _ _ _ c.pass.inside.run.drawn (lim at) (chose_walked _ _ _ _ (steady at) c.choose_unit.ensures.chooses) c.pass.invariant.0.drawn
 
 pub scan-requires-clause-steady : goal.scan-requires-clause-steady
-scan-requires-clause-steady c = chose_steady _ _ _ _ (steady (goal.at.scan-requires-clause-steady c).After-choose_unit) c.choose_unit.ensures.chooses
+scan-requires-clause-steady c = record {
+  own = c.choose_unit.ensures.same ∙ (ap (λ (p : PassShown). p.table) c.pass.view_is ∙ (c.requires.own.0 ∙ sym (ap (λ (m : ManagerShown). m.table) c.self.view_is)));
+  steady = chose_steady _ _ _ _ (steady (goal.at.scan-requires-clause-steady c).After-choose_unit) c.choose_unit.ensures.chooses;
+}
 
 pub returns-in_default-clause-follows : goal.returns-in_default-clause-follows
 returns-in_default-clause-follows c = let at = (goal.at.returns-in_default-clause-follows c).After-choose_unit in let l : Limits = table_limits c.self.inside.shared.words in let told = c.in_default.ensures.told in
@@ -79,13 +88,15 @@ scan-requires-clause-done c = let at = (goal.at.scan-requires-clause-done c).Aft
 pub invariant_of-pass-in_default : goal.invariant_of-pass-in_default
 invariant_of-pass-in_default c = let at = (goal.at.invariant_of-pass-in_default c).After-choose_unit in let l : Limits = table_limits c.self.inside.shared.words in (
   rests_drawn c.scan.new.seat _ _ _ _ c.scan.new.drawn (chose_rests l _ _ c.args.stage _ _ _ _ c.pass.inside.seat c.scan.new.seat (view_of c.choose_unit.new.seat) (steady at) c.choose_unit.ensures.chooses c.in_default.ensures.told (lim at) c.pass.invariant.0) c.scan.ensures.drawn,
-  remembers_in c.pass.inside.lows c.scan.new.lows c.args.stage (view_of c.scan.new.seat) (kinds at) c.scan.ensures.remembers (remembers c.pass.inside.lows _ _ _ _ _ c.in_default.ensures.told.walk (known at)),
+  recalls_in c.pass.inside.gaps c.scan.new.gaps c.args.stage (view_of c.scan.new.seat) (wide at) c.scan.ensures.gaps
+      (remembers_in c.pass.inside.lows c.scan.new.lows c.args.stage (view_of c.scan.new.seat) (kinds at) c.scan.ensures.remembers (remembers c.pass.inside.lows _ _ _ _ _ c.in_default.ensures.told.walk (known at))),
 )
 
 pub invariant_of-pass-2 : goal.invariant_of-pass-2
 invariant_of-pass-2 c = let at = (goal.at.invariant_of-pass-2 c).After-choose_unit in let l : Limits = table_limits c.self.inside.shared.words in let told = c.in-Some.ensures.told in (
   rests_drawn c.scan.new.seat _ _ _ _ c.scan.new.drawn (took_rests l _ _ 0 c.args.stage c.in-Some.taken.attempt c.in-Some.taken.root _ _ _ _ _ c.pass.inside.seat c.scan.new.seat (view_of c.choose_unit.new.seat) c.in-Some.taken.element (steady at) c.choose_unit.ensures.chooses told.0 (lim at) told.1 refl (not at) c.pass.invariant.0) c.scan.ensures.drawn,
-  remembers_in c.pass.inside.lows c.scan.new.lows c.args.stage (view_of c.scan.new.seat) (kinds at) c.scan.ensures.remembers (remembers c.pass.inside.lows _ _ _ _ _ told.0.walk (known at)),
+  recalls_in c.pass.inside.gaps c.scan.new.gaps c.args.stage (view_of c.scan.new.seat) (wide at) c.scan.ensures.gaps
+      (remembers_in c.pass.inside.lows c.scan.new.lows c.args.stage (view_of c.scan.new.seat) (kinds at) c.scan.ensures.remembers (remembers c.pass.inside.lows _ _ _ _ _ told.0.walk (known at))),
 )
 
 pub returns-clause-follows : goal.returns-clause-follows

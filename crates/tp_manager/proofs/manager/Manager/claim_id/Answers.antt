@@ -56,7 +56,10 @@ returns-then-id-rows-clause-answer c = let r = c.pass.invariant.0 in let at = (g
     )
 
 pub head_at-head-requires-clause-steady : goal.head_at-head-requires-clause-steady
-head_at-head-requires-clause-steady c = chose_steady _ _ _ _ (steady (goal.at.head_at-head-requires-clause-steady c).After-rows) c.choose_unit.ensures.chooses
+head_at-head-requires-clause-steady c = record {
+  own = c.choose_unit.ensures.same ∙ (ap (λ (p : PassShown). p.table) c.pass.view_is ∙ (c.requires.own.0 ∙ sym (ap (λ (m : ManagerShown). m.table) c.self.view_is)));
+  steady = chose_steady _ _ _ _ (steady (goal.at.head_at-head-requires-clause-steady c).After-rows) c.choose_unit.ensures.chooses;
+}
 
 -- nothing is born in the row
 

@@ -12,7 +12,7 @@ use Rattle.tp_model.proofs.Later.{births_inside}
 use Rattle.tp_manager.proofs.Families.Cancels.{few_rows}
 use Rattle.tp_manager.specs.Calls.{Claims, IsBefore, TakesNext}
 use Rattle.tp_manager.specs.CallSteps.{Steady}
-use Rattle.tp_manager.specs.Marks.{RemembersAll}
+use Rattle.tp_manager.specs.Marks.{Recalls}
 use Rattle.tp_manager.proofs.Calls.CallSteps.{follows, remembers}
 use Rattle.tp_manager.proofs.Marks.Lows.{next_few, next_shown, remembers_in, rises_in}
 use Rattle.tp_manager.proofs.Calls.Passes.{done_walked, drawn_walked, rests_drawn, steady_at}
@@ -37,7 +37,7 @@ kinds : (c : After-choose_unit) → c.args.stage < length c.pass.inside.lows
 kinds c = let all = c.pass.told in let top = c.requires.stage.1 in omega arith
 
 -- the choice of a unit leaves what is remembered
-known : (c : After-choose_unit) → RemembersAll (view_of c.choose_unit.new.seat) c.pass.inside.lows
+known : (c : After-choose_unit) → Recalls (view_of c.choose_unit.new.seat) c.pass.inside.lows c.pass.inside.gaps
 known c = remembers c.pass.inside.lows _ _ _ _ _ (chose_walked _ _ _ _ (steady c) c.choose_unit.ensures.chooses) c.pass.invariant.1
 
 -- the steps are those of the scan, and the choice
@@ -45,14 +45,17 @@ most : (c : After-choose_unit) → 1 + (6 * (table_limits c.self.inside.shared.w
 most c = subst (λ (z : Limits). 1 + (6 * (table_limits c.self.inside.shared.words).parts + 2 * drawn_steps (table_limits c.self.inside.shared.words).spare + rows_of (table_limits c.self.inside.shared.words) * try_steps) ≤ claim_next_steps z) (limits c) (omega arith)
 
 pub scan_turn-requires-clause-remembers : goal.scan_turn-requires-clause-remembers
-scan_turn-requires-clause-remembers c = known (goal.at.scan_turn-requires-clause-remembers c).After-choose_unit c.args.stage
+scan_turn-requires-clause-remembers c = (known (goal.at.scan_turn-requires-clause-remembers c).After-choose_unit).marks c.args.stage
 
 pub scan_turn-requires-clause-drawn : goal.scan_turn-requires-clause-drawn
 scan_turn-requires-clause-drawn c = let at = (goal.at.scan_turn-requires-clause-drawn c).After-choose_unit in
     drawn_walked (table_limits c.self.inside.shared.words) _ _ _ _ c.pass.inside.run.drawn (lim at) (chose_walked _ _ _ _ (steady at) c.choose_unit.ensures.chooses) c.pass.invariant.0.drawn
 
 pub scan_turn-requires-clause-steady : goal.scan_turn-requires-clause-steady
-scan_turn-requires-clause-steady c = chose_steady _ _ _ _ (steady (goal.at.scan_turn-requires-clause-steady c).After-choose_unit) c.choose_unit.ensures.chooses
+scan_turn-requires-clause-steady c = record {
+  own = c.choose_unit.ensures.same ∙ (ap (λ (p : PassShown). p.table) c.pass.view_is ∙ (c.requires.own.0 ∙ sym (ap (λ (m : ManagerShown). m.table) c.self.view_is)));
+  steady = chose_steady _ _ _ _ (steady (goal.at.scan_turn-requires-clause-steady c).After-choose_unit) c.choose_unit.ensures.chooses;
+}
 
 pub returns-in_default-clause-follows : goal.returns-in_default-clause-follows
 returns-in_default-clause-follows c = let at = (goal.at.returns-in_default-clause-follows c).After-choose_unit in let l : Limits = table_limits c.self.inside.shared.words in let told = c.in_default.ensures.told in
@@ -113,7 +116,7 @@ scans c = let l : Limits = table_limits c.self.inside.shared.words in 2 * scan_s
 left : (c : After-choose_unit) → 1 + scans c ≤ claim_next_steps_left c.args.self.now.limits (marks_of c.args.pass.now.lows c.args.stage)
 left c = let l : Limits = table_limits c.self.inside.shared.words in let lows = marks_of c.pass.inside.lows c.args.stage in
     next_shown l c.args.self.now.limits lows (marks_of c.args.pass.now.lows c.args.stage) (1 + scans c) (limits c) (ap (λ (p : PassShown). marks_of p.lows c.args.stage) c.pass.view_is)
-    (next_few l lows c.args.stage (view_of c.pass.inside.seat) (lim c) (steady c).known (c.pass.invariant.1 c.args.stage))
+    (next_few l lows c.args.stage (view_of c.pass.inside.seat) (lim c) (steady c).known (c.pass.invariant.1.marks c.args.stage))
 
 pub returns-in_default-clause-few : goal.returns-in_default-clause-few
 returns-in_default-clause-few c = let at = (goal.at.returns-in_default-clause-few c).After-choose_unit in let l : Limits = table_limits c.self.inside.shared.words in let told = c.in_default.ensures.told in

@@ -6,9 +6,9 @@ use Rattle.tp_model.specs.Steps.{rows_of}
 use Rattle.tp_rule.specs.Tables.{table_limits}
 use Rattle.tp_rule.specs.Views.{hand, seen_by, view_of}
 use Rattle.tp_manager.specs.Shown.{ManagerShown, PassShown, shown, spot}
-use Rattle.tp_manager.specs.Bounds.{collect_next_steps, family_collect_steps, one_take_steps, root_steps, takes_steps}
+use Rattle.tp_manager.specs.Bounds.{collect_next_steps, family_collect_steps, lean_collect_steps, one_take_steps, root_steps}
 use Rattle.tp_manager.specs.Calls.{Follows, claims_in}
-use Rattle.tp_manager.specs.Lists.{CollectsNext, NoneCollected}
+use Rattle.tp_manager.specs.Lists.{CollectsNext, NoneCollected, killed_between, walks_of}
 use Rattle.tp_manager.specs.CallSteps.{Gained}
 use Rattle.tp_manager.specs.BetweenCalls.{Rests}
 use Rattle.tp_manager.proofs.Families.Answered.{none_killed, request_inside}
@@ -16,8 +16,9 @@ use Rattle.tp_manager.proofs.Families.Collected.{taken_answer, taken_gained, kil
 use Rattle.tp_manager.proofs.Calls.Gains.{gained_looked, gained_then, rests_gained}
 use Rattle.tp_manager.proofs.Calls.Passes.{rests_looked, quiet_looked, task_none}
 use Rattle.tp_manager.proofs.Calls.Points.{has_more}
+use Rattle.tp_manager.proofs.Families.KilledMeanwhile.{killed_few, killed_since, walks_few, walks_more}
 use Rattle.tp_manager.proofs.Families.Trees.{family_few}
-use Rattle.tp_manager.proofs.Calls.CallSteps.{climbs_same, follows, has_looked, looked, looked_none, remembers, walked_then}
+use Rattle.tp_manager.proofs.Calls.CallSteps.{climbs_same, follows, has_looked, looked, looked_begins, looked_none, remembers, walked_then}
 use Rattle.tp_manager.proofs.manager.Manager.collect_next.Goals as goal
 use Rattle.tp_manager.proofs.manager.Manager.collect_next.Goals.{After-rows, After-is_request, After-take_of_family}
 
@@ -40,10 +41,14 @@ rests c = subst (λ t. Rests c.pass.inside.seat c.pass.inside.number c.pass.insi
 abbrev size : (c : After-take_of_family) → ℕ
 size c = length (family (seen_by c.take_of_family.new.seat) c.args.root)
 
-whole : (c : After-take_of_family) → (es : List Event) × Gained (table_limits c.self.inside.shared.words) (family_collect_steps (size c)) es (view_of c.pass.inside.seat) (view_of c.take_of_family.new.seat) × (claims_in es ≡ 0)
+-- and how often the call walks
+abbrev walks : (c : After-take_of_family) → ℕ
+walks c = walks_of c.take_of_family.result (killed_between (table_limits c.self.inside.shared.words) c.args.root (seen_by c.is_request.new.seat) (seen_by c.take_of_family.new.seat))
+
+whole : (c : After-take_of_family) → (es : List Event) × Gained (table_limits c.self.inside.shared.words) (lean_collect_steps (size c) (walks c)) es (view_of c.pass.inside.seat) (view_of c.take_of_family.new.seat) × (claims_in es ≡ 0)
 whole c = let l : Limits = table_limits c.self.inside.shared.words in
-    let g = taken_gained l (takes_steps (size c)) c.args.root (view_of c.is_request.new.seat) (view_of c.take_of_family.new.seat) c.take_of_family.result c.take_of_family.ensures.told in
-    (g.0, gained_then l root_steps (takes_steps (size c)) [] g.0 _ _ _ (gained_looked l root_steps _ _ (looked l root_steps _ _ c.is_request.ensures.acted)) g.1, g.2)
+    let g = taken_gained l (walks c * one_take_steps (size c)) c.args.root (view_of c.is_request.new.seat) (view_of c.take_of_family.new.seat) c.take_of_family.result c.take_of_family.ensures.told in
+    (g.0, gained_then l root_steps (walks c * one_take_steps (size c)) [] g.0 _ _ _ (gained_looked l root_steps _ _ (looked l root_steps _ _ c.is_request.ensures.acted)) g.1, g.2)
 
 -- no request
 
@@ -68,6 +73,10 @@ returns-then-not-is_request-clause-follows c = refused (goal.at.returns-then-not
 pub returns-then-not-is_request-clause-few : goal.returns-then-not-is_request-clause-few
 returns-then-not-is_request-clause-few c = refused (goal.at.returns-then-not-is_request-clause-few c).After-is_request (family_collect_steps (length (family (seen_by c.is_request.new.seat) c.args.root))) (omega arith)
 
+pub returns-then-not-is_request-clause-lean : goal.returns-then-not-is_request-clause-lean
+returns-then-not-is_request-clause-lean c = let walks = killed_between c.args.self.now.limits c.args.root c.args.pass.now.seen (seen_by c.is_request.new.seat) + 1 in
+    refused (goal.at.returns-then-not-is_request-clause-lean c).After-is_request (lean_collect_steps (length (family (seen_by c.is_request.new.seat) c.args.root)) walks) (omega arith)
+
 pub returns-then-not-is_request-clause-answer : goal.returns-then-not-is_request-clause-answer
 returns-then-not-is_request-clause-answer c = let at = (goal.at.returns-then-not-is_request-clause-answer c).After-rows in let l : Limits = table_limits c.self.inside.shared.words in let a = c.is_request.ensures.acted in
     let t = spot c.pass.inside.seat.table c.pass.inside.lows c.pass.inside.run.drawn c.pass.inside.from in let t' = spot c.is_request.new.seat.table c.pass.inside.lows c.pass.inside.run.drawn c.pass.inside.from in let x = view_of c.is_request.new.seat in
@@ -83,7 +92,7 @@ invariant_of-pass-2 c = let at = goal.at.invariant_of-pass-2 c in let k = whole 
   remembers c.pass.inside.lows _ _ _ _ _ k.1.walk c.pass.invariant.1,
 )
 
-within : (c : After-take_of_family) (m : ℕ) → family_collect_steps (size c) ≤ m → Follows m c.args.pass.now (shown (spot c.take_of_family.new.seat.table c.pass.inside.lows c.pass.inside.run.drawn c.pass.inside.from) (view_of c.take_of_family.new.seat))
+within : (c : After-take_of_family) (m : ℕ) → lean_collect_steps (size c) (walks c) ≤ m → Follows m c.args.pass.now (shown (spot c.take_of_family.new.seat.table c.pass.inside.lows c.pass.inside.run.drawn c.pass.inside.from) (view_of c.take_of_family.new.seat))
 within c m le = follows (spot c.pass.inside.seat.table c.pass.inside.lows c.pass.inside.run.drawn c.pass.inside.from) (spot c.take_of_family.new.seat.table c.pass.inside.lows c.pass.inside.run.drawn c.pass.inside.from) (climbs_same c.pass.inside.lows c.pass.inside.run.drawn) (view_of c.pass.inside.seat) (view_of c.take_of_family.new.seat) c.args.pass.now c.pass.view_is _ _ _ (whole c).1.walk m le
 
 -- a larger family has no lesser bound
@@ -91,17 +100,34 @@ more : (n m : ℕ) → n ≤ m → family_collect_steps n ≤ family_collect_ste
 more n m le = let one : (n + 1) * one_take_steps n ≤ (m + 1) * one_take_steps n = mul-le-mul_right (one_take_steps n) (omega arith) in
     let two : (m + 1) * one_take_steps n ≤ (m + 1) * one_take_steps m = mul-le-mul_left (m + 1) (omega arith) in omega arith
 
+-- it walks once for each element of the family at most, and once more
+few_walks : (c : After-take_of_family) → lean_collect_steps (size c) (walks c) ≤ family_collect_steps (size c)
+few_walks c =
+    let few = killed_few (table_limits c.self.inside.shared.words) c.args.root (seen_by c.is_request.new.seat) (seen_by c.take_of_family.new.seat) in
+    let all : walks c * one_take_steps (size c) ≤ (size c + 1) * one_take_steps (size c) = mul-le-mul_right (one_take_steps (size c)) (walks_few c.take_of_family.result _ (size c) few) in
+    omega arith
+
 pub returns-clause-follows : goal.returns-clause-follows
 returns-clause-follows c = let at = goal.at.returns-clause-follows c in let l : Limits = table_limits c.self.inside.shared.words in let w = at.After-take_of_family in
     let few = family_few l c.args.root (seen_by c.take_of_family.new.seat) (whole w).1.walk.steady.shows.legal in
-    within w (collect_next_steps c.args.self.now.limits) (subst (λ (z : Limits). family_collect_steps (size w) ≤ collect_next_steps z) (limits at.After-rows) (more (size w) (rows_of l) few))
+    within w (collect_next_steps c.args.self.now.limits) (subst (λ (z : Limits). lean_collect_steps (size w) (walks w) ≤ collect_next_steps z) (limits at.After-rows) (let one = few_walks w in let all = more (size w) (rows_of l) few in omega arith))
 
 pub returns-clause-few : goal.returns-clause-few
-returns-clause-few c = let w = (goal.at.returns-clause-few c).After-take_of_family in within w (family_collect_steps (size w)) (omega arith)
+returns-clause-few c = let w = (goal.at.returns-clause-few c).After-take_of_family in within w (family_collect_steps (size w)) (few_walks w)
+
+pub returns-clause-lean : goal.returns-clause-lean
+returns-clause-lean c = let at = goal.at.returns-clause-lean c in let l : Limits = table_limits c.self.inside.shared.words in let w = at.After-take_of_family in
+    let a = c.is_request.ensures.acted in let seen = ap (λ (p : PassShown). p.seen) c.pass.view_is in
+    let m : Limits → List Event → ℕ = λ z h. walks_of c.take_of_family.result (killed_between z c.args.root h (seen_by c.take_of_family.new.seat)) in
+    let fewer : walks w ≤ m l (seen_by c.pass.inside.seat) = walks_more c.take_of_family.result _ _
+    (killed_since l c.args.root (seen_by c.pass.inside.seat) (seen_by c.is_request.new.seat) (seen_by c.take_of_family.new.seat) a.walk.steady.shows.legal (looked_begins l root_steps _ _ (looked l root_steps _ _ a))) in
+    let all : lean_collect_steps (size w) (walks w) ≤ lean_collect_steps (size w) (m l (seen_by c.pass.inside.seat)) = (let each : walks w * one_take_steps (size w) ≤ m l (seen_by c.pass.inside.seat) * one_take_steps (size w) = mul-le-mul_right (one_take_steps (size w)) fewer in omega arith) in
+    within w (lean_collect_steps (size w) (m c.args.self.now.limits c.args.pass.now.seen))
+    (subst (λ (h : List Event). lean_collect_steps (size w) (walks w) ≤ lean_collect_steps (size w) (m c.args.self.now.limits h)) seen (subst (λ (z : Limits). lean_collect_steps (size w) (walks w) ≤ lean_collect_steps (size w) (m z (seen_by c.pass.inside.seat))) (limits at.After-rows) all))
 
 pub returns-clause-looks : goal.returns-clause-looks
 returns-clause-looks c = λ _. let l : Limits = table_limits c.self.inside.shared.words in let w = (goal.at.returns-clause-looks c).After-take_of_family in let a = c.is_request.ensures.acted in
-    let g = taken_gained l (takes_steps (size w)) c.args.root (view_of c.is_request.new.seat) (view_of c.take_of_family.new.seat) c.take_of_family.result c.take_of_family.ensures.told in
+    let g = taken_gained l (walks w * one_take_steps (size w)) c.args.root (view_of c.is_request.new.seat) (view_of c.take_of_family.new.seat) c.take_of_family.result c.take_of_family.ensures.told in
     has_looked (spot c.pass.inside.seat.table c.pass.inside.lows c.pass.inside.run.drawn c.pass.inside.from) (spot c.take_of_family.new.seat.table c.pass.inside.lows c.pass.inside.run.drawn c.pass.inside.from) (view_of c.pass.inside.seat) (view_of c.take_of_family.new.seat) c.args.pass.now c.pass.view_is l _ (a.marks ++ g.1.marks)
     (walked_then l root_steps _ a.marks g.1.marks _ _ _ a.walk g.1.walk) (has_more a.marks g.1.marks a.step)
 
@@ -109,4 +135,4 @@ pub returns-clause-answer : goal.returns-clause-answer
 returns-clause-answer c = let at = goal.at.returns-clause-answer c in let l : Limits = table_limits c.self.inside.shared.words in let w = at.After-take_of_family in
     let t = spot c.pass.inside.seat.table c.pass.inside.lows c.pass.inside.run.drawn c.pass.inside.from in let t' = spot c.take_of_family.new.seat.table c.pass.inside.lows c.pass.inside.run.drawn c.pass.inside.from in let y = view_of c.take_of_family.new.seat in
     subst (λ (z : Limits). MatchOption c.take_of_family.result (NoneCollected z c.args.root c.args.pass.now (shown t' y)) (λ x. CollectsNext z c.args.root x c.args.pass.now (shown t' y))) (limits at.After-rows)
-    (taken_answer t t' (view_of c.pass.inside.seat) (view_of c.is_request.new.seat) y c.args.pass.now c.pass.view_is l root_steps (takes_steps (size w)) c.args.root c.is_request.ensures.acted (free at.After-rows) c.take_of_family.result c.take_of_family.ensures.told)
+    (taken_answer t t' (view_of c.pass.inside.seat) (view_of c.is_request.new.seat) y c.args.pass.now c.pass.view_is l root_steps (walks w * one_take_steps (size w)) c.args.root c.is_request.ensures.acted (free at.After-rows) c.take_of_family.result c.take_of_family.ensures.told)

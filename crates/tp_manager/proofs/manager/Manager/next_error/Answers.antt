@@ -51,7 +51,7 @@ returns-clause-follows c = let at = goal.at.returns-clause-follows c in let l = 
 pub returns-clause-few : goal.returns-clause-few
 returns-clause-few c = let at = goal.at.returns-clause-few c in let l = table_limits c.self.inside.shared.words in
     within at.After-find (listing_steps_left c.args.self.now.limits (marks_of c.args.pass.now.lows 0)) (listing_shown l c.args.self.now.limits (marks_of c.pass.inside.lows 0) (marks_of c.args.pass.now.lows 0) _ (limits at.After-rows) (ap (λ (p : PassShown). marks_of p.lows 0) c.pass.view_is)
-    (listing_few l (marks_of c.pass.inside.lows 0) 0 (view_of c.pass.inside.seat) (lim at.After-rows) (subst (λ (z : Limits). IsKnown z (view_of c.pass.inside.seat)) (lim at.After-rows) c.pass.invariant.0.steady.known) (c.pass.invariant.1 0)))
+    (listing_few l (marks_of c.pass.inside.lows 0) 0 (view_of c.pass.inside.seat) (lim at.After-rows) (subst (λ (z : Limits). IsKnown z (view_of c.pass.inside.seat)) (lim at.After-rows) c.pass.invariant.0.steady.known) (c.pass.invariant.1.marks 0)))
 
 pub returns-then-from-rows-clause-few : goal.returns-then-from-rows-clause-few
 returns-then-from-rows-clause-few c = let at = (goal.at.returns-then-from-rows-clause-few c).After-rows in let v = view_of c.pass.inside.seat in let t = spot c.pass.inside.seat.table c.pass.inside.lows c.pass.inside.run.drawn c.pass.inside.from in

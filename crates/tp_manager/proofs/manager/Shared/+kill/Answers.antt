@@ -27,17 +27,17 @@ kill_from-kill_exchange-requires-clause-row t c = let f = c.in-Ok.ensures.told.3
 
 pub kill_from-overflow_sub-left : goal.kill_from-overflow_sub-left
 kill_from-overflow_sub-left t c = let l : Limits = table_limits c.args.self.now.words in
-    subst (λ n. n ≤ c.args.left) (sym c.takers_in.ensures) (some l c.args.self.now.words.places.valid (seen_by c.args.seat.now) c.args.row c.args.left c.args.claim.tells c.requires.steady.shows.legal c.requires.found.0 c.requires.enough)
+    subst (λ n. n ≤ c.args.left) (sym c.takers_in.ensures) (some l c.args.self.now.words.places.valid (seen_by c.args.seat.now) c.args.row c.args.left c.args.claim.tells c.requires.steady.steady.shows.legal c.requires.found.0 c.requires.enough)
 
 pub kill_from-returns-in-Err-clause-told : goal.kill_from-returns-in-Err-clause-told
 kill_from-returns-in-Err-clause-told t c = let l : Limits = table_limits c.args.self.now.words in let w = claim_value c.args.claim.tells in let told = c.in-Err.ensures.told in
-    let less = some l c.args.self.now.words.places.valid (seen_by c.args.seat.now) c.args.row c.args.left c.args.claim.tells c.requires.steady.shows.legal c.requires.found.0 c.requires.enough in
+    let less = some l c.args.self.now.words.places.valid (seen_by c.args.seat.now) c.args.row c.args.left c.args.claim.tells c.requires.steady.steady.shows.legal c.requires.found.0 c.requires.enough in
     ([], omega arith, freed_few l (takers w) (slay_from c.args.left w) _ _ _ _ (omega arith) (freed_looked l (takers w) c.args.row _ _ told.0), told.1)
 
 pub kill_from-returns-in-Ok-kill_exchange-clause-told : goal.kill_from-returns-in-Ok-kill_exchange-clause-told
 kill_from-returns-in-Ok-kill_exchange-clause-told t c = let l : Limits = table_limits c.args.self.now.words in let w = claim_value c.args.claim.tells in let told = c.in-Ok.ensures.told in let low = told.2 in
-    let less = some l c.args.self.now.words.places.valid (seen_by c.args.seat.now) c.args.row c.args.left c.args.claim.tells c.requires.steady.shows.legal c.requires.found.0 c.requires.enough in
-    let few = fewer_last l (seen_by c.args.seat.now) c.args.row c.args.left w c.requires.steady.shows.legal (sym c.requires.found.0) (allows_alive l (seen_by c.loosen.new.seat) w told.4) less in
+    let less = some l c.args.self.now.words.places.valid (seen_by c.args.seat.now) c.args.row c.args.left c.args.claim.tells c.requires.steady.steady.shows.legal c.requires.found.0 c.requires.enough in
+    let few = fewer_last l (seen_by c.args.seat.now) c.args.row c.args.left w c.requires.steady.steady.shows.legal (sym c.requires.found.0) (allows_alive l (seen_by c.loosen.new.seat) w told.4) less in
     (told.0, told.1, omega arith, slain_few l (takers w + 1) (slay_from c.args.left w) _ _ _ _ few (slain_by l (takers w) c.args.row told.0 _ _ _ told.3 c.in-Ok-kill_exchange.ensures.hit))
 
 so_far : (t : ℕ) (c : kill_from-In-Err-kill_exchange t) → Freed (table_limits c.args.self.now.words) (takers (claim_value c.args.claim.tells) + 1) c.args.row c.in-Ok.ensures.told.0 (view_of c.args.seat.now) (view_of c.kill_exchange.new.seat)
@@ -47,26 +47,23 @@ so_far t c = let l : Limits = table_limits c.args.self.now.words in let f = c.in
 -- this many steps are left for the next claim
 fewer : (t : ℕ) (c : kill_from-In-Err-kill_exchange t) → (takers (claim_value c.args.claim.tells) + 1) + slay_from (c.args.left - takers (claim_value c.args.claim.tells)) (claim_value c.in-Err-kill_exchange.now.tells) ≤ slay_from c.args.left (claim_value c.args.claim.tells)
 fewer t c = let l : Limits = table_limits c.args.self.now.words in let w = claim_value c.args.claim.tells in let f = so_far t c in let miss = c.in-Err-kill_exchange.ensures.miss in
-    let less = some l c.args.self.now.words.places.valid (seen_by c.args.seat.now) c.args.row c.args.left c.args.claim.tells c.requires.steady.shows.legal c.requires.found.0 c.requires.enough in
-    fewer_next l (seen_by c.args.seat.now) (seen_by c.kill_exchange.new.seat) c.requires.steady.shows.legal f.gained.walk.steady.shows.legal (walked_begins l _ _ _ _ f.gained.walk) c.args.row c.args.left w (claim_value c.in-Err-kill_exchange.now.tells) (sym c.requires.found.0) miss.2 (allows_alive l (seen_by c.loosen.new.seat) w c.in-Ok.ensures.told.4) miss.1 less
+    let less = some l c.args.self.now.words.places.valid (seen_by c.args.seat.now) c.args.row c.args.left c.args.claim.tells c.requires.steady.steady.shows.legal c.requires.found.0 c.requires.enough in
+    fewer_next l (seen_by c.args.seat.now) (seen_by c.kill_exchange.new.seat) c.requires.steady.steady.shows.legal f.gained.walk.steady.shows.legal (walked_begins l _ _ _ _ f.gained.walk) c.args.row c.args.left w (claim_value c.in-Err-kill_exchange.now.tells) (sym c.requires.found.0) miss.2 (allows_alive l (seen_by c.loosen.new.seat) w c.in-Ok.ensures.told.4) miss.1 less
 
 pub kill_from-kill_again-requires : goal.kill_from-kill_again-requires
 kill_from-kill_again-requires t c = let l : Limits = table_limits c.args.self.now.words in let at = goal.at.kill_from-kill_again-requires t c in let w = claim_value c.args.claim.tells in let f = so_far t at.In-Err-kill_exchange in let b = c.requires.row.1 in
     let few = fewer t at.In-Err-kill_exchange in let miss = c.in-Err-kill_exchange.ensures.miss in let begins = walked_begins l _ _ _ _ f.gained.walk in (
       (let lower : slay_from (c.args.left - c.takers_in.result) (claim_value c.in-Err-kill_exchange.now.tells) < slay_from c.args.left w = subst (λ n. slay_from (c.args.left - n) (claim_value c.in-Err-kill_exchange.now.tells) < slay_from c.args.left w) (sym c.takers_in.ensures) (omega arith) in omega arith),
       (
-        search rules,
+        record { own = search rules; steady = f.gained.walk.steady },
         (
-          f.gained.walk.steady,
+          (c.requires.row.0, (b.0, found_later _ _ begins c.args.row b.0 b.1)),
           (
-            (c.requires.row.0, (b.0, found_later _ _ begins c.args.row b.0 b.1)),
+            (miss.2, miss.3),
             (
-              (miss.2, miss.3),
-              (
-                f.gained.open_unit c.requires.free,
-                subst (λ n. IsEnough l (c.args.left - n) (claim_value c.in-Err-kill_exchange.now.tells)) (sym c.takers_in.ensures) (subst (IsEnough l (c.args.left - takers w)) (sym miss.2)
-                    (enough_next l c.args.self.now.words.places.valid (seen_by c.args.seat.now) (seen_by c.kill_exchange.new.seat) c.requires.steady.shows.legal f.gained.walk.steady.shows.legal begins c.args.row c.args.left w (sym c.requires.found.0) (allows_alive l (seen_by c.loosen.new.seat) w c.in-Ok.ensures.told.4) (λ same. miss.1 (miss.2 ∙ same)) c.requires.enough)),
-              ),
+              f.gained.open_unit c.requires.free,
+              subst (λ n. IsEnough l (c.args.left - n) (claim_value c.in-Err-kill_exchange.now.tells)) (sym c.takers_in.ensures) (subst (IsEnough l (c.args.left - takers w)) (sym miss.2)
+                  (enough_next l c.args.self.now.words.places.valid (seen_by c.args.seat.now) (seen_by c.kill_exchange.new.seat) c.requires.steady.steady.shows.legal f.gained.walk.steady.shows.legal begins c.args.row c.args.left w (sym c.requires.found.0) (allows_alive l (seen_by c.loosen.new.seat) w c.in-Ok.ensures.told.4) (λ same. miss.1 (miss.2 ∙ same)) c.requires.enough)),
             ),
           ),
         ),
@@ -76,7 +73,7 @@ kill_from-kill_again-requires t c = let l : Limits = table_limits c.args.self.no
 pub kill_from-returns-in-Ok-kill_again-clause-told : goal.kill_from-returns-in-Ok-kill_again-clause-told
 kill_from-returns-in-Ok-kill_again-clause-told t c = let l : Limits = table_limits c.args.self.now.words in let at = goal.at.kill_from-returns-in-Ok-kill_again-clause-told t c in let w = claim_value c.args.claim.tells in let z = claim_value c.in-Err-kill_exchange.now.tells in
     let f = so_far t at.In-Err-kill_exchange in let few = fewer t at.In-Err-kill_exchange in let is = c.takers_in.ensures in let told = c.in-Ok.ensures.told in let more = c.in-Ok-kill_again.ensures.told in let a = told.1 in let b = more.1 in let low = told.2 in let high = more.2 in
-    let less = some l c.args.self.now.words.places.valid (seen_by c.args.seat.now) c.args.row c.args.left c.args.claim.tells c.requires.steady.shows.legal c.requires.found.0 c.requires.enough in
+    let less = some l c.args.self.now.words.places.valid (seen_by c.args.seat.now) c.args.row c.args.left c.args.claim.tells c.requires.steady.steady.shows.legal c.requires.found.0 c.requires.enough in
     let enough = subst (λ n. (takers w + 1) + slay_from (c.args.left - n) z ≤ slay_from c.args.left w) (sym is) few in (
       told.0 ++ more.0,
       omega (arith, length-append told.0 more.0),
@@ -87,7 +84,7 @@ kill_from-returns-in-Ok-kill_again-clause-told t c = let l : Limits = table_limi
 pub kill_from-returns-in-Err-kill_again-clause-told : goal.kill_from-returns-in-Err-kill_again-clause-told
 kill_from-returns-in-Err-kill_again-clause-told t c = let l : Limits = table_limits c.args.self.now.words in let at = goal.at.kill_from-returns-in-Err-kill_again-clause-told t c in let w = claim_value c.args.claim.tells in let z = claim_value c.in-Err-kill_exchange.now.tells in
     let f = so_far t at.In-Err-kill_exchange in let few = fewer t at.In-Err-kill_exchange in let is = c.takers_in.ensures in let told = c.in-Ok.ensures.told in let more = c.in-Err-kill_again.ensures.told in let a = told.1 in let b = more.1 in let low = told.2 in
-    let less = some l c.args.self.now.words.places.valid (seen_by c.args.seat.now) c.args.row c.args.left c.args.claim.tells c.requires.steady.shows.legal c.requires.found.0 c.requires.enough in
+    let less = some l c.args.self.now.words.places.valid (seen_by c.args.seat.now) c.args.row c.args.left c.args.claim.tells c.requires.steady.steady.shows.legal c.requires.found.0 c.requires.enough in
     let enough = subst (λ n. (takers w + 1) + slay_from (c.args.left - n) z ≤ slay_from c.args.left w) (sym is) few in (
       told.0 ++ more.0,
       omega (arith, length-append told.0 more.0),

@@ -24,16 +24,16 @@ enough : (t : ℕ) (c : status_from-In-Taken t) → IsEnough (table_limits c.arg
 enough t c = subst (λ w. IsEnough (table_limits c.args.self.now.words) c.args.left (claim_value w)) c.in-Taken.is c.requires.enough
 
 some : (t : ℕ) (c : status_from-In-Taken t) → 1 ≤ c.args.left
-some t c = enough_some (table_limits c.args.self.now.words) c.args.self.now.words.places.valid (seen_by c.args.seat.now) c.args.row c.args.left (TakenWord c.in-Taken.attempt c.in-Taken.unit c.in-Taken.round) c.requires.steady.shows.legal (taken t c) (enough t c)
+some t c = enough_some (table_limits c.args.self.now.words) c.args.self.now.words.places.valid (seen_by c.args.seat.now) c.args.row c.args.left (TakenWord c.in-Taken.attempt c.in-Taken.unit c.in-Taken.round) c.requires.steady.steady.shows.legal (taken t c) (enough t c)
 
 one : (t : ℕ) (c : status_from-After-load_unit t) → Looked (table_limits c.args.self.now.words) 1 (view_of c.args.seat.now) (view_of c.load_unit.new.seat)
-one t c = looked _ 1 _ _ (acted_by _ kinds.Load _ _ c.requires.steady refl c.load_unit.ensures.grew)
+one t c = looked _ 1 _ _ (acted_by _ kinds.Load _ _ c.requires.steady.steady refl c.load_unit.ensures.grew)
 
 two : (t : ℕ) (c : status_from-After-load_claim-again t) → Looked (table_limits c.args.self.now.words) 1 (view_of c.args.seat.now) (view_of c.load_unit.new.seat) → Looked (table_limits c.args.self.now.words) 2 (view_of c.args.seat.now) (view_of c.load_claim-again.new.seat)
 two t c o = looked_then _ 1 1 _ _ _ o (looked _ 1 _ _ (acted_by _ kinds.Load _ _ o.walk.steady refl c.load_claim-again.ensures.grew))
 
 pub status_from-load_unit-requires-clause-unit : goal.status_from-load_unit-requires-clause-unit
-status_from-load_unit-requires-clause-unit t c = unit_inside (table_limits c.args.self.now.words) (seen_by c.args.seat.now) c.args.row c.in-Taken.attempt c.in-Taken.unit c.requires.steady.shows.legal (taken t (goal.at.status_from-load_unit-requires-clause-unit t c).In-Taken)
+status_from-load_unit-requires-clause-unit t c = unit_inside (table_limits c.args.self.now.words) (seen_by c.args.seat.now) c.args.row c.in-Taken.attempt c.in-Taken.unit c.requires.steady.steady.shows.legal (taken t (goal.at.status_from-load_unit-requires-clause-unit t c).In-Taken)
 
 pub status_from-overflow_sub-left : goal.status_from-overflow_sub-left
 status_from-overflow_sub-left t c = some t (goal.at.status_from-overflow_sub-left t c).In-Taken
@@ -44,16 +44,13 @@ status_from-status_again-requires t c = let at = goal.at.status_from-status_agai
     let not : claim_word (seen_by c.load_claim-again.new.seat) c.args.row ≢ TakenWord c.in-Taken.attempt c.in-Taken.unit c.in-Taken.round = λ same. differs (claim_is c.load_claim-again.result.tells c.in-Taken.attempt c.in-Taken.unit c.in-Taken.round (again.claim ∙ same) ∙ sym c.in-Taken.is) in (
       search rules,
       (
-        search rules,
+        record { own = search rules; steady = b.walk.steady },
         (
-          b.walk.steady,
+          c.requires.row,
           (
-            c.requires.row,
-            (
-              (again.claim, again.fits),
-              subst (IsEnough (table_limits c.args.self.now.words) (c.args.left - 1)) (sym again.claim)
-                  (enough_next (table_limits c.args.self.now.words) c.args.self.now.words.places.valid (seen_by c.args.seat.now) (seen_by c.load_claim-again.new.seat) c.requires.steady.shows.legal b.walk.steady.shows.legal (looked_begins _ 2 _ _ b) c.args.row c.args.left (TakenWord c.in-Taken.attempt c.in-Taken.unit c.in-Taken.round) (taken t i) (λ n u r z. cc) not (enough t i)),
-            ),
+            (again.claim, again.fits),
+            subst (IsEnough (table_limits c.args.self.now.words) (c.args.left - 1)) (sym again.claim)
+                (enough_next (table_limits c.args.self.now.words) c.args.self.now.words.places.valid (seen_by c.args.seat.now) (seen_by c.load_claim-again.new.seat) c.requires.steady.steady.shows.legal b.walk.steady.shows.legal (looked_begins _ 2 _ _ b) c.args.row c.args.left (TakenWord c.in-Taken.attempt c.in-Taken.unit c.in-Taken.round) (taken t i) (λ n u r z. cc) not (enough t i)),
           ),
         ),
       ),
@@ -64,22 +61,22 @@ status_from-returns-then-ne-clause-looked t c = let at = goal.at.status_from-ret
     looked_few _ (2 + retry_steps (c.args.left - 1)) (retry_steps c.args.left) _ _ (omega arith) (looked_then _ 2 (retry_steps (c.args.left - 1)) _ _ _ (two t at.After-load_claim-again (one t at.After-load_unit)) c.status_again.ensures.looked)
 
 pub status_from-returns-in-Free-clause-status : goal.status_from-returns-in-Free-clause-status
-status_from-returns-in-Free-clause-status t c = sym (status_free (table_limits c.args.self.now.words) _ c.args.row c.requires.steady.shows.legal (sym c.requires.found.0 ∙ ap claim_value c.in-Free.is))
+status_from-returns-in-Free-clause-status t c = sym (status_free (table_limits c.args.self.now.words) _ c.args.row c.requires.steady.steady.shows.legal (sym c.requires.found.0 ∙ ap claim_value c.in-Free.is))
 
 pub status_from-returns-in-Killed-clause-status : goal.status_from-returns-in-Killed-clause-status
-status_from-returns-in-Killed-clause-status t c = sym (status_killed (table_limits c.args.self.now.words) _ c.args.row _ _ c.requires.steady.shows.legal (sym c.requires.found.0 ∙ ap claim_value c.in-Killed.is))
+status_from-returns-in-Killed-clause-status t c = sym (status_killed (table_limits c.args.self.now.words) _ c.args.row _ _ c.requires.steady.steady.shows.legal (sym c.requires.found.0 ∙ ap claim_value c.in-Killed.is))
 
 pub status_from-returns-in-Again-clause-status : goal.status_from-returns-in-Again-clause-status
-status_from-returns-in-Again-clause-status t c = sym (status_again (table_limits c.args.self.now.words) _ c.args.row c.in-Again.round c.requires.steady.shows.legal (sym c.requires.found.0 ∙ ap claim_value c.in-Again.is))
+status_from-returns-in-Again-clause-status t c = sym (status_again (table_limits c.args.self.now.words) _ c.args.row c.in-Again.round c.requires.steady.steady.shows.legal (sym c.requires.found.0 ∙ ap claim_value c.in-Again.is))
 
 pub status_from-returns-in-Again-clause-looked : goal.status_from-returns-in-Again-clause-looked
-status_from-returns-in-Again-clause-looked t c = looked_few _ 0 (retry_steps c.args.left) _ _ (omega arith) (looked_none _ _ c.requires.steady)
+status_from-returns-in-Again-clause-looked t c = looked_few _ 0 (retry_steps c.args.left) _ _ (omega arith) (looked_none _ _ c.requires.steady.steady)
 
 pub status_from-returns-in-Free-clause-looked : goal.status_from-returns-in-Free-clause-looked
-status_from-returns-in-Free-clause-looked t c = looked_few _ 0 (retry_steps c.args.left) _ _ (omega arith) (looked_none _ _ c.requires.steady)
+status_from-returns-in-Free-clause-looked t c = looked_few _ 0 (retry_steps c.args.left) _ _ (omega arith) (looked_none _ _ c.requires.steady.steady)
 
 pub status_from-returns-in-Killed-clause-looked : goal.status_from-returns-in-Killed-clause-looked
-status_from-returns-in-Killed-clause-looked t c = looked_few _ 0 (retry_steps c.args.left) _ _ (omega arith) (looked_none _ _ c.requires.steady)
+status_from-returns-in-Killed-clause-looked t c = looked_few _ 0 (retry_steps c.args.left) _ _ (omega arith) (looked_none _ _ c.requires.steady.steady)
 
 pub status_from-returns-in-Undecided-clause-looked : goal.status_from-returns-in-Undecided-clause-looked
 status_from-returns-in-Undecided-clause-looked t c = let at = goal.at.status_from-returns-in-Undecided-clause-looked t c in let s = some t at.In-Taken in looked_few _ 1 (retry_steps c.args.left) _ _ (omega arith) (one t at.After-load_unit)

@@ -14,7 +14,7 @@ returns-clause-told c = let l : Limits = table_limits c.args.self.now.words in
     let first : c.block_first.result ≡ block_first l c.load_drawn-found.result = c.block_first.ensures.first ∙ ap (λ (z : Limits). block_first z c.load_drawn-found.result) (sym c.args.self.now.same) in
     let inside = c.load_drawn-found.ensures.inside in let some = c.if-self-eq0.false in (
       omega arith,
-      acted_by l kinds.Load _ _ c.requires.steady refl c.load_drawn-found.ensures.grew,
+      acted_by l kinds.Load _ _ c.requires.steady.steady refl c.load_drawn-found.ensures.grew,
       omega arith,
       omega arith,
       λ i low high. c.load_drawn-found.ensures.none i (omega arith) high,

@@ -19,14 +19,14 @@ use Rattle.tp_manager.proofs.manager.Shared.claim_row.Goals.{After-load_claim-cl
 
 -- the step to the claim
 claimed : (c : After-load_claim-claim) → Looked (table_limits c.args.self.now.words) 1 (view_of c.args.seat.now) (view_of c.load_claim-claim.new.seat)
-claimed c = looked _ 1 _ _ (acted_by _ kinds.Load _ _ c.requires.steady refl c.load_claim-claim.ensures.grew)
+claimed c = looked _ 1 _ _ (acted_by _ kinds.Load _ _ c.requires.steady.steady refl c.load_claim-claim.ensures.grew)
 
 -- the steps to the word of the claim's unit
 found : (c : After-stand_of) → Looked (table_limits c.args.self.now.words) 1 (view_of c.args.seat.now) (view_of c.load_claim-claim.new.seat) → Looked (table_limits c.args.self.now.words) 2 (view_of c.args.seat.now) (view_of c.stand_of.new.seat)
 found c a = looked_then _ 1 1 _ _ _ a c.stand_of.ensures.looked
 
 pub stand_of-requires-clause-steady : goal.stand_of-requires-clause-steady
-stand_of-requires-clause-steady c = (claimed (goal.at.stand_of-requires-clause-steady c).After-load_claim-claim).walk.steady
+stand_of-requires-clause-steady c = record { own = c.load_claim-claim.ensures.same ∙ c.requires.steady.own; steady = (claimed (goal.at.stand_of-requires-clause-steady c).After-load_claim-claim).walk.steady }
 
 pub returns-in-Over-clause-told : goal.returns-in-Over-clause-told
 returns-in-Over-clause-told c = let l : Limits = table_limits c.args.self.now.words in let at = goal.at.returns-in-Over-clause-told c in let b = found at.After-stand_of (claimed at.After-load_claim-claim) in let h = seen_by c.stand_of.new.seat in (

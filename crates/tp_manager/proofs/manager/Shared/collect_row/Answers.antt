@@ -17,7 +17,7 @@ use Rattle.tp_manager.proofs.manager.Shared.collect_row.Goals as goal
 use Rattle.tp_manager.proofs.manager.Shared.collect_row.Goals.{After-load_claim-claim, After-element_at-element}
 
 one : (c : After-load_claim-claim) → Looked (table_limits c.args.self.now.words) 1 (view_of c.args.seat.now) (view_of c.load_claim-claim.new.seat)
-one c = looked _ 1 _ _ (acted_by _ kinds.Load _ _ c.requires.steady refl c.load_claim-claim.ensures.grew)
+one c = looked _ 1 _ _ (acted_by _ kinds.Load _ _ c.requires.steady.steady refl c.load_claim-claim.ensures.grew)
 
 two : (c : After-element_at-element) → Looked (table_limits c.args.self.now.words) 1 (view_of c.args.seat.now) (view_of c.load_claim-claim.new.seat) → Looked (table_limits c.args.self.now.words) (1 + body_steps) (view_of c.args.seat.now) (view_of c.element_at-element.new.seat)
 two c o = looked_then _ 1 body_steps _ _ _ o c.element_at-element.ensures.looked
@@ -33,7 +33,7 @@ returns-then-is_killed-clause-told c = let l : Limits = table_limits c.args.self
 )
 
 pub element_at-element-requires-clause-steady : goal.element_at-element-requires-clause-steady
-element_at-element-requires-clause-steady c = (one (goal.at.element_at-element-requires-clause-steady c).After-load_claim-claim).walk.steady
+element_at-element-requires-clause-steady c = record { own = c.load_claim-claim.ensures.same ∙ c.requires.steady.own; steady = (one (goal.at.element_at-element-requires-clause-steady c).After-load_claim-claim).walk.steady }
 
 pub element_at-element-requires-clause-there : goal.element_at-element-requires-clause-there
 element_at-element-requires-clause-there c = let o = one (goal.at.element_at-element-requires-clause-there c).After-load_claim-claim in let t = c.requires.there in

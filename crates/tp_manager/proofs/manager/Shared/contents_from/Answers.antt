@@ -15,7 +15,7 @@ use Rattle.tp_manager.proofs.manager.Shared.contents_from.Goals as goal
 use Rattle.tp_manager.proofs.manager.Shared.contents_from.Goals.{After-load_unit, In-Committed, then-row-first-via-then-row-first, then-row-first-via-else-row-first+then-row-first-2}
 
 one : (c : After-load_unit) → Acted (table_limits c.args.self.now.words) 1 (view_of c.args.seat.now) (view_of c.load_unit.new.seat)
-one c = acted_by _ kinds.Load _ _ c.requires.steady refl c.load_unit.ensures.grew
+one c = acted_by _ kinds.Load _ _ c.requires.steady.steady refl c.load_unit.ensures.grew
 
 now : (c : After-load_unit) → (x : Element) → element_of (seen_by c.load_unit.new.seat) c.args.row ≡ Some x → c.args.head ≡ head_of x
 now c = head_now kinds.Load _ _ _ _ c.args.row c.in-Filled.stage c.in-Filled.root c.in-Filled.by c.args.head c.requires.told c.load_unit.ensures.grew c.in-Filled.is
@@ -24,14 +24,14 @@ ended : (c : In-Committed) → end_of (seen_by c.load_unit.new.seat) c.in-Some.u
 ended c = sym c.load_unit.ensures.end ∙ ap unit_value c.in-Committed.is
 
 pub returns-in_default-by-clause-looked : goal.returns-in_default-by-clause-looked
-returns-in_default-by-clause-looked c = looked_few _ 0 1 _ _ (omega arith) (looked_none _ _ c.requires.steady)
+returns-in_default-by-clause-looked c = looked_few _ 0 1 _ _ (omega arith) (looked_none _ _ c.requires.steady.steady)
 
 pub returns-then-not-is_unit-clause-looked : goal.returns-then-not-is_unit-clause-looked
-returns-then-not-is_unit-clause-looked c = looked_few _ 0 1 _ _ (omega arith) (looked_none _ _ c.requires.steady)
+returns-then-not-is_unit-clause-looked c = looked_few _ 0 1 _ _ (omega arith) (looked_none _ _ c.requires.steady.steady)
 
 pub returns-then-not-is_unit-clause-told : goal.returns-then-not-is_unit-clause-told
 returns-then-not-is_unit-clause-told c = let a = c.in-Filled in
-    none_outside (table_limits c.args.self.now.words) (view_of c.args.seat.now) c.args.row a.stage a.root c.in-Some.unit a.by c.args.head a.is c.in-Some.is c.requires.told c.requires.steady.shows.legal (c.is_unit.ensures.no c.if-not-is_unit.true)
+    none_outside (table_limits c.args.self.now.words) (view_of c.args.seat.now) c.args.row a.stage a.root c.in-Some.unit a.by c.args.head a.is c.in-Some.is c.requires.told c.requires.steady.steady.shows.legal (c.is_unit.ensures.no c.if-not-is_unit.true)
 
 pub returns-in-Undecided-clause-looked : goal.returns-in-Undecided-clause-looked
 returns-in-Undecided-clause-looked c = looked _ 1 _ _ (one (goal.at.returns-in-Undecided-clause-looked c).After-load_unit)

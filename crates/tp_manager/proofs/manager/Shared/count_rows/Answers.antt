@@ -14,7 +14,7 @@ pub loop-row-init : goal.loop-row-init
 loop-row-init c = let l : Limits = table_limits c.args.self.now.words in record {
   same = refl;
   inside = omega arith;
-  looked = looked_few l 0 _ _ _ (omega arith) (looked_none l (view_of c.args.seat.now) c.requires.steady);
+  looked = looked_few l 0 _ _ _ (omega arith) (looked_none l (view_of c.args.seat.now) c.requires.steady.steady);
   few = c.no_account-account.ensures.within;
   counted = λ _. c.no_account-account.ensures.none l.attempts (seen_by c.args.seat.now);
 }

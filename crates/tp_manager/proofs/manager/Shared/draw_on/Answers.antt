@@ -9,7 +9,7 @@ use Rattle.tp_manager.proofs.manager.Shared.draw_on.Goals as goal
 
 pub void_rows-requires-clause-left : goal.void_rows-requires-clause-left
 void_rows-requires-clause-left c = let l : Limits = table_limits c.args.self.now.words in let d = c.draw.ensures.yes c.if-not-draw.false in
-    subst (λ (z : ℕ × ℕ). AreLeft l (view_of c.draw.new.seat) z.0 z.1) (λ i. (c.requires.run.0 i, c.requires.run.1 i)) (left_behind l (draw_steps l) d.0 (view_of c.args.seat.now) (view_of c.draw.new.seat) c.requires.steady d.1)
+    subst (λ (z : ℕ × ℕ). AreLeft l (view_of c.draw.new.seat) z.0 z.1) (λ i. (c.requires.run.0 i, c.requires.run.1 i)) (left_behind l (draw_steps l) d.0 (view_of c.args.seat.now) (view_of c.draw.new.seat) c.requires.steady.steady d.1)
 
 pub returns-clause-yes : goal.returns-clause-yes
 returns-clause-yes c = λ _. let l : Limits = table_limits c.args.self.now.words in let d = c.draw.ensures.yes c.if-not-draw.false in

@@ -16,7 +16,7 @@ first : (c : After-later-start) → c.args.part * (table_limits c.args.self.now.
 first c = ap (λ (z : Limits). c.args.part * z.rows) c.args.self.now.same
 
 pub is_bare-requires-clause-row : goal.is_bare-requires-clause-row
-is_bare-requires-clause-row c = let l : Limits = table_limits c.args.self.now.words in let inside = lows_inside l c.args.lows.now 0 (view_of c.args.seat.now) c.requires.steady.pass.1 c.requires.steady.known c.requires.remembers c.args.part in
+is_bare-requires-clause-row c = let l : Limits = table_limits c.args.self.now.words in let inside = lows_inside l c.args.lows.now 0 (view_of c.args.seat.now) c.requires.steady.steady.pass.1 c.requires.steady.steady.known c.requires.remembers c.args.part in
     let e = first (goal.at.is_bare-requires-clause-row c).After-later-start in let low = c.requires.from.1 in let high = c.requires.from.2 in let most = c.later-start.ensures.most.0 in (
       omega arith,
       ⊎_elim (λ (q : c.later-start.result ≡ c.args.from). let r : c.later-start.result ≤ c.args.part * l.rows + l.rows = omega arith in r)

@@ -18,16 +18,16 @@ pub loop-past-init : goal.loop-past-init
 loop-past-init c = let l : Limits = table_limits c.args.self.now.words in let v = view_of c.args.seat.now in record {
   sorted = c.of-ahead.ensures.sorted c.args.rows.now c.requires.none;
   same = search rules;
-  looked = looked_none l v c.requires.steady;
+  looked = looked_none l v c.requires.steady.steady;
   following = subst (λ (o : Option ℕ). Following l c.args.root c.args.from 0 (IsAhead c.of-ahead.result c.args.rows.now) o v.seen v) (sym c.none-least.ensures)
-      (following_begins l c.args.root c.args.from (IsAhead c.of-ahead.result c.args.rows.now) v c.requires.steady.shows.legal c.requires.request.1 ((c.of-ahead.ensures.has c.args.rows.now c.requires.none c.args.root).1 refl)
+      (following_begins l c.args.root c.args.from (IsAhead c.of-ahead.result c.args.rows.now) v c.requires.steady.steady.shows.legal c.requires.request.1 ((c.of-ahead.ensures.has c.args.rows.now c.requires.none c.args.root).1 refl)
       (λ i has. (c.of-ahead.ensures.has c.args.rows.now c.requires.none i).0 has));
 }
 
 pub returns-in_default-clause-told : goal.returns-in_default-clause-told
 returns-in_default-clause-told c = let l : Limits = table_limits c.args.self.now.words in
     subst (λ (o : Option ℕ). Followed l c.args.root c.args.from o (view_of c.args.seat.now) (view_of c.loop-past.seat)) (sym c.id.ensures)
-    (following_ends l c.args.root c.args.from c.loop-past._past (IsAhead c.loop-past.ahead c.loop-past.rows) c.loop-past.least (view_of c.args.seat.now) (view_of c.loop-past.seat) c.requires.steady.shows.legal c.in_default.ensures.least.0 c.loop-past.invariant.looked c.loop-past.invariant.following)
+    (following_ends l c.args.root c.args.from c.loop-past._past (IsAhead c.loop-past.ahead c.loop-past.rows) c.loop-past.least (view_of c.args.seat.now) (view_of c.loop-past.seat) c.requires.steady.steady.shows.legal c.in_default.ensures.least.0 c.loop-past.invariant.looked c.loop-past.invariant.following)
 
 pub look_on-requires-clause-row : goal.look_on-requires-clause-row
 look_on-requires-clause-row c = let l : Limits = table_limits c.args.self.now.words in

@@ -19,7 +19,7 @@ use Rattle.tp_manager.proofs.manager.Shared.kill_row.Goals as goal
 use Rattle.tp_manager.proofs.manager.Shared.kill_row.Goals.{After-load_claim-claim}
 
 one : (c : After-load_claim-claim) → Looked (table_limits c.args.self.now.words) 1 (view_of c.args.seat.now) (view_of c.load_claim-claim.new.seat)
-one c = looked _ 1 _ _ (acted_by _ kinds.Load _ _ c.requires.steady refl c.load_claim-claim.ensures.grew)
+one c = looked _ 1 _ _ (acted_by _ kinds.Load _ _ c.requires.steady.steady refl c.load_claim-claim.ensures.grew)
 
 -- the attempts that the code counts are those of the table's limits
 tries_are : (l k : Limits) → l ≡ k → (n : ℕ) → n ≡ tries k.attempts → n ≡ tries l.attempts
@@ -33,7 +33,7 @@ slay_most left (KilledWord n u r) = omega arith
 slay_most left (AgainWord r) = omega arith
 
 pub kill_from-requires-clause-steady : goal.kill_from-requires-clause-steady
-kill_from-requires-clause-steady c = (one (goal.at.kill_from-requires-clause-steady c).After-load_claim-claim).walk.steady
+kill_from-requires-clause-steady c = record { own = c.load_claim-claim.ensures.same ∙ c.requires.steady.own; steady = (one (goal.at.kill_from-requires-clause-steady c).After-load_claim-claim).walk.steady }
 
 pub kill_from-requires-clause-row : goal.kill_from-requires-clause-row
 kill_from-requires-clause-row c = let b = c.requires.row.1 in (c.requires.row.0, (b.0, found_later _ _ (grew_begins _ _ _ _ _ c.load_claim-claim.ensures.grew) c.args.row b.0 b.1))

@@ -18,7 +18,7 @@ use Rattle.tp_manager.proofs.manager.Shared.look_on.Goals as goal
 use Rattle.tp_manager.proofs.manager.Shared.look_on.Goals.{After-load_claim-claim, In-Taken, After-load_unit}
 
 one : (c : After-load_claim-claim) → Looked (table_limits c.args.self.now.words) 1 (view_of c.args.seat.now) (view_of c.load_claim-claim.new.seat)
-one c = looked _ 1 _ _ (acted_by _ kinds.Load _ _ c.requires.steady refl c.load_claim-claim.ensures.grew)
+one c = looked _ 1 _ _ (acted_by _ kinds.Load _ _ c.requires.steady.steady refl c.load_claim-claim.ensures.grew)
 
 born : (c : After-load_claim-claim) → HasElement (seen_by c.load_claim-claim.new.seat) c.args.row
 born c = let t = c.requires.row.1 in (t.0, found_later _ _ (looked_begins _ 1 _ _ (one c)) c.args.row t.0 t.1)
@@ -30,7 +30,7 @@ two : (c : After-load_unit) → Looked (table_limits c.args.self.now.words) 1 (v
 two c o = looked _ 1 _ _ (acted_by _ kinds.Load _ _ o.walk.steady refl c.load_unit.ensures.grew)
 
 pub look_untaken-requires-clause-steady : goal.look_untaken-requires-clause-steady
-look_untaken-requires-clause-steady c = (one (goal.at.look_untaken-requires-clause-steady c).After-load_claim-claim).walk.steady
+look_untaken-requires-clause-steady c = record { own = c.load_claim-claim.ensures.same ∙ c.requires.steady.own; steady = (one (goal.at.look_untaken-requires-clause-steady c).After-load_claim-claim).walk.steady }
 
 pub look_untaken-requires-clause-row : goal.look_untaken-requires-clause-row
 look_untaken-requires-clause-row c = (c.requires.row.0, born (goal.at.look_untaken-requires-clause-row c).After-load_claim-claim)
@@ -41,7 +41,7 @@ look_untaken-requires-clause-waits c = let o = one (goal.at.look_untaken-require
 
 pub look_untaken-requires-in-Again-clause-steady :
     goal.look_untaken-requires-in-Again-clause-steady
-look_untaken-requires-in-Again-clause-steady c = (one (goal.at.look_untaken-requires-in-Again-clause-steady c).After-load_claim-claim).walk.steady
+look_untaken-requires-in-Again-clause-steady c = record { own = c.load_claim-claim.ensures.same ∙ c.requires.steady.own; steady = (one (goal.at.look_untaken-requires-in-Again-clause-steady c).After-load_claim-claim).walk.steady }
 
 pub look_untaken-requires-in-Again-clause-row : goal.look_untaken-requires-in-Again-clause-row
 look_untaken-requires-in-Again-clause-row c = (c.requires.row.0, born (goal.at.look_untaken-requires-in-Again-clause-row c).After-load_claim-claim)

@@ -11,7 +11,7 @@ use Rattle.tp_manager.proofs.manager.Shared.look_untaken.Goals as goal
 use Rattle.tp_manager.proofs.manager.Shared.look_untaken.Goals.{After-load_stage-stage}
 
 one : (c : After-load_stage-stage) → Looked (table_limits c.args.self.now.words) 1 (view_of c.args.seat.now) (view_of c.load_stage-stage.new.seat)
-one c = looked _ 1 _ _ (acted_by _ kinds.Load _ _ c.requires.steady refl c.load_stage-stage.ensures.grew)
+one c = looked _ 1 _ _ (acted_by _ kinds.Load _ _ c.requires.steady.steady refl c.load_stage-stage.ensures.grew)
 
 pub returns-then-stage-eq-REPLY_STAGE-clause-looked : goal.returns-then-stage-eq-REPLY_STAGE-clause-looked
 returns-then-stage-eq-REPLY_STAGE-clause-looked c = one (goal.at.returns-then-stage-eq-REPLY_STAGE-clause-looked c).After-load_stage-stage
@@ -30,4 +30,4 @@ pub returns-else-stage-eq-REPLY_STAGE-clause-told : goal.returns-else-stage-eq-R
 returns-else-stage-eq-REPLY_STAGE-clause-told c =
     let l : Limits = table_limits c.args.self.now.words in let a = seen_by c.args.seat.now in let b = seen_by c.load_stage-stage.new.seat in
     let after = looked_begins l 1 _ _ (one (goal.at.returns-else-stage-eq-REPLY_STAGE-clause-told c).After-load_stage-stage) in
-    found_other l c.args.row a a b c.requires.steady.shows.legal (begins_refl a) after c.requires.waits (λ x born is. c.if-stage-eq-REPLY_STAGE.false (c.load_stage-stage.ensures.born x born ∙ is))
+    found_other l c.args.row a a b c.requires.steady.steady.shows.legal (begins_refl a) after c.requires.waits (λ x born is. c.if-stage-eq-REPLY_STAGE.false (c.load_stage-stage.ensures.born x born ∙ is))

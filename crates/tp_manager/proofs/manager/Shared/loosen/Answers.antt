@@ -31,7 +31,7 @@ way : (l : Limits) (v w : View) (x y : Claim) → x ≡ y → Looked l (takers (
 way l v w x y is a = subst (λ z. Looked l (takers (claim_value z)) v w) (sym is) a
 
 pub abort_exchange-requires-clause-unit : goal.abort_exchange-requires-clause-unit
-abort_exchange-requires-clause-unit c = let l : Limits = table_limits c.args.self.now.words in let is = taken (goal.at.abort_exchange-requires-clause-unit c).In-Taken in let legal = c.requires.steady.shows.legal in
+abort_exchange-requires-clause-unit c = let l : Limits = table_limits c.args.self.now.words in let is = taken (goal.at.abort_exchange-requires-clause-unit c).In-Taken in let legal = c.requires.steady.steady.shows.legal in
     let t = claim_taken l (seen_by c.args.seat.now) c.args.row c.in-Taken.attempt c.in-Taken.unit legal is in
     ((t.0, t.1), unit_inside l (seen_by c.args.seat.now) c.args.row c.in-Taken.attempt c.in-Taken.unit legal is)
 
@@ -41,21 +41,21 @@ free_way l i v x st none may = ([], refl, omega arith, subst (λ n. Freed l n i 
 
 pub returns-in-Free-clause-told : goal.returns-in-Free-clause-told
 returns-in-Free-clause-told c = let l : Limits = table_limits c.args.self.now.words in let v = view_of c.args.seat.now in
-    told l c.args.row 0 v v c.args.claim claims.Free c.in-Free.is (free_way l c.args.row v claims.Free c.requires.steady refl tt)
+    told l c.args.row 0 v v c.args.claim claims.Free c.in-Free.is (free_way l c.args.row v claims.Free c.requires.steady.steady refl tt)
 
 pub returns-in-Again-clause-told : goal.returns-in-Again-clause-told
 returns-in-Again-clause-told c = let l : Limits = table_limits c.args.self.now.words in let v = view_of c.args.seat.now in
-    told l c.args.row 0 v v c.args.claim (claims.Again c.in-Again.round) c.in-Again.is (free_way l c.args.row v (claims.Again c.in-Again.round) c.requires.steady refl tt)
+    told l c.args.row 0 v v c.args.claim (claims.Again c.in-Again.round) c.in-Again.is (free_way l c.args.row v (claims.Again c.in-Again.round) c.requires.steady.steady refl tt)
 
 pub returns-in-Killed-clause-told : goal.returns-in-Killed-clause-told
 returns-in-Killed-clause-told c = let l : Limits = table_limits c.args.self.now.words in let v = view_of c.args.seat.now in (
-  way l v v c.args.claim (claims.Killed c.in-Killed.attempt c.in-Killed.unit c.in-Killed.round) c.in-Killed.is (looked_none l v c.requires.steady),
-  status_killed l _ c.args.row c.in-Killed.attempt c.in-Killed.unit c.requires.steady.shows.legal (sym c.requires.found ∙ ap claim_value c.in-Killed.is),
+  way l v v c.args.claim (claims.Killed c.in-Killed.attempt c.in-Killed.unit c.in-Killed.round) c.in-Killed.is (looked_none l v c.requires.steady.steady),
+  status_killed l _ c.args.row c.in-Killed.attempt c.in-Killed.unit c.requires.steady.steady.shows.legal (sym c.requires.found ∙ ap claim_value c.in-Killed.is),
 )
 
 pub returns-in-Ok-clause-told : goal.returns-in-Ok-clause-told
 returns-in-Ok-clause-told c = let l : Limits = table_limits c.args.self.now.words in let v = view_of c.args.seat.now in let w = view_of c.abort_exchange.new.seat in let is = taken (goal.at.returns-in-Ok-clause-told c).In-Taken in
-    let t = freed_abort l c.args.row c.in-Taken.attempt c.in-Taken.unit v w c.requires.steady is c.in-Ok.ensures.hit in
+    let t = freed_abort l c.args.row c.in-Taken.attempt c.in-Taken.unit v w c.requires.steady.steady is c.in-Ok.ensures.hit in
     told l c.args.row 1 v w c.args.claim (claims.Taken c.in-Taken.attempt c.in-Taken.unit c.in-Taken.round) c.in-Taken.is
     (Abort (hand v).number c.in-Taken.unit ∷ [], refl, omega arith, t.0, allows_aborted l w.seen c.in-Taken.attempt c.in-Taken.unit c.in-Taken.round t.1)
 
@@ -64,12 +64,12 @@ unreachable-requires c = c.in-Err.ensures.miss.ended (ap unit_value c.in-Undecid
 
 pub returns-in-Committed-clause-told : goal.returns-in-Committed-clause-told
 returns-in-Committed-clause-told c = let l : Limits = table_limits c.args.self.now.words in let is = taken (goal.at.returns-in-Committed-clause-told c).In-Taken in let miss = c.in-Err.ensures.miss in
-    let a = acted_by l kinds.AbortExchange _ _ c.requires.steady refl (miss.other c.requires.free) in let b = looked l 1 _ _ a in (
+    let a = acted_by l kinds.AbortExchange _ _ c.requires.steady.steady refl (miss.other c.requires.free) in let b = looked l 1 _ _ a in (
       way l _ _ c.args.claim (claims.Taken c.in-Taken.attempt c.in-Taken.unit c.in-Taken.round) c.in-Taken.is b,
       sym (consumed_now l (seen_by c.args.seat.now) (seen_by c.abort_exchange.new.seat) a.walk.steady.shows.legal (looked_begins l 1 _ _ b) c.args.row c.in-Taken.attempt c.in-Taken.unit c.in-Committed.first c.in-Committed.count is (sym (ap unit_value c.in-Committed.is) ∙ miss.found_is)),
     )
 
 pub returns-in-Aborted-clause-told : goal.returns-in-Aborted-clause-told
-returns-in-Aborted-clause-told c = let l : Limits = table_limits c.args.self.now.words in let miss = c.in-Err.ensures.miss in let a = acted_by l kinds.AbortExchange _ _ c.requires.steady refl (miss.other c.requires.free) in
+returns-in-Aborted-clause-told c = let l : Limits = table_limits c.args.self.now.words in let miss = c.in-Err.ensures.miss in let a = acted_by l kinds.AbortExchange _ _ c.requires.steady.steady refl (miss.other c.requires.free) in
     told l c.args.row 0 _ _ c.args.claim (claims.Taken c.in-Taken.attempt c.in-Taken.unit c.in-Taken.round) c.in-Taken.is
     ([], refl, omega arith, freed_looked l 1 c.args.row _ _ (looked l 1 _ _ a), allows_aborted l (seen_by c.abort_exchange.new.seat) c.in-Taken.attempt c.in-Taken.unit c.in-Taken.round (sym miss.found_is ∙ ap unit_value c.in-Aborted.is))

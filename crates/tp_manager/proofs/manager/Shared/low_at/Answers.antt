@@ -13,7 +13,7 @@ use Rattle.tp_manager.proofs.manager.Shared.low_at.Goals as goal
 use Rattle.tp_manager.proofs.manager.Shared.low_at.Goals.{After-load_mark-mark}
 
 acted : (c : After-load_mark-mark) → Acted (table_limits c.args.self.now.words) 1 (view_of c.args.seat.now) (view_of c.load_mark-mark.new.seat)
-acted c = acted_by _ _ _ _ c.requires.steady refl c.load_mark-mark.ensures.grew
+acted c = acted_by _ _ _ _ c.requires.steady.steady refl c.load_mark-mark.ensures.grew
 
 -- what was remembered is so after the load
 kept : (c : After-load_mark-mark) → Remembers c.args.stage (view_of c.load_mark-mark.new.seat) c.args.lows.now
@@ -41,6 +41,6 @@ pub returns-else-lows-part-clause-rose : goal.returns-else-lows-part-clause-rose
 returns-else-lows-part-clause-rose c = let l : Limits = table_limits c.args.self.now.words in let at = (goal.at.returns-else-lows-part-clause-rose c).After-load_mark-mark in let v = view_of c.args.seat.now in
     let n = slice_index c.args.lows.now c.args.part in let M = c.load_mark-mark.result in let le : M ≤ n = (let not = c.if-lows-part.false in omega arith) in
     dite (dec_le 1 n)
-    (λ some. rose_found l c.args.stage c.args.part n M v (view_of c.load_mark-mark.new.seat) (goes_walked l _ _ v _ c.requires.steady.pass.1 (acted at).walk) le c.load_mark-mark.ensures.rises
-    (subst (λ (z : Limits). MayRemember z c.args.stage v c.args.part n) c.requires.steady.pass.1 (c.requires.remembers c.args.part some)))
+    (λ some. rose_found l c.args.stage c.args.part n M v (view_of c.load_mark-mark.new.seat) (goes_walked l _ _ v _ c.requires.steady.steady.pass.1 (acted at).walk) le c.load_mark-mark.ensures.rises
+    (subst (λ (z : Limits). MayRemember z c.args.stage v c.args.part n) c.requires.steady.steady.pass.1 (c.requires.remembers c.args.part some)))
     (λ none. (omega arith, λ i low high. absurd (omega arith)))

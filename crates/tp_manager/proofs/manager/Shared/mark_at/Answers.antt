@@ -3,4 +3,4 @@ use Rattle.tp_manager.proofs.Calls.CallSteps.{acted_by}
 use Rattle.tp_manager.proofs.manager.Shared.mark_at.Goals as goal
 
 pub returns-clause-acted : goal.returns-clause-acted
-returns-clause-acted c = acted_by _ _ _ _ c.requires.steady refl c.load_mark-mark.ensures.grew
+returns-clause-acted c = acted_by _ _ _ _ c.requires.steady.steady refl c.load_mark-mark.ensures.grew

@@ -14,7 +14,7 @@ use Rattle.tp_manager.proofs.manager.Shared.raise_low.Goals as goal
 use Rattle.tp_manager.proofs.manager.Shared.raise_low.Goals.{After-raise-raised}
 
 pub returns-then-to-mark-clause-looked : goal.returns-then-to-mark-clause-looked
-returns-then-to-mark-clause-looked c = let l : Limits = table_limits c.args.self.now.words in let v = view_of c.args.seat.now in looked_few l 0 1 v v (omega arith) (looked_none l v c.requires.steady)
+returns-then-to-mark-clause-looked c = let l : Limits = table_limits c.args.self.now.words in let v = view_of c.args.seat.now in looked_few l 0 1 v v (omega arith) (looked_none l v c.requires.steady.steady)
 
 -- the rows of a part up to the first that isn't known of no use, counted from where the part begins
 rose_part : (l k : Limits) (c p mark low : ℕ) (v : View) → l ≡ k → mark < low - p * k.rows → Rose c v (p * l.rows + mark) low → Rose c v (p * l.rows + mark) (p * l.rows + (low - p * k.rows))
@@ -35,8 +35,8 @@ rose c = rose_part (table_limits c.args.self.now.words) c.args.self.now.places.l
 -- the exchange, whether it went through or not
 one : (c : After-raise-raised) → Looked (table_limits c.args.self.now.words) 1 (view_of c.args.seat.now) (view_of c.raise-raised.new.seat)
 one c = let l : Limits = table_limits c.args.self.now.words in let v = view_of c.args.seat.now in
-    raised_looked l c.args.stage c.args.part c.args.mark (to c) v (view_of c.raise-raised.new.seat) c.requires.steady c.raise-raised.ensures.raises
-    (rose_low l c.args.stage v c.args.part c.args.mark (to c) c.requires.steady c.requires.mark.0 (inside c) (rose c)) c.if-to-mark.false
+    raised_looked l c.args.stage c.args.part c.args.mark (to c) v (view_of c.raise-raised.new.seat) c.requires.steady.steady c.raise-raised.ensures.raises
+    (rose_low l c.args.stage v c.args.part c.args.mark (to c) c.requires.steady.steady c.requires.mark.0 (inside c) (rose c)) c.if-to-mark.false
 
 -- the pass may remember that row, in either case
 may : (c : After-raise-raised) (t : Bool) → c.raise-raised.result ≡ t → MayRemember (table_limits c.args.self.now.words) c.args.stage (view_of c.raise-raised.new.seat) c.args.part (to c)
@@ -47,7 +47,7 @@ may c false failed = let l : Limits = table_limits c.args.self.now.words in let 
   knows = a.knows _ c.requires.mark.0;
   above = c.raise-raised.ensures.miss failed c.requires.mark.0;
   inside = inside c;
-  rose = rose_later l c.args.stage v w _ _ (goes_walked l _ _ v w c.requires.steady.pass.1 a) (rose c);
+  rose = rose_later l c.args.stage v w _ _ (goes_walked l _ _ v w c.requires.steady.steady.pass.1 a) (rose c);
 }
 
 pub returns-clause-looked : goal.returns-clause-looked

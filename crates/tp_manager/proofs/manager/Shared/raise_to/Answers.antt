@@ -21,8 +21,8 @@ raise-requires-clause-done c = λ i low high. let l : Limits = table_limits c.ar
 one : (c : After-raise) → Looked (table_limits c.args.self.now.words) 1 (view_of c.args.seat.now) (view_of c.raise.new.seat)
 one c = let l : Limits = table_limits c.args.self.now.words in let up = c.requires.low.1.0 in let top = c.requires.low.0 in
     let same : c.args.part * l.rows ≡ c.args.part * c.args.self.now.places.limits.rows = ap (λ (z : Limits). c.args.part * z.rows) c.args.self.now.same in
-    raised_looked l c.args.kind c.args.part c.args.mark _ (view_of c.args.seat.now) (view_of c.raise.new.seat) c.requires.steady c.raise.ensures.raises
-    (rose_low l c.args.kind (view_of c.args.seat.now) c.args.part c.args.mark _ c.requires.steady c.requires.mark.0 (subst (IsInside l c.args.part) (ap (λ z. c.args.low - z) same) top) (subst (λ n. Rose c.args.kind (view_of c.args.seat.now) (c.args.part * l.rows + c.args.mark) n) (omega arith) c.requires.low.1)) (let more = c.if-to-mark.false in omega arith)
+    raised_looked l c.args.kind c.args.part c.args.mark _ (view_of c.args.seat.now) (view_of c.raise.new.seat) c.requires.steady.steady c.raise.ensures.raises
+    (rose_low l c.args.kind (view_of c.args.seat.now) c.args.part c.args.mark _ c.requires.steady.steady c.requires.mark.0 (subst (IsInside l c.args.part) (ap (λ z. c.args.low - z) same) top) (subst (λ n. Rose c.args.kind (view_of c.args.seat.now) (c.args.part * l.rows + c.args.mark) n) (omega arith) c.requires.low.1)) (let more = c.if-to-mark.false in omega arith)
 
 pub returns-then-not-raise-clause-looked : goal.returns-then-not-raise-clause-looked
 returns-then-not-raise-clause-looked c = one (goal.at.returns-then-not-raise-clause-looked c).After-raise
@@ -40,4 +40,4 @@ returns-clause-remembers c = let at = (goal.at.returns-clause-remembers c).After
     (remembers_kind c.args.kind c.args.lows.now _ _ _ _ _ a c.requires.remembers)
 
 pub returns-then-to-mark-clause-looked : goal.returns-then-to-mark-clause-looked
-returns-then-to-mark-clause-looked c = let l : Limits = table_limits c.args.self.now.words in let v = view_of c.args.seat.now in looked_few l 0 1 v v (omega arith) (looked_none l v c.requires.steady)
+returns-then-to-mark-clause-looked c = let l : Limits = table_limits c.args.self.now.words in let v = view_of c.args.seat.now in looked_few l 0 1 v v (omega arith) (looked_none l v c.requires.steady.steady)

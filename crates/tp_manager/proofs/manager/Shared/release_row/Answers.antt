@@ -18,7 +18,7 @@ use Rattle.tp_manager.proofs.manager.Shared.release_row.Goals as goal
 use Rattle.tp_manager.proofs.manager.Shared.release_row.Goals.{After-load_claim-claim, In-Taken, In-Err}
 
 one : (c : After-load_claim-claim) → Looked (table_limits c.args.self.now.words) 1 (view_of c.args.seat.now) (view_of c.load_claim-claim.new.seat)
-one c = looked _ 1 _ _ (acted_by _ kinds.Load _ _ c.requires.steady refl c.load_claim-claim.ensures.grew)
+one c = looked _ 1 _ _ (acted_by _ kinds.Load _ _ c.requires.steady.steady refl c.load_claim-claim.ensures.grew)
 
 taken : (c : In-Taken) → claim_word (seen_by c.load_claim-claim.new.seat) c.args.row ≡ TakenWord c.in-Taken.attempt c.in-Taken.unit c.in-Taken.round
 taken c = sym c.load_claim-claim.ensures.claim ∙ ap claim_value c.in-Taken.is

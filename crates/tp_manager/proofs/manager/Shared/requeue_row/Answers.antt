@@ -18,7 +18,7 @@ use Rattle.tp_manager.proofs.manager.Shared.requeue_row.Goals as goal
 use Rattle.tp_manager.proofs.manager.Shared.requeue_row.Goals.{After-load_claim-claim, In-Taken, After-load_unit, In-Err}
 
 one : (c : After-load_claim-claim) → Looked (table_limits c.args.self.now.words) 1 (view_of c.args.seat.now) (view_of c.load_claim-claim.new.seat)
-one c = looked _ 1 _ _ (acted_by _ kinds.Load _ _ c.requires.steady refl c.load_claim-claim.ensures.grew)
+one c = looked _ 1 _ _ (acted_by _ kinds.Load _ _ c.requires.steady.steady refl c.load_claim-claim.ensures.grew)
 
 -- the claim was found, and then its unit
 two : (c : After-load_unit) → Looked (table_limits c.args.self.now.words) 1 (view_of c.args.seat.now) (view_of c.load_claim-claim.new.seat) → Looked (table_limits c.args.self.now.words) 1 (view_of c.load_claim-claim.new.seat) (view_of c.load_unit.new.seat)

@@ -1,4 +1,4 @@
-use Rattle.std.proofs.Common.{◌+◌, ◌-◌, ◌*◌, ◌≤◌, slice_index, arith, inl, subst}
+use Rattle.std.proofs.Common.{◌+◌, ◌-◌, ◌*◌, ◌≤◌, slice_index, arith, inl, subst, sym}
 use Rattle.tp_model.specs.declared.types.Limits.{Limits}
 use Rattle.tp_model.specs.declared.types.TheConstants.{BLOCK_ROWS}
 use Rattle.tp_model.specs.Steps.{part_rows, rows_of}
@@ -6,11 +6,12 @@ use Rattle.tp_rule.specs.Tables.{table_limits}
 use Rattle.tp_rule.specs.Views.{view_of}
 use Rattle.tp_manager.specs.Bounds.{spare_left, try_steps}
 use Rattle.tp_manager.proofs.Marks.Lows.{drawn_one}
+use Rattle.tp_manager.specs.Marks.{RemembersGaps}
 use Rattle.tp_manager.specs.Spares.{SpareRests}
 use Rattle.tp_manager.proofs.Marks.Rests.{drawn_walked, spare_before}
 use Rattle.tp_manager.proofs.Claims.Spares.{scan_drawn}
 use Rattle.tp_rule.specs.Views.{SeatShown}
-use Rattle.tp_manager.proofs.Calls.CallSteps.{remembers_kind}
+use Rattle.tp_manager.proofs.Calls.CallSteps.{gaps_kind, remembers_kind}
 use Rattle.tp_manager.proofs.manager.Shared.scan_blocks.Goals as goal
 
 pub returns-clause-told : goal.returns-clause-told
@@ -26,7 +27,13 @@ returns-clause-rests c = let l : Limits = table_limits c.args.self.now.words in 
 
 pub returns-in_default-clause-rests : goal.returns-in_default-clause-rests
 returns-in_default-clause-rests c = let l : Limits = table_limits c.args.self.now.words in let none = c.in_default.ensures.told.0 in let few = c.blocks_end.ensures.drawn.0 in
-    let most : c.blocks_end.new.drawn ≤ l.spare = subst (λ (z : Limits). c.blocks_end.new.drawn ≤ z.spare) c.requires.steady.pass.1 (subst (λ (z : SeatShown). c.blocks_end.new.drawn ≤ (view_of z).limits.spare) c.in_default.ensures.told.1 few) in inl (omega arith)
+    let most : c.blocks_end.new.drawn ≤ l.spare = subst (λ (z : Limits). c.blocks_end.new.drawn ≤ z.spare) c.requires.steady.steady.pass.1 (subst (λ (z : SeatShown). c.blocks_end.new.drawn ≤ (view_of z).limits.spare) c.in_default.ensures.told.1 few) in inl (omega arith)
 
 pub scan_spare-requires-clause-remembers : goal.scan_spare-requires-clause-remembers
 scan_spare-requires-clause-remembers c = remembers_kind c.args.stage c.args.lows.now _ _ _ _ _ c.in-Some.ensures.told.1.walk c.requires.remembers
+
+pub scan_spare-requires-clause-gaps : goal.scan_spare-requires-clause-gaps
+scan_spare-requires-clause-gaps c = gaps_kind c.args.stage c.args.gaps.now _ _ _ _ _ c.in-Some.ensures.told.1.walk c.requires.gaps
+
+pub returns-in_default-clause-gaps : goal.returns-in_default-clause-gaps
+returns-in_default-clause-gaps c = subst (λ (z : SeatShown). RemembersGaps c.args.stage (view_of z) c.args.gaps.now) (sym c.in_default.ensures.told.1) c.requires.gaps

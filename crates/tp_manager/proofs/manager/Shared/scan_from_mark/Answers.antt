@@ -1,24 +1,29 @@
-use Rattle.std.proofs.Common.{inr, ⊎_elim, ◌<◌, ◌≡◌, ◌+◌, ◌-◌, ◌*◌, ◌≤◌, ℕ, List, inl, slice_index, refl, sym, ap, subst, arith, rules, mul-le-mul_right}
+use Rattle.std.proofs.Common.{inr, MatchOption, ⊎_elim, ◌<◌, ◌≡◌, ◌+◌, ◌-◌, ◌*◌, ◌≤◌, ℕ, List, length, inl, slice_index, refl, sym, ap, subst, arith, rules, mul-le-mul_right}
 use Rattle.tp_model.specs.declared.types.Limits.{Limits}
 use Rattle.tp_model.specs.declared.trace.TraceEntry.{TraceEntry}
 use Rattle.tp_model.specs.Steps.{IsRowOf}
 use Rattle.tp_model.proofs.Bridges.{begins_refl}
 use Rattle.tp_rule.specs.Tables.{table_limits}
 use Rattle.tp_rule.specs.Views.{seen_by, view_of}
+use Rattle.tp_rule.specs.declared.view.View.{View}
 use Rattle.tp_manager.specs.Bounds.{try_steps}
 use Rattle.tp_manager.specs.CallSteps.{Looked, Stepped}
 use Rattle.tp_manager.specs.BetweenCalls.{RemembersDone}
-use Rattle.tp_manager.specs.Marks.{Remembers, RisesAt, Rose, WasOfUse}
-use Rattle.tp_manager.specs.Scans.{EachRow, OfPart, PassedBy, Sought}
-use Rattle.tp_manager.proofs.Marks.Rests.{rests_by}
-use Rattle.tp_manager.proofs.Calls.CallSteps.{looked_begins, remembers_kind, sought_few, walked_begins, walked_then}
+use Rattle.tp_manager.specs.Marks.{Remembers, RemembersGaps, RisesAt, Rose, WasOfUse}
+use Rattle.tp_manager.specs.Scans.{EachRow, OfPart, PassedBy, Sought, Took}
+use Rattle.std.proofs.Math.Nat.{add-mul}
+use Rattle.tp_manager.specs.declared.scanning.Taken.{Taken}
+use Rattle.tp_manager.proofs.Calls.Points.{has_more}
+use Rattle.tp_manager.proofs.Claims.Behind.{gaps_set, scan_on}
+use Rattle.tp_manager.proofs.Marks.Rests.{drawn_walked, rests_behind, rests_by}
+use Rattle.tp_manager.proofs.Calls.CallSteps.{gaps_kind, looked_begins, looked_none, remembers_kind, sought_few, walked_begins, walked_then}
 use Rattle.tp_rule.specs.declared.view.Known.TheVariants.{PartMark}
 use mathlib.Core.Logic.{dite}
 use native.Mathlib.Decide.{dec_le}
 use Rattle.tp_manager.proofs.Marks.Lows.{rises_at_then}
 use Rattle.tp_manager.proofs.Calls.Passes.{done_walked}
 use Rattle.tp_manager.proofs.Marks.Raises.{done_passed, goes_walked, over_passed, past_near, rose_both, rose_past, rose_then, took_looked, use_later}
-use Rattle.tp_manager.proofs.Claims.Scans.{passed_widens, took_few, took_from, took_then}
+use Rattle.tp_manager.proofs.Claims.Scans.{passed_widens, scan_behind, took_few, took_from, took_then}
 use Rattle.tp_manager.proofs.Rows.Seeks.{part_on, begun_few, begun_looked, begun_on, rows_more, sought_from, sought_then}
 use Rattle.tp_manager.proofs.manager.Shared.scan_from_mark.Goals as goal
 use Rattle.tp_manager.proofs.manager.Shared.scan_from_mark.Goals.{After-loop-row, After-low_at-mark, After-past_done-begin, After-try_row}
@@ -35,7 +40,7 @@ from c = c.args.part * c.args.self.now.places.limits.rows + slice_index c.low_at
 
 -- what the pass remembers as done is so after the load of the mark
 still_done : (c : After-low_at-mark) → RemembersDone (view_of c.low_at-mark.new.seat) c.args.done
-still_done c = done_walked _ 1 _ _ _ c.args.done c.requires.steady.pass.1 c.low_at-mark.ensures.acted.walk c.requires.done
+still_done c = done_walked _ 1 _ _ _ c.args.done c.requires.steady.steady.pass.1 c.low_at-mark.ensures.acted.walk c.requires.done
 
 -- the scan begins at the mark, or one row after it
 begins : (c : After-past_done-begin) → (from c ≤ c.past_done-begin.result) × (c.past_done-begin.result ≤ from c + 1) × (c.past_done-begin.result ≤ c.args.part * c.args.self.now.places.limits.rows + c.args.self.now.places.limits.rows)
@@ -56,7 +61,7 @@ since c = let l : Limits = table_limits c.args.self.now.words in
 
 -- the rows before the first that is looked at are over
 under : (c : After-past_done-begin) (j : ℕ) → c.args.part * (table_limits c.args.self.now.words).rows ≤ j → j < c.past_done-begin.result → PassedBy (table_limits c.args.self.now.words) c.args.stage j (seen_by c.low_at-mark.new.seat) (seen_by c.low_at-mark.new.seat)
-under c j from_on below = let l : Limits = table_limits c.args.self.now.words in let e = ap (λ (z : Limits). c.args.part * z.rows) c.args.self.now.same in let old = done_walked l 1 _ _ _ c.args.done c.requires.steady.pass.1 c.low_at-mark.ensures.acted.walk c.requires.done in
+under c j from_on below = let l : Limits = table_limits c.args.self.now.words in let e = ap (λ (z : Limits). c.args.part * z.rows) c.args.self.now.same in let old = done_walked l 1 _ _ _ c.args.done c.requires.steady.steady.pass.1 c.low_at-mark.ensures.acted.walk c.requires.done in
     dite (dec_le (from c) j)
     (λ past. done_passed l c.args.stage (view_of c.low_at-mark.new.seat) c.past_done-begin.result (from c) _ c.args.done c.low_at-mark.ensures.acted.walk.steady.pass.1 old c.past_done-begin.ensures j past below)
     (λ not. over_passed l c.args.stage (seen_by c.low_at-mark.new.seat) c.args.part (slice_index c.low_at-mark.new.lows c.args.part) j c.requires.stage.0 c.low_at-mark.ensures.low.1 from_on (omega arith))
@@ -144,10 +149,86 @@ returns-in-Some-clause-told c = let l : Limits = table_limits c.args.self.now.wo
       c.in-Some.ensures.told.1,
     )
 
+-- what the pass remembers of gaps is so after the load of the mark, and later
+gaps_then : (c : After-low_at-mark) (gaps : List ℕ) (n : ℕ) (ms : List TraceEntry) (y : View) → gaps ≡ c.args.gaps.now → Stepped (table_limits c.args.self.now.words) n ms (view_of c.low_at-mark.new.seat) y → RemembersGaps c.args.stage y gaps
+gaps_then c gaps n ms y same a = subst (RemembersGaps c.args.stage y) (sym same) (gaps_kind c.args.stage c.args.gaps.now _ n ms _ y a (gaps_kind c.args.stage c.args.gaps.now _ _ _ _ _ c.low_at-mark.ensures.acted.walk c.requires.gaps))
+
+pub returns-in-Some-clause-gaps : goal.returns-in-Some-clause-gaps
+returns-in-Some-clause-gaps c = let l : Limits = table_limits c.args.self.now.words in let at = goal.at.returns-in-Some-clause-gaps c in
+    gaps_then at.After-low_at-mark c.loop-row.gaps _ _ (view_of c.raise_low.new.seat) c.loop-row.invariant.gaps (walked_then l _ 1 _ _ _ _ _ (walked_then l _ _ _ _ _ _ _ (since at.After-try_row).walk c.in-Some.ensures.told.0.walk) c.raise_low.ensures.looked.walk)
+
+pub returns-clause-gaps : goal.returns-clause-gaps
+returns-clause-gaps c = let l : Limits = table_limits c.args.self.now.words in let at = goal.at.returns-clause-gaps c in
+    gaps_then at.After-low_at-mark c.loop-row.gaps _ _ (view_of c.raise_low-2.new.seat) c.loop-row.invariant.gaps (walked_then l _ 1 _ _ _ _ _ (all_since at.After-loop-row).walk c.raise_low-2.ensures.looked.walk)
+
+-- a row that may be of use: the scan goes on behind it
+pub raise_low-requires-then-row-end-clause-remembers : goal.raise_low-requires-then-row-end-clause-remembers
+raise_low-requires-then-row-end-clause-remembers c = let at = (goal.at.raise_low-requires-then-row-end-clause-remembers c).After-try_row in
+    subst (Remembers c.args.stage (view_of c.try_row.new.seat)) (sym c.loop-row.invariant.lows) (remembers_kind c.args.stage c.low_at-mark.new.lows _ _ _ _ _ c.in_default.ensures.told.walk (remembers_kind c.args.stage c.low_at-mark.new.lows _ _ _ _ _ (since at).walk c.low_at-mark.ensures.remembers))
+
+pub raise_low-requires-then-row-end-clause-low : goal.raise_low-requires-then-row-end-clause-low
+raise_low-requires-then-row-end-clause-low c = let l : Limits = table_limits c.args.self.now.words in let at = goal.at.raise_low-requires-then-row-end-clause-low c in
+    let on = (near at.After-try_row).1 in let low = c.try_row.ensures.low.0 in (
+      omega arith,
+      under_low at.After-past_done-begin c.loop-row.lows c.try_row.new.low c.loop-row.invariant.lows (more at.After-try_row),
+      subst (λ z. Rose c.args.stage (view_of c.try_row.new.seat) (z + c.low_at-mark.result) c.try_row.new.low) (sym (first at.After-low_at-mark)) (rose at.After-try_row _ _ c.in_default.ensures.told.walk),
+    )
+
+pub scan_behind-found-requires-clause-rows : goal.scan_behind-found-requires-clause-rows
+scan_behind-found-requires-clause-rows c = let l : Limits = table_limits c.args.self.now.words in let at = goal.at.scan_behind-found-requires-clause-rows c in let on = (near at.After-try_row).1 in
+    let e = first at.After-low_at-mark in let w = wide at.After-low_at-mark in let all = rows_more c.args.part l.parts l.rows c.requires.part in (omega arith, omega arith)
+
+pub scan_behind-found-requires-clause-gap : goal.scan_behind-found-requires-clause-gap
+scan_behind-found-requires-clause-gap c = let l : Limits = table_limits c.args.self.now.words in let at = goal.at.scan_behind-found-requires-clause-gap c in
+    gaps_then at.After-low_at-mark c.loop-row.gaps _ _ (view_of c.raise_low-then-row-end.new.seat) c.loop-row.invariant.gaps
+    (walked_then l _ 1 _ _ _ _ _ (walked_then l _ _ _ _ _ _ _ (since at.After-try_row).walk c.in_default.ensures.told.walk) c.raise_low-then-row-end.ensures.looked.walk) c.args.part
+
+pub scan_behind-found-requires-clause-done : goal.scan_behind-found-requires-clause-done
+scan_behind-found-requires-clause-done c = let l : Limits = table_limits c.args.self.now.words in let at = goal.at.scan_behind-found-requires-clause-done c in
+    done_walked l _ _ _ _ c.args.done c.low_at-mark.ensures.acted.walk.steady.pass.1
+    (walked_then l _ 1 _ _ _ _ _ (walked_then l _ _ _ _ _ _ _ (since at.After-try_row).walk c.in_default.ensures.told.walk) c.raise_low-then-row-end.ensures.looked.walk) (still_done at.After-low_at-mark)
+
+pub returns-then-row-end-clause-remembers : goal.returns-then-row-end-clause-remembers
+returns-then-row-end-clause-remembers c = let l : Limits = table_limits c.args.self.now.words in
+    let w = drawn_walked l c.args.stage c.args.unit _ c.try_row.new.row _ (view_of c.raise_low-then-row-end.new.seat) (view_of c.scan_behind-found.new.seat) c.scan_behind-found.result c.scan_behind-found.ensures.told in
+    remembers_kind c.args.stage c.raise_low-then-row-end.new.lows _ _ _ _ _ w.1 c.raise_low-then-row-end.ensures.remembers
+
+pub returns-then-row-end-clause-gaps : goal.returns-then-row-end-clause-gaps
+returns-then-row-end-clause-gaps c = let l : Limits = table_limits c.args.self.now.words in let at = goal.at.returns-then-row-end-clause-gaps c in
+    let w = drawn_walked l c.args.stage c.args.unit _ c.try_row.new.row _ (view_of c.raise_low-then-row-end.new.seat) (view_of c.scan_behind-found.new.seat) c.scan_behind-found.result c.scan_behind-found.ensures.told in
+    let long = c.told-gaps in let same = ap length c.loop-row.invariant.gaps in let few = c.args.self.now.words.places.valid.parts.1 in
+    gaps_set c.args.stage c.args.part c.scan_behind-found.new.gap c.loop-row.gaps (view_of c.scan_behind-found.new.seat) (omega arith) c.scan_behind-found.ensures.gap
+    (gaps_then at.After-low_at-mark c.loop-row.gaps _ _ (view_of c.scan_behind-found.new.seat) c.loop-row.invariant.gaps
+    (walked_then l _ _ _ _ _ _ _ (walked_then l _ 1 _ _ _ _ _ (walked_then l _ _ _ _ _ _ _ (since at.After-try_row).walk c.in_default.ensures.told.walk) c.raise_low-then-row-end.ensures.looked.walk) w.1))
+
+pub returns-then-row-end-clause-rests : goal.returns-then-row-end-clause-rests
+returns-then-row-end-clause-rests c = let l : Limits = table_limits c.args.self.now.words in let at = goal.at.returns-then-row-end-clause-rests c in let t = c.in_default.ensures.told in let first = c.low_at-mark.ensures.acted in
+    let w = drawn_walked l c.args.stage c.args.unit _ c.try_row.new.row _ (view_of c.raise_low-then-row-end.new.seat) (view_of c.scan_behind-found.new.seat) c.scan_behind-found.result c.scan_behind-found.ensures.told in
+    let a = walked_then l _ 1 _ _ _ _ _ (walked_then l _ _ _ _ _ _ _ (since at.After-try_row).walk t.walk) c.raise_low-then-row-end.ensures.looked.walk in
+    rests_behind l _ _ _ w.0 (view_of c.args.seat.now) (view_of c.raise_low-then-row-end.new.seat) (view_of c.scan_behind-found.new.seat) (walked_then l 1 _ _ _ _ _ _ first.walk a) w.1 c.args.stage c.args.part _ (has_more _ _ first.step)
+    (rests_by l 1 _ _ (view_of c.args.seat.now) (view_of c.low_at-mark.new.seat) (view_of c.try_row.new.seat) (view_of c.raise_low-then-row-end.new.seat) first a c.raise_low-then-row-end.ensures.seen
+    c.args.stage c.args.part _ c.try_row.new.low c.try_row.new.row c.raise_low-then-row-end.ensures.rests (stuck at.After-try_row _ _ t.walk) (inl c.if-low-row.true))
+
+pub returns-then-row-end-clause-told : goal.returns-then-row-end-clause-told
+returns-then-row-end-clause-told c = let l : Limits = table_limits c.args.self.now.words in let s = try_steps in let P = PassedBy l c.args.stage in let W = passed_widens l c.args.stage in let i = c.loop-row.invariant in let from = i.from in let on = c.try_row.ensures.on.on in
+    let at = goal.at.returns-then-row-end-clause-told c in let F : ℕ = c.past_done-begin.result in let d : ℕ = c.loop-row.row - F in let k : ℕ = c.try_row.new.row - F in let top = (near at.After-try_row).1 in
+    let e = first at.After-low_at-mark in let wd = wide at.After-low_at-mark in let low = above at.After-low_at-mark in let mark = (begins at.After-past_done-begin).0 in
+    let begun = begun_few l P W (d * s + s) F (k * s) c.try_row.new.row _ _ (rows_more d k s (omega arith)) (begun_on l P W (d * s) F s c.loop-row.row _ _ _ i.begun c.try_row.new.row from c.in_default.ensures.told) in
+    let sought = sought_from l P W (k * s) (c.args.part * l.rows) F c.try_row.new.row (view_of c.args.seat.now) (view_of c.low_at-mark.new.seat) (view_of c.try_row.new.seat) c.low_at-mark.ensures.acted begun (under at.After-past_done-begin) in
+    let raised = sought_then l (1 + k * s) 1 (EachRow P (c.args.part * l.rows) c.try_row.new.row) _ _ _ (λ a b g later each j p q. passed_widens l c.args.stage j a a b g (begins_refl a) later (each j p q)) sought c.raise_low-then-row-end.ensures.looked in
+    let end : c.args.part * c.args.self.now.places.limits.rows + c.args.self.now.places.limits.rows ≡ c.args.part * l.rows + l.rows = omega arith in
+    let room : (k + (c.args.part * c.args.self.now.places.limits.rows + c.args.self.now.places.limits.rows - c.try_row.new.row)) * s ≤ (l.rows - slice_index c.args.lows.now c.args.part) * s = mul-le-mul_right s (omega arith) in
+    let both = add-mul k (c.args.part * c.args.self.now.places.limits.rows + c.args.self.now.places.limits.rows - c.try_row.new.row) s in
+    let v = view_of c.args.seat.now in let y = view_of c.scan_behind-found.new.seat in let n : ℕ = (1 + k * s) + 1 in let m : ℕ = (c.args.part * c.args.self.now.places.limits.rows + c.args.self.now.places.limits.rows - c.try_row.new.row) * s in
+    subst (λ z. MatchOption c.scan_behind-found.result (Sought l (2 + (l.rows - slice_index c.args.lows.now c.args.part) * s) (EachRow P (c.args.part * l.rows) z) v y) (λ (t : Taken). Took l (2 + (l.rows - slice_index c.args.lows.now c.args.part) * s) (c.args.part * l.rows) c.args.stage c.args.unit v y t.element t.attempt × (t.element.root ≡ t.root))) end
+    (scan_behind l c.args.stage c.args.unit 0 (n + m) (2 + (l.rows - slice_index c.args.lows.now c.args.part) * s) (c.args.part * l.rows) _ v v y c.scan_behind-found.result (omega arith) (looked_none l v c.requires.steady.steady)
+    (scan_on l c.args.stage c.requires.stage.0 n m c.args.unit (c.args.part * l.rows) c.try_row.new.row _ v (view_of c.raise_low-then-row-end.new.seat) y c.scan_behind-found.result (omega arith) raised c.scan_behind-found.ensures.told))
+
 pub loop-row-init : goal.loop-row-init
 loop-row-init c = let at = goal.at.loop-row-init c in let b = begins at.After-past_done-begin in let inside = b.2 in record {
   same = refl;
   lows = refl;
+  gaps = refl;
   from = omega arith;
   inside = inside;
   above = omega arith;
@@ -165,6 +246,7 @@ loop-row-preserved c = let l : Limits = table_limits c.args.self.now.words in le
     let start = i.from in let e = first at.After-low_at-mark in let w = wide at.After-low_at-mark in let top = n.1 in record {
       same = search rules;
       lows = i.lows;
+      gaps = i.gaps;
       from = omega arith;
       inside = omega arith;
       above = more at.After-try_row;

@@ -10,6 +10,7 @@ abbrev pub invariant-loop-row : goal.invariant-loop-row
 invariant-loop-row l = record {
   same : IsSameSeat l.initial.seat l.seat;
   lows : l.lows ≡ l.initial.lows;
+  gaps : l.gaps ≡ l.initial.gaps;
   from : l.begin ≤ l.row;
   inside : l.row ≤ l.end;
   above : l.begin ≤ l.low;

@@ -10,7 +10,7 @@ use Rattle.tp_manager.proofs.Marks.Rests.{found_walked, rests_before}
 use Rattle.tp_manager.proofs.Calls.Passes.{done_walked}
 use Rattle.tp_manager.proofs.Claims.Scans.{none_passed, passed_widens, scan_behind}
 use Rattle.tp_manager.proofs.Rows.Seeks.{sought_bare}
-use Rattle.tp_manager.proofs.Calls.CallSteps.{remembers_kind, sought_few, steps_in}
+use Rattle.tp_manager.proofs.Calls.CallSteps.{gaps_kind, remembers_kind, sought_few, steps_in}
 use mathlib.Core.List.{IsPrefix}
 use Rattle.tp_model.proofs.Bridges.{begins_refl}
 use mathlib.Core.Logic.{dite}
@@ -18,7 +18,7 @@ use native.Mathlib.Decide.{dec_le}
 use Rattle.tp_manager.proofs.manager.Shared.scan_part.Goals as goal
 
 pub is_bare_to-requires-clause-row : goal.is_bare_to-requires-clause-row
-is_bare_to-requires-clause-row c = let l : Limits = table_limits c.args.self.now.words in let inside = lows_inside l c.args.lows.now c.args.stage (view_of c.args.seat.now) c.requires.steady.pass.1 c.requires.steady.known c.requires.remembers c.args.part in
+is_bare_to-requires-clause-row c = let l : Limits = table_limits c.args.self.now.words in let inside = lows_inside l c.args.lows.now c.args.stage (view_of c.args.seat.now) c.requires.steady.steady.pass.1 c.requires.steady.steady.known c.requires.remembers c.args.part in
     let e = c.requires.first.0 in let wide = c.requires.first.1 in (omega arith, omega arith, omega arith)
 
 pub returns-then-is_bare_to-clause-told : goal.returns-then-is_bare_to-clause-told
@@ -35,8 +35,14 @@ returns-then-is_bare_to-clause-remembers c = remembers_kind c.args.stage c.args.
 pub scan_from_mark-requires-clause-remembers : goal.scan_from_mark-requires-clause-remembers
 scan_from_mark-requires-clause-remembers c = remembers_kind c.args.stage c.args.lows.now _ _ _ _ _ (c.is_bare_to.ensures.more c.if-is_bare_to.false).walk c.requires.remembers
 
+pub returns-then-is_bare_to-clause-gaps : goal.returns-then-is_bare_to-clause-gaps
+returns-then-is_bare_to-clause-gaps c = gaps_kind c.args.stage c.args.gaps.now _ _ _ _ _ (c.is_bare_to.ensures.bare c.if-is_bare_to.true).0.walk c.requires.gaps
+
+pub scan_from_mark-requires-clause-gaps : goal.scan_from_mark-requires-clause-gaps
+scan_from_mark-requires-clause-gaps c = gaps_kind c.args.stage c.args.gaps.now _ _ _ _ _ (c.is_bare_to.ensures.more c.if-is_bare_to.false).walk c.requires.gaps
+
 pub scan_from_mark-requires-clause-done : goal.scan_from_mark-requires-clause-done
-scan_from_mark-requires-clause-done c = done_walked _ _ _ _ _ c.args.done c.requires.steady.pass.1 (c.is_bare_to.ensures.more c.if-is_bare_to.false).walk c.requires.done
+scan_from_mark-requires-clause-done c = done_walked _ _ _ _ _ c.args.done c.requires.steady.steady.pass.1 (c.is_bare_to.ensures.more c.if-is_bare_to.false).walk c.requires.done
 
 pub returns-clause-told : goal.returns-clause-told
 returns-clause-told c = let l : Limits = table_limits c.args.self.now.words in let m : ℕ = (l.rows - slice_index c.args.lows.now c.args.part) * try_steps in
@@ -46,7 +52,7 @@ returns-clause-told c = let l : Limits = table_limits c.args.self.now.words in l
 pub returns-then-is_bare_to-clause-rests : goal.returns-then-is_bare_to-clause-rests
 returns-then-is_bare_to-clause-rests c = let l : Limits = table_limits c.args.self.now.words in let bare = c.is_bare_to.ensures.bare c.if-is_bare_to.true in let low = slice_index c.args.lows.now c.args.part in let w = view_of c.is_bare_to.new.seat in
     let e = c.requires.first.0 in
-    let inside = lows_inside l c.args.lows.now c.args.stage (view_of c.args.seat.now) c.requires.steady.pass.1 c.requires.steady.known c.requires.remembers c.args.part in
+    let inside = lows_inside l c.args.lows.now c.args.stage (view_of c.args.seat.now) c.requires.steady.steady.pass.1 c.requires.steady.steady.known c.requires.remembers c.args.part in
     dite (dec_le (low + 1) l.rows)
     (λ less. inr (w.seen, subst (λ z. IsPrefix z w.seen) (sym (steps_in l 1 _ _ w bare.0.walk)) bare.0.walk.closes, begins_refl w.seen, use_unborn l c.args.stage (c.args.part * l.rows + low) w.seen (bare.1 (c.args.part * l.rows + low) (omega arith) (omega arith))))
     (λ all. inl (omega arith))

@@ -1,4 +1,4 @@
-use Rattle.std.proofs.Common.{suc, ◌≡◌, ◌+◌, ◌-◌, ◌*◌, ◌<◌, slice_index, sym, ◌∙◌, refl, ap, inl, arith, rules, subst, mul-le-mul_right, suc-mul}
+use Rattle.std.proofs.Common.{suc, inr, ⊎_elim, ◌≡◌, ◌+◌, ◌-◌, ◌*◌, ◌<◌, slice_index, sym, ◌∙◌, refl, ap, inl, arith, rules, subst, mul-le-mul_right, suc-mul}
 use Rattle.tp_model.specs.declared.types.Limits.{Limits}
 use Rattle.tp_rule.specs.Tables.{table_limits}
 use Rattle.tp_rule.specs.Views.{view_of}
@@ -7,6 +7,7 @@ use Rattle.tp_manager.specs.Scans.{EachRow, OfPart, PassedBy, Sought, Took}
 use Rattle.tp_manager.proofs.Marks.Lows.{rises_then, scan_next, scan_rises}
 use Rattle.tp_manager.proofs.Calls.CallSteps.{rises_none, sought_few}
 use Rattle.tp_manager.proofs.Claims.Scans.{finished_passed, passed_widens, took_then, took_few, begun_rows, finished_took}
+use Rattle.tp_manager.proofs.Claims.Behind.{finished_on}
 use Rattle.tp_manager.proofs.Marks.Rests.{part_before, parts_on}
 use mathlib.Core.Logic.{dite}
 use native.Mathlib.Decide.{dec_le}
@@ -22,13 +23,14 @@ scan_part-requires-clause-first c = (c.loop-part.invariant.begins ∙ ap (λ (z 
 
 pub scan_part-requires-clause-done : goal.scan_part-requires-clause-done
 scan_part-requires-clause-done c = let l : Limits = table_limits c.args.self.now.words in let s = try_steps in let n = c.loop-part.part in
-    let gone = begun_looked l (OfPart l (PassedBy l c.args.stage)) (part_widens l (PassedBy l c.args.stage) (passed_widens l c.args.stage)) (scan_steps l s 3 c.args.lows.now n) c.first_open-begin.result n _ _ c.loop-part.invariant.begun c.requires.steady in
-    done_walked l _ gone.marks _ _ c.args.done c.requires.steady.pass.1 gone.walk c.requires.done
+    let gone = begun_looked l (OfPart l (PassedBy l c.args.stage)) (part_widens l (PassedBy l c.args.stage) (passed_widens l c.args.stage)) (scan_steps l s 3 c.args.lows.now n) c.first_open-begin.result n _ _ c.loop-part.invariant.begun c.requires.steady.steady in
+    done_walked l _ gone.marks _ _ c.args.done c.requires.steady.steady.pass.1 gone.walk c.requires.done
 
 pub loop-part-init : goal.loop-part-init
 loop-part-init c = record {
   same = refl;
   remembers = c.requires.remembers;
+  gaps = c.requires.gaps;
   rises = rises_none c.args.lows.now;
   from = omega arith;
   begins = refl;
@@ -73,6 +75,7 @@ pub loop-part-preserved : goal.loop-part-preserved
 loop-part-preserved c = let l : Limits = table_limits c.args.self.now.words in let P = PassedBy l c.args.stage in let n = c.loop-part.part in let s = try_steps in let W = part_widens l P (passed_widens l c.args.stage) in let i = c.loop-part.invariant in let lows = c.args.lows.now in record {
   same = search rules;
   remembers = c.scan_part.ensures.remembers;
+  gaps = c.scan_part.ensures.gaps;
   rises = rises_then lows c.loop-part.lows c.scan_part.new.lows i.rises c.scan_part.ensures.lows.0;
   from = omega arith;
   begins = let is = i.begins in let next : suc n ≡ n + 1 = omega arith in subst (λ z. c.loop-part.first + c.args.self.now.places.limits.rows ≡ z * c.args.self.now.places.limits.rows) next (omega (arith, suc-mul n c.args.self.now.places.limits.rows));
@@ -94,3 +97,25 @@ returns-clause-told c = let l : Limits = table_limits c.args.self.now.words in l
     (sought_all l (scan_steps l s 3 lows n) P _ _ (finished_passed l c.args.stage (scan_steps l s 3 lows n) first lows _ _ c.requires.stage.0 some c.requires.remembers c.first_open-begin.ensures.finished
     (subst (λ m. Sought l (scan_steps l s 3 lows n) (EachRow (OfPart l P) first m) (view_of c.args.seat.now) (view_of c.loop-part.seat)) all
     (begun_done l (OfPart l P) (part_widens l P (passed_widens l c.args.stage)) (scan_steps l s 3 lows n) first n _ _ i.begun (omega arith)))))
+
+-- a part that the pass knows finished: it isn't the first of those that are looked at
+pub loop-part-preserved-then-part-last : goal.loop-part-preserved-then-part-last
+loop-part-preserved-then-part-last c = let l : Limits = table_limits c.args.self.now.words in let P = PassedBy l c.args.stage in let n = c.loop-part.part in let s = try_steps in let i = c.loop-part.invariant in let lows = c.args.lows.now in
+    let count : l.parts ≡ c.args.self.now.places.limits.parts = ap (λ (z : Limits). z.parts) c.args.self.now.same in let wide : l.rows ≡ c.args.self.now.places.limits.rows = ap (λ (z : Limits). z.rows) c.args.self.now.same in
+    let finished : slice_index c.loop-part.lows n ≡ l.rows = c.if-lows-part.true ∙ sym wide in let first = c.first_open-begin.result in let from = i.from in let below = c.loop-part-test.true in record {
+      same = i.same;
+      remembers = i.remembers;
+      gaps = i.gaps;
+      rises = i.rises;
+      from = omega arith;
+      begins = let is = i.begins in let next : suc n ≡ n + 1 = omega arith in subst (λ z. c.loop-part.first + c.args.self.now.places.limits.rows ≡ z * c.args.self.now.places.limits.rows) next (omega (arith, suc-mul n c.args.self.now.places.limits.rows));
+      rest = λ q low. i.rest q (omega arith);
+      done = i.done;
+      rests = λ q low high. dite (dec_le n q)
+          (λ at. let same : n ≡ q = omega arith in inl (subst (λ z. slice_index c.loop-part.lows z ≡ l.rows) same finished))
+          (λ not. i.rests q low (omega arith));
+      begun = ⊎_elim
+          (λ t. absurd (let at = t.0 in let more = c.if-part-last.true in c.first_open-begin.ensures.open (omega arith) (subst (λ z. slice_index lows z ≡ l.rows) at (sym (i.rest n (omega arith)) ∙ finished))))
+          (λ sought. inr (sought_few l (scan_steps l s 3 lows n) (scan_steps l s 3 lows (n + 1)) _ _ _ (scan_rises l lows s 3 n (n + 1) (omega arith))
+          (finished_on l c.args.stage (scan_steps l s 3 lows n) first n c.loop-part.lows _ _ c.requires.stage.0 c.args.self.now.words.places.valid.rows.0 i.remembers finished sought))) i.begun;
+    }

@@ -3,7 +3,7 @@ use Rattle.tp_rule.specs.Tables.{table_limits}
 use Rattle.tp_rule.specs.Views.{IsSameSeat, view_of}
 use Rattle.tp_manager.specs.Bounds.{scan_steps, try_steps}
 use Rattle.tp_manager.specs.Shown.{NoneFalls}
-use Rattle.tp_manager.specs.Marks.{Remembers, RestsAt}
+use Rattle.tp_manager.specs.Marks.{Remembers, RemembersGaps, RestsAt}
 use Rattle.tp_manager.specs.Scans.{Begun, OfPart, PassedBy}
 use Rattle.tp_manager.proofs.manager.Shared.scan_parts.Given as goal
 
@@ -11,6 +11,7 @@ abbrev pub invariant-loop-part : goal.invariant-loop-part
 invariant-loop-part l = record {
   same : IsSameSeat l.initial.seat l.seat;
   remembers : Remembers l.stage (view_of l.seat) l.lows;
+  gaps : RemembersGaps l.stage (view_of l.seat) l.gaps;
   rises : NoneFalls l.initial.lows l.lows;
   from : l.begin ≤ l.part;
   begins : l.first ≡ l.part * l.rows;

@@ -22,13 +22,13 @@ returns-clause-told c = let l : Limits = table_limits c.args.self.now.words in l
 
 pub returns-then-from-parts-clause-remembers : goal.returns-then-from-parts-clause-remembers
 returns-then-from-parts-clause-remembers c = let l : Limits = table_limits c.args.self.now.words in
-    let w = begun_walked l c.args.stage c.args.unit (drawn_steps l.spare + (c.args.to - c.args.from) * try_steps) c.args.from c.args.to (view_of c.args.seat.now) (view_of c.scan_block_span.new.seat) c.scan_block_span.result c.requires.steady c.scan_block_span.ensures.told in
+    let w = begun_walked l c.args.stage c.args.unit (drawn_steps l.spare + (c.args.to - c.args.from) * try_steps) c.args.from c.args.to (view_of c.args.seat.now) (view_of c.scan_block_span.new.seat) c.scan_block_span.result c.requires.steady.steady c.scan_block_span.ensures.told in
     remembers_kind c.args.stage c.args.lows.now _ _ _ _ _ w.1 c.requires.remembers
 
 pub returns-clause-remembers : goal.returns-clause-remembers
 returns-clause-remembers c = let l : Limits = table_limits c.args.self.now.words in let mid = c.part_rows-parts.result in let v = view_of c.scan_spans-2.new.seat in
     let w = begun_walked l c.args.stage c.args.unit (drawn_steps l.spare + (c.args.to - mid) * try_steps) mid c.args.to v (view_of c.scan_block_span-2.new.seat) c.scan_block_span-2.result
-    (begun_looked l (PassedBy l c.args.stage) (passed_widens l c.args.stage) _ _ mid _ _ c.in_default.ensures.told c.requires.steady).walk.steady c.scan_block_span-2.ensures.told in
+    (begun_looked l (PassedBy l c.args.stage) (passed_widens l c.args.stage) _ _ mid _ _ c.in_default.ensures.told c.requires.steady.steady).walk.steady c.scan_block_span-2.ensures.told in
     remembers_kind c.args.stage c.scan_spans-2.new.lows _ _ _ _ _ w.1 c.scan_spans-2.ensures.remembers
 
 -- where the spare rows begin
@@ -37,7 +37,7 @@ mid c = c.part_rows-parts.ensures ∙ ap part_rows (sym c.args.self.now.same)
 
 pub returns-then-from-parts-clause-few : goal.returns-then-from-parts-clause-few
 returns-then-from-parts-clause-few c = let l : Limits = table_limits c.args.self.now.words in let v = view_of c.args.seat.now in let y = view_of c.scan_block_span.new.seat in let n : ℕ = drawn_steps l.spare + (c.args.to - c.args.from) * try_steps in
-    let w = begun_walked l c.args.stage c.args.unit n c.args.from c.args.to v y c.scan_block_span.result c.requires.steady c.scan_block_span.ensures.told in
+    let w = begun_walked l c.args.stage c.args.unit n c.args.from c.args.to v y c.scan_block_span.result c.requires.steady.steady c.scan_block_span.ensures.told in
     let p = mid (goal.at.returns-then-from-parts-clause-few c).After-part_rows-parts in let past = c.if-from-parts.true in
     let e : c.args.to - c.args.from ≡ c.args.to - part_rows l - (c.args.from - part_rows l) = omega arith in
     made_few n _ v y (omega (arith, ap (λ z. z * try_steps) e)) (made l n w.0 v y w.1)
@@ -54,7 +54,7 @@ pub returns-clause-few : goal.returns-clause-few
 returns-clause-few c = let l : Limits = table_limits c.args.self.now.words in let v = view_of c.args.seat.now in let x = view_of c.scan_spans-2.new.seat in let y = view_of c.scan_block_span-2.new.seat in let at = (goal.at.returns-clause-few c).After-part_rows-parts in
     let m = c.part_rows-parts.result in let n : ℕ = drawn_steps l.spare + (c.args.to - m) * try_steps in let k = scan_steps l try_steps 3 c.args.lows.now l.parts in
     let w = begun_walked l c.args.stage c.args.unit n m c.args.to x y c.scan_block_span-2.result
-    (begun_looked l (PassedBy l c.args.stage) (passed_widens l c.args.stage) _ _ m _ _ c.in_default.ensures.told c.requires.steady).walk.steady c.scan_block_span-2.ensures.told in
+    (begun_looked l (PassedBy l c.args.stage) (passed_widens l c.args.stage) _ _ m _ _ c.in_default.ensures.told c.requires.steady.steady).walk.steady c.scan_block_span-2.ensures.told in
     let p = mid at in let before = c.if-from-parts.false in
     let e : c.args.to - m ≡ c.args.to - part_rows l - (c.args.from - part_rows l) = omega arith in
     made_few (k + n) _ v y (omega (arith, ap (λ z. z * try_steps) e)) (made_then k n v x y c.scan_spans-2.ensures.few (made l n w.0 x y w.1))

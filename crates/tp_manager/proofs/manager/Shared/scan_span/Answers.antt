@@ -14,7 +14,7 @@ use Rattle.tp_manager.proofs.Calls.CallSteps.{remembers_kind, sought_few}
 use Rattle.tp_manager.proofs.manager.Shared.scan_span.Goals as goal
 
 pub is_bare-requires-clause-row : goal.is_bare-requires-clause-row
-is_bare-requires-clause-row c = let l : Limits = table_limits c.args.self.now.words in let inside = lows_inside l c.args.lows.now c.args.stage (view_of c.args.seat.now) c.requires.steady.pass.1 c.requires.steady.known c.requires.remembers c.args.part in
+is_bare-requires-clause-row c = let l : Limits = table_limits c.args.self.now.words in let inside = lows_inside l c.args.lows.now c.args.stage (view_of c.args.seat.now) c.requires.steady.steady.pass.1 c.requires.steady.steady.known c.requires.remembers c.args.part in
     let e : c.args.part * l.rows ≡ c.args.part * c.args.self.now.places.limits.rows = ap (λ (z : Limits). c.args.part * z.rows) c.args.self.now.same in let span = c.requires.span in let a = span.0 in let b = span.1 in let d = span.2 in
     ⊎_elim (λ t. (let is = t.0 in let le = t.1 in (omega arith, omega arith))) (λ t. (let is = t.0 in let less = t.1 in (omega arith, omega arith))) c.later-begin.ensures
 
@@ -33,7 +33,7 @@ pub scan_span_from_mark-requires-clause-remembers : goal.scan_span_from_mark-req
 scan_span_from_mark-requires-clause-remembers c = remembers_kind c.args.stage c.args.lows.now _ _ _ _ _ (c.is_bare.ensures.more c.if-is_bare.false).walk c.requires.remembers
 
 pub scan_span_from_mark-requires-clause-done : goal.scan_span_from_mark-requires-clause-done
-scan_span_from_mark-requires-clause-done c = done_walked _ _ _ _ _ c.args.done c.requires.steady.pass.1 (c.is_bare.ensures.more c.if-is_bare.false).walk c.requires.done
+scan_span_from_mark-requires-clause-done c = done_walked _ _ _ _ _ c.args.done c.requires.steady.steady.pass.1 (c.is_bare.ensures.more c.if-is_bare.false).walk c.requires.done
 
 pub returns-clause-told : goal.returns-clause-told
 returns-clause-told c = let l : Limits = table_limits c.args.self.now.words in let m : ℕ = (c.args.to - c.args.from) * try_steps in

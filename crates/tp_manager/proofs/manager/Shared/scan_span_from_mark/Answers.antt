@@ -35,7 +35,7 @@ marked c = c.args.part * c.args.self.now.places.limits.rows + slice_index c.low_
 
 -- what the pass remembers as done is so after the load of the mark
 still_done : (c : After-later-begin) → RemembersDone (view_of c.low_at-mark.new.seat) c.args.done
-still_done c = done_walked _ 1 _ _ _ c.args.done c.requires.steady.pass.1 c.low_at-mark.ensures.acted.walk c.requires.done
+still_done c = done_walked _ 1 _ _ _ c.args.done c.requires.steady.steady.pass.1 c.low_at-mark.ensures.acted.walk c.requires.done
 
 -- what is known finished ends at the mark, or one row after it
 knows : (c : After-later-begin) → (marked c ≤ c.past_done-known.result) × (c.past_done-known.result ≤ marked c + 1) × (c.past_done-known.result ≤ c.args.part * c.args.self.now.places.limits.rows + c.args.self.now.places.limits.rows)

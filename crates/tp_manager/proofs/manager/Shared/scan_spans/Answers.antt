@@ -29,8 +29,8 @@ more p n from row end to s less a b d = let e = split_rows from row end s a b in
 
 pub scan_span-requires-clause-done : goal.scan_span-requires-clause-done
 scan_span-requires-clause-done c = let l : Limits = table_limits c.args.self.now.words in
-    let gone = begun_looked l (PassedBy l c.args.stage) (passed_widens l c.args.stage) _ _ _ _ _ c.loop-part.invariant.begun c.requires.steady in
-    done_walked l _ gone.marks _ _ c.args.done c.requires.steady.pass.1 gone.walk c.requires.done
+    let gone = begun_looked l (PassedBy l c.args.stage) (passed_widens l c.args.stage) _ _ _ _ _ c.loop-part.invariant.begun c.requires.steady.steady in
+    done_walked l _ gone.marks _ _ c.args.done c.requires.steady.steady.pass.1 gone.walk c.requires.done
 
 pub returns-in-Some-clause-told : goal.returns-in-Some-clause-told
 returns-in-Some-clause-told c = let l : Limits = table_limits c.args.self.now.words in let i = c.loop-part.invariant in let s = try_steps in let n = c.loop-part.part in let t = c.in-Some.taken in let end = c.earlier-end.result in

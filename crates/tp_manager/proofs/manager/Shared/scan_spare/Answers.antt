@@ -1,4 +1,4 @@
-use Rattle.std.proofs.Common.{◌<◌, ◌≡◌, ◌+◌, ◌-◌, ◌*◌, ◌≤◌, ℕ, List, slice_index, refl, sym, ◌∙◌, ap, subst, inl, inr, ⊎_elim, arith, rules, mul-le-mul_right}
+use Rattle.std.proofs.Common.{◌<◌, ◌≡◌, ◌+◌, ◌-◌, ◌*◌, ◌≤◌, ℕ, List, length, slice_index, refl, sym, ◌∙◌, ap, subst, inl, inr, ⊎_elim, arith, rules, mul-le-mul_right}
 use Rattle.tp_model.specs.declared.types.Limits.{Limits}
 use Rattle.tp_model.specs.declared.types.TheConstants.{BLOCK_ROWS}
 use Rattle.tp_model.specs.declared.trace.TraceEntry.{TraceEntry}
@@ -10,15 +10,19 @@ use Rattle.tp_rule.specs.Tables.{table_limits}
 use Rattle.tp_rule.specs.Views.{seen_by, view_of}
 use Rattle.tp_manager.specs.Bounds.{try_steps}
 use Rattle.tp_manager.specs.CallSteps.{Looked, Stepped}
-use Rattle.tp_manager.specs.Marks.{Remembers, Rose, WasOfUse}
+use Rattle.tp_manager.specs.Marks.{Remembers, RemembersGaps, Rose, WasOfUse}
 use Rattle.tp_manager.specs.Scans.{EachRow, PassedBy}
 use Rattle.tp_manager.specs.Spares.{SpareRests}
 use Rattle.tp_manager.proofs.Marks.Raises.{goes_walked, over_passed, rose_then, took_looked, use_later}
-use Rattle.tp_manager.proofs.Claims.Scans.{none_passed, passed_widens, took_few, took_from, took_then}
+use Rattle.tp_manager.proofs.Claims.Scans.{none_passed, passed_widens, scan_behind, took_few, took_from, took_then}
 use Rattle.tp_manager.proofs.Rows.Seeks.{begun_few, begun_looked, begun_on, rows_more, sought_from, sought_then}
-use Rattle.tp_manager.proofs.Marks.Rests.{spare_rests}
+use Rattle.std.proofs.Math.Nat.{add-mul}
+use Rattle.tp_rule.specs.declared.view.View.{View}
+use Rattle.tp_manager.proofs.Calls.Points.{has_more}
+use Rattle.tp_manager.proofs.Claims.Behind.{gaps_set, scan_on, spare_on}
+use Rattle.tp_manager.proofs.Marks.Rests.{drawn_walked, spare_behind, spare_rests}
 use Rattle.tp_manager.proofs.Claims.Spares.{sought_passed}
-use Rattle.tp_manager.proofs.Calls.CallSteps.{looked_begins, remembers_kind, sought_few, walked_begins, walked_then}
+use Rattle.tp_manager.proofs.Calls.CallSteps.{gaps_kind, looked_begins, looked_none, remembers_kind, sought_few, walked_begins, walked_then}
 use Rattle.tp_rule.specs.declared.view.Known.TheVariants.{PartMark}
 use Rattle.tp_manager.proofs.manager.Shared.scan_spare.Goals as goal
 use Rattle.tp_manager.proofs.manager.Shared.scan_spare.Goals.{After-loop-row, After-low_at-mark, After-part_rows, After-try_row}
@@ -107,6 +111,7 @@ pub loop-row-init : goal.loop-row-init
 loop-row-init c = let l : Limits = table_limits c.args.self.now.words in let at = goal.at.loop-row-init c in let top = inside at.After-low_at-mark in let f = front at.After-part_rows in record {
   same = refl;
   lows = refl;
+  gaps = refl;
   from = omega arith;
   inside = omega arith;
   above = omega arith;
@@ -146,6 +151,7 @@ loop-row-preserved c = let l : Limits = table_limits c.args.self.now.words in le
     let s = try_steps in let P = PassedBy l c.args.stage in let F : ℕ = c.part_rows.result + slice_index c.low_at-mark.new.lows c.args.self.now.places.limits.parts in let d : ℕ = c.loop-row.row - F in let from = i.from in record {
       same = search rules;
       lows = i.lows;
+      gaps = i.gaps;
       from = omega arith;
       inside = c.try_row.ensures.on.inside;
       above = more at.After-try_row;
@@ -174,3 +180,71 @@ returns-clause-told c = let l : Limits = table_limits c.args.self.now.words in l
     (sought_few l ((1 + d * s) + 1) (2 + (BLOCK_ROWS * l.spare - slice_index c.args.lows.now l.parts) * s) (EachRow P (part_rows l) c.loop-row.row) _ _ (omega arith)
     (sought_then l (1 + d * s) 1 (EachRow P (part_rows l) c.loop-row.row) _ _ _ (λ a b g later each j p q. passed_widens l c.args.stage j a a b g (begins_refl a) later (each j p q)) sought c.raise_low-2.ensures.looked))
     (λ j low high. none_passed l c.args.stage j (seen_by c.args.seat.now) (c.requires.end.2 j (omega arith) high))
+
+-- what the pass remembers of gaps is so after the load of the mark, and later
+gaps_then : (c : After-low_at-mark) (gaps : List ℕ) (n : ℕ) (ms : List TraceEntry) (y : View) → gaps ≡ c.args.gaps.now → Stepped (table_limits c.args.self.now.words) n ms (view_of c.low_at-mark.new.seat) y → RemembersGaps c.args.stage y gaps
+gaps_then c gaps n ms y same a = subst (RemembersGaps c.args.stage y) (sym same) (gaps_kind c.args.stage c.args.gaps.now _ n ms _ y a (gaps_kind c.args.stage c.args.gaps.now _ _ _ _ _ c.low_at-mark.ensures.acted.walk c.requires.gaps))
+
+pub returns-in-Some-clause-gaps : goal.returns-in-Some-clause-gaps
+returns-in-Some-clause-gaps c = let l : Limits = table_limits c.args.self.now.words in let at = goal.at.returns-in-Some-clause-gaps c in
+    gaps_then at.After-low_at-mark c.loop-row.gaps _ _ (view_of c.raise_low.new.seat) c.loop-row.invariant.gaps (walked_then l _ 1 _ _ _ _ _ (walked_then l _ _ _ _ _ _ _ (since at.After-try_row).walk c.in-Some.ensures.told.0.walk) c.raise_low.ensures.looked.walk)
+
+pub returns-clause-gaps : goal.returns-clause-gaps
+returns-clause-gaps c = let l : Limits = table_limits c.args.self.now.words in let at = goal.at.returns-clause-gaps c in
+    gaps_then at.After-low_at-mark c.loop-row.gaps _ _ (view_of c.raise_low-2.new.seat) c.loop-row.invariant.gaps (walked_then l _ 1 _ _ _ _ _ (all_since at.After-loop-row).walk c.raise_low-2.ensures.looked.walk)
+
+-- a row that may be of use: the scan goes on behind it
+pub raise_low-requires-then-row-end-clause-remembers : goal.raise_low-requires-then-row-end-clause-remembers
+raise_low-requires-then-row-end-clause-remembers c = let at = (goal.at.raise_low-requires-then-row-end-clause-remembers c).After-try_row in
+    subst (Remembers c.args.stage (view_of c.try_row.new.seat)) (sym c.loop-row.invariant.lows) (remembers_kind c.args.stage c.low_at-mark.new.lows _ _ _ _ _ c.in_default.ensures.told.walk (remembers_kind c.args.stage c.low_at-mark.new.lows _ _ _ _ _ (since at).walk c.low_at-mark.ensures.remembers))
+
+pub raise_low-requires-then-row-end-clause-low : goal.raise_low-requires-then-row-end-clause-low
+raise_low-requires-then-row-end-clause-low c = let at = goal.at.raise_low-requires-then-row-end-clause-low c in let first = start at.After-part_rows in let behind = front at.After-part_rows in
+    let low = c.try_row.ensures.low.0 in let top = c.try_row.ensures.on.inside in (
+      (λ not. absurd (not (parts at.After-low_at-mark)), λ _. omega arith),
+      under_low at.After-part_rows c.loop-row.lows c.try_row.new.low c.loop-row.invariant.lows (more at.After-try_row),
+      subst (λ z. Rose c.args.stage (view_of c.try_row.new.seat) (z + c.low_at-mark.result) c.try_row.new.low) (behind ∙ sym first) (rose at.After-try_row _ _ c.in_default.ensures.told.walk),
+    )
+
+pub scan_behind-found-requires-clause-gap : goal.scan_behind-found-requires-clause-gap
+scan_behind-found-requires-clause-gap c = let l : Limits = table_limits c.args.self.now.words in let at = goal.at.scan_behind-found-requires-clause-gap c in
+    gaps_then at.After-low_at-mark c.loop-row.gaps _ _ (view_of c.raise_low-then-row-end.new.seat) c.loop-row.invariant.gaps
+    (walked_then l _ 1 _ _ _ _ _ (walked_then l _ _ _ _ _ _ _ (since at.After-try_row).walk c.in_default.ensures.told.walk) c.raise_low-then-row-end.ensures.looked.walk) c.args.self.now.places.limits.parts
+
+pub returns-then-row-end-clause-remembers : goal.returns-then-row-end-clause-remembers
+returns-then-row-end-clause-remembers c = let l : Limits = table_limits c.args.self.now.words in
+    let w = drawn_walked l c.args.stage c.args.unit _ c.try_row.new.row _ (view_of c.raise_low-then-row-end.new.seat) (view_of c.scan_behind-found.new.seat) c.scan_behind-found.result c.scan_behind-found.ensures.told in
+    remembers_kind c.args.stage c.raise_low-then-row-end.new.lows _ _ _ _ _ w.1 c.raise_low-then-row-end.ensures.remembers
+
+pub returns-then-row-end-clause-gaps : goal.returns-then-row-end-clause-gaps
+returns-then-row-end-clause-gaps c = let l : Limits = table_limits c.args.self.now.words in let at = goal.at.returns-then-row-end-clause-gaps c in
+    let w = drawn_walked l c.args.stage c.args.unit _ c.try_row.new.row _ (view_of c.raise_low-then-row-end.new.seat) (view_of c.scan_behind-found.new.seat) c.scan_behind-found.result c.scan_behind-found.ensures.told in
+    let long = c.told-gaps in let same = ap length c.loop-row.invariant.gaps in let few = c.args.self.now.words.places.valid.parts.1 in let count = parts at.After-low_at-mark in
+    gaps_set c.args.stage c.args.self.now.places.limits.parts c.scan_behind-found.new.gap c.loop-row.gaps (view_of c.scan_behind-found.new.seat) (omega arith) c.scan_behind-found.ensures.gap
+    (gaps_then at.After-low_at-mark c.loop-row.gaps _ _ (view_of c.scan_behind-found.new.seat) c.loop-row.invariant.gaps
+    (walked_then l _ _ _ _ _ _ _ (walked_then l _ 1 _ _ _ _ _ (walked_then l _ _ _ _ _ _ _ (since at.After-try_row).walk c.in_default.ensures.told.walk) c.raise_low-then-row-end.ensures.looked.walk) w.1))
+
+pub returns-then-row-end-clause-rests : goal.returns-then-row-end-clause-rests
+returns-then-row-end-clause-rests c = let l : Limits = table_limits c.args.self.now.words in let at = goal.at.returns-then-row-end-clause-rests c in let t = c.in_default.ensures.told in let first = c.low_at-mark.ensures.acted in
+    let x = view_of c.raise_low-then-row-end.new.seat in let y = view_of c.scan_behind-found.new.seat in
+    let w = drawn_walked l c.args.stage c.args.unit _ c.try_row.new.row _ x y c.scan_behind-found.result c.scan_behind-found.ensures.told in
+    let a = walked_then l _ 1 _ _ _ _ _ (walked_then l _ _ _ _ _ _ _ (since at.After-try_row).walk t.walk) c.raise_low-then-row-end.ensures.looked.walk in
+    subst (λ p. SpareRests l c.args.stage c.args.end (slice_index c.raise_low-then-row-end.new.lows p) (view_of c.args.seat.now) y) (parts at.After-low_at-mark)
+    (spare_behind l _ _ _ w.0 (view_of c.args.seat.now) x y (walked_then l 1 _ _ _ _ _ _ first.walk a) w.1 c.args.stage c.args.end _ (has_more _ _ first.step)
+    (spare_rests l 1 _ _ (view_of c.args.seat.now) (view_of c.low_at-mark.new.seat) (view_of c.try_row.new.seat) x first a c.raise_low-then-row-end.ensures.seen
+    c.args.stage c.args.self.now.places.limits.parts _ c.try_row.new.low c.try_row.new.row c.args.end (start at.After-part_rows ∙ sym (front at.After-part_rows)) c.raise_low-then-row-end.ensures.rests (stuck at.After-try_row _ _ t.walk) (inl c.if-low-row.true)))
+
+pub returns-then-row-end-clause-told : goal.returns-then-row-end-clause-told
+returns-then-row-end-clause-told c = let l : Limits = table_limits c.args.self.now.words in let s = try_steps in let P = PassedBy l c.args.stage in let W = passed_widens l c.args.stage in let i = c.loop-row.invariant in let from = i.from in let on = c.try_row.ensures.on.on in
+    let at = goal.at.returns-then-row-end-clause-told c in let F : ℕ = c.part_rows.result + slice_index c.low_at-mark.new.lows c.args.self.now.places.limits.parts in let d : ℕ = c.loop-row.row - F in let k : ℕ = c.try_row.new.row - F in
+    let low = above at.After-low_at-mark in let behind = front at.After-part_rows in let first = start at.After-part_rows in let top = c.requires.end.1 in
+    let begun = begun_few l P W (d * s + s) F (k * s) c.try_row.new.row _ _ (rows_more d k s (omega arith)) (begun_on l P W (d * s) F s c.loop-row.row _ _ _ i.begun c.try_row.new.row from c.in_default.ensures.told) in
+    let sought = sought_from l P W (k * s) (part_rows l) F c.try_row.new.row (view_of c.args.seat.now) (view_of c.low_at-mark.new.seat) (view_of c.try_row.new.seat) c.low_at-mark.ensures.acted begun
+    (λ j from_on below. over_passed l c.args.stage (seen_by c.low_at-mark.new.seat) c.args.self.now.places.limits.parts (slice_index c.low_at-mark.new.lows c.args.self.now.places.limits.parts) j c.requires.stage.0 c.low_at-mark.ensures.low.1 (omega arith) (omega arith)) in
+    let raised = sought_then l (1 + k * s) 1 (EachRow P (part_rows l) c.try_row.new.row) _ _ _ (λ a b g later each j p q. passed_widens l c.args.stage j a a b g (begins_refl a) later (each j p q)) sought c.raise_low-then-row-end.ensures.looked in
+    let left : ℕ = BLOCK_ROWS * l.spare - slice_index c.args.lows.now l.parts in
+    let room : (k + (c.args.end - c.try_row.new.row)) * s ≤ left * s = mul-le-mul_right s (omega arith) in let both = add-mul k (c.args.end - c.try_row.new.row) s in
+    let v = view_of c.args.seat.now in let y = view_of c.scan_behind-found.new.seat in let n : ℕ = (1 + k * s) + 1 in let m : ℕ = (c.args.end - c.try_row.new.row) * s in
+    spare_on l c.args.stage (2 + left * s) c.args.unit (part_rows l) c.args.end (rows_of l) v y c.scan_behind-found.result c.requires.end.2 (omega arith)
+    (scan_behind l c.args.stage c.args.unit 0 (n + m) (2 + left * s) (part_rows l) c.args.end v v y c.scan_behind-found.result (omega arith) (looked_none l v c.requires.steady.steady)
+    (scan_on l c.args.stage c.requires.stage.0 n m c.args.unit (part_rows l) c.try_row.new.row c.args.end v (view_of c.raise_low-then-row-end.new.seat) y c.scan_behind-found.result (omega arith) raised c.scan_behind-found.ensures.told))

@@ -11,6 +11,7 @@ abbrev pub invariant-loop-row : goal.invariant-loop-row
 invariant-loop-row l = record {
   same : IsSameSeat l.initial.seat l.seat;
   lows : l.lows ≡ l.initial.lows;
+  gaps : l.gaps ≡ l.initial.gaps;
   from : l.begin ≤ l.row;
   inside : l.row ≤ rows_of (table_limits l.self.words);
   above : l.begin ≤ l.low;

@@ -29,8 +29,8 @@ returns-in-Some-clause-told c = let at = (goal.at.returns-in-Some-clause-told c)
 
 pub scan_rows-requires-2-clause-done : goal.scan_rows-requires-2-clause-done
 scan_rows-requires-2-clause-done c = let l : Limits = table_limits c.args.self.now.words in
-    let gone = begun_looked l (PassedBy l c.args.stage) (passed_widens l c.args.stage) _ _ _ _ _ c.in_default.ensures.told c.requires.steady in
-    done_walked l _ gone.marks _ _ c.args.done c.requires.steady.pass.1 gone.walk c.requires.done
+    let gone = begun_looked l (PassedBy l c.args.stage) (passed_widens l c.args.stage) _ _ _ _ _ c.in_default.ensures.told c.requires.steady.steady in
+    done_walked l _ gone.marks _ _ c.args.done c.requires.steady.steady.pass.1 gone.walk c.requires.done
 
 pub returns-clause-told : goal.returns-clause-told
 returns-clause-told c = let at = (goal.at.returns-clause-told c).After-earlier-from in let l : Limits = table_limits c.args.self.now.words in

@@ -19,21 +19,21 @@ taken : (c : In-Taken) → claim_word (seen_by c.args.seat.now) c.args.row ≡ T
 taken c = sym c.requires.found.0 ∙ ap claim_value c.in-Taken.is
 
 one : (c : After-load_unit) → Looked (table_limits c.args.self.now.words) 1 (view_of c.args.seat.now) (view_of c.load_unit.new.seat)
-one c = looked _ 1 _ _ (acted_by _ kinds.Load _ _ c.requires.steady refl c.load_unit.ensures.grew)
+one c = looked _ 1 _ _ (acted_by _ kinds.Load _ _ c.requires.steady.steady refl c.load_unit.ensures.grew)
 
 -- no attempt is left
 last : (c : In-Taken) → c.args.self.now.places.limits.attempts ≤ c.in-Taken.attempt → (table_limits c.args.self.now.words).attempts ≤ c.in-Taken.attempt
 last c high = subst (λ (z : Limits). z.attempts ≤ c.in-Taken.attempt) (sym c.args.self.now.same) high
 
 pub returns-then-not-whole-clause-looked : goal.returns-then-not-whole-clause-looked
-returns-then-not-whole-clause-looked c = looked_few _ 0 1 _ _ (omega arith) (looked_none _ _ c.requires.steady)
+returns-then-not-whole-clause-looked c = looked_few _ 0 1 _ _ (omega arith) (looked_none _ _ c.requires.steady.steady)
 
 pub returns-then-not-whole-clause-stands : goal.returns-then-not-whole-clause-stands
 returns-then-not-whole-clause-stands c = let at = (goal.at.returns-then-not-whole-clause-stands c).In-Taken in let h = seen_by c.args.seat.now in let l : Limits = table_limits c.args.self.now.words in
-    subst (λ t. HasStand l c.args.row h h (claim_value t) stands.Busy) (sym c.in-Taken.is) (stands_last l c.args.row h h c.in-Taken.attempt c.in-Taken.unit c.in-Taken.round c.requires.steady.shows.legal (begins_refl h) (taken at) (last at c.if-is_last.true))
+    subst (λ t. HasStand l c.args.row h h (claim_value t) stands.Busy) (sym c.in-Taken.is) (stands_last l c.args.row h h c.in-Taken.attempt c.in-Taken.unit c.in-Taken.round c.requires.steady.steady.shows.legal (begins_refl h) (taken at) (last at c.if-is_last.true))
 
 pub load_unit-requires-clause-unit : goal.load_unit-requires-clause-unit
-load_unit-requires-clause-unit c = unit_inside (table_limits c.args.self.now.words) (seen_by c.args.seat.now) c.args.row c.in-Taken.attempt c.in-Taken.unit c.requires.steady.shows.legal (taken (goal.at.load_unit-requires-clause-unit c).In-Taken)
+load_unit-requires-clause-unit c = unit_inside (table_limits c.args.self.now.words) (seen_by c.args.seat.now) c.args.row c.in-Taken.attempt c.in-Taken.unit c.requires.steady.steady.shows.legal (taken (goal.at.load_unit-requires-clause-unit c).In-Taken)
 
 pub returns-then-is_last-2-clause-looked : goal.returns-then-is_last-2-clause-looked
 returns-then-is_last-2-clause-looked c = one (goal.at.returns-then-is_last-2-clause-looked c).After-load_unit
@@ -41,19 +41,19 @@ returns-then-is_last-2-clause-looked c = one (goal.at.returns-then-is_last-2-cla
 pub returns-then-is_last-2-clause-stands : goal.returns-then-is_last-2-clause-stands
 returns-then-is_last-2-clause-stands c = let at = goal.at.returns-then-is_last-2-clause-stands c in let h = seen_by c.args.seat.now in let g = seen_by c.load_unit.new.seat in let l : Limits = table_limits c.args.self.now.words in
     subst (λ t. HasStand l c.args.row h g (claim_value t) stands.Busy) (sym c.in-Taken.is)
-    (stands_last l c.args.row h g c.in-Taken.attempt c.in-Taken.unit c.in-Taken.round c.requires.steady.shows.legal (looked_begins l 1 _ _ (one at.After-load_unit)) (taken at.In-Taken) (last at.In-Taken c.if-is_last-2.true))
+    (stands_last l c.args.row h g c.in-Taken.attempt c.in-Taken.unit c.in-Taken.round c.requires.steady.steady.shows.legal (looked_begins l 1 _ _ (one at.After-load_unit)) (taken at.In-Taken) (last at.In-Taken c.if-is_last-2.true))
 
 pub returns-in-Free-clause-looked : goal.returns-in-Free-clause-looked
-returns-in-Free-clause-looked c = looked_few _ 0 1 _ _ (omega arith) (looked_none _ _ c.requires.steady)
+returns-in-Free-clause-looked c = looked_few _ 0 1 _ _ (omega arith) (looked_none _ _ c.requires.steady.steady)
 
 pub returns-in-Again-clause-looked : goal.returns-in-Again-clause-looked
-returns-in-Again-clause-looked c = looked_few _ 0 1 _ _ (omega arith) (looked_none _ _ c.requires.steady)
+returns-in-Again-clause-looked c = looked_few _ 0 1 _ _ (omega arith) (looked_none _ _ c.requires.steady.steady)
 
 pub returns-in-Killed-clause-looked : goal.returns-in-Killed-clause-looked
-returns-in-Killed-clause-looked c = looked_few _ 0 1 _ _ (omega arith) (looked_none _ _ c.requires.steady)
+returns-in-Killed-clause-looked c = looked_few _ 0 1 _ _ (omega arith) (looked_none _ _ c.requires.steady.steady)
 
 pub returns-in-Killed-clause-stands : goal.returns-in-Killed-clause-stands
-returns-in-Killed-clause-stands c = let h = seen_by c.args.seat.now in stands_killed (table_limits c.args.self.now.words) c.args.row h h _ _ _ c.requires.steady.shows.legal (sym c.requires.found.0 ∙ ap claim_value c.in-Killed.is)
+returns-in-Killed-clause-stands c = let h = seen_by c.args.seat.now in stands_killed (table_limits c.args.self.now.words) c.args.row h h _ _ _ c.requires.steady.steady.shows.legal (sym c.requires.found.0 ∙ ap claim_value c.in-Killed.is)
 
 pub returns-in-Undecided-clause-looked : goal.returns-in-Undecided-clause-looked
 returns-in-Undecided-clause-looked c = one (goal.at.returns-in-Undecided-clause-looked c).After-load_unit
@@ -80,10 +80,10 @@ returns-else-is_last-2-clause-stands c = let at = goal.at.returns-else-is_last-2
     (stands_ready l c.args.row h g c.in-Taken.attempt c.in-Taken.unit c.in-Taken.round (sym (ap unit_value c.in-Aborted.is) ∙ c.load_unit.ensures.end) (omega arith))
 
 pub returns-in-Free-clause-unsettled : goal.returns-in-Free-clause-unsettled
-returns-in-Free-clause-unsettled c = λ _ _. let h = seen_by c.args.seat.now in let l : Limits = table_limits c.args.self.now.words in unsettled_waits l c.args.row h h 0 (begins_refl h) (status_free l h c.args.row c.requires.steady.shows.legal (sym c.requires.found.0 ∙ ap claim_value c.in-Free.is))
+returns-in-Free-clause-unsettled c = λ _ _. let h = seen_by c.args.seat.now in let l : Limits = table_limits c.args.self.now.words in unsettled_waits l c.args.row h h 0 (begins_refl h) (status_free l h c.args.row c.requires.steady.steady.shows.legal (sym c.requires.found.0 ∙ ap claim_value c.in-Free.is))
 
 pub returns-in-Again-clause-unsettled : goal.returns-in-Again-clause-unsettled
-returns-in-Again-clause-unsettled c = λ _ _. let h = seen_by c.args.seat.now in let l : Limits = table_limits c.args.self.now.words in unsettled_waits l c.args.row h h 0 (begins_refl h) (status_again l h c.args.row c.in-Again.round c.requires.steady.shows.legal (sym c.requires.found.0 ∙ ap claim_value c.in-Again.is))
+returns-in-Again-clause-unsettled c = λ _ _. let h = seen_by c.args.seat.now in let l : Limits = table_limits c.args.self.now.words in unsettled_waits l c.args.row h h 0 (begins_refl h) (status_again l h c.args.row c.in-Again.round c.requires.steady.steady.shows.legal (sym c.requires.found.0 ∙ ap claim_value c.in-Again.is))
 
 pub returns-in-Undecided-clause-unsettled : goal.returns-in-Undecided-clause-unsettled
 returns-in-Undecided-clause-unsettled c = λ _ _. let at = goal.at.returns-in-Undecided-clause-unsettled c in let o = one at.After-load_unit in
@@ -91,8 +91,8 @@ returns-in-Undecided-clause-unsettled c = λ _ _. let at = goal.at.returns-in-Un
 
 pub returns-then-is_last-2-clause-unsettled : goal.returns-then-is_last-2-clause-unsettled
 returns-then-is_last-2-clause-unsettled c = λ _ _. let at = goal.at.returns-then-is_last-2-clause-unsettled c in
-    unsettled_taken (table_limits c.args.self.now.words) c.args.row _ _ c.in-Taken.attempt c.in-Taken.unit c.in-Taken.round c.requires.steady.shows.legal (looked_begins _ 1 _ _ (one at.After-load_unit)) (taken at.In-Taken) (sym (ap unit_value c.in-Aborted.is) ∙ c.load_unit.ensures.end)
+    unsettled_taken (table_limits c.args.self.now.words) c.args.row _ _ c.in-Taken.attempt c.in-Taken.unit c.in-Taken.round c.requires.steady.steady.shows.legal (looked_begins _ 1 _ _ (one at.After-load_unit)) (taken at.In-Taken) (sym (ap unit_value c.in-Aborted.is) ∙ c.load_unit.ensures.end)
 
 pub returns-else-is_last-2-clause-unsettled : goal.returns-else-is_last-2-clause-unsettled
 returns-else-is_last-2-clause-unsettled c = λ _ _. let at = goal.at.returns-else-is_last-2-clause-unsettled c in
-    unsettled_taken (table_limits c.args.self.now.words) c.args.row _ _ c.in-Taken.attempt c.in-Taken.unit c.in-Taken.round c.requires.steady.shows.legal (looked_begins _ 1 _ _ (one at.After-load_unit)) (taken at.In-Taken) (sym (ap unit_value c.in-Aborted.is) ∙ c.load_unit.ensures.end)
+    unsettled_taken (table_limits c.args.self.now.words) c.args.row _ _ c.in-Taken.attempt c.in-Taken.unit c.in-Taken.round c.requires.steady.steady.shows.legal (looked_begins _ 1 _ _ (one at.After-load_unit)) (taken at.In-Taken) (sym (ap unit_value c.in-Aborted.is) ∙ c.load_unit.ensures.end)

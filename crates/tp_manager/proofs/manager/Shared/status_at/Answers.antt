@@ -21,10 +21,10 @@ tried : (l k : Limits) → l ≡ k → (n : ℕ) → n ≡ tries k.attempts → 
 tried l k same n is P p = subst P (sym (tries_are l k same n is)) p
 
 one : (c : After-load_claim-claim) → Acted (table_limits c.args.self.now.words) 1 (view_of c.args.seat.now) (view_of c.load_claim-claim.new.seat)
-one c = acted_by _ kinds.Load _ _ c.requires.steady refl c.load_claim-claim.ensures.grew
+one c = acted_by _ kinds.Load _ _ c.requires.steady.steady refl c.load_claim-claim.ensures.grew
 
 pub status_from-requires-clause-steady : goal.status_from-requires-clause-steady
-status_from-requires-clause-steady c = (one (goal.at.status_from-requires-clause-steady c).After-load_claim-claim).walk.steady
+status_from-requires-clause-steady c = record { own = c.load_claim-claim.ensures.same ∙ c.requires.steady.own; steady = (one (goal.at.status_from-requires-clause-steady c).After-load_claim-claim).walk.steady }
 
 pub status_from-requires-clause-enough : goal.status_from-requires-clause-enough
 status_from-requires-clause-enough c = let l : Limits = table_limits c.args.self.now.words in let o = one (goal.at.status_from-requires-clause-enough c).After-load_claim-claim in

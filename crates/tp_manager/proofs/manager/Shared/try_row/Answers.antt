@@ -99,7 +99,7 @@ returns-in-DeadDraft-clause-low c = let l : Limits = table_limits c.args.self.no
 )
 
 pub stand_of-requires-clause-steady : goal.stand_of-requires-clause-steady
-stand_of-requires-clause-steady c = (claimed (goal.at.stand_of-requires-clause-steady c).After-load_claim-claim).walk.steady
+stand_of-requires-clause-steady c = record { own = c.load_claim-claim.ensures.same ∙ (c.contents_from.ensures.same ∙ (c.head_on-head.ensures.same ∙ c.requires.steady.own)); steady = (claimed (goal.at.stand_of-requires-clause-steady c).After-load_claim-claim).walk.steady }
 
 -- the steps from the head to the word of the claim's unit
 found : (c : After-stand_of) → Looked (table_limits c.args.self.now.words) 2 (view_of c.head_on-head.new.seat) (view_of c.load_claim-claim.new.seat) → Looked (table_limits c.args.self.now.words) 3 (view_of c.head_on-head.new.seat) (view_of c.stand_of.new.seat)

@@ -21,7 +21,7 @@ pub loop-i-init : goal.loop-i-init
 loop-i-init c = record {
   same = refl;
   whole = λ k d less. absurd (omega arith);
-  wrote = wrote_none (table_limits c.args.self.now.words) (view_of c.args.seat.now) c.requires.steady;
+  wrote = wrote_none (table_limits c.args.self.now.words) (view_of c.args.seat.now) c.requires.steady.steady;
 }
 
 pub loop-i-preserved : goal.loop-i-preserved

@@ -1,0 +1,38 @@
+use Rattle.std.proofs.Common.{◌+◌, ◌-◌, ◌*◌, ◌≤◌, ℕ, arith, rules, mul-le-mul_right}
+use Rattle.tp_model.specs.declared.types.Limits.{Limits}
+use Rattle.tp_rule.specs.Tables.{table_limits}
+use Rattle.tp_manager.specs.Bounds.{try_steps}
+use Rattle.tp_manager.specs.Scans.{PassedBy}
+use Rattle.tp_manager.proofs.Claims.Behind.{begun_less}
+use Rattle.tp_manager.proofs.Claims.Scans.{passed_widens, took_few, took_then}
+use Rattle.tp_manager.proofs.Rows.Seeks.{begun_few, begun_on, rows_more}
+use Rattle.tp_manager.proofs.manager.Shared.scan_to.Goals as goal
+
+pub returns-in-Some-clause-told : goal.returns-in-Some-clause-told
+returns-in-Some-clause-told c = let l : Limits = table_limits c.args.self.now.words in let s = try_steps in let i = c.loop-row.invariant in let b = i.begun in let k : ℕ = b.0 in let x = b.1 in let t = c.in-Some.taken in
+    let less = c.loop-row-test.true in let room : k * s + s ≤ (c.args.to - c.args.from) * s = rows_more k (c.args.to - c.args.from) s (omega arith) in (
+      took_few l c.args.stage c.args.unit t.attempt t.element (k * s + s) ((c.args.to - c.args.from) * s) c.args.from _ _ room
+          (took_then l c.args.stage c.args.unit t.attempt t.element (k * s) s c.args.from c.loop-row.row _ _ _ i.from b.3 c.in-Some.ensures.told.0),
+      c.in-Some.ensures.told.1,
+    )
+
+pub loop-row-preserved : goal.loop-row-preserved
+loop-row-preserved c = let l : Limits = table_limits c.args.self.now.words in let P = PassedBy l c.args.stage in let s = try_steps in let i = c.loop-row.invariant in let b = i.begun in let k : ℕ = b.0 in let x = b.1 in
+    let on = c.try_row.ensures.on.on in let from_on = i.from in let less = c.loop-row-test.true in record {
+      same = search rules;
+      from = omega arith;
+      inside = c.try_row.ensures.on.inside;
+      low = c.try_row.ensures.low.0;
+      begun = (
+        k + 1,
+        omega arith,
+        omega arith,
+        begun_few l P (passed_widens l c.args.stage) (k * s + s) c.args.from ((k + 1) * s) c.try_row.new.row _ _ (rows_more k (k + 1) s (omega arith))
+            (begun_on l P (passed_widens l c.args.stage) (k * s) c.args.from s c.loop-row.row _ _ _ b.3 c.try_row.new.row from_on c.in_default.ensures.told),
+      );
+    }
+
+pub returns-clause-told : goal.returns-clause-told
+returns-clause-told c = let l : Limits = table_limits c.args.self.now.words in let s = try_steps in let b = c.loop-row.invariant.begun in let k : ℕ = b.0 in let past = c.loop-row-test.false in
+    let few : k * s ≤ (c.args.to - c.args.from) * s = mul-le-mul_right s b.2 in
+    begun_less l (PassedBy l c.args.stage) (k * s) ((c.args.to - c.args.from) * s) c.args.from c.args.to c.loop-row.row _ _ few c.requires.rows.0 (omega arith) b.3

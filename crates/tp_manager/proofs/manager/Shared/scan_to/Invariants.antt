@@ -1,0 +1,19 @@
+use Rattle.std.proofs.Common.{ℕ, ◌-◌, ◌*◌, ◌≤◌}
+use Rattle.tp_model.specs.Steps.{rows_of}
+use Rattle.tp_rule.specs.Tables.{table_limits}
+use Rattle.tp_rule.specs.Views.{IsSameSeat, view_of}
+use Rattle.tp_manager.specs.Bounds.{try_steps}
+use Rattle.tp_manager.specs.Scans.{Begun, PassedBy}
+use Rattle.tp_manager.proofs.manager.Shared.scan_to.Given as goal
+
+abbrev pub invariant-loop-row : goal.invariant-loop-row
+invariant-loop-row l = record {
+  same : IsSameSeat l.initial.seat l.seat;
+  from : l.from ≤ l.row;
+  inside : l.row ≤ rows_of (table_limits l.self.words);
+  low : l.low ≤ l.row;
+  begun : (k : ℕ) × (k ≤ l.row - l.from) × (k ≤ l.to - l.from) × Begun (table_limits l.self.words) (PassedBy (table_limits l.self.words) l.stage) (k * try_steps) l.from l.row (view_of l.initial.seat) (view_of l.seat);
+}
+
+abbrev pub decreases-loop-row : goal.decreases-loop-row
+decreases-loop-row l = l.to - l.row

@@ -1,0 +1,241 @@
+//! Gaps: runs of rows of no use to a stage that lie behind a row which may be of use.
+ghost use Rattle.std.specs.Prelude.{◌≡◌, ◌⊎◌, ◌+◌, ◌-◌, ◌*◌, ◌<◌, ◌≤◌, slice_index, IfSome, MatchOption};
+ghost use Rattle.tp_model.specs.Steps.{rows_of, IsServerStage};
+ghost use Rattle.tp_rule.specs.Views.{view_of, IsSameSeat};
+ghost use Rattle.tp_rule.specs.Tables.{table_limits};
+ghost use Rattle.tp_manager.specs.CallSteps.{IsSteady};
+ghost use Rattle.tp_manager.specs.BetweenCalls.{RemembersDone};
+ghost use Rattle.tp_manager.specs.Bounds.{try_steps};
+ghost use Rattle.tp_manager.specs.Marks.{IsGap, Remembers, RemembersGaps, RestsAt, RisesAt, Rose};
+ghost use Rattle.tp_manager.specs.Scans.{Begun, IsSpare, OfPart, PassedBy, Sought, Took};
+ghost use Rattle.tp_manager.specs.Spares.{Passed};
+
+use crate::manager::Shared;
+use crate::marking::{Lows, MARKED_PARTS};
+use crate::scanning::{Taken, past_done};
+use tp_rule::Seat;
+
+/// A run of rows that a pass knows of no use to a stage: from the first of these rows on, and below the
+/// second.
+pub(crate) type Gap = (u16, u16);
+
+/// The gaps of one stage that a pass remembers, by part: the two rows of each beside each other.
+pub(crate) type Gaps = [u16; 2 * MARKED_PARTS];
+
+/// The longer one of a gap and this run of rows, which is taken where they are as long.
+#[inline(always)]
+fn longer(gap: Gap, from: u32, to: u32) -> Gap
+    requires few { to < 65536 }
+    requires run { from ≤ to }
+    ensures { (result ≡ gap) ⊎ (result ≡ (from, to)) }
+{
+    if gap.1 as u32 + from <= gap.0 as u32 + to {
+        (from as u16, to as u16)
+    } else {
+        gap
+    }
+}
+
+/// The gap, or an empty one at this row where no row of it is left from there on.
+#[inline(always)]
+fn left_of(gap: Gap, from: u32) -> Gap
+    requires few { from < 65536 }
+    ensures { (result ≡ gap) ⊎ (result ≡ (from, from)) }
+{
+    if gap.1 as u32 <= from {
+        (from as u16, from as u16)
+    } else {
+        gap
+    }
+}
+
+/// The later of two rows, but no row after the end.
+#[inline(always)]
+fn later_to(a: u32, b: u32, end: u32) -> u32
+    requires end { b ≤ end }
+    ensures { ((result ≡ a) × (b ≤ a) × (a ≤ end)) ⊎ ((result ≡ b) × (a < b))
+        ⊎ ((result ≡ end) × (end < a)) }
+{
+    if a < b {
+        b
+    } else if end < a {
+        end
+    } else {
+        a
+    }
+}
+
+impl Shared {
+    /// The unit takes the first element of these rows that waits in the stage. What is found of no use isn't
+    /// remembered.
+    fn scan_to(&self, seat: &mut Seat, from: u32, to: u32, stage: u8, unit: u16) -> Option<Taken>
+        requires steady { IsSteady self.now.words seat.old }
+        requires rows { (from ≤ to) × (to ≤ rows_of (table_limits self.now.words)) }
+        requires stage { IsServerStage stage }
+        requires spare { IsSpare unit (view_of seat.old) × (unit < 65535) }
+        ensures same { IsSameSeat seat.old seat.new }
+        ensures inside { IfSome result (λ t. t.element.id < to) }
+        ensures told { let l = table_limits self.now.words in let n = (to - from) * try_steps in
+            MatchOption result
+            (Begun l (PassedBy l stage) n from to (view_of seat.old) (view_of seat.new))
+            (λ t. Took l n from stage unit (view_of seat.old) (view_of seat.new) t.element t.attempt
+            × (t.element.root ≡ t.root)) }
+    {
+        // Where no row is looked at for what it is to later scans: this one is before all of them.
+        let mut low = 0;
+        let mut row = from;
+        while row < to {
+            if let Some(taken) = self.try_row(seat, &mut row, &mut low, stage, unit) {
+                return Some(taken);
+            }
+        }
+        None
+    }
+
+    /// The unit takes the first element of these rows that waits in the stage. The rows from `first` on and
+    /// before them are known of no use, and so are those of the gap. The longest such run that the scan comes
+    /// to takes the gap's place, unless that is longer.
+    fn scan_run(
+        &self,
+        seat: &mut Seat,
+        gap: &mut Gap,
+        first: u32,
+        from: u32,
+        to: u32,
+        stage: u8,
+        unit: u16,
+    ) -> Option<Taken>
+        requires steady { IsSteady self.now.words seat.old }
+        requires rows { (from ≤ to) × (to ≤ rows_of (table_limits self.now.words)) }
+        requires gap { IsGap stage (view_of seat.old) gap.old }
+        requires run { Rose stage (view_of seat.old) first from }
+        requires stage { IsServerStage stage }
+        requires spare { IsSpare unit (view_of seat.old) × (unit < 65535) }
+        ensures same { IsSameSeat seat.old seat.new }
+        ensures gap { IsGap stage (view_of seat.new) gap.new }
+        ensures inside { IfSome result (λ t. t.element.id < to) }
+        ensures told { let l = table_limits self.now.words in let n = (to - from) * try_steps in
+            MatchOption result
+            (Begun l (PassedBy l stage) n from to (view_of seat.old) (view_of seat.new))
+            (λ t. Took l n from stage unit (view_of seat.old) (view_of seat.new) t.element t.attempt
+            × (t.element.root ≡ t.root)) }
+    {
+        let mut begin = first;
+        let mut low = from;
+        let mut row = from;
+        while row < to {
+            if let Some(taken) = self.try_row(seat, &mut row, &mut low, stage, unit) {
+                *gap = longer(*gap, begin, low);
+                return Some(taken);
+            }
+            if low < row && row < to {
+                *gap = longer(*gap, begin, low);
+                begin = row;
+                low = row;
+            }
+        }
+        *gap = longer(*gap, begin, low);
+        None
+    }
+
+    /// The unit takes the first element of these rows that waits in the stage, where a row before them may be
+    /// of use. No row of the gap is looked at, nor after it the one that the pass has consumed last. It stands
+    /// apart, since most claims come to no such row, and are slower with this among their own code.
+    #[inline(never)]
+    pub(crate) fn scan_behind(
+        &self,
+        seat: &mut Seat,
+        gap: &mut Gap,
+        from: u32,
+        to: u32,
+        done: Option<u32>,
+        stage: u8,
+        unit: u16,
+    ) -> Option<Taken>
+        requires steady { IsSteady self.now.words seat.old }
+        requires rows { (from ≤ to) × (to ≤ rows_of (table_limits self.now.words)) }
+        requires gap { IsGap stage (view_of seat.old) gap.old }
+        requires done { RemembersDone (view_of seat.old) done }
+        requires stage { IsServerStage stage }
+        requires spare { IsSpare unit (view_of seat.old) × (unit < 65535) }
+        ensures same { IsSameSeat seat.old seat.new }
+        ensures gap { IsGap stage (view_of seat.new) gap.new }
+        ensures inside { IfSome result (λ t. t.element.id < to) }
+        ensures told { let l = table_limits self.now.words in let n = (to - from) * try_steps in
+            MatchOption result
+            (Passed l n (PassedBy l stage) from to (view_of seat.old) (view_of seat.new))
+            (λ t. Took l n from stage unit (view_of seat.old) (view_of seat.new) t.element t.attempt
+            × (t.element.root ≡ t.root)) }
+    {
+        let left = left_of(*gap, from);
+        *gap = left;
+        let begin = later_to(left.0 as u32, from, to);
+        let known = later_to(left.1 as u32, from, to);
+        if let Some(taken) = self.scan_to(seat, from, begin, stage, unit) {
+            return Some(taken);
+        }
+        let next = past_done(known, to, done);
+        self.scan_run(seat, gap, begin, next, to, stage, unit)
+    }
+
+    /// The unit takes the first element of a part that waits in the stage. The scan starts at the part's
+    /// mark, after the row that the pass has consumed last where that comes first, and raises the mark. Behind
+    /// a row that may be of use it goes on past the part's gap.
+    pub(crate) fn scan_from_mark(
+        &self,
+        seat: &mut Seat,
+        lows: &mut Lows,
+        gaps: &mut Gaps,
+        part: u16,
+        done: Option<u32>,
+        stage: u8,
+        unit: u16,
+    ) -> Option<Taken>
+        requires steady { IsSteady self.now.words seat.old }
+        requires remembers { Remembers stage (view_of seat.old) lows.old }
+        requires gaps { RemembersGaps stage (view_of seat.old) gaps.old }
+        requires part { part < (table_limits self.now.words).parts }
+        requires done { RemembersDone (view_of seat.old) done }
+        requires stage { IsServerStage stage }
+        requires spare { IsSpare unit (view_of seat.old) × (unit < 65535) }
+        ensures same { IsSameSeat seat.old seat.new }
+        ensures remembers { Remembers stage (view_of seat.new) lows.new }
+        ensures gaps { RemembersGaps stage (view_of seat.new) gaps.new }
+        ensures lows { RisesAt part lows.old lows.new }
+        ensures rests { let l = table_limits self.now.words in
+            RestsAt l stage part (slice_index lows.new part) (view_of seat.old) (view_of seat.new) }
+        ensures inside { let l = table_limits self.now.words in
+            IfSome result (λ t. t.element.id < part * l.rows + l.rows) }
+        ensures told { let l = table_limits self.now.words in
+            let n = 2 + (l.rows - slice_index lows.old part) * try_steps in MatchOption result
+            (Sought l n (OfPart l (PassedBy l stage) part) (view_of seat.old) (view_of seat.new))
+            (λ t. Took l n (part * l.rows) stage unit (view_of seat.old)
+            (view_of seat.new) t.element t.attempt
+            × (t.element.root ≡ t.root)) }
+    {
+        let mark = self.low_at(seat, lows, stage, part);
+        let rows = self.places.limits.rows as u32;
+        let first = part as u32 * rows;
+        let end = first + rows;
+        let begin = past_done(first + lows[part as usize] as u32, end, done);
+        let mut low = begin;
+        let mut row = begin;
+        while row < end {
+            if let Some(taken) = self.try_row(seat, &mut row, &mut low, stage, unit) {
+                self.raise_low(seat, lows, stage, part, mark, low);
+                return Some(taken);
+            }
+            if low < row && row < end {
+                self.raise_low(seat, lows, stage, part, mark, low);
+                let at = 2 * part as usize;
+                let mut gap = (gaps[at], gaps[at + 1]);
+                let found = self.scan_behind(seat, &mut gap, row, end, done, stage, unit);
+                gaps[at] = gap.0;
+                gaps[at + 1] = gap.1;
+                return found;
+            }
+        }
+        self.raise_low(seat, lows, stage, part, mark, low);
+        None
+    }
+}
