@@ -1,5 +1,5 @@
 -- The commit exchange and the abort exchange keep the rule.
-use Rattle.std.proofs.Common.{◌≡◌, ℕ, ◌+◌, ◌*◌, ◌<◌, ◌≤◌, ◌≢◌, eqb, List, [], ◌∷◌, ◌++◌, length, set, get_or, slice_index, sym, refl, ap, ◌∙◌, subst, ◌⊎◌, inr, ⊎_elim, arith, eq-eqb, ne_eqb, Option, Some, None}
+use Rattle.std.proofs.Common.{◌≡◌, ℕ, ◌+◌, ◌*◌, ◌<◌, ◌≤◌, ◌≢◌, eqb, List, [], ◌∷◌, ◌++◌, length, set, get_or, slice_index, sym, refl, ap, ◌∙◌, subst, ◌⊎◌, inl, inr, ⊎_elim, arith, eq-eqb, ne_eqb, Option, Some, None}
 use Rattle.std.specs.Option.{option_or}
 use mathlib.Core.Logic.{dite}
 use native.Mathlib.Decide.{ℕ_discrete}
@@ -13,25 +13,27 @@ use Rattle.tp_model.specs.declared.types.Limits.{Limits}
 use Rattle.tp_model.specs.History.{Aborted, Committed, UnitEnd, In, here, there, IsUnborn, births, end_of, first_id, pass_of}
 use Rattle.tp_model.specs.Steps.{AreLimits, AreOutputs, MayUse, Step, rows_of, units_of}
 use Rattle.tp_model.specs.Words.{claim_word, claim_word_after}
-use Rattle.tp_model.proofs.Bridges.{found_later, taking_later, by_own, claim_either, in_none, unborn_still, unused_still}
+use Rattle.tp_model.proofs.Bridges.{found_later, taking_later, by_own, claim_either, in_either, in_none, in_one, unborn_still, unused_still}
 use Rattle.tp_model.proofs.Lists.{option_or-None, if_same, if_other}
 use Rattle.tp_model.proofs.WordProofs.{end_of-snoc}
 use Rattle.tp_words.specs.Places.{Word, HeadWord, BodyWord, ClaimWord, UnitWord, MarkWord, DrawnWord, IsThere, head_place, body_place, claim_place, unit_place, place_of, size_of}
 use Rattle.tp_words.specs.Words.{IsFitHead, IsFitUnit, head_of, pack_by, pack_head, pack_unit}
 use Rattle.tp_rule.specs.Doors.{Permits}
 use Rattle.tp_rule.specs.Plays.{exchanges_commit, exchanges_abort}
-use Rattle.tp_rule.specs.Rule.{HaveIdsFrom, HandHolds, Holds, RowsHold, Rule, WordIs, UnitsHold, drawn_in}
-use Rattle.tp_model.specs.Passes.{Ascend}
-use Rattle.tp_rule.specs.Steps.{IsOut, after, unchanged, with_end, with_lost, IsOwnWork, IsClaimed, committed, Grew, LosesUnit}
+use Rattle.tp_rule.specs.Rule.{AreasHold, HaveIdsFrom, HandHolds, Holds, RowsHold, Rule, WordIs, UnitsHold, drawn_in}
+use Rattle.tp_model.specs.Passes.{Ascend, IsOwnArea}
+use Rattle.tp_rule.specs.declared.view.Known.TheVariants.{RowHead}
+use Rattle.tp_rule.specs.Steps.{IsOut, after, unchanged, with_end, with_lost, IsOwnWork, IsClaimed, committed, Grew, LosesUnit, HasCleared, IsLeftBehind}
 use Rattle.tp_rule.specs.Views.{IsOnePass, hand}
 use Rattle.tp_rule.specs.declared.view.Hand.{Hand}
 use Rattle.tp_rule.specs.declared.view.View.{View}
 use Rattle.tp_rule.proofs.Events.{acted, found_there, looking_after, watched}
-use Rattle.tp_rule.proofs.Frames.{IsMine, Turn, decide_undecided, hand_holds, mine_may, rows_frame, seat_holds, spares_more}
+use Rattle.tp_rule.proofs.Frames.{IsMine, Turn, decide_undecided, hand_holds, mine_may, rows_frame, seat_holds, spares_more, still_undecided}
+use Rattle.tp_rule.proofs.OwnAreas.{SameHeads, areas_event, areas_on}
 use Rattle.tp_rule.proofs.Owning.{own_inside}
 use Rattle.tp_model.proofs.Areas.{ascend_wider}
 use Rattle.tp_rule.proofs.Parts.{fair_rows, fair_units, in_run}
-use Rattle.tp_rule.proofs.Storing.{drawn_rises, may_unit, row_left}
+use Rattle.tp_rule.proofs.Storing.{drawn_rises, full_head, may_unit, row_left}
 use Rattle.tp_rule.proofs.Tellings.{body_later, born_fit, claim_later, head_later, unit_later, unit_now}
 use Rattle.tp_rule.proofs.Units.{decide}
 use Rattle.tp_rule.proofs.Watching.{rows_lost}
@@ -163,6 +165,23 @@ module _ (k : Limits) where
         written = λ z q. absurd (in_none q);
       }
 
+  -- the areas of the pass that decided a unit; before what is born no head in them is empty
+  areas_end : (h : List Event) (ws : List ℕ) (e : Event) (u x : ℕ) (a : Hand) → u < units_of k → Holding a.open_unit u → ¬ (end_of (h ++ e ∷ []) u ≡ None)
+      → ((first end i : ℕ) (y : Element) → IsOwnArea k a.number a.blocks first end → first ≤ i → i < end → In y (births e) → end ≤ y.id → get_or ws (head_place i) 0 ≢ 0)
+      → AreasHold k h ws a → AreasHold k (h ++ e ∷ []) (set ws (unit_place k u) x) (with_end e a)
+  areas_end h ws e u x a at holding done headed r =
+      let same : SameHeads k a ws (set ws (unit_place k u) x) = λ first end i own low high. (let top = own_inside k a.number a.blocks first end own in (row_left k ws (UnitWord u) x at i (omega arith) (λ q. cc)).0) in
+      areas_on k h (h ++ e ∷ []) ws (set ws (unit_place k u) x) a (with_end e a) (record {
+        own = λ first end own. own;
+        top = refl;
+        heads = λ first end i own low high. inl (same first end i own low high);
+        undecided = still_undecided h e;
+        drafts = λ i z low high is un. ⊎_elim (λ none. let q : None ≡ Some z = sym none ∙ is in absurd cc)
+            (λ held. let q : Some u ≡ Some z = sym held ∙ is in let same : u ≡ z = cc in absurd (done (subst (λ y. end_of (h ++ e ∷ []) y ≡ None) (sym same) un))) holding;
+        made = λ first end i d y own low high p made past. ⊎_elim (λ q. inl q)
+            (λ q. inr (λ zero. headed first end i y own low high (subst (λ z. In y (births z)) (in_one q) made) past (sym (same first end i own low high) ∙ zero))) (in_either a.mine (e ∷ []) p);
+      }) r
+
   first_of_none : (ds : List Element) → length ds ≡ 0 → first_id ds ≡ 0
   first_of_none [] e = refl
   first_of_none (y ∷ ys) e = absurd (omega arith)
@@ -186,6 +205,8 @@ module _ (k : Limits) where
     area = r.area;
     rows = rows_lost k h ws r.first r.end a.first_draft a.next a.left a.next_body a.drafts r.rows;
     units = units_decided h a.number a.claimed u a.spare_unit a.open_unit (inr held) (λ z. let q : (Some Aborted) ≡ None = sym gone ∙ z in absurd cc) r.units;
+    areas = areas_event k h h ws ws a (with_lost a) (λ first end own. own) refl (λ first end i own low high. refl) (λ z un. un)
+        (λ i z low high is un. let q : Some u ≡ Some z = sym held ∙ is in let same : u ≡ z = cc in let now : Some Aborted ≡ None = sym gone ∙ (ap (end_of h) same ∙ un) in absurd cc) (λ d x p made. p) r.areas;
   }
 
   -- the seat found its unit decided
@@ -199,9 +220,9 @@ module _ (k : Limits) where
   open_unit t p u place room hit = unit_undecided (end_of t.rule.history u) (sym (t.rule.world.tells (UnitWord u) room).0 ∙ (ap (λ y. get_or t.state.words y 0) (sym place) ∙ hit))
 
   pub commits_go : (v : View) (p new u first count : ℕ) → AreLimits k → IsOnePass v → v.limits ≡ k → (hand v).open_unit ≡ Some u → IsOwnWork v u → length (hand v).drafts ≤ 4
-      → first ≡ first_id (hand v).drafts → count ≡ length (hand v).drafts → u < k.parts * k.units → p ≡ unit_place k u → new ≡ pack_unit (Some (Committed first count))
+      → first ≡ first_id (hand v).drafts → count ≡ length (hand v).drafts → HasCleared v → u < k.parts * k.units → p ≡ unit_place k u → new ≡ pack_unit (Some (Committed first count))
       → Permits k v p (λ x. either (eqb x 0) new x) (exchanges_commit p 0 new v)
-  commits_go v p new u first count fair one lim held work few f_is c_is room place to s r id at = let t : Turn k = record { state = s; rule = r; id = id; view = v; at = at; one = one } in let a : Hand = hand v in let x : ℕ = get_or s.words p 0 in let h = r.history in
+  commits_go v p new u first count fair one lim held work few f_is c_is cleared room place to s r id at = let t : Turn k = record { state = s; rule = r; id = id; view = v; at = at; one = one } in let a : Hand = hand v in let x : ℕ = get_or s.words p 0 in let h = r.history in
       let seat = seat_holds k t in let mine = hand_holds k t in let ds : List Element = a.drafts in let word : p ≡ unit_place v.limits u = place ∙ ap (λ (l : Limits). unit_place l u) (sym lim) in dite (ℕ_discrete x 0)
       (λ hit. let e : Event = committed v u in let undecided = open_unit t p u place room hit in let rows = mine.rows in let count_is = rows.counted in let bottom = rows.begins in let top = rows.ends in
       let drafts_own : (y : Element) → In y ds → IsMine k t y.id = λ y q. (let b = in_run a.first_draft ds y rows.run q in let l = b.0 in let m = b.1 in (omega arith, omega arith)) in let inside = own_inside k a.number a.blocks mine.first mine.end mine.area in
@@ -230,6 +251,10 @@ module _ (k : Limits) where
         area = mine.area;
         rows = rows_end h s.words e u new mine.first mine.end a.first_draft a.next a.left a.next_body ds room inside (λ y q. q) rows;
         units = units_end h e a.number a.claimed u a.spare_unit a.open_unit (inr held) (λ d z i n q. cc) (λ z. let q : Some (Committed first count) ≡ None = sym (end_of-snoc h e u ∙ now) ∙ z in absurd cc) mine.units;
+        areas = areas_end h s.words e u new a room (inr held) (λ z. let q : Some (Committed first count) ≡ None = sym (end_of-snoc h e u ∙ now) ∙ z in absurd cc)
+            (λ from to i y own low high q past. let b = in_run a.first_draft ds y rows.run q in let below = b.1 in
+            let c = cleared i (subst (λ (z : Limits). IsLeftBehind z a i) (sym lim) (from, to, own, low, high, λ is. (let e2 = is in omega arith))) in
+            let still = seat.known (RowHead i c.0) c.2 in λ zero. full_head c.0 c.1 (sym (still.2 c.1) ∙ zero)) mine.areas;
       } in (
         after kinds.CommitExchange (with_end e) (h ++ e ∷ []) v.known v,
         subst (λ (z : ℕ × ℕ). Rule k record { words = set s.words z.0 z.1; homes = s.homes; views = set s.views id (after kinds.CommitExchange (with_end e) (h ++ e ∷ []) v.known v) }) (λ i. (sym place i, sym (ap (λ b. either b new x) (eq-eqb x 0 hit)) i)) done.0,
@@ -258,6 +283,7 @@ module _ (k : Limits) where
         area = mine.area;
         rows = rows_end h s.words e u 2 mine.first mine.end a.first_draft a.next a.left a.next_body a.drafts room (own_inside k a.number a.blocks mine.first mine.end mine.area) (λ y q. absurd (in_none q)) mine.rows;
         units = units_end h e a.number a.claimed u a.spare_unit a.open_unit holding (λ d z i n q. cc) (λ z. let q : (Some Aborted) ≡ None = sym (end_of-snoc h e u ∙ now) ∙ z in absurd cc) mine.units;
+        areas = areas_end h s.words e u 2 a room holding (λ z. let q : (Some Aborted) ≡ None = sym (end_of-snoc h e u ∙ now) ∙ z in absurd cc) (λ from to i y own low high q past. absurd (in_none q)) mine.areas;
       } in (
         after kinds.AbortExchange (with_end e) (h ++ e ∷ []) v.known v,
         subst (λ (z : ℕ × ℕ). Rule k record { words = set s.words z.0 z.1; homes = s.homes; views = set s.views id (after kinds.AbortExchange (with_end e) (h ++ e ∷ []) v.known v) }) (λ i. (sym place i, sym (ap (λ b. either b 2 x) (eq-eqb x 0 hit)) i)) done.0,

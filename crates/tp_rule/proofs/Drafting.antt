@@ -1,5 +1,5 @@
 -- Draft stores keep the rule.
-use Rattle.std.proofs.Common.{◌≡◌, ℕ, ◌+◌, ◌-◌, ◌<◌, ◌≤◌, ◌≢◌, List, [], ◌∷◌, ◌++◌, length, set, get_or, slice_index, sym, refl, ap, ◌∙◌, subst, inl, ⊎_elim, arith, length-append, length-set, get_or-set_other, get_or-set_same, Some, None}
+use Rattle.std.proofs.Common.{◌≡◌, ℕ, ◌+◌, ◌-◌, ◌<◌, ◌≤◌, ◌≢◌, List, [], ◌∷◌, ◌++◌, length, set, get_or, slice_index, sym, refl, ap, ◌∙◌, subst, inl, inr, ⊎_elim, arith, length-append, length-set, get_or-set_other, get_or-set_same, Some, None}
 use mathlib.Core.Logic.{dite}
 use native.Mathlib.Decide.{ℕ_discrete}
 use Rattle.tp_model.specs.declared.event.Event.{Event}
@@ -11,7 +11,7 @@ use Rattle.tp_model.specs.declared.types.TheConstants.{BODY_WORDS}
 use Rattle.tp_model.specs.Steps.{IsBody, block_first, rows_of}
 use Rattle.tp_model.proofs.Bridges.{begins_refl, in_either, in_one}
 use Rattle.tp_words.specs.Places.{Word, HeadWord, BodyWord, IsThere, head_place, body_place, place_of, size_of}
-use Rattle.tp_words.specs.Words.{head_of, pack_head}
+use Rattle.tp_words.specs.Words.{head_of, pack_head, IsFitHead}
 use Rattle.tp_words.specs.declared.words.Head.TheVariants.{Filled}
 use Rattle.tp_rule.specs.Doors.{Permits}
 use Rattle.tp_rule.specs.Plays.{stores_word, stores_head}
@@ -21,12 +21,13 @@ use Rattle.tp_rule.specs.Views.{IsOnePass, blank_body, hand}
 use Rattle.tp_rule.specs.declared.view.Hand.{Hand}
 use Rattle.tp_rule.specs.declared.view.View.{View}
 use Rattle.tp_rule.proofs.Blanks.{blank_there}
+use Rattle.tp_rule.proofs.OwnAreas.{areas_event, areas_on}
 use Rattle.tp_rule.proofs.Frames.{IsMine, Stays, Turn, draws_still, hand_holds, hand_quiet, holds_still, me, mine_alone, mine_inside, moved, seat_holds}
 use Rattle.tp_rule.proofs.Owning.{own_drawn, own_inside}
 use Rattle.tp_rule.proofs.Parts.{in_run, run_snoc}
 use Rattle.tp_model.proofs.Areas.{ascend_wider, one_area, own_area}
 use Rattle.tp_rule.proofs.Storing.{MayHead, MayStore, body_row, drawn_left, drawn_rises, full_head, holds_same, left, row_left, still_left, stored}
-use Rattle.tp_rule.proofs.Tellings.{world_stored}
+use Rattle.tp_rule.proofs.Tellings.{world_stored, head_told}
 
 -- a word of a body is no head, and is one of its body alone
 no_head : (i j n : ℕ) → BodyWord i j ≢ HeadWord n
@@ -171,8 +172,8 @@ module _ (k : Limits) where
       grows = begins_refl h;
       world = world_stored k h h ws w x t.rule.world t.rule.world.legal (begins_refl h) at told (λ v there other. t.rule.world.tells v there) may (λ s p e. let q : None ≡ Some next = sym (ap body_row e) ∙ is in absurd cc);
       mine = mine;
-      others = λ b ne draws hold. let top = own_inside k b.number b.blocks hold.first hold.end hold.area in hand_quiet k h ws (set ws (place_of k w) x) b (drawn_rises k ws w x at t.rule.world.wide may) hold
-          (λ i low high. row_left k ws w x at i (omega arith) (λ q. mine_alone k t b ne draws hold i (next_tells w is i q) low high));
+      others = λ b ne draws hold. hand_quiet k h ws (set ws (place_of k w) x) b (drawn_rises k ws w x at t.rule.world.wide may) hold
+          (λ first end i own low high. let top = own_inside k b.number b.blocks first end own in row_left k ws w x at i (omega arith) (λ q. mine_alone k t b ne draws first end i own (next_tells w is i q) low high));
       known = t.view.known;
       knows = λ z q. still_left k ws w x at t.rule.world.wide may z ((seat_holds k t).known z q);
       still = still_left k ws w x at t.rule.world.wide may;
@@ -201,21 +202,24 @@ module _ (k : Limits) where
           area = b.area;
           rows = word_stored r.history s.words b.first b.end a.first_draft a.next a.left w x (next_there t room, less) (own_inside k a.number a.blocks b.first b.end b.area) m a.next_body a.drafts refl room r.world.wide b.rows;
           units = b.units;
+          areas = areas_event k r.history r.history s.words (set s.words (place_of k w) x) a (with_word m x a) (λ first end own. own) refl
+              (λ first end i own low high. let top = own_inside k a.number a.blocks first end own in left k s.words w x (next_there t room, less) (HeadWord i) (omega arith) (λ e. no_head (next t room) m i (sym e)))
+              (λ u un. un) (λ i u low high is un. (low, high, is)) (λ d y p made. p) b.areas;
         }),
     (next t room, m, less, place, refl),
   )
 
   pub heads : (v : View) (p x stage root u : ℕ) → HasBodyStored v → 0 < (hand v).left → p ≡ head_place (hand v).next
-      → x ≡ pack_head (Filled stage root (Some u)) → 1 ≤ stage → stage ≤ 15 → root < 65536 → u < 65535
+      → x ≡ pack_head (Filled stage root (Some u)) → 1 ≤ stage → stage ≤ 15 → root < 65536 → u < 65535 → (hand v).open_unit ≡ Some u
       → Permits k v p (λ _. x) (λ _ w. stores_head p x 0 v x w)
-  heads v p x stage root u ready room place is pos top low small s r id at = let t : Turn k = record { state = s; rule = r; id = id; view = v; at = at; one = ready.0 } in let a : Hand = hand v in let b = hand_holds k t in let e : Element = next_element v stage root (Some u) in
-      let here : e.id ≡ next t room = refl in let w : Word = HeadWord (next t room) in (
+  heads v p x stage root u ready room place is pos top low small held s r id at = let t : Turn k = record { state = s; rule = r; id = id; view = v; at = at; one = ready.0 } in let a : Hand = hand v in let b = hand_holds k t in let e : Element = next_element v stage root (Some u) in
+      let here : e.id ≡ next t room = refl in let w : Word = HeadWord (next t room) in let fits : IsFitHead (Filled stage root (Some u)) = (pos, top, omega arith, omega arith) in (
         drafted (with_draft e) v,
         subst (λ q. Rule k record { words = set s.words q x; homes = s.homes; views = set s.views id (drafted (with_draft e) v) }) (sym place)
             (stores t room w x (next_there t room) refl record {
               head = Filled stage root (Some u);
               packed = is;
-              fit = (pos, top, omega arith, omega arith);
+              fit = fits;
               born = λ y p. let q : None ≡ Some y = sym (next_unborn t room) ∙ p in absurd cc;
               draft = λ _ none. absurd cc;
             } (with_draft e) (λ z. (refl, refl)) record {
@@ -228,6 +232,20 @@ module _ (k : Limits) where
               area = b.area;
               rows = draft_stored r.history s.words b.first b.end a.first_draft a.next a.left w x (next_there t room) (own_inside k a.number a.blocks b.first b.end b.area) a.next_body a.drafts e refl here refl ready.1 is room r.world.wide b.rows;
               units = b.units;
+              areas = areas_on k r.history r.history s.words (set s.words (place_of k w) x) a (with_draft e a) (record {
+                own = λ first end own. own;
+                top = (let full = room in omega arith);
+                heads = λ first end i own low high. let last = own_inside k a.number a.blocks first end own in dite (ℕ_discrete (next t room) i)
+                    (λ same. let now : get_or (set s.words (place_of k w) x) (head_place i) 0 ≡ x = subst (λ z. get_or (set s.words (place_of k w) x) (head_place z) 0 ≡ x) same (stored k s.words w x (next_there t room) r.world.wide) in inr (
+                      λ zero. full_head (Filled stage root (Some u)) (λ q. cc) (sym is ∙ (sym now ∙ zero)),
+                      λ st rt z named. let q : Filled st rt (Some z) ≡ Filled stage root (Some u) = head_told (Filled st rt (Some z)) (Filled stage root (Some u)) named.0 fits (sym named.1 ∙ (now ∙ is)) in let one : z ≡ u = cc in
+                          (let count = b.rows.counted in omega arith, omega arith, held ∙ ap Some (sym one)),
+                    ))
+                    (λ other. inl (left k s.words w x (next_there t room) (HeadWord i) (omega arith) (λ e. other (let q : HeadWord i ≡ HeadWord (next t room) = e in cc))));
+                undecided = λ z un. un;
+                drafts = λ i z low high is un. (low, omega arith, is);
+                made = λ first end i d y own low high p made past. inl p;
+              }) b.areas;
             }),
         (stage, root, u, top, low, is, refl),
       )

@@ -1,5 +1,6 @@
 -- The counter of drawn blocks is loaded, and a block is drawn.
-use Rattle.std.proofs.Common.{◌≡◌, ◌≢◌, ℕ, ◌+◌, ◌<◌, ◌≤◌, eqb, cond, List, [], ◌∷◌, ◌++◌, set, get_or, sym, refl, ap, ◌∙◌, subst, inl, inr, ⊎_elim, arith, eq-eqb, ne_eqb}
+use Rattle.tp_words.specs.declared.words.Head.TheVariants.{Filled}
+use Rattle.std.proofs.Common.{◌≡◌, ◌≢◌, ℕ, ◌+◌, ◌<◌, ◌≤◌, eqb, cond, List, [], ◌∷◌, ◌++◌, set, get_or, sym, refl, ap, ◌∙◌, subst, inl, inr, ⊎_elim, arith, eq-eqb, ne_eqb, length, ◌⊎◌, Some}
 use mathlib.Core.Logic.{dite}
 use mathlib.Core.Option.{some, some-injective}
 use native.Mathlib.Decide.{ℕ_discrete}
@@ -11,15 +12,15 @@ use Rattle.tp_model.specs.declared.trace.StepKind.TheVariants as kinds
 use Rattle.tp_model.specs.declared.types.Element.{Element}
 use Rattle.tp_model.specs.declared.types.Limits.{Limits}
 use Rattle.tp_model.specs.declared.types.TheConstants.{BLOCK_ROWS}
-use Rattle.tp_model.specs.History.{In, here, there, IsUnborn}
-use Rattle.tp_model.specs.Passes.{Ascend, IsRun}
+use Rattle.tp_model.specs.History.{In, here, there, IsUnborn, births, end_of}
+use Rattle.tp_model.specs.Passes.{Ascend, IsRun, IsOwnArea}
 use Rattle.tp_model.specs.Steps.{IsRowOfBlock, block_first, rows_of}
 use Rattle.tp_model.proofs.Areas.{ascend_in, ascend_more, ascend_wider, block_before}
 use Rattle.tp_model.proofs.Bridges.{begins_refl, in_cons, in_either, in_here, in_left, in_none, in_one, in_right}
 use Rattle.tp_words.specs.Places.{DrawnWord, drawn_place, head_place}
 use Rattle.tp_rule.specs.Doors.{Permits}
 use Rattle.tp_rule.specs.Plays.{draws, loads_drawn}
-use Rattle.tp_rule.specs.Rule.{HandHolds, IsUnwritten, Owners, RowsHold, Rule, StillSo, World, drawn_in}
+use Rattle.tp_rule.specs.Rule.{AreasHold, HandHolds, IsUnwritten, Owners, RowsHold, Rule, StillSo, World, drawn_in}
 use Rattle.tp_rule.specs.Steps.{NoneDrawn, Shares, after, drew, noted, unchanged, with_block}
 use Rattle.tp_rule.specs.Views.{HasPass, IsOnePass, blank_body, hand}
 use Rattle.tp_rule.specs.declared.view.Hand.{Hand}
@@ -28,10 +29,11 @@ use Rattle.tp_rule.specs.declared.view.Known.TheVariants.{BlocksDrawn}
 use Rattle.tp_rule.specs.declared.view.View.{View}
 use Rattle.tp_rule.proofs.Blanks.{blank_there}
 use Rattle.tp_rule.proofs.Frames.{Turn, hand_holds, hand_quiet, limits_are, mine_drawn, moved, seat_holds}
-use Rattle.tp_rule.proofs.Owning.{S, own_inside, undrawn_for, unborn_earlier}
+use Rattle.tp_rule.proofs.Owning.{S, own_drawn, own_in, own_inside, undrawn_for, unborn_earlier}
+use Rattle.tp_rule.proofs.Ahead.{its_row}
 use Rattle.tp_rule.proofs.Reading.{one_after}
 use Rattle.tp_rule.proofs.Seats.{in_map, in_map_to, looks_knowing}
-use Rattle.tp_rule.proofs.Storing.{MayStore, drawn_rises, row_left, still_left, stored}
+use Rattle.tp_rule.proofs.Storing.{MayStore, drawn_rises, full_head, row_left, still_left, stored}
 use Rattle.tp_rule.proofs.Tellings.{empty_unborn, world_stored}
 
 module _ (k : Limits) where
@@ -130,19 +132,6 @@ module _ (k : Limits) where
     up : Ascend 0 (b + 1) ((hand t.view).blocks ++ b ∷ [])
     up = ascend_more 0 b (hand t.view).blocks (omega arith) (subst (λ n. Ascend 0 n (hand t.view).blocks) at_b (hand_holds k t).blocks)
 
-    mine_after : HandHolds k t.rule.history words_after (with_block b first (hand t.view))
-    mine_after = let mine = hand_holds k t in record {
-      given = mine.given;
-      mine = mine.mine;
-      blocks = subst (λ n. Ascend 0 n ((hand t.view).blocks ++ b ∷ [])) (sym now) up;
-      spares = λ e x c p made row. in_left (b ∷ []) (mine.spares e x c p made row);
-      first = first;
-      end = first + BLOCK_ROWS;
-      area = inr (b, in_right (hand t.view).blocks here, (room, first_is, ap (λ n. n + BLOCK_ROWS) first_is));
-      rows = fresh_rows t.rule.history words_after first (hand t.view).drafts none bare;
-      units = mine.units;
-    }
-
     run_after : IsRun k t.view.seen (hand t.view).number ((hand t.view).blocks ++ b ∷ []) first BLOCK_ROWS
     run_after = let mine = hand_holds k t in let seen = (seat_holds k t).seen in let is = first_is in
         let unborn : (i : ℕ) → IsRowOfBlock k b i → IsUnborn t.rule.history i = λ i row. (let low = row.1 in let high = row.2 in (bare i (omega arith) (omega arith)).0) in record {
@@ -155,6 +144,32 @@ module _ (k : Limits) where
           unborn = λ i low high. unborn_earlier t.view.seen t.rule.history i seen (bare i low high).0;
           usable = λ i low high. inr (mine.given, b, (room, omega arith, omega arith), block_before k t.view.seen t.rule.history (hand t.view).number b seen (undrawn_for k t.rule.history (hand t.view).number b unborn));
         }
+
+    -- an area of the pass is one that it had, or the block
+    old_or_new : (from to : ℕ) → IsOwnArea k (hand t.view).number ((hand t.view).blocks ++ b ∷ []) from to → IsOwnArea k (hand t.view).number (hand t.view).blocks from to ⊎ (from ≡ first)
+    old_or_new from to own = ⊎_elim (λ part. inl (inl part))
+        (λ c. ⊎_elim (λ old. inl (inr (c.0, old, c.2))) (λ new. inr (c.2.1 ∙ (ap (block_first k) (in_one new) ∙ sym first_is))) (in_either (hand t.view).blocks (b ∷ []) c.1)) own
+
+    heads_same : (i : ℕ) → i < rows_of k → get_or words_after (head_place i) 0 ≡ get_or t.state.words (head_place i) 0
+    heads_same i inside = (row_left k t.state.words DrawnWord (b + 1) tt i inside (λ q. cc)).0
+
+    -- the pass made nothing in the block
+    none_made : (e : Event) (x : Element) → In e (hand t.view).mine → In x (births e) → x.id < first
+    none_made e x p made = let hold = hand_holds k t in let is = first_is in let o = own_in t.rule.history (hand t.view).number e (subst (In e) hold.mine p) in
+        let at = its_row k t.state t.rule (hand t.view) x hold (e, o.0, o.1, made) in let top = own_drawn k (hand t.view).number (drawn_in k t.state.words) (hand t.view).blocks at.0 at.1 hold.blocks at.2 in let below = at.3 in omega arith
+
+    areas_after : AreasHold k t.rule.history words_after (with_block b first (hand t.view))
+    areas_after = let hold = hand_holds k t in let is = first_is in record {
+      last = λ from to own. let top = own_drawn k (hand t.view).number (b + 1) ((hand t.view).blocks ++ b ∷ []) from to up own in omega arith;
+      decided = λ from to i stage root u own low high named un. let inside = own_inside k (hand t.view).number ((hand t.view).blocks ++ b ∷ []) from to own in ⊎_elim
+          (λ old. let d = hold.areas.decided from to i stage root u old low high (named.0, sym (heads_same i (omega arith)) ∙ named.1) un in
+          let count : (hand t.view).first_draft + 0 ≡ (hand t.view).next = subst (λ ds. (hand t.view).first_draft + length ds ≡ (hand t.view).next) none hold.rows.counted in let less = d.0 in let more = d.1 in absurd (omega arith))
+          (λ new. absurd (full_head (Filled stage root (Some u)) (λ q. cc) (sym named.1 ∙ (bare i (omega arith) (let top = own_drawn k (hand t.view).number (b + 1) ((hand t.view).blocks ++ b ∷ []) from to up own in omega arith)).1)))
+          (old_or_new from to own);
+      headed = λ from to i e x own low high p made past zero. let inside = own_inside k (hand t.view).number ((hand t.view).blocks ++ b ∷ []) from to own in ⊎_elim
+          (λ old. hold.areas.headed from to i e x old low high p made past (sym (heads_same i (omega arith)) ∙ zero))
+          (λ new. let less = none_made e x p made in absurd (omega arith)) (old_or_new from to own);
+    }
 
     abbrev owner_after : Owners
     owner_after = record { seat = t.rule.owner.seat; drawer = λ c. cond (eqb c b) (hand t.view).number (t.rule.owner.drawer c) }
@@ -169,6 +184,20 @@ module _ (k : Limits) where
     drawn_before : (a : Hand) → HandHolds k t.rule.history t.state.words a → (c : ℕ) → In c a.blocks → c ≢ b
     drawn_before a hold c has same = let below = (ascend_in 0 (drawn_in k t.state.words) a.blocks c hold.blocks has).1 in omega arith
 
+    mine_after : HandHolds k t.rule.history words_after (with_block b first (hand t.view))
+    mine_after = let mine = hand_holds k t in record {
+      given = mine.given;
+      mine = mine.mine;
+      blocks = subst (λ n. Ascend 0 n ((hand t.view).blocks ++ b ∷ [])) (sym now) up;
+      spares = λ e x c p made row. in_left (b ∷ []) (mine.spares e x c p made row);
+      first = first;
+      end = first + BLOCK_ROWS;
+      area = inr (b, in_right (hand t.view).blocks here, (room, first_is, ap (λ n. n + BLOCK_ROWS) first_is));
+      rows = fresh_rows t.rule.history words_after first (hand t.view).drafts none bare;
+      units = mine.units;
+      areas = areas_after;
+    }
+
     drawn_now : Rule k record { words = words_after; homes = t.state.homes; views = set t.state.views t.id (drew (with_block b first) (b + 1) t.view) }
     drawn_now = let h = t.rule.history in let seat = seat_holds k t in let wide = t.rule.world.wide in moved k t record {
       kind = kinds.Draw;
@@ -182,8 +211,8 @@ module _ (k : Limits) where
       grows = begins_refl h;
       world = world_stored k h h t.state.words DrawnWord (b + 1) t.rule.world t.rule.world.legal (begins_refl h) tt tt (λ w there _. t.rule.world.tells w there) may (λ s p e. absurd cc);
       mine = mine_after;
-      others = λ a ne draws hold. let top = own_inside k a.number a.blocks hold.first hold.end hold.area in hand_quiet k h t.state.words words_after a (drawn_rises k t.state.words DrawnWord (b + 1) tt wide may) hold
-          (λ i low high. row_left k t.state.words DrawnWord (b + 1) tt i (omega arith) (λ q. cc));
+      others = λ a ne draws hold. hand_quiet k h t.state.words words_after a (drawn_rises k t.state.words DrawnWord (b + 1) tt wide may) hold
+          (λ first end i own low high. let top = own_inside k a.number a.blocks first end own in row_left k t.state.words DrawnWord (b + 1) tt i (omega arith) (λ q. cc));
       known = BlocksDrawn (b + 1) ∷ t.view.known;
       knows = λ x q. ⊎_elim (λ e. subst (StillSo k words_after) (sym e) (let is = now in omega arith)) (λ o. still_left k t.state.words DrawnWord (b + 1) tt wide may x (seat.known x o)) (in_cons q);
       still = still_left k t.state.words DrawnWord (b + 1) tt wide may;

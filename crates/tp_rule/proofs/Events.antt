@@ -14,10 +14,14 @@ use Rattle.tp_model.proofs.Histories.{legal_more}
 use Rattle.tp_model.proofs.WordProofs.{end_of-snoc}
 use Rattle.tp_words.specs.Places.{Word, MarkWord, DrawnWord, IsThere, place_of}
 use Rattle.tp_rule.specs.Rule.{HandHolds, Rule, WordIs, UnitsHold, World, drawn_in}
-use Rattle.tp_rule.specs.Steps.{IsSo, after, noted, unchanged, Found, Grew, Misses}
+use Rattle.tp_words.specs.declared.words.Head.TheVariants.{Filled}
+use Rattle.tp_rule.specs.declared.view.Known.{Known}
+use Rattle.tp_rule.specs.declared.view.Known.TheVariants.{RowHead}
+use Rattle.tp_rule.specs.Steps.{IsSo, MayBeBorn, after, noted, unchanged, Found, Grew, Misses}
 use Rattle.tp_rule.specs.declared.view.Hand.{Hand}
 use Rattle.tp_rule.specs.declared.view.View.{View}
-use Rattle.tp_rule.proofs.Frames.{IsMine, Stays, Turn, draws_still, hand_frame, hand_holds, holds_still, limits_are, me, mine_alone, mine_for, moved, only_hand, seat_holds}
+use Rattle.tp_rule.proofs.Ahead.{ahead}
+use Rattle.tp_rule.proofs.Frames.{IsMine, Stays, Turn, draws_still, hand_frame, hand_holds, holds_still, limits_are, me, mine_alone, mine_for, moved, moved_to, only_hand, seat_holds}
 use Rattle.tp_rule.proofs.Owning.{AreBlocksFor, blocks_for_own, own_inside, run_of}
 use Rattle.tp_rule.proofs.Seats.{hand_noted, in_map}
 use Rattle.tp_rule.proofs.Storing.{MayStore, body_row, drawn_left, drawn_rises, row_left, still_left}
@@ -89,8 +93,8 @@ module _ (k : Limits) (t : Turn k) where
   pub acted : (a : Act) → Rule k record { words = set t.state.words (place_of k a.word) a.number; homes = t.state.homes; views = set t.state.views t.id (view_after a) } × Grew a.kind a.f (a.event ∷ []) t.view (view_after a)
   acted a = let h = t.rule.history in let e = a.event in let h' : List Event = h ++ e ∷ [] in let ws : List ℕ = set t.state.words (place_of k a.word) a.number in let seat = seat_holds k t in let seen = seat.seen in
       let world : World k h' ws = world_stored k h h' t.state.words a.word a.number t.rule.world (legal_more k h e t.rule.world.legal a.step) (e ∷ [], refl) a.there a.told a.rest a.may (λ s p q. absurd (a.unmarked s p q)) in
-      let still = still_left k t.state.words a.word a.number a.there t.rule.world.wide a.may in let rises = drawn_rises k t.state.words a.word a.number a.there t.rule.world.wide a.may in (
-        moved k t record {
+      let still = still_left k t.state.words a.word a.number a.there t.rule.world.wide a.may in let rises = drawn_rises k t.state.words a.word a.number a.there t.rule.world.wide a.may in
+      let rule = moved_to k t record {
           kind = a.kind;
           f = a.f;
           seen = h';
@@ -102,9 +106,9 @@ module _ (k : Limits) (t : Turn k) where
           grows = (e ∷ [], refl);
           world = world;
           mine = a.mine;
-          others = λ b ne draws hold. let top = own_inside k b.number b.blocks hold.first hold.end hold.area in hand_frame k h e t.state.words ws b a.step (λ is. ne (sym is ∙ a.own)) rises hold
-              (λ i low high. row_left k t.state.words a.word a.number a.there i (omega arith) (λ q. mine_alone k t b ne draws hold i (a.tells_own i q) low high))
-              (λ x q low high. mine_alone k t b ne draws hold x.id (a.births_own x q) low high);
+          others = λ b ne draws hold. hand_frame k h e t.state.words ws b a.step (λ is. ne (sym is ∙ a.own)) rises hold
+              (λ first end i own low high. let top = own_inside k b.number b.blocks first end own in row_left k t.state.words a.word a.number a.there i (omega arith) (λ q. mine_alone k t b ne draws first end i own (a.tells_own i q) low high))
+              (λ x q low high. mine_alone k t b ne draws hold.first hold.end x.id hold.area (a.births_own x q) low high);
           known = t.view.known;
           knows = λ x p. still x (seat.known x p);
           still = still;
@@ -113,7 +117,8 @@ module _ (k : Limits) (t : Turn k) where
           drew = λ b ne hold draws. draws;
           raised = λ b below. inl (drawn_left k t.state.words a.word a.number a.there a.uncounted b below);
           holds = holds_still k t a.f a.stays;
-        },
+        } in (
+        rule.0,
         record {
           between = seen.0;
           seen = ap (λ l. l ++ e ∷ []) (sym seen.1);
@@ -126,6 +131,8 @@ module _ (k : Limits) (t : Turn k) where
           run = after_run a.kind a.f h' ws world.drawn (blocks_for_own k h e (a.f (me k t)) (a.own ∙ sym (a.stays (me k t)).0) (blocks_kept a.f a.stays)) a.mine;
           knows = λ x p. p;
           is_so = λ x p. subst (λ l. IsSo l h' x) (sym (limits_are k t)) (so_now k h' ws world x (still x (seat.known x p)));
+          ahead = λ i stage root u p un. let x : Known = RowHead i (Filled stage root (Some u)) in
+              subst (λ (l : Limits × List Event). MayBeBorn l.0 l.1 i) (λ j. (sym (limits_are k t) j, rule.1 j)) (ahead k (record { words = ws; homes = t.state.homes; views = set t.state.views t.id (view_after a) }) rule.0 i stage root u (still x (seat.known x p)) (ap (λ g. end_of g u) rule.1 ∙ un));
         },
       )
 
@@ -172,6 +179,7 @@ module _ (k : Limits) (t : Turn k) where
         run = after_run kind f h t.state.words t.rule.world.drawn (blocks_kept f stays) mine;
         knows = λ x p. p;
         is_so = λ x p. subst (λ l. IsSo l h x) (sym (limits_are k t)) (so_now k h t.state.words t.rule.world x (seat.known x p));
+        ahead = λ i stage root u p un. subst (λ l. MayBeBorn l h i) (sym (limits_are k t)) (ahead k t.state t.rule i stage root u (seat.known (RowHead i (Filled stage root (Some u))) p) un);
       },
     )
 

@@ -17,6 +17,8 @@ use Rattle.tp_model.specs.declared.event.Event.{Event}
 use Rattle.tp_model.specs.declared.event.Event.TheVariants.{Abort, Claim, Commit, Enqueue, Kill, Requeue}
 use Rattle.tp_model.specs.declared.types.Element.{Element}
 use Rattle.tp_model.specs.declared.types.Limits.{Limits}
+use Rattle.tp_model.specs.Passes.{IsOwnArea}
+use Rattle.tp_rule.proofs.OwnAreas.{AreSame, areas_kept}
 use Rattle.tp_rule.proofs.Parts.{in_run, one_part}
 use Rattle.tp_rule.proofs.Storing.{SameRow, holds_same}
 use Rattle.tp_rule.proofs.Units.{decide}
@@ -34,6 +36,9 @@ NotCommitted w = (f m : ℕ) → ¬ (w ≡ Some (Committed f m))
 -- a unit that has ended stays ended
 pub decide_undecided : (u : ℕ) (w : Option UnitEnd) (e : Event) → decide u w e ≡ None → w ≡ None
 decide_undecided u w e p = (option_or-none w (end_by u e) p).0
+
+pub still_undecided : (h : List Event) (e : Event) (u : ℕ) → end_of (h ++ e ∷ []) u ≡ None → end_of h u ≡ None
+still_undecided h e u un = decide_undecided u (end_of h u) e (sym (end_of-snoc h e u) ∙ un)
 
 -- an event that isn't its Commit doesn't commit a unit
 decide_not : (u : ℕ) (w : Option UnitEnd) (e : Event) → ((c : ℕ) (outs : List Element) → ¬ (e ≡ Commit c u outs)) → NotCommitted w → NotCommitted (decide u w e)
@@ -89,7 +94,7 @@ module _ (k : Limits) where
   }
 
   -- a pass other than the one that made the event e
-  pub hand_frame : (h : List Event) (e : Event) (ws ws' : List ℕ) (a : Hand) → Step k h e → pass_of e ≢ a.number → drawn_in k ws ≤ drawn_in k ws' → (r : HandHolds k h ws a) → Agree r.first r.end ws ws'
+  pub hand_frame : (h : List Event) (e : Event) (ws ws' : List ℕ) (a : Hand) → Step k h e → pass_of e ≢ a.number → drawn_in k ws ≤ drawn_in k ws' → (r : HandHolds k h ws a) → AreSame k a ws ws'
       → ((x : Element) → In x (births e) → r.first ≤ x.id → x.id < r.end → ⊥) → HandHolds k (h ++ e ∷ []) ws' a
   hand_frame h e ws ws' a st ne rises r agree apart = record {
     given = r.given;
@@ -99,13 +104,14 @@ module _ (k : Limits) where
     first = r.first;
     end = r.end;
     area = r.area;
-    rows = rows_frame h (h ++ e ∷ []) ws ws' r.first r.end a.first_draft a.next a.left a.next_body a.drafts agree
+    rows = rows_frame h (h ++ e ∷ []) ws ws' r.first r.end a.first_draft a.next a.left a.next_body a.drafts (λ i low high. agree r.first r.end i r.area low high)
         (λ i low high un. unborn_still h e i un (λ x q is. apart x q (subst (λ z. r.first ≤ z) (sym is) low) (subst (λ z. z < r.end) (sym is) high))) r.rows;
     units = units_frame h e a.number a.claimed a.spare_unit a.open_unit r.given ne st r.units;
+    areas = areas_kept k h (h ++ e ∷ []) ws ws' a (still_undecided h e) agree r.areas;
   }
 
   -- a pass other than the one that stored
-  pub hand_quiet : (h : List Event) (ws ws' : List ℕ) (a : Hand) → drawn_in k ws ≤ drawn_in k ws' → (r : HandHolds k h ws a) → Agree r.first r.end ws ws' → HandHolds k h ws' a
+  pub hand_quiet : (h : List Event) (ws ws' : List ℕ) (a : Hand) → drawn_in k ws ≤ drawn_in k ws' → (r : HandHolds k h ws a) → AreSame k a ws ws' → HandHolds k h ws' a
   hand_quiet h ws ws' a rises r agree = record {
     given = r.given;
     mine = r.mine;
@@ -114,8 +120,9 @@ module _ (k : Limits) where
     first = r.first;
     end = r.end;
     area = r.area;
-    rows = rows_frame h h ws ws' r.first r.end a.first_draft a.next a.left a.next_body a.drafts agree (λ i low high u. u) r.rows;
+    rows = rows_frame h h ws ws' r.first r.end a.first_draft a.next a.left a.next_body a.drafts (λ i low high. agree r.first r.end i r.area low high) (λ i low high u. u) r.rows;
     units = r.units;
+    areas = areas_kept k h h ws ws' a (λ u un. un) agree r.areas;
   }
 
   seat_frame : (h h' : List Event) (ws ws' : List ℕ) (owner owner' : Owners) (j : ℕ) (v : View) → IsPrefix h h' → ((x : Known) → StillSo k ws x → StillSo k ws' x) → ((c : ℕ) → owner'.seat c ≡ owner.seat c)
@@ -174,8 +181,8 @@ module _ (k : Limits) (t : Turn k) where
   mine_inside i own = let top = own_inside k me.number me.blocks hand_holds.first hand_holds.end hand_holds.area in let high = own.1 in omega arith
 
   -- and no other pass's
-  pub mine_alone : (a : Hand) → a.number ≢ me.number → IsDrawer k t.rule.owner a → (r : HandHolds k t.rule.history t.state.words a) → (i : ℕ) → IsMine i → r.first ≤ i → i < r.end → ⊥
-  mine_alone a ne draws r i own low high = ne (sym (own_apart k t.rule.owner me a hand_holds.first hand_holds.end r.first r.end i mine_drawn draws hand_holds.area r.area own.0 own.1 low high))
+  pub mine_alone : (a : Hand) → a.number ≢ me.number → IsDrawer k t.rule.owner a → (first end i : ℕ) → IsOwnArea k a.number a.blocks first end → IsMine i → first ≤ i → i < end → ⊥
+  mine_alone a ne draws first end i theirs own low high = ne (sym (own_apart k t.rule.owner me a hand_holds.first hand_holds.end first end i mine_drawn draws hand_holds.area theirs own.0 own.1 low high))
 
   -- what it makes in spare blocks is in its own
   pub spares_more : (e : Event) → ((x : Element) → In x (births e) → IsMine x.id) → (d : Event) (x : Element) (b : ℕ) → In d (me.mine ++ e ∷ []) → In x (births d) → IsRowOfBlock k b x.id → In b me.blocks
@@ -214,8 +221,9 @@ module _ (k : Limits) (t : Turn k) where
     pub raised : (b : ℕ) → b < drawn_in k words → (b < drawn_in k t.state.words) ⊎ In b (f me).blocks
     pub holds : (b : ℕ) → In b me.blocks → In b (f me).blocks
 
-  pub moved : (m : Move) → Rule k record { words = m.words; homes = t.state.homes; views = set t.state.views t.id (after m.kind m.f m.seen m.known t.view) }
-  moved m = let r = t.rule in let old = seat_holds in record {
+  -- the rule holds with that history
+  pub moved_to : (m : Move) → (r : Rule k record { words = m.words; homes = t.state.homes; views = set t.state.views t.id (after m.kind m.f m.seen m.known t.view) }) × (r.history ≡ m.history)
+  moved_to m = let r = t.rule in let old = seat_holds in (record {
     history = m.history;
     owner = m.owner;
     world = m.world;
@@ -232,7 +240,10 @@ module _ (k : Limits) (t : Turn k) where
         (λ a p has. let is = only_hand t.view t.one a p in subst (λ (z : Hand). In b (m.f z).blocks) (sym is) (m.holds b (subst (λ (z : Hand). In b z.blocks) is has))) (r.drawers b was))
         (λ has. let g : Hand → Hand = λ a. noted m.kind m.seen (m.f a) in let w : View = after m.kind m.f m.seen m.known t.view in
         (t.id, w, g me, set_here t.state.views t.id w (at_below t.state.views t.view t.id t.at), in_map_to g (one_in t.view t.one), has)) (m.raised b below);
-  }
+  }, λ i. m.history)
+
+  pub moved : (m : Move) → Rule k record { words = m.words; homes = t.state.homes; views = set t.state.views t.id (after m.kind m.f m.seen m.known t.view) }
+  moved m = (moved_to m).0
 
   -- f leaves the number and the blocks
   abbrev pub Stays : (Hand → Hand) → Type 0

@@ -7,6 +7,8 @@ pub mod Tellings
 pub mod Working
 pub mod Parts
 pub mod Owning
+pub mod OwnAreas
+pub mod Ahead
 pub mod Seats
 pub mod Frames
 pub mod Events

@@ -1,5 +1,5 @@
 -- The table at the start meets the rule.
-use Rattle.std.proofs.Common.{◌≡◌, ℕ, zero, suc, ◌+◌, ◌*◌, ◌<◌, ◌≤◌, List, [], ◌∷◌, replicate, get_or, sym, refl, ap, ◌∙◌, subst, inl, ⊎_elim, arith}
+use Rattle.std.proofs.Common.{◌≡◌, ℕ, zero, suc, ◌+◌, ◌*◌, ◌<◌, ◌≤◌, List, [], ◌∷◌, replicate, get_or, sym, refl, ap, ◌∙◌, subst, inl, ⊎_elim, arith, Some}
 use Rattle.std.proofs.lemmas.List.{length-replicate}
 use mathlib.Core.Option.{some, some-injective, some-ne-none}
 use mathlib.Core.Logic.{dite}
@@ -16,7 +16,8 @@ use Rattle.tp_rule.proofs.Blanks.{blank_there, zeros}
 use Rattle.tp_rule.specs.declared.view.Hand.{Hand}
 use Rattle.tp_rule.specs.declared.view.View.{View}
 use Rattle.tp_words.specs.Places.{Word, HeadWord, BodyWord, ClaimWord, UnitWord, MarkWord, DrawnWord, IsThere, head_place, body_place, claim_place, unit_place, mark_place, drawn_place, place_of, size_of}
-use Rattle.tp_words.specs.declared.words.Head.TheVariants.{Empty}
+use Rattle.tp_words.specs.declared.words.Head.TheVariants.{Empty, Filled}
+use Rattle.tp_rule.proofs.Storing.{full_head}
 
 -- the first seat stands for all passes, and no block is drawn
 abbrev first_owners : Owners
@@ -65,6 +66,11 @@ module _ (k : Limits) where
       spare_next = λ u is. absurd cc;
       open_own = λ u is. absurd cc;
       closed = λ u i n p. absurd cc;
+    };
+    areas = record {
+      last = λ first end own. ⊎_elim (λ part. let at = part.2 in omega arith) (λ t. absurd (in_none t.1)) own;
+      decided = λ first end i stage root u own low high named un. absurd (full_head (Filled stage root (Some u)) (λ q. cc) (sym named.1 ∙ zeros (size_of k) (head_place i)));
+      headed = λ first end i e x own low high p. absurd (in_none p);
     };
   }
 

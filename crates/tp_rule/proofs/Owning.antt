@@ -30,11 +30,11 @@ split_at [] e p = absurd (in_none p)
 split_at (d ∷ h) e p = ⊎_elim (λ same. ([], h, ap (λ z. z ∷ h) same)) (λ q. let t = split_at h e q in (d ∷ t.0, t.1, ap (λ z. d ∷ z) t.2)) (in_cons p)
 
 -- each event of a legal history came where it might
-stepped : (l : Limits) (h : List Event) (e : Event) → IsLegal l h → In e h → (before : List Event) × Step l before e
+pub stepped : (l : Limits) (h : List Event) (e : Event) → IsLegal l h → In e h → (before : List Event) × Step l before e
 stepped l h e legal p = let t = split_at h e p in (t.0, legal.each t.0 e t.1 t.2)
 
 -- it is among those of its pass
-in_own : (h : List Event) (c : ℕ) (e : Event) → In e h → pass_of e ≡ c → In e (events_by c h)
+pub in_own : (h : List Event) (c : ℕ) (e : Event) → In e h → pass_of e ≡ c → In e (events_by c h)
 in_own [] c e p is = absurd (in_none p)
 in_own (d ∷ h) c e p is =
     elim (eqb_tells (pass_of d) c) [
@@ -42,8 +42,17 @@ in_own (d ∷ h) c e p is =
       | inr q ↦ subst (In e) (sym (if_other (pass_of d) c (d ∷ events_by c h) (events_by c h) q.1)) (⊎_elim (λ same. absurd (q.1 (ap pass_of (sym same) ∙ is))) (λ r. in_own h c e r is) (in_cons p))
     ]
 
+-- what is among those of a pass is one of its
+pub own_in : (h : List Event) (c : ℕ) (e : Event) → In e (events_by c h) → In e h × (pass_of e ≡ c)
+own_in [] c e p = absurd (in_none p)
+own_in (d ∷ h) c e p =
+    elim (eqb_tells (pass_of d) c) [
+      | inl q ↦ ⊎_elim (λ same. (in_here h same, ap pass_of same ∙ q.1)) (λ r. let t = own_in h c e r in (there t.0, t.1)) (in_cons (subst (In e) (if_same (pass_of d) c (d ∷ events_by c h) (events_by c h) q.1) p))
+      | inr q ↦ let t = own_in h c e (subst (In e) (if_other (pass_of d) c (d ∷ events_by c h) (events_by c h) q.1) p) in (there t.0, t.1)
+    ]
+
 -- who makes an element is one of the passes
-made_by : (l : Limits) (h : List Event) (e : Event) (x : Element) → IsLegal l h → In e h → In x (births e) → pass_of e < l.parts
+pub made_by : (l : Limits) (h : List Event) (e : Event) (x : Element) → IsLegal l h → In e h → In x (births e) → pass_of e < l.parts
 made_by l h e x legal p made = let t = stepped l h e legal p in ⊎_elim (λ row. row.0) (λ u. u.0) (births_of l t.0 e x t.1 made).0
 
 -- what an event made is born

@@ -1,5 +1,7 @@
 -- Publish keeps the rule.
-use Rattle.std.proofs.Common.{◌≡◌, ◌≢◌, ℕ, ◌+◌, ◌-◌, ◌<◌, ◌≤◌, List, [], ◌∷◌, ◌++◌, length, set, get_or, slice_index, sym, refl, ap, ◌∙◌, subst, arith, Option, None}
+use Rattle.std.proofs.Common.{◌≡◌, ◌≢◌, ℕ, ◌+◌, ◌-◌, ◌<◌, ◌≤◌, List, [], ◌∷◌, ◌++◌, length, set, get_or, slice_index, sym, refl, ap, ◌∙◌, subst, inl, inr, ⊎_elim, arith, Option, Some, None}
+use mathlib.Core.Logic.{dite}
+use native.Mathlib.Decide.{ℕ_discrete}
 use Rattle.tp_model.specs.declared.event.Event.{Event}
 use Rattle.tp_model.specs.declared.event.Event.TheVariants.{Enqueue}
 use Rattle.tp_model.specs.declared.trace.StepKind.TheVariants as kinds
@@ -8,27 +10,29 @@ use Rattle.tp_model.specs.declared.types.Limits.{Limits}
 use Rattle.tp_model.specs.History.{In, UnitEnd, IsUnborn, births}
 use Rattle.tp_model.specs.declared.types.TheConstants.{BODY_WORDS}
 use Rattle.tp_model.specs.Steps.{AreLimits, IsBody, Step, rows_of}
-use Rattle.tp_model.proofs.Bridges.{born_at, by_own, in_none, in_one, new_birth, unborn_still}
+use Rattle.tp_model.proofs.Bridges.{born_at, by_own, in_either, in_none, in_one, new_birth, unborn_still}
 use Rattle.tp_model.proofs.Lists.{option_or-None}
 use Rattle.tp_words.specs.Places.{Word, HeadWord, BodyWord, ClaimWord, UnitWord, MarkWord, DrawnWord, IsThere, head_place, body_place, place_of, size_of}
-use Rattle.tp_words.specs.Words.{head_of, pack_head}
+use Rattle.tp_words.specs.Words.{IsFitHead, head_of, pack_head}
 use Rattle.tp_words.specs.declared.words.Head.TheVariants.{Filled}
 use Rattle.tp_rule.specs.Doors.{Permits}
 use Rattle.tp_rule.specs.Plays.{publishes}
 use Rattle.tp_rule.specs.Rule.{RowsHold, Rule, WordIs, drawn_in}
-use Rattle.tp_rule.specs.Steps.{with_birth, next_element, birth, HasBodyStored}
+use Rattle.tp_rule.specs.Steps.{with_birth, next_element, birth, HasBodyStored, HasCleared, IsLeftBehind}
+use Rattle.tp_rule.specs.declared.view.Known.TheVariants.{RowHead}
 use Rattle.tp_rule.specs.Views.{blank_body, hand, next_row}
 use Rattle.tp_rule.specs.declared.view.Hand.{Hand}
 use Rattle.tp_rule.specs.declared.view.View.{View}
 use Rattle.tp_rule.proofs.Blanks.{blank_there}
 use Rattle.tp_rule.proofs.Drafting.{empty_behind, full_before, next, next_may, next_own, next_tells, next_there, next_unborn, unwritten_behind}
 use Rattle.tp_rule.proofs.Events.{Act, acted, units_own, view_after}
-use Rattle.tp_rule.proofs.Frames.{IsMine, Turn, hand_holds, mine_may, spares_more}
+use Rattle.tp_rule.proofs.Frames.{IsMine, Turn, hand_holds, mine_may, seat_holds, spares_more, still_undecided}
+use Rattle.tp_rule.proofs.OwnAreas.{areas_on}
 use Rattle.tp_rule.proofs.Owning.{own_inside}
 use Rattle.tp_model.proofs.Areas.{ascend_wider}
 use Rattle.tp_rule.proofs.Parts.{fair_rows}
-use Rattle.tp_rule.proofs.Storing.{drawn_rises, full_head}
-use Rattle.tp_rule.proofs.Tellings.{body_later, claim_later, head_later, unit_later}
+use Rattle.tp_rule.proofs.Storing.{drawn_rises, full_head, row_left, stored}
+use Rattle.tp_rule.proofs.Tellings.{body_later, claim_later, head_later, head_told, unit_later}
 use Rattle.tp_rule.proofs.Units.{decide}
 
 enqueue_quiet : (c : ℕ) (y : Element) (u : ℕ) (w : Option UnitEnd) → decide u w (Enqueue c y) ≡ w
@@ -62,15 +66,15 @@ module _ (k : Limits) (fair : AreLimits k) where
   }
 
   pub births_go : (v : View) (p x stage : ℕ) → HasBodyStored v → (hand v).drafts ≡ [] → 0 < (hand v).left → p ≡ head_place (hand v).next
-      → x ≡ pack_head (Filled stage (next_row v) None) → 1 ≤ stage → stage ≤ 14
+      → x ≡ pack_head (Filled stage (next_row v) None) → 1 ≤ stage → stage ≤ 14 → v.limits ≡ k → HasCleared v
       → Permits k v p (λ _. x) (λ _ w. publishes p x 0 v x w)
-  births_go v p x stage ready none_yet room place is pos top s r id at = let t : Turn k = record { state = s; rule = r; id = id; view = v; at = at; one = ready.0 } in let a : Hand = hand v in let y : Element = next_element v stage (next_row v) None in let e : Event = birth v stage in let h = r.history in
+  births_go v p x stage ready none_yet room place is pos top lim cleared s r id at = let t : Turn k = record { state = s; rule = r; id = id; view = v; at = at; one = ready.0 } in let a : Hand = hand v in let y : Element = next_element v stage (next_row v) None in let e : Event = birth v stage in let h = r.history in
       let mine = hand_holds k t in let row : ℕ = next k t room in let w : Word = HeadWord row in
       let here : y.id ≡ row = refl in
       let all : row < rows_of k = next_there k t room in let few : rows_of k ≤ 10240 = fair_rows k fair in
       let rows : RowsHold h s.words mine.first mine.end a.first_draft a.next a.left a.next_body [] = subst (λ l. RowsHold h s.words mine.first mine.end a.first_draft a.next a.left a.next_body l) none_yet mine.rows in
       let st : Step k h e = record { row = mine_may k t row (next_own k t room); unborn = subst (λ z. IsUnborn h z) (sym here) (next_unborn k t room); stage = (pos, omega arith); body = ready.1; root = refl; by = refl } in
-      let whole : IsBody y.body = ready.1 in
+      let whole : IsBody y.body = ready.1 in let fits : IsFitHead (head_of y) = (pos, omega arith, omega arith, omega arith) in
       let body : (j : ℕ) → j < BODY_WORDS → get_or s.words (body_place row j) 0 ≡ slice_index y.body j = λ j less. mine.rows.body_there room j (omega arith) in
       let now = new_birth h a.number y st.unborn in let births_own : (z : Element) → In z (births e) → IsMine k t z.id = λ z q. subst (λ (n : Element). IsMine k t n.id) (sym (in_one q)) (next_own k t room) in
       let act : Act k t = record {
@@ -86,7 +90,7 @@ module _ (k : Limits) (fair : AreLimits k) where
         told = record {
           head = head_of y;
           packed = is;
-          fit = (pos, omega arith, omega arith, omega arith);
+          fit = fits;
           born = λ z q. let b = born_at (h ++ e ∷ []) row y now here in let same : y ≡ z = cc in ap head_of same;
           draft = λ un. let b = born_at (h ++ e ∷ []) row y now here in absurd cc;
         };
@@ -107,6 +111,23 @@ module _ (k : Limits) (fair : AreLimits k) where
           area = mine.area;
           rows = rows_publish h s.words a.number mine.first mine.end a.first_draft a.next a.left x a.next_body y all (own_inside k a.number a.blocks mine.first mine.end mine.area) here room (λ z. full_head (head_of y) (λ q. cc) (sym is ∙ z)) r.world.wide rows;
           units = units_own k h e a.number a.claimed a.spare_unit a.open_unit (enqueue_quiet a.number y) (λ d u i n z. cc) (λ d u z. cc) mine.units;
+          areas = areas_on k h (h ++ e ∷ []) s.words (set s.words (place_of k w) x) a (with_birth e a) (record {
+            own = λ first end own. own;
+            top = (let full = room in omega arith);
+            heads = λ first end i own low high. let top = own_inside k a.number a.blocks first end own in dite (ℕ_discrete row i)
+                (λ same. let now : get_or (set s.words (place_of k w) x) (head_place i) 0 ≡ x = subst (λ z. get_or (set s.words (place_of k w) x) (head_place z) 0 ≡ x) same (stored k s.words w x all r.world.wide) in inr (
+                  λ zero. full_head (head_of y) (λ q. cc) (sym is ∙ (sym now ∙ zero)),
+                  λ st rt u named. let q : Filled st rt (Some u) ≡ head_of y = head_told (Filled st rt (Some u)) (head_of y) named.0 fits (sym named.1 ∙ (now ∙ is)) in absurd cc,
+                ))
+                (λ other. inl (row_left k s.words w x all i (omega arith) (λ q. other (let r : Some row ≡ Some i = q in cc))).0);
+            undecided = still_undecided h e;
+            drafts = λ i u low high is un. let count : a.first_draft + 0 ≡ a.next = rows.counted in absurd (omega arith);
+            made = λ first end i d z own low high p made past. ⊎_elim (λ q. inl q)
+                (λ q. let made_y = subst (λ (g : Event). In z (births g)) (in_one q) made in let at_row : z.id ≡ row = ap (λ (g : Element). g.id) (in_one made_y) in
+                let c = cleared i (subst (λ (g : Limits). IsLeftBehind g a i) (sym lim) (first, end, own, low, high, λ same. (let full = room in omega arith))) in
+                let still = (seat_holds k t).known (RowHead i c.0) c.2 in let top = own_inside k a.number a.blocks first end own in
+                inr (λ zero. full_head c.0 c.1 (sym (still.2 c.1) ∙ (sym (row_left k s.words w x all i (omega arith) (λ b. let r : Some row ≡ Some i = b in let same : row ≡ i = cc in omega arith)).0 ∙ zero)))) (in_either a.mine (e ∷ []) p);
+          }) mine.areas;
         };
       } in let done = acted k t act in (
         view_after k t act,

@@ -53,7 +53,7 @@ module _ (k : Limits) where
   done_is : (t : Turn k) (i : ℕ) → KnowsFinished t.view i → IsFinished k t.rule.history t.state.words i
   done_is t i d = let seat = seat_holds k t in let h = t.rule.history in ⊎_elim
       (λ s. inl (s.0, found_later t.view.seen h seat.seen i s.0 s.1, settled s.2))
-      (λ n. let so = seat.known (RowHead i (Filled n.0 n.1 (Some n.2))) n.3 in inr (n.0, n.1, n.2, so.1, so.2 (λ e. absurd cc), end_stays t.view.seen h n.2 Aborted seat.seen n.4)) d
+      (λ n. let so = seat.known (RowHead i (Filled n.0 n.1 (Some n.2))) n.3 in inr (n.0, n.1, n.2, (so.1, so.2 (λ e. absurd cc)), end_stays t.view.seen h n.2 Aborted seat.seen n.4)) d
     where
       settled : IsSettled (status_of t.view.limits.attempts t.view.seen i) → IsSettled (status_of k.attempts t.rule.history i)
       settled s = let now : IsSettled (status_of k.attempts t.view.seen i) = subst (λ (l : Limits). IsSettled (status_of l.attempts t.view.seen i)) (limits_are k t) s in
@@ -85,7 +85,7 @@ module _ (k : Limits) where
       let world : World k h ws = world_stored k h h s.words (MarkWord c p) to r.world r.world.legal (begins_refl h) room tt (λ w there _. r.world.tells w there) may marked in
       let still : (z : Known) → StillSo k s.words z → StillSo k ws z = still_left k s.words (MarkWord c p) to room r.world.wide may in let rises = drawn_rises k s.words (MarkWord c p) to room r.world.wide may in
       let now : get_or ws (mark_place k c p) 0 ≡ to = stored k s.words (MarkWord c p) to room r.world.wide in
-      let quiet : (a : Hand) → HandHolds k h s.words a → HandHolds k h ws a = λ a hold. (let top = own_inside k a.number a.blocks hold.first hold.end hold.area in hand_quiet k h s.words ws a rises hold (λ i low high. row_left k s.words (MarkWord c p) to room i (omega arith) (λ q. cc))) in
+      let quiet : (a : Hand) → HandHolds k h s.words a → HandHolds k h ws a = λ a hold. hand_quiet k h s.words ws a rises hold (λ first end i own low high. let top = own_inside k a.number a.blocks first end own in row_left k s.words (MarkWord c p) to room i (omega arith) (λ q. cc)) in
       let rule = moved k t record {
         kind = kinds.Raise;
         f = unchanged;

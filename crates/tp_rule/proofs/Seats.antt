@@ -1,5 +1,5 @@
 -- The seats after a step.
-use Rattle.std.proofs.Common.{◌≡◌, ℕ, zero, suc, ◌<◌, ◌≢◌, List, [], ◌∷◌, map, length, set, get_or, sym, refl, ap, ◌∙◌, subst, ⊎_elim, arith}
+use Rattle.std.proofs.Common.{◌≡◌, ℕ, zero, suc, ◌<◌, ◌≢◌, List, [], ◌∷◌, map, length, set, get_or, sym, refl, ap, ◌∙◌, subst, ⊎_elim, arith, Some}
 use mathlib.Core.Option.{some, some-injective, some-ne-none}
 use mathlib.Core.List.{IsPrefix}
 use mathlib.Core.Logic.{dite}
@@ -17,17 +17,19 @@ use Rattle.tp_model.specs.Steps.{IsLegal, rows_of}
 use Rattle.tp_model.proofs.Bridges.{append_nil, begins_refl, in_cons, in_none}
 use Rattle.tp_words.specs.Places.{HeadWord, head_place}
 use Rattle.tp_words.specs.declared.words.Head.{Head}
+use Rattle.tp_words.specs.declared.words.Head.TheVariants.{Filled}
 use Rattle.tp_rule.specs.Doors.{Permits}
 use Rattle.tp_rule.specs.Plays.{loads, loads_head}
 use Rattle.tp_rule.specs.Rule.{AtSeat, HandHolds, IsApart, Owners, Rule, SeatHolds, StillSo}
-use Rattle.tp_rule.specs.Steps.{Found, IsSo, Loads, NoneFrom, noted, after, unchanged}
+use Rattle.tp_rule.specs.Steps.{Found, IsSo, Loads, MayBeBorn, noted, after, unchanged}
 use Rattle.tp_rule.specs.Views.{HasPass, IsOnePass, hand}
 use Rattle.tp_rule.specs.declared.view.Hand.{Hand}
 use Rattle.tp_rule.specs.declared.view.Known.{Known}
 use Rattle.tp_rule.specs.declared.view.Known.TheVariants.{RowHead}
 use Rattle.tp_rule.specs.declared.view.View.{View}
 use Rattle.tp_rule.proofs.Owning.{IsDrawer, S, blocks_for, run_of}
-use Rattle.tp_rule.proofs.Tellings.{found, head_told, none_behind, so_now}
+use Rattle.tp_rule.proofs.Ahead.{ahead, ahead_empty}
+use Rattle.tp_rule.proofs.Tellings.{found, head_told, so_now}
 
 module _ {A B : Type 0} (f : A → B) where
   -- what stands in the map was made of what stood in the list
@@ -78,6 +80,7 @@ module _ (k : Limits) where
     area = r.area;
     rows = r.rows;
     units = r.units;
+    areas = record { last = r.areas.last; decided = r.areas.decided; headed = r.areas.headed };
   }
 
   -- the seat that makes a step, where f leaves the number, and the seats go on to stand for the same passes
@@ -123,6 +126,7 @@ module _ (k : Limits) where
             run = λ a p. subst (λ l. IsRun l h a.number a.blocks a.next a.left) (sym lim) (run_of k h s.words a r.world.drawn (blocks_for k (record { words = s.words; homes = s.homes; views = set s.views id w }) rule id w a now p) (there.hands a p));
             knows = more;
             is_so = λ x p. subst (λ l. IsSo l h x) (sym lim) (so_now k h s.words r.world x (so x p));
+            ahead = λ i stage root u p un. subst (λ l. MayBeBorn l h i) (sym lim) (ahead k s r i stage root u (so (RowHead i (Filled stage root (Some u))) p) un);
           },
           subst (λ l. Found l h word (get_or s.words word 0)) (sym lim) (found k h s.words r.world word),
         ),
@@ -130,9 +134,6 @@ module _ (k : Limits) where
 
   pub looks : (v : View) (word : ℕ) → HasPass v → Permits k v word (λ n. n) (loads word 0 0 v)
   looks v word has s r id at = let t = looks_knowing v word has s r id at v.known (r.seats id v at).known (λ x p. p) in (after kinds.Load unchanged r.history v.known v, t.0, t.1)
-
-  none_from : (s : S) (r : Rule k s) (i : ℕ) → get_or s.words (head_place i) 0 ≡ 0 → NoneFrom k r.history i
-  none_from s r i empty first end j area low later high = none_behind k r.history s.words r.world first end i j area low later high empty
 
   -- the load of a head, which the seat remembers
   pub looks_head : (v : View) (row : ℕ) → HasPass v → row < rows_of k → Permits k v (head_place row) (λ n. n) (loads_head (head_place row) 0 0 v)
@@ -146,7 +147,7 @@ module _ (k : Limits) where
           λ i head is packed fit. let same : row ≡ i = omega arith in let is_head : head ≡ told.head = head_told head told.head fit told.fit (sym packed ∙ told.packed) in
               subst (λ (z : ℕ × Head). In (RowHead z.0 z.1) known) (λ j. (same j, sym is_head j)) here,
           λ i is empty. let same : row ≡ i = omega arith in
-              subst (λ l. NoneFrom l r.history i) (sym ((r.seats id v at).limits has.0 has.1)) (none_from s r i (ap (λ z. get_or s.words (head_place z) 0) (sym same) ∙ empty)),
+              subst (λ l. MayBeBorn l r.history i) (sym ((r.seats id v at).limits has.0 has.1)) (ahead_empty k s r i (ap (λ z. get_or s.words (head_place z) 0) (sym same) ∙ empty)),
         ),
       )
 

@@ -67,7 +67,7 @@ module _ (k : Limits) (h : List Event) (ws : List ℕ) (world : World k h ws) wh
 
   -- in a finished row no element is anything but consumed or killed
   over_finished : (i : ℕ) → i < rows_of k → IsFinished k h ws i → (x : Element) → element_of h i ≡ Some x → IsSettled (status_of k.attempts h i)
-  over_finished i there f x p = ⊎_elim (λ s. s.2) (λ d. absurd (not_born d.0 d.1 d.2 d.3 d.4 d.5)) f
+  over_finished i there f x p = ⊎_elim (λ s. s.2) (λ d. absurd (not_born d.0 d.1 d.2 d.3.0 d.3.1 d.4)) f
     where
       named : (stage root u : ℕ) (y : Element) → Filled stage root (Some u) ≡ head_of y → y.by ≡ Some u
       named stage root u y e = cc
@@ -132,7 +132,7 @@ other_full s (Filled stage root by) o e = absurd cc
 pub finished_later : (k : Limits) (h h' : List Event) (ws ws' : List ℕ) (i : ℕ) → IsPrefix h h' → IsLegal k h' → (get_or ws (head_place i) 0 ≢ 0 → get_or ws' (head_place i) 0 ≡ get_or ws (head_place i) 0) → IsFinished k h ws i → IsFinished k h' ws' i
 finished_later k h h' ws ws' i begins legal kept f = ⊎_elim
     (λ s. inl (s.0, found_later h h' begins i s.0 s.1, subst IsSettled (sym (settled_stay k h h' i legal begins s.2)) s.2))
-    (λ d. inr (d.0, d.1, d.2, d.3, kept (λ zero. let e : pack_head (Filled d.0 d.1 (Some d.2)) ≡ 0 = sym d.4 ∙ zero in absurd (omega arith)) ∙ d.4, end_stays h h' d.2 Aborted begins d.5)) f
+    (λ d. inr (d.0, d.1, d.2, (d.3.0, kept (λ zero. let e : pack_head (Filled d.0 d.1 (Some d.2)) ≡ 0 = sym d.3.1 ∙ zero in absurd (omega arith)) ∙ d.3.1), end_stays h h' d.2 Aborted begins d.4)) f
 
 -- and a row of no use to kind s stays so
 pub useless_later : (k : Limits) (s : ℕ) (h h' : List Event) (ws ws' : List ℕ) (i : ℕ) → IsPrefix h h' → IsLegal k h' → (get_or ws (head_place i) 0 ≢ 0 → get_or ws' (head_place i) 0 ≡ get_or ws (head_place i) 0) → IsUseless k s h ws i → IsUseless k s h' ws' i

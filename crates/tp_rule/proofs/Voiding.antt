@@ -1,5 +1,5 @@
 -- A row that was left behind empty is marked as one that is never used.
-use Rattle.std.proofs.Common.{◌≡◌, ◌≢◌, ℕ, ◌<◌, ◌≤◌, eqb, List, ◌∷◌, set, get_or, sym, refl, ap, ◌∙◌, subst, inl, ⊎_elim, arith, eq-eqb, ne_eqb, Some, None}
+use Rattle.std.proofs.Common.{◌≡◌, ◌≢◌, ℕ, ◌<◌, ◌≤◌, eqb, List, ◌∷◌, set, get_or, sym, refl, ap, ◌∙◌, subst, inl, inr, ⊎_elim, arith, eq-eqb, ne_eqb, Some, None}
 use mathlib.Core.Logic.{dite}
 use native.Mathlib.Decide.{ℕ_discrete}
 use prog.Atomic.{either}
@@ -13,7 +13,7 @@ use Rattle.tp_model.proofs.Bridges.{begins_refl, found_later, in_cons}
 use Rattle.tp_words.specs.Places.{HeadWord, head_place}
 use Rattle.tp_words.specs.Words.{pack_head}
 use Rattle.tp_words.specs.declared.words.Head.{Head}
-use Rattle.tp_words.specs.declared.words.Head.TheVariants.{Empty, Void}
+use Rattle.tp_words.specs.declared.words.Head.TheVariants.{Empty, Filled, Void}
 use Rattle.tp_rule.specs.Doors.{Permits}
 use Rattle.tp_rule.specs.Plays.{voids}
 use Rattle.tp_rule.specs.Rule.{HandHolds, HeadTold, Rule, StillSo, drawn_in}
@@ -23,10 +23,13 @@ use Rattle.tp_rule.specs.declared.view.Hand.{Hand}
 use Rattle.tp_rule.specs.declared.view.Known.{Known}
 use Rattle.tp_rule.specs.declared.view.Known.TheVariants.{RowHead}
 use Rattle.tp_rule.specs.declared.view.View.{View}
-use Rattle.tp_rule.proofs.Frames.{Turn, hand_holds, hand_quiet, mine_drawn, moved, seat_holds}
+use Rattle.tp_rule.proofs.Frames.{Turn, hand_holds, hand_quiet, mine_drawn, moved, rows_frame, seat_holds}
+use Rattle.tp_rule.proofs.OwnAreas.{areas_on}
+use Rattle.tp_model.proofs.Areas.{ascend_wider}
+use Rattle.tp_model.specs.Passes.{IsOwnArea}
 use Rattle.tp_rule.proofs.Owning.{IsDrawer, own_apart, own_drawn, own_inside}
-use Rattle.tp_rule.proofs.Storing.{MayStore, drawn_left, drawn_rises, row_left, still_left, stored}
-use Rattle.tp_rule.proofs.Tellings.{empty_unborn, world_stored}
+use Rattle.tp_rule.proofs.Storing.{MayStore, SameRow, drawn_left, drawn_rises, full_head, row_left, still_left, stored}
+use Rattle.tp_rule.proofs.Tellings.{empty_unborn, head_told, world_stored}
 
 module _ (k : Limits) (t : Turn k) (i : ℕ) (away : IsLeftBehind k (hand t.view) i) where
   abbrev me : Hand
@@ -39,8 +42,8 @@ module _ (k : Limits) (t : Turn k) (i : ℕ) (away : IsLeftBehind k (hand t.view
   not_mine : (hold : HandHolds k t.rule.history t.state.words me) → hold.first ≤ i → i < hold.end → ⊥
   not_mine hold low high = away.5 ((one_area k away.0 away.1 hold.first hold.end i (own_area k me.number me.blocks away.0 away.1 away.2) (own_area k me.number me.blocks hold.first hold.end hold.area) away.3 away.4 low high).1 ∙ sym hold.rows.ends)
 
-  not_others : (b : Hand) → b.number ≢ me.number → IsDrawer k t.rule.owner b → (hold : HandHolds k t.rule.history t.state.words b) → hold.first ≤ i → i < hold.end → ⊥
-  not_others b ne draws hold low high = ne (sym (own_apart k t.rule.owner me b away.0 away.1 hold.first hold.end i (mine_drawn k t) draws away.2 hold.area away.3 away.4 low high))
+  not_others : (b : Hand) → b.number ≢ me.number → IsDrawer k t.rule.owner b → (first end : ℕ) → IsOwnArea k b.number b.blocks first end → first ≤ i → i < end → ⊥
+  not_others b ne draws first end own low high = ne (sym (own_apart k t.rule.owner me b away.0 away.1 first end i (mine_drawn k t) draws away.2 own away.3 away.4 low high))
 
   -- its head is empty, and becomes void
   module _ (empty : get_or t.state.words (head_place i) 0 ≡ 0) where
@@ -71,10 +74,44 @@ module _ (k : Limits) (t : Turn k) (i : ℕ) (away : IsLeftBehind k (hand t.view
     still : (z : Known) → StillSo k t.state.words z → StillSo k ws z
     still = still_left k t.state.words (HeadWord i) (pack_head Void) inside t.rule.world.wide may
 
-    quiet : (a : Hand) → (hold : HandHolds k t.rule.history t.state.words a) → (hold.first ≤ i → i < hold.end → ⊥) → HandHolds k t.rule.history ws a
-    quiet a hold apart = let top = own_inside k a.number a.blocks hold.first hold.end hold.area in
-        hand_quiet k t.rule.history t.state.words ws a (drawn_rises k t.state.words (HeadWord i) (pack_head Void) inside t.rule.world.wide may) hold
-        (λ j low high. row_left k t.state.words (HeadWord i) (pack_head Void) inside j (omega arith) (λ q. let same : i ≡ j = cc in apart (omega arith) (omega arith)))
+    rises : drawn_in k t.state.words ≤ drawn_in k ws
+    rises = drawn_rises k t.state.words (HeadWord i) (pack_head Void) inside t.rule.world.wide may
+
+    -- every other row is as it was
+    other_row : (j : ℕ) → j < rows_of k → i ≢ j → SameRow t.state.words ws j
+    other_row j below other = row_left k t.state.words (HeadWord i) (pack_head Void) inside j below (λ q. let same : Some i ≡ Some j = q in other cc)
+
+    quiet : (a : Hand) → (hold : HandHolds k t.rule.history t.state.words a) → ((first end : ℕ) → IsOwnArea k a.number a.blocks first end → first ≤ i → i < end → ⊥) → HandHolds k t.rule.history ws a
+    quiet a hold apart = hand_quiet k t.rule.history t.state.words ws a rises hold
+        (λ first end j own low high. let top = own_inside k a.number a.blocks first end own in other_row j (omega arith) (λ same. apart first end own (omega arith) (omega arith)))
+
+    -- the pass itself has one empty head less
+    mine_void : HandHolds k t.rule.history ws me
+    mine_void = let h = t.rule.history in let hold = hand_holds k t in let top = own_inside k me.number me.blocks hold.first hold.end hold.area in record {
+      given = hold.given;
+      mine = hold.mine;
+      blocks = ascend_wider 0 (drawn_in k t.state.words) (drawn_in k ws) me.blocks rises hold.blocks;
+      spares = hold.spares;
+      first = hold.first;
+      end = hold.end;
+      area = hold.area;
+      rows = rows_frame k h h t.state.words ws hold.first hold.end me.first_draft me.next me.left me.next_body me.drafts
+          (λ j low high. other_row j (omega arith) (λ same. not_mine hold (omega arith) (omega arith))) (λ j low high un. un) hold.rows;
+      units = hold.units;
+      areas = areas_on k h h t.state.words ws me me (record {
+        own = λ first end own. own;
+        top = refl;
+        heads = λ first end j own low high. let last = own_inside k me.number me.blocks first end own in dite (ℕ_discrete i j)
+            (λ same. let now : get_or ws (head_place j) 0 ≡ pack_head Void = subst (λ z. get_or ws (head_place z) 0 ≡ pack_head Void) same (stored k t.state.words (HeadWord i) (pack_head Void) inside t.rule.world.wide) in inr (
+              λ zero. full_head Void (λ q. cc) (sym now ∙ zero),
+              λ stage root u named. let q : Filled stage root (Some u) ≡ Void = head_told (Filled stage root (Some u)) Void named.0 tt (sym named.1 ∙ now) in absurd cc,
+            ))
+            (λ other. inl (other_row j (omega arith) other).0);
+        undecided = λ u un. un;
+        drafts = λ j u low high is un. (low, high, is);
+        made = λ first end j e x own low high p made past. inl p;
+      }) hold.areas;
+    }
 
     voided : Rule k record { words = ws; homes = t.state.homes; views = set t.state.views t.id (after kinds.Void unchanged t.view.seen (RowHead i Void ∷ t.view.known) t.view) }
     voided = let h = t.rule.history in let seat = seat_holds k t in moved k t record {
@@ -88,8 +125,8 @@ module _ (k : Limits) (t : Turn k) (i : ℕ) (away : IsLeftBehind k (hand t.view
       begins = seat.seen;
       grows = begins_refl h;
       world = world_stored k h h t.state.words (HeadWord i) (pack_head Void) t.rule.world t.rule.world.legal (begins_refl h) inside told (λ w there _. t.rule.world.tells w there) may (λ s p e. absurd cc);
-      mine = quiet me (hand_holds k t) (not_mine (hand_holds k t));
-      others = λ b ne draws hold. quiet b hold (not_others b ne draws hold);
+      mine = mine_void;
+      others = λ b ne draws hold. quiet b hold (not_others b ne draws);
       known = RowHead i Void ∷ t.view.known;
       knows = λ z q. ⊎_elim (λ e. subst (StillSo k ws) (sym e) (inside, tt, λ some. stored k t.state.words (HeadWord i) (pack_head Void) inside t.rule.world.wide)) (λ o. still z (seat.known z o)) (in_cons q);
       still = still;

@@ -11,7 +11,7 @@ use Rattle.tp_words.specs.Words.{IsFitHead, pack_claim, pack_head}
 use Rattle.tp_words.specs.Places.{IsThere, MarkWord, head_place, body_place, claim_place, mark_place}
 use Rattle.tp_words.specs.Places.{drawn_place, unit_place}
 use Rattle.tp_rule.specs.Views.{hand, next_row}
-use Rattle.tp_rule.specs.Steps.{Found, Grew, Knows, Loads, NoneFrom, unchanged, drafted, with_word, Drafts}
+use Rattle.tp_rule.specs.Steps.{Found, Grew, Knows, Loads, MayBeBorn, unchanged, drafted, with_word, Drafts}
 use Rattle.tp_rule.specs.Steps.{Publishes, Chooses, MakesClaim, MakesCommit, LosesUnit, MakesAbort, MakesKill}
 use Rattle.tp_rule.specs.Steps.{MakesRequeue, Misses, IsLow, RaisesMark, NoneDrawn, Shares, Draws, DrawsNone}
 use Rattle.tp_rule.specs.Steps.{Voids}
@@ -24,12 +24,12 @@ Telling = ℕ → ℕ → ℕ → View → ℕ → View → Type 0
 abbrev pub loads : Telling
 loads word first second v r w = Loads v word r w
 
--- a load of a head, which the seat remembers; where it is empty, nothing is born from its row on
+-- a load of a head, which the seat remembers; where it is empty, an element may be born in its row yet
 abbrev pub loads_head : Telling
 loads_head word first second v r w = Loads v word r w
     × ((i : ℕ) (head : Head) → word ≡ head_place i → r ≡ pack_head head → IsFitHead head
     → Knows w (RowHead i head))
-    × ((i : ℕ) → word ≡ head_place i → r ≡ 0 → NoneFrom v.limits w.seen i)
+    × ((i : ℕ) → word ≡ head_place i → r ≡ 0 → MayBeBorn v.limits w.seen i)
 
 abbrev pub stores_word : Telling
 stores_word word number second v r w = (i : ℕ) × (k : ℕ) × (k < BODY_WORDS) × (word ≡ body_place i k)

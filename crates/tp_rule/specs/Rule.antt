@@ -93,6 +93,23 @@ pub record UnitsHold (l : Limits) (h : List Event) (c claimed : ℕ)
   -- every other unit that the pass has claimed is decided
   pub closed : AreEnded h c open_unit
 
+-- the head of row i names unit u
+abbrev pub NamesUnit : List ℕ → ℕ → ℕ → ℕ → ℕ → Type 0
+NamesUnit ws i stage root u = IsFitHead (Filled stage root (Some u))
+    × (slice_index ws (head_place i) ≡ pack_head (Filled stage root (Some u)))
+
+-- what is so of all areas of a pass: of its part, and of each block that it has drawn
+pub record AreasHold (l : Limits) (h : List Event) (ws : List ℕ) (a : Hand) : Type 0 where
+  -- its run is in the last of them
+  pub last : (first end : ℕ) → IsOwnArea l a.number a.blocks first end → end ≤ a.next + a.left
+  -- a head there that names an undecided unit is a draft's of the open one
+  pub decided : (first end i stage root u : ℕ) → IsOwnArea l a.number a.blocks first end → first ≤ i → i < end
+      → NamesUnit ws i stage root u → end_of h u ≡ None
+      → (a.first_draft ≤ i) × (i < a.next) × (a.open_unit ≡ Some u)
+  -- and before the area of an element that it made it has left no head empty
+  pub headed : (first end i : ℕ) (e : Event) (x : Element) → IsOwnArea l a.number a.blocks first end
+      → first ≤ i → i < end → In e a.mine → In x (births e) → end ≤ x.id → slice_index ws (head_place i) ≢ 0
+
 -- what is so of one pass
 pub record HandHolds (l : Limits) (h : List Event) (ws : List ℕ) (a : Hand) : Type 0 where
   -- it is one of the table's passes
@@ -112,6 +129,8 @@ pub record HandHolds (l : Limits) (h : List Event) (ws : List ℕ) (a : Hand) : 
   pub rows : RowsHold h ws first end a.first_draft a.next a.left a.next_body a.drafts
   -- its units are as it remembers them
   pub units : UnitsHold l h a.number a.claimed a.spare_unit a.open_unit
+  -- and the heads in all its areas are in order
+  pub areas : AreasHold l h ws a
 
 -- no two of these passes have one number
 abbrev pub IsApart : List Hand → Type 0
@@ -183,8 +202,7 @@ IsSettledRow l h i = (x : Element) × (element_of h i ≡ Some x) × IsSettled (
 
 -- row i has a draft of a unit that was aborted, which is never born
 abbrev pub IsDead : List Event → List ℕ → ℕ → Type 0
-IsDead h ws i = (stage : ℕ) × (root : ℕ) × (u : ℕ) × IsFitHead (Filled stage root (Some u))
-    × (slice_index ws (head_place i) ≡ pack_head (Filled stage root (Some u))) × (end_of h u ≡ Some Aborted)
+IsDead h ws i = (stage : ℕ) × (root : ℕ) × (u : ℕ) × NamesUnit ws i stage root u × (end_of h u ≡ Some Aborted)
 
 -- row i is finished
 abbrev pub IsFinished : Limits → List Event → List ℕ → ℕ → Type 0

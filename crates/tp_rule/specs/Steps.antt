@@ -13,11 +13,11 @@ use Rattle.tp_model.specs.declared.event.Event.TheVariants.{Enqueue, Claim, Comm
 use Rattle.tp_model.specs.declared.trace.StepKind.{StepKind}
 use Rattle.tp_model.specs.declared.trace.StepKind.TheVariants as kinds
 use Rattle.tp_model.specs.History.{Aborted, In, IsSettled, IsUnborn, status_of, UnitClaim, UnitEnd, claim_of}
-use Rattle.tp_model.specs.History.{element_of, end_of, events_by}
+use Rattle.tp_model.specs.History.{births, element_of, end_of, events_by, pass_of}
 use Rattle.tp_model.specs.Passes.{AreEnded, Ascend, IsOwnArea, IsOwnOpen, IsRun}
 use Rattle.tp_model.specs.Words.{ClaimWord, claim_word, round_in, word_status}
 use Rattle.tp_model.specs.Steps.{IsBody, IsStage, IsServerStage, IsKillable, IsParked, IsLegal, IsArea}
-use Rattle.tp_model.specs.Steps.{block_first, rows_of}
+use Rattle.tp_model.specs.Steps.{IsBlock, IsPart, block_first, rows_of}
 use Rattle.tp_words.specs.declared.words.Head.{Head}
 use Rattle.tp_words.specs.declared.words.Head.TheVariants.{Empty, Filled}
 use Rattle.tp_words.specs.Words.{IsFitClaim, head_of}
@@ -71,6 +71,26 @@ IsSo l h (PartMark s p n) = IsLow l s h p n
 IsSo l h (MarkAbove s p n) = IsInside l p (n + 1)
 IsSo l h (BlocksDrawn n) = n ≤ l.spare
 
+-- no element is born in row i, nor in a later one of its part or its spare block
+abbrev pub NoneFrom : Limits → List Event → ℕ → Type 0
+NoneFrom l h i = (first end j : ℕ) → IsArea l first end → first ≤ i → i ≤ j → j < end → IsUnborn h j
+
+-- pass c made the element x
+abbrev pub Made : List Event → ℕ → Element → Type 0
+Made h c x = (e : Event) × In e h × (pass_of e ≡ c) × In x (births e)
+
+-- the rows from `first` up to `end` are an area that is seen to be of pass c: its part, or a spare block in
+-- which it made an element
+abbrev pub IsAreaBy : Limits → List Event → ℕ → ℕ → ℕ → Type 0
+IsAreaBy l h c first end = IsPart l c first end
+    ⊎ ((b : ℕ) × IsBlock l b first end × (x : Element) × Made h c x × (first ≤ x.id) × (x.id < end))
+
+-- an element may be born in row i yet: none is from it on in its area, and its pass made none behind that
+pub record MayBeBorn (l : Limits) (h : List Event) (i : ℕ) : Type 0 where
+  pub none : NoneFrom l h i
+  pub last : (c first end : ℕ) (x : Element) → IsAreaBy l h c first end → first ≤ i → i < end → Made h c x
+      → x.id < end
+
 -- a step that looks at the table: the seat has then seen the history so far, which ends with the step's own
 -- events
 pub record Grew (kind : StepKind) (f : Hand → Hand) (events : List Event) (v w : View) : Type 0 where
@@ -97,6 +117,9 @@ pub record Grew (kind : StepKind) (f : Hand → Hand) (events : List Event) (v w
   pub knows : (x : Known) → Knows v x → Knows w x
   -- what is known is so by now
   pub is_so : (x : Known) → Knows w x → IsSo v.limits w.seen x
+  -- and where a head that is known names a unit that is undecided by now, an element may be born in its row
+  pub ahead : (i stage root u : ℕ) → Knows w (RowHead i (Filled stage root (Some u))) → end_of w.seen u ≡ None
+      → MayBeBorn v.limits w.seen i
 
 -- a step that changes nothing in the pass but its trace
 abbrev pub unchanged : Hand → Hand
@@ -105,10 +128,6 @@ unchanged a = a
 -- what the number r says, which was found at the place `word` after h
 abbrev pub Found : Limits → List Event → ℕ → ℕ → Type 0
 Found l h word r = (w : Word) → IsThere l w → word ≡ place_of l w → WordIs h w r
-
--- no element is born in row i, nor in a later one of its part or its spare block
-abbrev pub NoneFrom : Limits → List Event → ℕ → Type 0
-NoneFrom l h i = (first end j : ℕ) → IsArea l first end → first ≤ i → i ≤ j → j < end → IsUnborn h j
 
 -- no element is born in spare block n, nor in a later one
 abbrev pub NoneDrawn : Limits → List Event → ℕ → Type 0
@@ -408,6 +427,11 @@ pub record DrawsNone (v : View) (b n : ℕ) (w : View) : Type 0 where
 abbrev pub IsLeftBehind : Limits → Hand → ℕ → Type 0
 IsLeftBehind l a i = (first : ℕ) × (end : ℕ) × IsOwnArea l a.number a.blocks first end × (first ≤ i) × (i < end)
     × (end ≢ a.next + a.left)
+
+-- no head is empty in the rows that the pass's run has left, as far as the seat knows
+abbrev pub HasCleared : View → Type 0
+HasCleared v = (i : ℕ) → IsLeftBehind v.limits (hand v) i
+    → (head : Head) × (head ≢ Empty) × Knows v (RowHead i head)
 
 -- the exchange of the head of row i, from empty to void, after which nothing more is seen: the head isn't
 -- empty by then, and the seat knows it

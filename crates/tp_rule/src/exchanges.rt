@@ -15,7 +15,7 @@ ghost use Rattle.tp_words.specs.declared.places.TheConstants.{MARK_KINDS};
 ghost use Rattle.tp_rule.specs.Steps.{RaisesMark, Draws, DrawsNone, IsLeftBehind, Voids, Knows, KnowsUseless};
 ghost use Rattle.tp_rule.specs.Steps.{Chooses, MakesClaim, MakesCommit, MakesAbort, MakesKill, MakesRequeue};
 ghost use Rattle.tp_rule.specs.Steps.{LosesUnit, FindsOther, FindsEnded, AllowsClaim, AllowsKill};
-ghost use Rattle.tp_rule.specs.Steps.{AllowsRequeue, HasElement, HasWork, IsOwnWork, IsClaimed};
+ghost use Rattle.tp_rule.specs.Steps.{AllowsRequeue, HasCleared, HasElement, HasWork, IsOwnWork, IsClaimed};
 
 use crate::plays::{
     AbortExchange, ClaimExchange, CommitExchange, Draw, KillExchange, Raise, RequeueExchange,
@@ -95,6 +95,7 @@ impl Words {
         requires work { IsOwnWork (view_of seat.old) unit }
         requires count { (count ≡ length (hand_of seat.old).drafts) × (count ≤ MAX_OUTPUTS) }
         requires first { first ≡ first_id (hand_of seat.old).drafts }
+        requires cleared { HasCleared (view_of seat.old) }
         ensures same { IsSameSeat seat.old seat.new }
         ensures hit { result ≡ true → MakesCommit (view_of seat.old) unit (view_of seat.new) }
         ensures miss { result ≡ false → LosesUnit kinds.CommitExchange (view_of seat.old) unit (view_of seat.new) }

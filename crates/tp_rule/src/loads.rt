@@ -12,7 +12,7 @@ ghost use Rattle.tp_words.specs.declared.places.TheConstants.{MARK_KINDS};
 ghost use Rattle.tp_words.specs.declared.words.Head.TheVariants.{Empty};
 ghost use Rattle.tp_rule.specs.Rule.{IsDraft};
 ghost use Rattle.tp_rule.specs.Views.{seen_by, view_of, HasPass, IsSameSeat};
-ghost use Rattle.tp_rule.specs.Steps.{IsLow, Loads, Grew, Knows, NoneDrawn, NoneFrom, Shares, unchanged};
+ghost use Rattle.tp_rule.specs.Steps.{IsLow, Loads, Grew, Knows, MayBeBorn, NoneDrawn, Shares, unchanged};
 ghost use Rattle.tp_rule.specs.declared.view.Known.TheVariants.{RowHead, PartMark, BlocksDrawn};
 
 use crate::plays::{Load, LoadDrawn, LoadHead, LoadMark};
@@ -38,7 +38,7 @@ impl Words {
     /// Reads the head of a row. Where an element is born in what is then seen, it is that element's head.
     /// Where none is, it is empty or names a unit: a draft is no element before its unit commits. The seat
     /// remembers what it found: a head that isn't empty stays. Where it is empty, no element is born in the
-    /// later rows of its part, or of its spare block, either.
+    /// later rows of its part, or of its spare block, nor did its pass make one in a block behind that.
     #[inline(always)]
     pub fn load_head(&self, seat: &mut Seat, row: u32) -> Head
         requires own { IsSeatOf self.now seat.old }
@@ -49,7 +49,7 @@ impl Words {
         ensures born { (e : Element) → element_of (seen_by seat.new) row ≡ Some e → result ≡ head_of e }
         ensures draft { IsUnborn (seen_by seat.new) row → IsDraft result }
         ensures knows { Knows (view_of seat.new) (RowHead row result) }
-        ensures none { result ≡ Empty → NoneFrom (table_limits self.now) (seen_by seat.new) row }
+        ensures none { result ≡ Empty → MayBeBorn (table_limits self.now) (seen_by seat.new) row }
     {
         let word = self.places.head(row);
         let found = self.table.load::<LoadHead>(seat, word);

@@ -3,7 +3,8 @@ ghost use Rattle.std.specs.Prelude.{◌≡◌, ◌<◌, [], Some};
 ghost use Rattle.tp_model.specs.declared.types.TheConstants.{BODY_WORDS};
 ghost use Rattle.tp_model.specs.Steps.{IsBody, IsServerStage, IsStage};
 ghost use Rattle.tp_rule.specs.Views.{blank_body, hand_of, view_of, IsNextRow, IsOnePass, IsSameSeat};
-ghost use Rattle.tp_rule.specs.Steps.{drafted, with_word, Bodied, Drafts, Fills, Publishes, HasBodyStored};
+ghost use Rattle.tp_rule.specs.Steps.{drafted, with_word, Bodied, Drafts, Fills};
+ghost use Rattle.tp_rule.specs.Steps.{HasBodyStored, HasCleared, Publishes};
 
 use crate::plays::{DraftHead, DraftWord, Publish};
 use crate::seat::Seat;
@@ -92,6 +93,7 @@ impl Words {
         requires ready { HasBodyStored (view_of seat.old) }
         requires no_drafts { (hand_of seat.old).drafts ≡ [] }
         requires next { IsNextRow (table_limits self.now) (view_of seat.old) row }
+        requires cleared { HasCleared (view_of seat.old) }
         requires fits { IsServerStage stage }
         ensures same { IsSameSeat seat.old seat.new }
         ensures grew { Publishes (view_of seat.old) stage (view_of seat.new) }

@@ -4,7 +4,7 @@ use Rattle.tp_rule.specs.Doors.{Permits, key_of}
 use Rattle.tp_rule.specs.Plays.{loads_head}
 use Rattle.tp_words.specs.Places.{HeadWord}
 use Rattle.tp_words.specs.Words.{pack_head}
-use Rattle.tp_rule.specs.Steps.{NoneFrom}
+use Rattle.tp_rule.specs.Steps.{MayBeBorn}
 use Rattle.tp_rule.specs.Rule.{HeadTold, IsDraft}
 use Rattle.tp_rule.specs.Views.{seen_by}
 use Rattle.tp_rule.proofs.Seats.{looks_head, one_has}
@@ -31,4 +31,4 @@ returns-clause-draft c = let t = says (goal.at.returns-clause-draft c).After-loa
 
 pub returns-clause-none : goal.returns-clause-none
 returns-clause-none c = λ is. let zero : c.load-found.result ≡ 0 = c.read.ensures.to_pack.1 ∙ ap pack_head is in
-    subst (λ l. NoneFrom l (seen_by c.load-found.new.seat) c.args.row) c.requires.one.1 (c.load-found.ensures.told.2 c.args.row c.head-word.ensures.place zero)
+    subst (λ l. MayBeBorn l (seen_by c.load-found.new.seat) c.args.row) c.requires.one.1 (c.load-found.ensures.told.2 c.args.row c.head-word.ensures.place zero)

@@ -1,0 +1,77 @@
+-- What a step leaves of the heads in a pass's areas.
+use Rattle.std.proofs.Common.{◌≡◌, ◌⊎◌, ◌≢◌, ℕ, ◌<◌, ◌≤◌, ◌+◌, List, [], ◌∷◌, ◌++◌, get_or, sym, refl, ◌∙◌, subst, inl, inr, ⊎_elim, arith, Some, None}
+use Rattle.tp_model.specs.declared.event.Event.{Event}
+use Rattle.tp_model.specs.declared.types.Element.{Element}
+use Rattle.tp_model.specs.declared.types.Limits.{Limits}
+use Rattle.tp_model.specs.History.{In, births, end_of}
+use Rattle.tp_model.specs.Passes.{IsOwnArea}
+use Rattle.tp_model.proofs.Bridges.{in_either, in_none, in_one}
+use Rattle.tp_words.specs.Places.{head_place}
+use Rattle.tp_rule.specs.Rule.{AreasHold, NamesUnit}
+use Rattle.tp_rule.specs.declared.view.Hand.{Hand}
+use Rattle.tp_rule.proofs.Storing.{SameRow}
+
+module _ (k : Limits) where
+  -- the rows of the areas of the pass have the heads and bodies that they had
+  abbrev pub AreSame : Hand → List ℕ → List ℕ → Type 0
+  AreSame a ws ws' = (first end i : ℕ) → IsOwnArea k a.number a.blocks first end → first ≤ i → i < end → SameRow ws ws' i
+
+  -- how the pass a, with the words ws after h, became b with the words ws' after h'
+  pub record Became (h h' : List Event) (ws ws' : List ℕ) (a b : Hand) : Type 0 where
+    -- its areas are as they were, and its run ends where it did
+    pub own : (first end : ℕ) → IsOwnArea k b.number b.blocks first end → IsOwnArea k a.number a.blocks first end
+    pub top : b.next + b.left ≡ a.next + a.left
+    -- each head there is as it was, or isn't empty, and names no undecided unit but in a draft of the open one
+    pub heads : (first end i : ℕ) → IsOwnArea k b.number b.blocks first end → first ≤ i → i < end
+        → (get_or ws' (head_place i) 0 ≡ get_or ws (head_place i) 0)
+        ⊎ ((get_or ws' (head_place i) 0 ≢ 0) × ((stage root u : ℕ) → NamesUnit ws' i stage root u → (b.first_draft ≤ i) × (i < b.next) × (b.open_unit ≡ Some u)))
+    pub undecided : (u : ℕ) → end_of h' u ≡ None → end_of h u ≡ None
+    -- what was a draft of the open unit is one, where that is undecided
+    pub drafts : (i u : ℕ) → a.first_draft ≤ i → i < a.next → a.open_unit ≡ Some u → end_of h' u ≡ None → (b.first_draft ≤ i) × (i < b.next) × (b.open_unit ≡ Some u)
+    -- and before each element that it made now no head is empty
+    pub made : (first end i : ℕ) (e : Event) (x : Element) → IsOwnArea k b.number b.blocks first end → first ≤ i → i < end → In e b.mine → In x (births e) → end ≤ x.id
+        → In e a.mine ⊎ (get_or ws' (head_place i) 0 ≢ 0)
+
+  pub areas_on : (h h' : List Event) (ws ws' : List ℕ) (a b : Hand) → Became h h' ws ws' a b → AreasHold k h ws a → AreasHold k h' ws' b
+  areas_on h h' ws ws' a b g r = record {
+    last = λ first end own. let high = r.last first end (g.own first end own) in let top = g.top in omega arith;
+    decided = λ first end i stage root u own low high named un. ⊎_elim
+        (λ same. let d = r.decided first end i stage root u (g.own first end own) low high (named.0, sym same ∙ named.1) (g.undecided u un) in g.drafts i u d.0 d.1 d.2 un)
+        (λ new. new.1 stage root u named) (g.heads first end i own low high);
+    headed = λ first end i e x own low high p made past. ⊎_elim
+        (λ old. ⊎_elim (λ same z. r.headed first end i e x (g.own first end own) low high old made past (sym same ∙ z)) (λ new. new.0) (g.heads first end i own low high))
+        (λ now. now) (g.made first end i e x own low high p made past);
+  }
+
+  -- of a pass whose rows are as they were, and which itself is, but for its trace
+  pub areas_kept : (h h' : List Event) (ws ws' : List ℕ) (a : Hand) → ((u : ℕ) → end_of h' u ≡ None → end_of h u ≡ None) → AreSame a ws ws' → AreasHold k h ws a → AreasHold k h' ws' a
+  areas_kept h h' ws ws' a undecided same r = areas_on h h' ws ws' a a (record {
+    own = λ first end own. own;
+    top = refl;
+    heads = λ first end i own low high. inl (same first end i own low high).0;
+    undecided = undecided;
+    drafts = λ i u low high is _. (low, high, is);
+    made = λ first end i e x own low high p made past. inl p;
+  }) r
+
+  -- its heads there are as they were
+  abbrev pub SameHeads : Hand → List ℕ → List ℕ → Type 0
+  SameHeads a ws ws' = (first end i : ℕ) → IsOwnArea k a.number a.blocks first end → first ≤ i → i < end → get_or ws' (head_place i) 0 ≡ get_or ws (head_place i) 0
+
+  -- of a pass that made nothing new
+  pub areas_event : (h h' : List Event) (ws ws' : List ℕ) (a b : Hand) → ((first end : ℕ) → IsOwnArea k b.number b.blocks first end → IsOwnArea k a.number a.blocks first end) → b.next + b.left ≡ a.next + a.left
+      → SameHeads a ws ws' → ((u : ℕ) → end_of h' u ≡ None → end_of h u ≡ None)
+      → ((i u : ℕ) → a.first_draft ≤ i → i < a.next → a.open_unit ≡ Some u → end_of h' u ≡ None → (b.first_draft ≤ i) × (i < b.next) × (b.open_unit ≡ Some u))
+      → ((d : Event) (x : Element) → In d b.mine → In x (births d) → In d a.mine) → AreasHold k h ws a → AreasHold k h' ws' b
+  areas_event h h' ws ws' a b own top same undecided drafts made r = areas_on h h' ws ws' a b (record {
+    own = own;
+    top = top;
+    heads = λ first end i o low high. inl (same first end i (own first end o) low high);
+    undecided = undecided;
+    drafts = drafts;
+    made = λ first end i d x o low high p is past. inl (made d x p is);
+  }) r
+
+-- what a pass made before an event without births is all that it made
+pub made_before : (mine : List Event) (e : Event) → births e ≡ [] → (d : Event) (x : Element) → In d (mine ++ e ∷ []) → In x (births d) → In d mine
+made_before mine e none d x p made = ⊎_elim (λ q. q) (λ q. absurd (in_none (subst (In x) none (subst (λ z. In x (births z)) (in_one q) made)))) (in_either mine (e ∷ []) p)
