@@ -28,7 +28,7 @@ use Rattle.tp_rule.specs.Views.{IsOnePass, hand}
 use Rattle.tp_rule.specs.declared.view.Hand.{Hand}
 use Rattle.tp_rule.specs.declared.view.View.{View}
 use Rattle.tp_rule.proofs.Events.{acted, found_there, looking_after, watched}
-use Rattle.tp_rule.proofs.Frames.{IsMine, Turn, decide_undecided, hand_holds, mine_may, rows_frame, seat_holds, spares_more, still_undecided}
+use Rattle.tp_rule.proofs.Frames.{IsMine, Turn, decide_undecided, hand_holds, mine_may, rows_frame, seat_holds, spares_more, committed_before, still_undecided}
 use Rattle.tp_rule.proofs.OwnAreas.{SameHeads, areas_event, areas_on}
 use Rattle.tp_rule.proofs.Owning.{own_inside}
 use Rattle.tp_model.proofs.Areas.{ascend_wider}
@@ -167,20 +167,29 @@ module _ (k : Limits) where
 
   -- the areas of the pass that decided a unit; before what is born no head in them is empty
   areas_end : (h : List Event) (ws : List ℕ) (e : Event) (u x : ℕ) (a : Hand) → u < units_of k → Holding a.open_unit u → ¬ (end_of (h ++ e ∷ []) u ≡ None)
+      → ((i from count : ℕ) → a.first_draft ≤ i → i < a.next → end_of (h ++ e ∷ []) u ≡ Some (Committed from count) → (from ≤ i) × (i < from + count))
+      → ((c z : ℕ) (outs : List Element) → e ≡ Commit c z outs → z ≡ u)
       → ((first end i : ℕ) (y : Element) → IsOwnArea k a.number a.blocks first end → first ≤ i → i < end → In y (births e) → end ≤ y.id → get_or ws (head_place i) 0 ≢ 0)
       → AreasHold k h ws a → AreasHold k (h ++ e ∷ []) (set ws (unit_place k u) x) (with_end e a)
-  areas_end h ws e u x a at holding done headed r =
+  areas_end h ws e u x a at holding done outputs one headed r =
       let same : SameHeads k a ws (set ws (unit_place k u) x) = λ first end i own low high. (let top = own_inside k a.number a.blocks first end own in (row_left k ws (UnitWord u) x at i (omega arith) (λ q. cc)).0) in
       areas_on k h (h ++ e ∷ []) ws (set ws (unit_place k u) x) a (with_end e a) (record {
         own = λ first end own. own;
         top = refl;
         heads = λ first end i own low high. inl (same first end i own low high);
         undecided = still_undecided h e;
+        committed = λ i z from count is. committed_before h e z from count is (λ c outs same low high held.
+            let unit = one c z outs same in outputs i from count low high (subst (λ y. end_of (h ++ e ∷ []) y ≡ Some (Committed from count)) unit is));
         drafts = λ i z low high is un. ⊎_elim (λ none. let q : None ≡ Some z = sym none ∙ is in absurd cc)
             (λ held. let q : Some u ≡ Some z = sym held ∙ is in let same : u ≡ z = cc in absurd (done (subst (λ y. end_of (h ++ e ∷ []) y ≡ None) (sym same) un))) holding;
         made = λ first end i d y own low high p made past. ⊎_elim (λ q. inl q)
             (λ q. inr (λ zero. headed first end i y own low high (subst (λ z. In y (births z)) (in_one q) made) past (sym (same first end i own low high) ∙ zero))) (in_either a.mine (e ∷ []) p);
       }) r
+
+  -- the first of some drafts is in the first row of theirs
+  first_draft_of : (ds : List Element) (first : ℕ) → HaveIdsFrom first ds → 0 < length ds → first_id ds ≡ first
+  first_draft_of [] first r some = absurd (omega arith)
+  first_draft_of (y ∷ ys) first r some = r.0
 
   first_of_none : (ds : List Element) → length ds ≡ 0 → first_id ds ≡ 0
   first_of_none [] e = refl
@@ -205,7 +214,7 @@ module _ (k : Limits) where
     area = r.area;
     rows = rows_lost k h ws r.first r.end a.first_draft a.next a.left a.next_body a.drafts r.rows;
     units = units_decided h a.number a.claimed u a.spare_unit a.open_unit (inr held) (λ z. let q : (Some Aborted) ≡ None = sym gone ∙ z in absurd cc) r.units;
-    areas = areas_event k h h ws ws a (with_lost a) (λ first end own. own) refl (λ first end i own low high. refl) (λ z un. un)
+    areas = areas_event k h h ws ws a (with_lost a) (λ z from count is. is) (λ first end own. own) refl (λ first end i own low high. refl) (λ z un. un)
         (λ i z low high is un. let q : Some u ≡ Some z = sym held ∙ is in let same : u ≡ z = cc in let now : Some Aborted ≡ None = sym gone ∙ (ap (end_of h) same ∙ un) in absurd cc) (λ d x p made. p) r.areas;
   }
 
@@ -252,6 +261,9 @@ module _ (k : Limits) where
         rows = rows_end h s.words e u new mine.first mine.end a.first_draft a.next a.left a.next_body ds room inside (λ y q. q) rows;
         units = units_end h e a.number a.claimed u a.spare_unit a.open_unit (inr held) (λ d z i n q. cc) (λ z. let q : Some (Committed first count) ≡ None = sym (end_of-snoc h e u ∙ now) ∙ z in absurd cc) mine.units;
         areas = areas_end h s.words e u new a room (inr held) (λ z. let q : Some (Committed first count) ≡ None = sym (end_of-snoc h e u ∙ now) ∙ z in absurd cc)
+            (λ i from n low high is. let q : Some (Committed first count) ≡ Some (Committed from n) = sym (end_of-snoc h e u ∙ now) ∙ is in let same_first : first ≡ from = cc in let same_count : count ≡ n = cc in
+            let begin = first_draft_of ds a.first_draft rows.run (omega arith) in (omega arith, omega arith))
+            (λ c z outs same. cc)
             (λ from to i y own low high q past. let b = in_run a.first_draft ds y rows.run q in let below = b.1 in
             let c = cleared i (subst (λ (z : Limits). IsLeftBehind z a i) (sym lim) (from, to, own, low, high, λ is. (let e2 = is in omega arith))) in
             let still = seat.known (RowHead i c.0) c.2 in λ zero. full_head c.0 c.1 (sym (still.2 c.1) ∙ zero)) mine.areas;
@@ -283,7 +295,8 @@ module _ (k : Limits) where
         area = mine.area;
         rows = rows_end h s.words e u 2 mine.first mine.end a.first_draft a.next a.left a.next_body a.drafts room (own_inside k a.number a.blocks mine.first mine.end mine.area) (λ y q. absurd (in_none q)) mine.rows;
         units = units_end h e a.number a.claimed u a.spare_unit a.open_unit holding (λ d z i n q. cc) (λ z. let q : (Some Aborted) ≡ None = sym (end_of-snoc h e u ∙ now) ∙ z in absurd cc) mine.units;
-        areas = areas_end h s.words e u 2 a room holding (λ z. let q : (Some Aborted) ≡ None = sym (end_of-snoc h e u ∙ now) ∙ z in absurd cc) (λ from to i y own low high q past. absurd (in_none q)) mine.areas;
+        areas = areas_end h s.words e u 2 a room holding (λ z. let q : (Some Aborted) ≡ None = sym (end_of-snoc h e u ∙ now) ∙ z in absurd cc)
+            (λ i from n low high is. let q : Some Aborted ≡ Some (Committed from n) = sym (end_of-snoc h e u ∙ now) ∙ is in absurd cc) (λ c z outs same. absurd cc) (λ from to i y own low high q past. absurd (in_none q)) mine.areas;
       } in (
         after kinds.AbortExchange (with_end e) (h ++ e ∷ []) v.known v,
         subst (λ (z : ℕ × ℕ). Rule k record { words = set s.words z.0 z.1; homes = s.homes; views = set s.views id (after kinds.AbortExchange (with_end e) (h ++ e ∷ []) v.known v) }) (λ i. (sym place i, sym (ap (λ b. either b 2 x) (eq-eqb x 0 hit)) i)) done.0,

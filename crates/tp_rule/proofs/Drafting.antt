@@ -6,7 +6,7 @@ use Rattle.tp_model.specs.declared.event.Event.{Event}
 use Rattle.tp_model.specs.declared.trace.StepKind.TheVariants as kinds
 use Rattle.tp_model.specs.declared.types.Element.{Element}
 use Rattle.tp_model.specs.declared.types.Limits.{Limits}
-use Rattle.tp_model.specs.History.{In, IsUnborn, element_of}
+use Rattle.tp_model.specs.History.{In, IsUnborn, element_of, Committed, end_of}
 use Rattle.tp_model.specs.declared.types.TheConstants.{BODY_WORDS}
 use Rattle.tp_model.specs.Steps.{IsBody, block_first, rows_of}
 use Rattle.tp_model.proofs.Bridges.{begins_refl, in_either, in_one}
@@ -202,7 +202,7 @@ module _ (k : Limits) where
           area = b.area;
           rows = word_stored r.history s.words b.first b.end a.first_draft a.next a.left w x (next_there t room, less) (own_inside k a.number a.blocks b.first b.end b.area) m a.next_body a.drafts refl room r.world.wide b.rows;
           units = b.units;
-          areas = areas_event k r.history r.history s.words (set s.words (place_of k w) x) a (with_word m x a) (λ first end own. own) refl
+          areas = areas_event k r.history r.history s.words (set s.words (place_of k w) x) a (with_word m x a) (λ u from count is. is) (λ first end own. own) refl
               (λ first end i own low high. let top = own_inside k a.number a.blocks first end own in left k s.words w x (next_there t room, less) (HeadWord i) (omega arith) (λ e. no_head (next t room) m i (sym e)))
               (λ u un. un) (λ i u low high is un. (low, high, is)) (λ d y p made. p) b.areas;
         }),
@@ -239,10 +239,11 @@ module _ (k : Limits) where
                     (λ same. let now : get_or (set s.words (place_of k w) x) (head_place i) 0 ≡ x = subst (λ z. get_or (set s.words (place_of k w) x) (head_place z) 0 ≡ x) same (stored k s.words w x (next_there t room) r.world.wide) in inr (
                       λ zero. full_head (Filled stage root (Some u)) (λ q. cc) (sym is ∙ (sym now ∙ zero)),
                       λ st rt z named. let q : Filled st rt (Some z) ≡ Filled stage root (Some u) = head_told (Filled st rt (Some z)) (Filled stage root (Some u)) named.0 fits (sym named.1 ∙ (now ∙ is)) in let one : z ≡ u = cc in
-                          (let count = b.rows.counted in omega arith, omega arith, held ∙ ap Some (sym one)),
+                          (let count = b.rows.counted in omega arith, omega arith, held ∙ ap Some (sym one), λ from count is2. (b.units.open_own u held).uncommitted from count (subst (λ q. end_of r.history q ≡ Some (Committed from count)) one is2)),
                     ))
                     (λ other. inl (left k s.words w x (next_there t room) (HeadWord i) (omega arith) (λ e. other (let q : HeadWord i ≡ HeadWord (next t room) = e in cc))));
                 undecided = λ z un. un;
+                committed = λ i z from count is2. inl is2;
                 drafts = λ i z low high is un. (low, omega arith, is);
                 made = λ first end i d y own low high p made past. inl p;
               }) b.areas;

@@ -166,6 +166,10 @@ module _ (k : Limits) where
           let count : (hand t.view).first_draft + 0 ≡ (hand t.view).next = subst (λ ds. (hand t.view).first_draft + length ds ≡ (hand t.view).next) none hold.rows.counted in let less = d.0 in let more = d.1 in absurd (omega arith))
           (λ new. absurd (full_head (Filled stage root (Some u)) (λ q. cc) (sym named.1 ∙ (bare i (omega arith) (let top = own_drawn k (hand t.view).number (b + 1) ((hand t.view).blocks ++ b ∷ []) from to up own in omega arith)).1)))
           (old_or_new from to own);
+      output = λ from to i stage root u begin count own low high named is2. let inside = own_inside k (hand t.view).number ((hand t.view).blocks ++ b ∷ []) from to own in ⊎_elim
+          (λ old. hold.areas.output from to i stage root u begin count old low high (named.0, sym (heads_same i (omega arith)) ∙ named.1) is2)
+          (λ new. absurd (full_head (Filled stage root (Some u)) (λ q. cc) (sym named.1 ∙ (bare i (omega arith) (let top = own_drawn k (hand t.view).number (b + 1) ((hand t.view).blocks ++ b ∷ []) from to up own in omega arith)).1)))
+          (old_or_new from to own);
       headed = λ from to i e x own low high p made past zero. let inside = own_inside k (hand t.view).number ((hand t.view).blocks ++ b ∷ []) from to own in ⊎_elim
           (λ old. hold.areas.headed from to i e x old low high p made past (sym (heads_same i (omega arith)) ∙ zero))
           (λ new. let less = none_made e x p made in absurd (omega arith)) (old_or_new from to own);

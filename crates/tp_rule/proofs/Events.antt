@@ -20,7 +20,7 @@ use Rattle.tp_rule.specs.declared.view.Known.TheVariants.{RowHead}
 use Rattle.tp_rule.specs.Steps.{IsSo, MayBeBorn, after, noted, unchanged, Found, Grew, Misses}
 use Rattle.tp_rule.specs.declared.view.Hand.{Hand}
 use Rattle.tp_rule.specs.declared.view.View.{View}
-use Rattle.tp_rule.proofs.Ahead.{ahead}
+use Rattle.tp_rule.proofs.Ahead.{ahead, output}
 use Rattle.tp_rule.proofs.Frames.{IsMine, Stays, Turn, draws_still, hand_frame, hand_holds, holds_still, limits_are, me, mine_alone, mine_for, moved, moved_to, only_hand, seat_holds}
 use Rattle.tp_rule.proofs.Owning.{AreBlocksFor, blocks_for_own, own_inside, run_of}
 use Rattle.tp_rule.proofs.Seats.{hand_noted, in_map}
@@ -133,6 +133,8 @@ module _ (k : Limits) (t : Turn k) where
           is_so = λ x p. subst (λ l. IsSo l h' x) (sym (limits_are k t)) (so_now k h' ws world x (still x (seat.known x p)));
           ahead = λ i stage root u p un. let x : Known = RowHead i (Filled stage root (Some u)) in
               subst (λ (l : Limits × List Event). MayBeBorn l.0 l.1 i) (λ j. (sym (limits_are k t) j, rule.1 j)) (ahead k (record { words = ws; homes = t.state.homes; views = set t.state.views t.id (view_after a) }) rule.0 i stage root u (still x (seat.known x p)) (ap (λ g. end_of g u) rule.1 ∙ un));
+          output = λ i stage root u from count p is. let x : Known = RowHead i (Filled stage root (Some u)) in
+              output k (record { words = ws; homes = t.state.homes; views = set t.state.views t.id (view_after a) }) rule.0 i stage root u (still x (seat.known x p)) from count (ap (λ g. end_of g u) rule.1 ∙ is);
         },
       )
 
@@ -180,6 +182,7 @@ module _ (k : Limits) (t : Turn k) where
         knows = λ x p. p;
         is_so = λ x p. subst (λ l. IsSo l h x) (sym (limits_are k t)) (so_now k h t.state.words t.rule.world x (seat.known x p));
         ahead = λ i stage root u p un. subst (λ l. MayBeBorn l h i) (sym (limits_are k t)) (ahead k t.state t.rule i stage root u (seat.known (RowHead i (Filled stage root (Some u))) p) un);
+        output = λ i stage root u from count p is. output k t.state t.rule i stage root u (seat.known (RowHead i (Filled stage root (Some u))) p) from count is;
       },
     )
 

@@ -1,5 +1,7 @@
 -- What a step of one pass leaves to the others.
-use Rattle.std.proofs.Common.{◌≡◌, ◌⊎◌, ℕ, ◌<◌, ◌≤◌, ◌≢◌, List, [], ◌∷◌, ◌++◌, set, sym, ap, ◌∙◌, subst, ⊎_elim, arith, Option, Some, None}
+use Rattle.std.proofs.Common.{◌≡◌, ◌⊎◌, ℕ, ◌<◌, ◌≤◌, ◌≢◌, List, [], ◌∷◌, ◌++◌, set, sym, ap, ◌∙◌, subst, refl, inl, inr, ⊎_elim, arith, Option, Some, None}
+use mathlib.Core.Logic.{dite}
+use native.Mathlib.Decide.{ℕ_discrete}
 use mathlib.Core.Option.{some}
 use lib.ListN.{get_elem?}
 use Rattle.atomic_table.proofs.Lists.{set_here}
@@ -39,6 +41,20 @@ decide_undecided u w e p = (option_or-none w (end_by u e) p).0
 
 pub still_undecided : (h : List Event) (e : Event) (u : ℕ) → end_of (h ++ e ∷ []) u ≡ None → end_of h u ≡ None
 still_undecided h e u un = decide_undecided u (end_of h u) e (sym (end_of-snoc h e u) ∙ un)
+
+-- what is committed after an event was committed before, or the event is its Commit, and it was undecided
+pub committed_before : {P : Type 0} (h : List Event) (e : Event) (u from count : ℕ) → end_of (h ++ e ∷ []) u ≡ Some (Committed from count) → ((c : ℕ) (outs : List Element) → e ≡ Commit c u outs → P)
+    → (end_of h u ≡ Some (Committed from count)) ⊎ (P × (end_of h u ≡ None))
+committed_before h e u from count is by = go e (end_of h u) (sym (end_of-snoc h e u) ∙ is) by
+  where
+    go : {P : Type 0} (e : Event) (w : Option UnitEnd) → decide u w e ≡ Some (Committed from count) → ((c : ℕ) (outs : List Element) → e ≡ Commit c u outs → P) → (w ≡ Some (Committed from count)) ⊎ (P × (w ≡ None))
+    go e (Some x) p by = inl p
+    go (Enqueue c y) None p by = absurd cc
+    go (Claim c v i n) None p by = absurd cc
+    go (Commit c v outs) None p by = dite (ℕ_discrete v u) (λ same. inr (by c outs (ap (λ z. Commit c z outs) same), refl)) (λ other. let q : None ≡ Some (Committed from count) = sym (if_other v u _ None other) ∙ p in absurd cc)
+    go (Abort c v) None p by = let q = some_if v u Aborted (Committed from count) p in let r = q.1 in absurd cc
+    go (Kill c i) None p by = absurd cc
+    go (Requeue c i k) None p by = absurd cc
 
 -- an event that isn't its Commit doesn't commit a unit
 decide_not : (u : ℕ) (w : Option UnitEnd) (e : Event) → ((c : ℕ) (outs : List Element) → ¬ (e ≡ Commit c u outs)) → NotCommitted w → NotCommitted (decide u w e)
@@ -107,7 +123,7 @@ module _ (k : Limits) where
     rows = rows_frame h (h ++ e ∷ []) ws ws' r.first r.end a.first_draft a.next a.left a.next_body a.drafts (λ i low high. agree r.first r.end i r.area low high)
         (λ i low high un. unborn_still h e i un (λ x q is. apart x q (subst (λ z. r.first ≤ z) (sym is) low) (subst (λ z. z < r.end) (sym is) high))) r.rows;
     units = units_frame h e a.number a.claimed a.spare_unit a.open_unit r.given ne st r.units;
-    areas = areas_kept k h (h ++ e ∷ []) ws ws' a (still_undecided h e) agree r.areas;
+    areas = areas_kept k h (h ++ e ∷ []) ws ws' a (still_undecided h e) (λ i u from count is. committed_before h e u from count is (λ d outs same low high held. let o = r.units.open_own u held in absurd (not_by_other h e a.number u o.item o.attempt st ne o.claimed d outs same))) agree r.areas;
   }
 
   -- a pass other than the one that stored
@@ -122,7 +138,7 @@ module _ (k : Limits) where
     area = r.area;
     rows = rows_frame h h ws ws' r.first r.end a.first_draft a.next a.left a.next_body a.drafts (λ i low high. agree r.first r.end i r.area low high) (λ i low high u. u) r.rows;
     units = r.units;
-    areas = areas_kept k h h ws ws' a (λ u un. un) agree r.areas;
+    areas = areas_kept k h h ws ws' a (λ u un. un) (λ i u from count is. inl is) agree r.areas;
   }
 
   seat_frame : (h h' : List Event) (ws ws' : List ℕ) (owner owner' : Owners) (j : ℕ) (v : View) → IsPrefix h h' → ((x : Known) → StillSo k ws x → StillSo k ws' x) → ((c : ℕ) → owner'.seat c ≡ owner.seat c)

@@ -3,7 +3,7 @@ use Rattle.std.proofs.Common.{◌≡◌, ◌⊎◌, ◌≢◌, ℕ, ◌<◌, ◌
 use Rattle.tp_model.specs.declared.event.Event.{Event}
 use Rattle.tp_model.specs.declared.types.Element.{Element}
 use Rattle.tp_model.specs.declared.types.Limits.{Limits}
-use Rattle.tp_model.specs.History.{In, births, end_of}
+use Rattle.tp_model.specs.History.{Committed, In, births, end_of}
 use Rattle.tp_model.specs.Passes.{IsOwnArea}
 use Rattle.tp_model.proofs.Bridges.{in_either, in_none, in_one}
 use Rattle.tp_words.specs.Places.{head_place}
@@ -24,8 +24,11 @@ module _ (k : Limits) where
     -- each head there is as it was, or isn't empty, and names no undecided unit but in a draft of the open one
     pub heads : (first end i : ℕ) → IsOwnArea k b.number b.blocks first end → first ≤ i → i < end
         → (get_or ws' (head_place i) 0 ≡ get_or ws (head_place i) 0)
-        ⊎ ((get_or ws' (head_place i) 0 ≢ 0) × ((stage root u : ℕ) → NamesUnit ws' i stage root u → (b.first_draft ≤ i) × (i < b.next) × (b.open_unit ≡ Some u)))
+        ⊎ ((get_or ws' (head_place i) 0 ≢ 0) × ((stage root u : ℕ) → NamesUnit ws' i stage root u → (b.first_draft ≤ i) × (i < b.next) × (b.open_unit ≡ Some u) × ((from count : ℕ) → ¬ (end_of h' u ≡ Some (Committed from count)))))
     pub undecided : (u : ℕ) → end_of h' u ≡ None → end_of h u ≡ None
+    -- what is committed was so, or the heads that named it are of its outputs
+    pub committed : (i u from count : ℕ) → end_of h' u ≡ Some (Committed from count)
+        → (end_of h u ≡ Some (Committed from count)) ⊎ ((a.first_draft ≤ i → i < a.next → a.open_unit ≡ Some u → (from ≤ i) × (i < from + count)) × (end_of h u ≡ None))
     -- what was a draft of the open unit is one, where that is undecided
     pub drafts : (i u : ℕ) → a.first_draft ≤ i → i < a.next → a.open_unit ≡ Some u → end_of h' u ≡ None → (b.first_draft ≤ i) × (i < b.next) × (b.open_unit ≡ Some u)
     -- and before each element that it made now no head is empty
@@ -37,19 +40,26 @@ module _ (k : Limits) where
     last = λ first end own. let high = r.last first end (g.own first end own) in let top = g.top in omega arith;
     decided = λ first end i stage root u own low high named un. ⊎_elim
         (λ same. let d = r.decided first end i stage root u (g.own first end own) low high (named.0, sym same ∙ named.1) (g.undecided u un) in g.drafts i u d.0 d.1 d.2 un)
-        (λ new. new.1 stage root u named) (g.heads first end i own low high);
+        (λ new. let t = new.1 stage root u named in (t.0, t.1, t.2)) (g.heads first end i own low high);
+    output = λ first end i stage root u from count own low high named is. ⊎_elim
+        (λ same. let old : NamesUnit ws i stage root u = (named.0, sym same ∙ named.1) in let mine = g.own first end own in ⊎_elim
+            (λ was. r.output first end i stage root u from count mine low high old was)
+            (λ now. let d = r.decided first end i stage root u mine low high old now.1 in now.0 d.0 d.1 d.2) (g.committed i u from count is))
+        (λ new. absurd ((new.1 stage root u named).3 from count is)) (g.heads first end i own low high);
     headed = λ first end i e x own low high p made past. ⊎_elim
         (λ old. ⊎_elim (λ same z. r.headed first end i e x (g.own first end own) low high old made past (sym same ∙ z)) (λ new. new.0) (g.heads first end i own low high))
         (λ now. now) (g.made first end i e x own low high p made past);
   }
 
   -- of a pass whose rows are as they were, and which itself is, but for its trace
-  pub areas_kept : (h h' : List Event) (ws ws' : List ℕ) (a : Hand) → ((u : ℕ) → end_of h' u ≡ None → end_of h u ≡ None) → AreSame a ws ws' → AreasHold k h ws a → AreasHold k h' ws' a
-  areas_kept h h' ws ws' a undecided same r = areas_on h h' ws ws' a a (record {
+  pub areas_kept : (h h' : List Event) (ws ws' : List ℕ) (a : Hand) → ((u : ℕ) → end_of h' u ≡ None → end_of h u ≡ None)
+      → ((i u from count : ℕ) → end_of h' u ≡ Some (Committed from count) → (end_of h u ≡ Some (Committed from count)) ⊎ ((a.first_draft ≤ i → i < a.next → a.open_unit ≡ Some u → (from ≤ i) × (i < from + count)) × (end_of h u ≡ None))) → AreSame a ws ws' → AreasHold k h ws a → AreasHold k h' ws' a
+  areas_kept h h' ws ws' a undecided committed same r = areas_on h h' ws ws' a a (record {
     own = λ first end own. own;
     top = refl;
     heads = λ first end i own low high. inl (same first end i own low high).0;
     undecided = undecided;
+    committed = committed;
     drafts = λ i u low high is _. (low, high, is);
     made = λ first end i e x own low high p made past. inl p;
   }) r
@@ -59,15 +69,16 @@ module _ (k : Limits) where
   SameHeads a ws ws' = (first end i : ℕ) → IsOwnArea k a.number a.blocks first end → first ≤ i → i < end → get_or ws' (head_place i) 0 ≡ get_or ws (head_place i) 0
 
   -- of a pass that made nothing new
-  pub areas_event : (h h' : List Event) (ws ws' : List ℕ) (a b : Hand) → ((first end : ℕ) → IsOwnArea k b.number b.blocks first end → IsOwnArea k a.number a.blocks first end) → b.next + b.left ≡ a.next + a.left
+  pub areas_event : (h h' : List Event) (ws ws' : List ℕ) (a b : Hand) → ((u from count : ℕ) → end_of h' u ≡ Some (Committed from count) → end_of h u ≡ Some (Committed from count)) → ((first end : ℕ) → IsOwnArea k b.number b.blocks first end → IsOwnArea k a.number a.blocks first end) → b.next + b.left ≡ a.next + a.left
       → SameHeads a ws ws' → ((u : ℕ) → end_of h' u ≡ None → end_of h u ≡ None)
       → ((i u : ℕ) → a.first_draft ≤ i → i < a.next → a.open_unit ≡ Some u → end_of h' u ≡ None → (b.first_draft ≤ i) × (i < b.next) × (b.open_unit ≡ Some u))
       → ((d : Event) (x : Element) → In d b.mine → In x (births d) → In d a.mine) → AreasHold k h ws a → AreasHold k h' ws' b
-  areas_event h h' ws ws' a b own top same undecided drafts made r = areas_on h h' ws ws' a b (record {
+  areas_event h h' ws ws' a b committed own top same undecided drafts made r = areas_on h h' ws ws' a b (record {
     own = own;
     top = top;
     heads = λ first end i o low high. inl (same first end i (own first end o) low high);
     undecided = undecided;
+    committed = λ i u from count is. inl (committed u from count is);
     drafts = drafts;
     made = λ first end i d x o low high p is past. inl (made d x p is);
   }) r

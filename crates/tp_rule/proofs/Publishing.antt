@@ -7,11 +7,12 @@ use Rattle.tp_model.specs.declared.event.Event.TheVariants.{Enqueue}
 use Rattle.tp_model.specs.declared.trace.StepKind.TheVariants as kinds
 use Rattle.tp_model.specs.declared.types.Element.{Element}
 use Rattle.tp_model.specs.declared.types.Limits.{Limits}
-use Rattle.tp_model.specs.History.{In, UnitEnd, IsUnborn, births}
+use Rattle.tp_model.specs.History.{In, UnitEnd, IsUnborn, births, end_of}
 use Rattle.tp_model.specs.declared.types.TheConstants.{BODY_WORDS}
 use Rattle.tp_model.specs.Steps.{AreLimits, IsBody, Step, rows_of}
 use Rattle.tp_model.proofs.Bridges.{born_at, by_own, in_either, in_none, in_one, new_birth, unborn_still}
 use Rattle.tp_model.proofs.Lists.{option_or-None}
+use Rattle.tp_model.proofs.WordProofs.{end_of-snoc}
 use Rattle.tp_words.specs.Places.{Word, HeadWord, BodyWord, ClaimWord, UnitWord, MarkWord, DrawnWord, IsThere, head_place, body_place, place_of, size_of}
 use Rattle.tp_words.specs.Words.{IsFitHead, head_of, pack_head}
 use Rattle.tp_words.specs.declared.words.Head.TheVariants.{Filled}
@@ -121,6 +122,7 @@ module _ (k : Limits) (fair : AreLimits k) where
                 ))
                 (λ other. inl (row_left k s.words w x all i (omega arith) (λ q. other (let r : Some row ≡ Some i = q in cc))).0);
             undecided = still_undecided h e;
+            committed = λ i u from count is. inl (sym (enqueue_quiet a.number y u (end_of h u)) ∙ (sym (end_of-snoc h e u) ∙ is));
             drafts = λ i u low high is un. let count : a.first_draft + 0 ≡ a.next = rows.counted in absurd (omega arith);
             made = λ first end i d z own low high p made past. ⊎_elim (λ q. inl q)
                 (λ q. let made_y = subst (λ (g : Event). In z (births g)) (in_one q) made in let at_row : z.id ≡ row = ap (λ (g : Element). g.id) (in_one made_y) in

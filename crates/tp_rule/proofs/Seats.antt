@@ -28,7 +28,7 @@ use Rattle.tp_rule.specs.declared.view.Known.{Known}
 use Rattle.tp_rule.specs.declared.view.Known.TheVariants.{RowHead}
 use Rattle.tp_rule.specs.declared.view.View.{View}
 use Rattle.tp_rule.proofs.Owning.{IsDrawer, S, blocks_for, run_of}
-use Rattle.tp_rule.proofs.Ahead.{ahead, ahead_empty}
+use Rattle.tp_rule.proofs.Ahead.{ahead, ahead_empty, output}
 use Rattle.tp_rule.proofs.Tellings.{found, head_told, so_now}
 
 module _ {A B : Type 0} (f : A → B) where
@@ -80,7 +80,7 @@ module _ (k : Limits) where
     area = r.area;
     rows = r.rows;
     units = r.units;
-    areas = record { last = r.areas.last; decided = r.areas.decided; headed = r.areas.headed };
+    areas = record { last = r.areas.last; decided = r.areas.decided; output = r.areas.output; headed = r.areas.headed };
   }
 
   -- the seat that makes a step, where f leaves the number, and the seats go on to stand for the same passes
@@ -127,6 +127,7 @@ module _ (k : Limits) where
             knows = more;
             is_so = λ x p. subst (λ l. IsSo l h x) (sym lim) (so_now k h s.words r.world x (so x p));
             ahead = λ i stage root u p un. subst (λ l. MayBeBorn l h i) (sym lim) (ahead k s r i stage root u (so (RowHead i (Filled stage root (Some u))) p) un);
+            output = λ i stage root u from count p is. output k s r i stage root u (so (RowHead i (Filled stage root (Some u))) p) from count is;
           },
           subst (λ l. Found l h word (get_or s.words word 0)) (sym lim) (found k h s.words r.world word),
         ),

@@ -108,6 +108,7 @@ module _ (k : Limits) (t : Turn k) (i : ℕ) (away : IsLeftBehind k (hand t.view
             ))
             (λ other. inl (other_row j (omega arith) other).0);
         undecided = λ u un. un;
+        committed = λ j u from count is. inl is;
         drafts = λ j u low high is un. (low, high, is);
         made = λ first end j e x own low high p made past. inl p;
       }) hold.areas;

@@ -6,7 +6,7 @@ use mathlib.Core.Option.{some}
 use mathlib.Core.List.{IsPrefix}
 use lib.ListN.{get_elem?}
 use Rattle.atomic_table.specs.Table.{State}
-use Rattle.tp_model.specs.History.{Aborted, In, IsClaim, IsSettled, IsUnborn, IsUnused, births, element_of}
+use Rattle.tp_model.specs.History.{Aborted, Committed, In, IsClaim, IsSettled, IsUnborn, IsUnused, births, element_of}
 use Rattle.tp_model.specs.History.{end_of, events_by, status_of}
 use Rattle.tp_model.specs.Passes.{AreEnded, Ascend, IsOwnArea, IsOwnOpen}
 use Rattle.tp_model.specs.Steps.{IsArea, IsBody, IsLegal, IsRowOfBlock, block_first, rows_of}
@@ -106,6 +106,10 @@ pub record AreasHold (l : Limits) (h : List Event) (ws : List ℕ) (a : Hand) : 
   pub decided : (first end i stage root u : ℕ) → IsOwnArea l a.number a.blocks first end → first ≤ i → i < end
       → NamesUnit ws i stage root u → end_of h u ≡ None
       → (a.first_draft ≤ i) × (i < a.next) × (a.open_unit ≡ Some u)
+  -- one that names a committed unit is of an output of that
+  pub output : (first end i stage root u from count : ℕ) → IsOwnArea l a.number a.blocks first end → first ≤ i
+      → i < end → NamesUnit ws i stage root u → end_of h u ≡ Some (Committed from count)
+      → (from ≤ i) × (i < from + count)
   -- and before the area of an element that it made it has left no head empty
   pub headed : (first end i : ℕ) (e : Event) (x : Element) → IsOwnArea l a.number a.blocks first end
       → first ≤ i → i < end → In e a.mine → In x (births e) → end ≤ x.id → slice_index ws (head_place i) ≢ 0

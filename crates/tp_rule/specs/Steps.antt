@@ -12,7 +12,7 @@ use Rattle.tp_model.specs.declared.event.Event.{Event}
 use Rattle.tp_model.specs.declared.event.Event.TheVariants.{Enqueue, Claim, Commit, Abort, Kill, Requeue}
 use Rattle.tp_model.specs.declared.trace.StepKind.{StepKind}
 use Rattle.tp_model.specs.declared.trace.StepKind.TheVariants as kinds
-use Rattle.tp_model.specs.History.{Aborted, In, IsSettled, IsUnborn, status_of, UnitClaim, UnitEnd, claim_of}
+use Rattle.tp_model.specs.History.{Aborted, Committed, In, IsSettled, IsUnborn, status_of, UnitClaim, UnitEnd, claim_of}
 use Rattle.tp_model.specs.History.{births, element_of, end_of, events_by, pass_of}
 use Rattle.tp_model.specs.Passes.{AreEnded, Ascend, IsOwnArea, IsOwnOpen, IsRun}
 use Rattle.tp_model.specs.Words.{ClaimWord, claim_word, round_in, word_status}
@@ -120,6 +120,9 @@ pub record Grew (kind : StepKind) (f : Hand → Hand) (events : List Event) (v w
   -- and where a head that is known names a unit that is undecided by now, an element may be born in its row
   pub ahead : (i stage root u : ℕ) → Knows w (RowHead i (Filled stage root (Some u))) → end_of w.seen u ≡ None
       → MayBeBorn v.limits w.seen i
+  -- and where it names one that is committed, the row is one of its outputs
+  pub output : (i stage root u from count : ℕ) → Knows w (RowHead i (Filled stage root (Some u)))
+      → end_of w.seen u ≡ Some (Committed from count) → (from ≤ i) × (i < from + count)
 
 -- a step that changes nothing in the pass but its trace
 abbrev pub unchanged : Hand → Hand
