@@ -72,10 +72,10 @@ module _ (k : Limits) where
   blocks_still ws row x bs at wide up = ascend_wider 0 (drawn_in k ws) (drawn_in k (set ws (claim_place row) x)) bs (drawn_rises k ws (ClaimOf row) x at wide (may_claim k ws row x)) up
 
   -- and the heads of its areas
-  pub areas_still : (h : List Event) (ws : List ℕ) (e : Event) (row x : ℕ) (a b : Hand) → row < rows_of k → births e ≡ [] → ((u : ℕ) (w : Option UnitEnd) → decide u w e ≡ w) → ((first end : ℕ) → IsOwnArea k b.number b.blocks first end → IsOwnArea k a.number a.blocks first end) → b.next + b.left ≡ a.next + a.left
+  pub areas_still : (h : List Event) (ws : List ℕ) (e : Event) (row x : ℕ) (a b : Hand) → row < rows_of k → births e ≡ [] → ((u : ℕ) (w : Option UnitEnd) → decide u w e ≡ w) → ((first end : ℕ) → IsOwnArea k b.number b.blocks first end → IsOwnArea k a.number a.blocks first end) → b.next + b.left ≡ a.next + a.left → (b.passed_from ≡ a.passed_from) × (b.passed_to ≡ a.passed_to)
       → ((i u : ℕ) → a.first_draft ≤ i → i < a.next → a.open_unit ≡ Some u → (b.first_draft ≤ i) × (i < b.next) × (b.open_unit ≡ Some u)) → b.mine ≡ a.mine ++ e ∷ []
       → AreasHold k h ws a → AreasHold k (h ++ e ∷ []) (set ws (claim_place row) x) b
-  areas_still h ws e row x a b at none_born quiet own top drafts mine r = areas_event k h (h ++ e ∷ []) ws (set ws (claim_place row) x) a b (λ u from count is. sym (quiet u (end_of h u)) ∙ (sym (end_of-snoc h e u) ∙ is)) own top
+  areas_still h ws e row x a b at none_born quiet own top passed drafts mine r = areas_event k h (h ++ e ∷ []) ws (set ws (claim_place row) x) a b (λ u from count is. sym (quiet u (end_of h u)) ∙ (sym (end_of-snoc h e u) ∙ is)) own top passed
       (λ first end i o low high. let last = own_inside k a.number a.blocks first end o in (row_left k ws (ClaimOf row) x at i (omega arith) (λ q. cc)).0)
       (still_undecided h e) (λ i u low high is _. drafts i u low high is) (λ d y p made. made_before a.mine e none_born d y (subst (In d) mine p) made) r
 
@@ -168,7 +168,7 @@ module _ (k : Limits) where
         area = mine.area;
         rows = rows_still h s.words e row new mine.first mine.end a.first_draft a.next a.left a.next_body a.drafts room refl (own_inside k a.number a.blocks mine.first mine.end mine.area) mine.rows;
         units = units_claim h s.words a.number row n a.claimed u r.world is_next left units;
-        areas = areas_still h s.words e row new a (with_claim u e a) room refl (claim_quiet a.number u row n) (λ first end own. own) refl (λ i z low high is. let q : None ≡ Some z = sym held ∙ is in absurd cc) refl mine.areas;
+        areas = areas_still h s.words e row new a (with_claim u e a) room refl (claim_quiet a.number u row n) (λ first end own. own) refl (refl, refl) (λ i z low high is. let q : None ≡ Some z = sym held ∙ is in absurd cc) refl mine.areas;
       } in (
         after kinds.ClaimExchange (with_claim u e) (h ++ e ∷ []) v.known v,
         subst (λ (z : ℕ × ℕ). Rule k record { words = set s.words z.0 z.1; homes = s.homes; views = set s.views id (after kinds.ClaimExchange (with_claim u e) (h ++ e ∷ []) v.known v) }) (λ i. (sym place i, sym (ap (λ b. either b new x) (eq-eqb x old hit)) i)) done.0,

@@ -23,7 +23,7 @@ use Rattle.tp_rule.specs.Plays.{exchanges_commit, exchanges_abort}
 use Rattle.tp_rule.specs.Rule.{AreasHold, HaveIdsFrom, HandHolds, Holds, RowsHold, Rule, WordIs, UnitsHold, drawn_in}
 use Rattle.tp_model.specs.Passes.{Ascend, IsOwnArea}
 use Rattle.tp_rule.specs.declared.view.Known.TheVariants.{RowHead}
-use Rattle.tp_rule.specs.Steps.{IsOut, after, unchanged, with_end, with_lost, IsOwnWork, IsClaimed, committed, Grew, LosesUnit, HasCleared, IsLeftBehind}
+use Rattle.tp_rule.specs.Steps.{IsOut, after, unchanged, with_end, with_lost, IsOwnWork, IsClaimed, committed, Grew, LosesUnit, HasCleared}
 use Rattle.tp_rule.specs.Views.{IsOnePass, hand}
 use Rattle.tp_rule.specs.declared.view.Hand.{Hand}
 use Rattle.tp_rule.specs.declared.view.View.{View}
@@ -176,6 +176,7 @@ module _ (k : Limits) where
       areas_on k h (h ++ e ∷ []) ws (set ws (unit_place k u) x) a (with_end e a) (record {
         own = λ first end own. own;
         top = refl;
+        passed = (refl, refl);
         heads = λ first end i own low high. inl (same first end i own low high);
         undecided = still_undecided h e;
         committed = λ i z from count is. committed_before h e z from count is (λ c outs same low high held.
@@ -214,7 +215,7 @@ module _ (k : Limits) where
     area = r.area;
     rows = rows_lost k h ws r.first r.end a.first_draft a.next a.left a.next_body a.drafts r.rows;
     units = units_decided h a.number a.claimed u a.spare_unit a.open_unit (inr held) (λ z. let q : (Some Aborted) ≡ None = sym gone ∙ z in absurd cc) r.units;
-    areas = areas_event k h h ws ws a (with_lost a) (λ z from count is. is) (λ first end own. own) refl (λ first end i own low high. refl) (λ z un. un)
+    areas = areas_event k h h ws ws a (with_lost a) (λ z from count is. is) (λ first end own. own) refl (refl, refl) (λ first end i own low high. refl) (λ z un. un)
         (λ i z low high is un. let q : Some u ≡ Some z = sym held ∙ is in let same : u ≡ z = cc in let now : Some Aborted ≡ None = sym gone ∙ (ap (end_of h) same ∙ un) in absurd cc) (λ d x p made. p) r.areas;
   }
 
@@ -265,8 +266,8 @@ module _ (k : Limits) where
             let begin = first_draft_of ds a.first_draft rows.run (omega arith) in (omega arith, omega arith))
             (λ c z outs same. cc)
             (λ from to i y own low high q past. let b = in_run a.first_draft ds y rows.run q in let below = b.1 in
-            let c = cleared i (subst (λ (z : Limits). IsLeftBehind z a i) (sym lim) (from, to, own, low, high, λ is. (let e2 = is in omega arith))) in
-            let still = seat.known (RowHead i c.0) c.2 in λ zero. full_head c.0 c.1 (sym (still.2 c.1) ∙ zero)) mine.areas;
+            ⊎_elim (λ some. some) (λ t. let c = cleared i t.0 t.1 in let still = seat.known (RowHead i c.0) c.2 in λ none. full_head c.0 c.1 (sym (still.2 c.1) ∙ none))
+            (mine.areas.cleared from to i own (λ is. let e2 = is in omega arith) low high)) mine.areas;
       } in (
         after kinds.CommitExchange (with_end e) (h ++ e ∷ []) v.known v,
         subst (λ (z : ℕ × ℕ). Rule k record { words = set s.words z.0 z.1; homes = s.homes; views = set s.views id (after kinds.CommitExchange (with_end e) (h ++ e ∷ []) v.known v) }) (λ i. (sym place i, sym (ap (λ b. either b new x) (eq-eqb x 0 hit)) i)) done.0,

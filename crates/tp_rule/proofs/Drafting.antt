@@ -202,7 +202,7 @@ module _ (k : Limits) where
           area = b.area;
           rows = word_stored r.history s.words b.first b.end a.first_draft a.next a.left w x (next_there t room, less) (own_inside k a.number a.blocks b.first b.end b.area) m a.next_body a.drafts refl room r.world.wide b.rows;
           units = b.units;
-          areas = areas_event k r.history r.history s.words (set s.words (place_of k w) x) a (with_word m x a) (λ u from count is. is) (λ first end own. own) refl
+          areas = areas_event k r.history r.history s.words (set s.words (place_of k w) x) a (with_word m x a) (λ u from count is. is) (λ first end own. own) refl (refl, refl)
               (λ first end i own low high. let top = own_inside k a.number a.blocks first end own in left k s.words w x (next_there t room, less) (HeadWord i) (omega arith) (λ e. no_head (next t room) m i (sym e)))
               (λ u un. un) (λ i u low high is un. (low, high, is)) (λ d y p made. p) b.areas;
         }),
@@ -235,6 +235,7 @@ module _ (k : Limits) where
               areas = areas_on k r.history r.history s.words (set s.words (place_of k w) x) a (with_draft e a) (record {
                 own = λ first end own. own;
                 top = (let full = room in omega arith);
+                passed = (refl, refl);
                 heads = λ first end i own low high. let last = own_inside k a.number a.blocks first end own in dite (ℕ_discrete (next t room) i)
                     (λ same. let now : get_or (set s.words (place_of k w) x) (head_place i) 0 ≡ x = subst (λ z. get_or (set s.words (place_of k w) x) (head_place z) 0 ≡ x) same (stored k s.words w x (next_there t room) r.world.wide) in inr (
                       λ zero. full_head (Filled stage root (Some u)) (λ q. cc) (sym is ∙ (sym now ∙ zero)),

@@ -3,7 +3,7 @@ use Rattle.tp_words.specs.declared.words.Head.TheVariants.{Filled}
 use Rattle.std.proofs.Common.{◌≡◌, ◌≢◌, ℕ, ◌+◌, ◌<◌, ◌≤◌, eqb, cond, List, [], ◌∷◌, ◌++◌, set, get_or, sym, refl, ap, ◌∙◌, subst, inl, inr, ⊎_elim, arith, eq-eqb, ne_eqb, length, ◌⊎◌, Some}
 use mathlib.Core.Logic.{dite}
 use mathlib.Core.Option.{some, some-injective}
-use native.Mathlib.Decide.{ℕ_discrete}
+use native.Mathlib.Decide.{ℕ_discrete, dec_le}
 use prog.Atomic.{either}
 use lib.ListN.{get_elem?}
 use lib.Seq.{set-get_or}
@@ -21,11 +21,11 @@ use Rattle.tp_words.specs.Places.{DrawnWord, drawn_place, head_place}
 use Rattle.tp_rule.specs.Doors.{Permits}
 use Rattle.tp_rule.specs.Plays.{draws, loads_drawn}
 use Rattle.tp_rule.specs.Rule.{AreasHold, HandHolds, IsUnwritten, Owners, RowsHold, Rule, StillSo, World, drawn_in}
-use Rattle.tp_rule.specs.Steps.{NoneDrawn, Shares, after, drew, noted, unchanged, with_block}
+use Rattle.tp_rule.specs.Steps.{NoneDrawn, Shares, after, drew, noted, unchanged, with_block, HasCleared}
 use Rattle.tp_rule.specs.Views.{HasPass, IsOnePass, blank_body, hand}
 use Rattle.tp_rule.specs.declared.view.Hand.{Hand}
 use Rattle.tp_rule.specs.declared.view.Known.{Known}
-use Rattle.tp_rule.specs.declared.view.Known.TheVariants.{BlocksDrawn}
+use Rattle.tp_rule.specs.declared.view.Known.TheVariants.{BlocksDrawn, RowHead}
 use Rattle.tp_rule.specs.declared.view.View.{View}
 use Rattle.tp_rule.proofs.Blanks.{blank_there}
 use Rattle.tp_rule.proofs.Frames.{Turn, hand_holds, hand_quiet, limits_are, mine_drawn, moved, seat_holds}
@@ -105,7 +105,7 @@ module _ (k : Limits) where
   }
 
   -- the counter is at b, and is raised to one more
-  module _ (t : Turn k) (b : ℕ) (none : (hand t.view).drafts ≡ []) (room : b < k.spare) (at_b : drawn_in k t.state.words ≡ b) where
+  module _ (t : Turn k) (b : ℕ) (none : (hand t.view).drafts ≡ []) (known_clear : HasCleared t.view) (room : b < k.spare) (at_b : drawn_in k t.state.words ≡ b) where
     abbrev words_after : List ℕ
     words_after = set t.state.words (drawn_place k) (b + 1)
 
@@ -146,9 +146,9 @@ module _ (k : Limits) where
         }
 
     -- an area of the pass is one that it had, or the block
-    old_or_new : (from to : ℕ) → IsOwnArea k (hand t.view).number ((hand t.view).blocks ++ b ∷ []) from to → IsOwnArea k (hand t.view).number (hand t.view).blocks from to ⊎ (from ≡ first)
+    old_or_new : (from to : ℕ) → IsOwnArea k (hand t.view).number ((hand t.view).blocks ++ b ∷ []) from to → IsOwnArea k (hand t.view).number (hand t.view).blocks from to ⊎ ((from ≡ first) × (to ≡ first + BLOCK_ROWS))
     old_or_new from to own = ⊎_elim (λ part. inl (inl part))
-        (λ c. ⊎_elim (λ old. inl (inr (c.0, old, c.2))) (λ new. inr (c.2.1 ∙ (ap (block_first k) (in_one new) ∙ sym first_is))) (in_either (hand t.view).blocks (b ∷ []) c.1)) own
+        (λ c. ⊎_elim (λ old. inl (inr (c.0, old, c.2))) (λ new. let same = in_one new in let is = first_is in let from_is = c.2.1 in let to_is = c.2.2 in inr (omega arith, omega arith)) (in_either (hand t.view).blocks (b ∷ []) c.1)) own
 
     heads_same : (i : ℕ) → i < rows_of k → get_or words_after (head_place i) 0 ≡ get_or t.state.words (head_place i) 0
     heads_same i inside = (row_left k t.state.words DrawnWord (b + 1) tt i inside (λ q. cc)).0
@@ -158,21 +158,37 @@ module _ (k : Limits) where
     none_made e x p made = let hold = hand_holds k t in let is = first_is in let o = own_in t.rule.history (hand t.view).number e (subst (In e) hold.mine p) in
         let at = its_row k t.state t.rule (hand t.view) x hold (e, o.0, o.1, made) in let top = own_drawn k (hand t.view).number (drawn_in k t.state.words) (hand t.view).blocks at.0 at.1 hold.blocks at.2 in let below = at.3 in omega arith
 
+    -- two areas of the pass that end with one row are one
+    one_end : (from to from' to' : ℕ) → IsOwnArea k (hand t.view).number (hand t.view).blocks from to → IsOwnArea k (hand t.view).number (hand t.view).blocks from' to' → to ≡ to' → from ≡ from'
+    one_end from to from' to' own own' same = ⊎_elim
+        (λ s. ⊎_elim (λ q. s.1 ∙ sym q.1) (λ q. let inside = own_drawn k (hand t.view).number 0 [] from to tt (inl s) in let at = q.2.2 in absurd (omega arith)) own')
+        (λ s. ⊎_elim (λ q. let inside = own_drawn k (hand t.view).number 0 [] from' to' tt (inl q) in let at = s.2.2 in absurd (omega arith))
+        (λ q. let a = s.2.1 in let b = s.2.2 in let c = q.2.1 in let d = q.2.2 in omega arith) own') own
+
     areas_after : AreasHold k t.rule.history words_after (with_block b first (hand t.view))
     areas_after = let hold = hand_holds k t in let is = first_is in record {
       last = λ from to own. let top = own_drawn k (hand t.view).number (b + 1) ((hand t.view).blocks ++ b ∷ []) from to up own in omega arith;
       decided = λ from to i stage root u own low high named un. let inside = own_inside k (hand t.view).number ((hand t.view).blocks ++ b ∷ []) from to own in ⊎_elim
           (λ old. let d = hold.areas.decided from to i stage root u old low high (named.0, sym (heads_same i (omega arith)) ∙ named.1) un in
           let count : (hand t.view).first_draft + 0 ≡ (hand t.view).next = subst (λ ds. (hand t.view).first_draft + length ds ≡ (hand t.view).next) none hold.rows.counted in let less = d.0 in let more = d.1 in absurd (omega arith))
-          (λ new. absurd (full_head (Filled stage root (Some u)) (λ q. cc) (sym named.1 ∙ (bare i (omega arith) (let top = own_drawn k (hand t.view).number (b + 1) ((hand t.view).blocks ++ b ∷ []) from to up own in omega arith)).1)))
+          (λ new. let from_is = new.0 in let to_is = new.1 in absurd (full_head (Filled stage root (Some u)) (λ q. cc) (sym named.1 ∙ (bare i (omega arith) (omega arith)).1)))
           (old_or_new from to own);
       output = λ from to i stage root u begin count own low high named is2. let inside = own_inside k (hand t.view).number ((hand t.view).blocks ++ b ∷ []) from to own in ⊎_elim
           (λ old. hold.areas.output from to i stage root u begin count old low high (named.0, sym (heads_same i (omega arith)) ∙ named.1) is2)
-          (λ new. absurd (full_head (Filled stage root (Some u)) (λ q. cc) (sym named.1 ∙ (bare i (omega arith) (let top = own_drawn k (hand t.view).number (b + 1) ((hand t.view).blocks ++ b ∷ []) from to up own in omega arith)).1)))
+          (λ new. let from_is = new.0 in let to_is = new.1 in absurd (full_head (Filled stage root (Some u)) (λ q. cc) (sym named.1 ∙ (bare i (omega arith) (omega arith)).1)))
+          (old_or_new from to own);
+      cleared = λ from to i own away low high. let inside = own_inside k (hand t.view).number ((hand t.view).blocks ++ b ∷ []) from to own in ⊎_elim
+          (λ old. dite (ℕ_discrete to ((hand t.view).next + (hand t.view).left))
+          (λ run. let ends = hold.rows.ends in let same_first = one_end from to hold.first hold.end old hold.area (omega arith) in dite (dec_le (hand t.view).next i)
+          (λ past. inr (omega arith, omega arith)) (λ before. inl (λ none. hold.rows.full i (omega arith) (omega arith) (sym (heads_same i (omega arith)) ∙ none))))
+          (λ other. ⊎_elim (λ some. inl (λ none. some (sym (heads_same i (omega arith)) ∙ none)))
+          (λ p. let c = known_clear i p.0 p.1 in let still = (seat_holds k t).known (RowHead i c.0) c.2 in inl (λ none. full_head c.0 c.1 (sym (still.2 c.1) ∙ (sym (heads_same i (omega arith)) ∙ none))))
+          (hold.areas.cleared from to i old other low high)))
+          (λ new. absurd (away new.1))
           (old_or_new from to own);
       headed = λ from to i e x own low high p made past zero. let inside = own_inside k (hand t.view).number ((hand t.view).blocks ++ b ∷ []) from to own in ⊎_elim
           (λ old. hold.areas.headed from to i e x old low high p made past (sym (heads_same i (omega arith)) ∙ zero))
-          (λ new. let less = none_made e x p made in absurd (omega arith)) (old_or_new from to own);
+          (λ new. let less = none_made e x p made in let from_is = new.0 in let to_is = new.1 in absurd (omega arith)) (old_or_new from to own);
     }
 
     abbrev owner_after : Owners
@@ -252,15 +268,15 @@ module _ (k : Limits) where
     holds = λ b has. has;
   }
 
-  pub draws_go : (v : View) (word b : ℕ) → IsOnePass v → v.limits ≡ k → (hand v).drafts ≡ [] → b < k.spare → word ≡ drawn_place k → Permits k v word (λ x. either (eqb x b) (b + 1) x) (draws word b (b + 1) v)
-  draws_go v word b one lim none room place s r id at = let t : Turn k = record { state = s; rule = r; id = id; view = v; at = at; one = one } in let x : ℕ = get_or s.words word 0 in
+  pub draws_go : (v : View) (word b : ℕ) → IsOnePass v → v.limits ≡ k → (hand v).drafts ≡ [] → HasCleared v → b < k.spare → word ≡ drawn_place k → Permits k v word (λ x. either (eqb x b) (b + 1) x) (draws word b (b + 1) v)
+  draws_go v word b one lim none clear room place s r id at = let t : Turn k = record { state = s; rule = r; id = id; view = v; at = at; one = one } in let x : ℕ = get_or s.words word 0 in
       let found : x ≡ drawn_in k s.words = ap (λ z. get_or s.words z 0) place in dite (ℕ_discrete x b)
       (λ hit. let at_b : drawn_in k s.words ≡ b = sym found ∙ hit in let f : Hand → Hand = with_block b (block_first v.limits b) in let w : View = drew f (b + 1) v in
       let shown = (one_after kinds.Draw f v.seen (BlocksDrawn (b + 1) ∷ v.known) v w one refl).1 in (
         w,
-        subst (λ (z : ℕ × ℕ). Rule k record { words = set s.words z.0 z.1; homes = s.homes; views = set s.views id w }) (λ i. (sym place i, sym (ap (λ c. either c (b + 1) x) (eq-eqb x b hit)) i)) (drawn_now t b none room at_b),
+        subst (λ (z : ℕ × ℕ). Rule k record { words = set s.words z.0 z.1; homes = s.homes; views = set s.views id w }) (λ i. (sym place i, sym (ap (λ c. either c (b + 1) x) (eq-eqb x b hit)) i)) (drawn_now t b none clear room at_b),
         (
-          λ _. (refl, subst (λ (a : Hand). IsRun v.limits v.seen a.number a.blocks a.next a.left) (sym shown) (subst (λ (l : Limits). IsRun l v.seen (hand v).number ((hand v).blocks ++ b ∷ []) (block_first v.limits b) BLOCK_ROWS) (sym lim) (run_after t b none room at_b))),
+          λ _. (refl, subst (λ (a : Hand). IsRun v.limits v.seen a.number a.blocks a.next a.left) (sym shown) (subst (λ (l : Limits). IsRun l v.seen (hand v).number ((hand v).blocks ++ b ∷ []) (block_first v.limits b) BLOCK_ROWS) (sym lim) (run_after t b none clear room at_b))),
           λ not. absurd (not hit),
         ),
       ))

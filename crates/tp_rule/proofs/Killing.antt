@@ -60,7 +60,7 @@ module _ (k : Limits) where
         area = mine.area;
         rows = rows_still k h s.words e row new mine.first mine.end a.first_draft a.next a.left a.next_body a.drafts room refl (own_inside k a.number a.blocks mine.first mine.end mine.area) mine.rows;
         units = units_own k h e a.number a.claimed a.spare_unit a.open_unit (kill_quiet a.number row) (λ d u i n z. cc) (λ d u z. cc) mine.units;
-        areas = areas_still k h s.words e row new a (with_event e a) room refl (kill_quiet a.number row) (λ first end own. own) refl (λ i u low high is. (low, high, is)) refl mine.areas;
+        areas = areas_still k h s.words e row new a (with_event e a) room refl (kill_quiet a.number row) (λ first end own. own) refl (refl, refl) (λ i u low high is. (low, high, is)) refl mine.areas;
       } in (
         after kinds.KillExchange (with_event e) (h ++ e ∷ []) v.known v,
         subst (λ (z : ℕ × ℕ). Rule k record { words = set s.words z.0 z.1; homes = s.homes; views = set s.views id (after kinds.KillExchange (with_event e) (h ++ e ∷ []) v.known v) }) (λ i. (sym place i, sym (ap (λ b. either b new x) (eq-eqb x old hit)) i)) done.0,

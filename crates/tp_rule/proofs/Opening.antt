@@ -71,6 +71,7 @@ module _ (k : Limits) where
       last = λ first end own. ⊎_elim (λ part. let at = part.2 in omega arith) (λ t. absurd (in_none t.1)) own;
       decided = λ first end i stage root u own low high named un. absurd (full_head (Filled stage root (Some u)) (λ q. cc) (sym named.1 ∙ zeros (size_of k) (head_place i)));
       output = λ first end i stage root u from count own low high named. absurd (full_head (Filled stage root (Some u)) (λ q. cc) (sym named.1 ∙ zeros (size_of k) (head_place i)));
+      cleared = λ first end i own away low high. ⊎_elim (λ part. let at = part.2 in absurd (away (omega arith))) (λ t. absurd (in_none t.1)) own;
       headed = λ first end i e x own low high p. absurd (in_none p);
     };
   }

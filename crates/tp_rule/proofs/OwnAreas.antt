@@ -21,6 +21,7 @@ module _ (k : Limits) where
     -- its areas are as they were, and its run ends where it did
     pub own : (first end : ℕ) → IsOwnArea k b.number b.blocks first end → IsOwnArea k a.number a.blocks first end
     pub top : b.next + b.left ≡ a.next + a.left
+    pub passed : (b.passed_from ≡ a.passed_from) × (b.passed_to ≡ a.passed_to)
     -- each head there is as it was, or isn't empty, and names no undecided unit but in a draft of the open one
     pub heads : (first end i : ℕ) → IsOwnArea k b.number b.blocks first end → first ≤ i → i < end
         → (get_or ws' (head_place i) 0 ≡ get_or ws (head_place i) 0)
@@ -46,6 +47,10 @@ module _ (k : Limits) where
             (λ was. r.output first end i stage root u from count mine low high old was)
             (λ now. let d = r.decided first end i stage root u mine low high old now.1 in now.0 d.0 d.1 d.2) (g.committed i u from count is))
         (λ new. absurd ((new.1 stage root u named).3 from count is)) (g.heads first end i own low high);
+    cleared = λ first end i own away low high. ⊎_elim
+        (λ same. ⊎_elim (λ some. inl (λ none. some (sym same ∙ none))) (λ t. let from = t.0 in let to = t.1 in let same_from = g.passed.0 in let same_to = g.passed.1 in inr (omega arith, omega arith))
+        (r.cleared first end i (g.own first end own) (λ at. away (at ∙ sym g.top)) low high))
+        (λ new. inl new.0) (g.heads first end i own low high);
     headed = λ first end i e x own low high p made past. ⊎_elim
         (λ old. ⊎_elim (λ same z. r.headed first end i e x (g.own first end own) low high old made past (sym same ∙ z)) (λ new. new.0) (g.heads first end i own low high))
         (λ now. now) (g.made first end i e x own low high p made past);
@@ -57,6 +62,7 @@ module _ (k : Limits) where
   areas_kept h h' ws ws' a undecided committed same r = areas_on h h' ws ws' a a (record {
     own = λ first end own. own;
     top = refl;
+    passed = (refl, refl);
     heads = λ first end i own low high. inl (same first end i own low high).0;
     undecided = undecided;
     committed = committed;
@@ -69,13 +75,14 @@ module _ (k : Limits) where
   SameHeads a ws ws' = (first end i : ℕ) → IsOwnArea k a.number a.blocks first end → first ≤ i → i < end → get_or ws' (head_place i) 0 ≡ get_or ws (head_place i) 0
 
   -- of a pass that made nothing new
-  pub areas_event : (h h' : List Event) (ws ws' : List ℕ) (a b : Hand) → ((u from count : ℕ) → end_of h' u ≡ Some (Committed from count) → end_of h u ≡ Some (Committed from count)) → ((first end : ℕ) → IsOwnArea k b.number b.blocks first end → IsOwnArea k a.number a.blocks first end) → b.next + b.left ≡ a.next + a.left
+  pub areas_event : (h h' : List Event) (ws ws' : List ℕ) (a b : Hand) → ((u from count : ℕ) → end_of h' u ≡ Some (Committed from count) → end_of h u ≡ Some (Committed from count)) → ((first end : ℕ) → IsOwnArea k b.number b.blocks first end → IsOwnArea k a.number a.blocks first end) → b.next + b.left ≡ a.next + a.left → (b.passed_from ≡ a.passed_from) × (b.passed_to ≡ a.passed_to)
       → SameHeads a ws ws' → ((u : ℕ) → end_of h' u ≡ None → end_of h u ≡ None)
       → ((i u : ℕ) → a.first_draft ≤ i → i < a.next → a.open_unit ≡ Some u → end_of h' u ≡ None → (b.first_draft ≤ i) × (i < b.next) × (b.open_unit ≡ Some u))
       → ((d : Event) (x : Element) → In d b.mine → In x (births d) → In d a.mine) → AreasHold k h ws a → AreasHold k h' ws' b
-  areas_event h h' ws ws' a b committed own top same undecided drafts made r = areas_on h h' ws ws' a b (record {
+  areas_event h h' ws ws' a b committed own top passed same undecided drafts made r = areas_on h h' ws ws' a b (record {
     own = own;
     top = top;
+    passed = passed;
     heads = λ first end i o low high. inl (same first end i (own first end o) low high);
     undecided = undecided;
     committed = λ i u from count is. inl (committed u from count is);

@@ -19,7 +19,7 @@ use Rattle.tp_words.specs.declared.words.Head.TheVariants.{Filled}
 use Rattle.tp_rule.specs.Doors.{Permits}
 use Rattle.tp_rule.specs.Plays.{publishes}
 use Rattle.tp_rule.specs.Rule.{RowsHold, Rule, WordIs, drawn_in}
-use Rattle.tp_rule.specs.Steps.{with_birth, next_element, birth, HasBodyStored, HasCleared, IsLeftBehind}
+use Rattle.tp_rule.specs.Steps.{with_birth, next_element, birth, HasBodyStored, HasCleared}
 use Rattle.tp_rule.specs.declared.view.Known.TheVariants.{RowHead}
 use Rattle.tp_rule.specs.Views.{blank_body, hand, next_row}
 use Rattle.tp_rule.specs.declared.view.Hand.{Hand}
@@ -67,9 +67,9 @@ module _ (k : Limits) (fair : AreLimits k) where
   }
 
   pub births_go : (v : View) (p x stage : ℕ) → HasBodyStored v → (hand v).drafts ≡ [] → 0 < (hand v).left → p ≡ head_place (hand v).next
-      → x ≡ pack_head (Filled stage (next_row v) None) → 1 ≤ stage → stage ≤ 14 → v.limits ≡ k → HasCleared v
+      → x ≡ pack_head (Filled stage (next_row v) None) → 1 ≤ stage → stage ≤ 14 → HasCleared v
       → Permits k v p (λ _. x) (λ _ w. publishes p x 0 v x w)
-  births_go v p x stage ready none_yet room place is pos top lim cleared s r id at = let t : Turn k = record { state = s; rule = r; id = id; view = v; at = at; one = ready.0 } in let a : Hand = hand v in let y : Element = next_element v stage (next_row v) None in let e : Event = birth v stage in let h = r.history in
+  births_go v p x stage ready none_yet room place is pos top cleared s r id at = let t : Turn k = record { state = s; rule = r; id = id; view = v; at = at; one = ready.0 } in let t0 : Turn k = t in let a : Hand = hand v in let y : Element = next_element v stage (next_row v) None in let e : Event = birth v stage in let h = r.history in
       let mine = hand_holds k t in let row : ℕ = next k t room in let w : Word = HeadWord row in
       let here : y.id ≡ row = refl in
       let all : row < rows_of k = next_there k t room in let few : rows_of k ≤ 10240 = fair_rows k fair in
@@ -115,6 +115,7 @@ module _ (k : Limits) (fair : AreLimits k) where
           areas = areas_on k h (h ++ e ∷ []) s.words (set s.words (place_of k w) x) a (with_birth e a) (record {
             own = λ first end own. own;
             top = (let full = room in omega arith);
+            passed = (refl, refl);
             heads = λ first end i own low high. let top = own_inside k a.number a.blocks first end own in dite (ℕ_discrete row i)
                 (λ same. let now : get_or (set s.words (place_of k w) x) (head_place i) 0 ≡ x = subst (λ z. get_or (set s.words (place_of k w) x) (head_place z) 0 ≡ x) same (stored k s.words w x all r.world.wide) in inr (
                   λ zero. full_head (head_of y) (λ q. cc) (sym is ∙ (sym now ∙ zero)),
@@ -126,9 +127,10 @@ module _ (k : Limits) (fair : AreLimits k) where
             drafts = λ i u low high is un. let count : a.first_draft + 0 ≡ a.next = rows.counted in absurd (omega arith);
             made = λ first end i d z own low high p made past. ⊎_elim (λ q. inl q)
                 (λ q. let made_y = subst (λ (g : Event). In z (births g)) (in_one q) made in let at_row : z.id ≡ row = ap (λ (g : Element). g.id) (in_one made_y) in
-                let c = cleared i (subst (λ (g : Limits). IsLeftBehind g a i) (sym lim) (first, end, own, low, high, λ same. (let full = room in omega arith))) in
-                let still = (seat_holds k t).known (RowHead i c.0) c.2 in let top = own_inside k a.number a.blocks first end own in
-                inr (λ zero. full_head c.0 c.1 (sym (still.2 c.1) ∙ (sym (row_left k s.words w x all i (omega arith) (λ b. let r : Some row ≡ Some i = b in let same : row ≡ i = cc in omega arith)).0 ∙ zero)))) (in_either a.mine (e ∷ []) p);
+                let top = own_inside k a.number a.blocks first end own in let same_head = (row_left k s.words w x all i (omega arith) (λ b. let r : Some row ≡ Some i = b in let same : row ≡ i = cc in omega arith)).0 in
+                inr (λ none. ⊎_elim (λ some. some (sym same_head ∙ none))
+                (λ t. let c = cleared i t.0 t.1 in let still = (seat_holds k t0).known (RowHead i c.0) c.2 in full_head c.0 c.1 (sym (still.2 c.1) ∙ (sym same_head ∙ none)))
+                (mine.areas.cleared first end i own (λ same. (let full = room in omega arith)) low high))) (in_either a.mine (e ∷ []) p);
           }) mine.areas;
         };
       } in let done = acted k t act in (

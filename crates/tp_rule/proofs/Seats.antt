@@ -80,7 +80,7 @@ module _ (k : Limits) where
     area = r.area;
     rows = r.rows;
     units = r.units;
-    areas = record { last = r.areas.last; decided = r.areas.decided; output = r.areas.output; headed = r.areas.headed };
+    areas = record { last = r.areas.last; decided = r.areas.decided; output = r.areas.output; cleared = r.areas.cleared; headed = r.areas.headed };
   }
 
   -- the seat that makes a step, where f leaves the number, and the seats go on to stand for the same passes

@@ -101,6 +101,7 @@ module _ (k : Limits) (t : Turn k) (i : ℕ) (away : IsLeftBehind k (hand t.view
       areas = areas_on k h h t.state.words ws me me (record {
         own = λ first end own. own;
         top = refl;
+        passed = (refl, refl);
         heads = λ first end j own low high. let last = own_inside k me.number me.blocks first end own in dite (ℕ_discrete i j)
             (λ same. let now : get_or ws (head_place j) 0 ≡ pack_head Void = subst (λ z. get_or ws (head_place z) 0 ≡ pack_head Void) same (stored k t.state.words (HeadWord i) (pack_head Void) inside t.rule.world.wide) in inr (
               λ zero. full_head Void (λ q. cc) (sym now ∙ zero),

@@ -51,5 +51,5 @@ module _ (k : Limits) where
           open_own = a.units.open_own;
           closed = a.units.closed;
         };
-        areas = record { last = a.areas.last; decided = a.areas.decided; output = a.areas.output; headed = a.areas.headed };
+        areas = record { last = a.areas.last; decided = a.areas.decided; output = a.areas.output; cleared = a.areas.cleared; headed = a.areas.headed };
       } in (looking_after k t p kinds.UnitChoice (with_spare u), w.0, (u, place ∙ ap (λ (l : Limits). unit_place l u) (sym lim), w.1))

@@ -402,6 +402,8 @@ with_block b first a = record a {
   first_draft = first;
   next = first;
   left = BLOCK_ROWS;
+  passed_from = a.next;
+  passed_to = a.next + a.left;
   next_body = blank_body;
   blocks = a.blocks ++ b ∷ [];
 }
@@ -431,9 +433,9 @@ abbrev pub IsLeftBehind : Limits → Hand → ℕ → Type 0
 IsLeftBehind l a i = (first : ℕ) × (end : ℕ) × IsOwnArea l a.number a.blocks first end × (first ≤ i) × (i < end)
     × (end ≢ a.next + a.left)
 
--- no head is empty in the rows that the pass's run has left, as far as the seat knows
+-- the seat knows that no row is empty that the pass left unused when it drew its last block
 abbrev pub HasCleared : View → Type 0
-HasCleared v = (i : ℕ) → IsLeftBehind v.limits (hand v) i
+HasCleared v = (i : ℕ) → (hand v).passed_from ≤ i → i < (hand v).passed_to
     → (head : Head) × (head ≢ Empty) × Knows v (RowHead i head)
 
 -- the exchange of the head of row i, from empty to void, after which nothing more is seen: the head isn't

@@ -233,6 +233,7 @@ impl Words {
         requires own { IsSeatOf self.now seat.old }
         requires one { IsPassOf self.now seat.old }
         requires no_drafts { (hand_of seat.old).drafts ≡ [] }
+        requires cleared { HasCleared (view_of seat.old) }
         requires room { drawn < (table_limits self.now).spare }
         ensures same { IsSameSeat seat.old seat.new }
         ensures hit { IfOk result (λ done. Draws (view_of seat.old) drawn (view_of seat.new)) }

@@ -26,6 +26,10 @@ pub struct Hand {
     pub next: u32,
     /// How many rows of the run are unused.
     pub left: u16,
+    /// The rows from this one up to `passed_to` were left unused when the pass drew its last block.
+    pub passed_from: u32,
+    /// The end of those rows.
+    pub passed_to: u32,
     /// The spare blocks that the pass has drawn, in ascending order.
     pub blocks: LinkedList<u16>,
     /// The words that are in the body of the next row: 0 where none is stored yet.
