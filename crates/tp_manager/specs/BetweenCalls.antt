@@ -12,7 +12,7 @@ use Rattle.tp_rule.specs.declared.view.Hand.{Hand}
 use Rattle.tp_rule.specs.declared.view.View.{View}
 use Rattle.tp_manager.specs.declared.manager.Run.{Run}
 use Rattle.tp_manager.specs.declared.manager.Task.{Task}
-use Rattle.tp_rule.specs.Steps.{Knows}
+use Rattle.tp_rule.specs.Steps.{Knows, HasCleared}
 use Rattle.tp_rule.specs.declared.view.Known.TheVariants.{BlocksDrawn}
 use Rattle.tp_manager.specs.Calls.{claims_in}
 use Rattle.tp_manager.specs.CallSteps.{IsKnown, Steady, IsBlank, with_trace}
@@ -48,6 +48,8 @@ pub record Rests (seat : SeatShown) (number : ℕ) (run : Run) (used : ℕ) (tas
   -- each used unit is in an own claim
   pub claims : claims_in (hand (view_of seat)).mine ≡ used
   pub no_drafts : (hand (view_of seat)).drafts ≡ []
+  -- no row is empty that it left unused when it drew its last block
+  pub cleared : HasCleared (view_of seat)
   -- nothing is stored of the next row
   pub blank : IsBlank (view_of seat)
   pub open_is : (hand (view_of seat)).open_unit ≡ unit_in task

@@ -69,13 +69,17 @@ pub record Looked (l : Limits) (n : ℕ) (v w : View) : Type 0 where
   pub walk : Stepped l n marks v w
   pub kept : hand w ≡ with_trace (hand w).trace (hand v)
 
+-- the rows that it left unused when it drew its last block are those
+abbrev pub SamePassed : Hand → Hand → Type 0
+SamePassed a b = (b.passed_from ≡ a.passed_from) × (b.passed_to ≡ a.passed_to)
+
 -- the pass has used none of the rows that are left to it
 abbrev pub SameRun : Hand → Hand → Type 0
-SameRun a b = (b.next ≡ a.next) × (b.left ≡ a.left) × (b.blocks ≡ a.blocks)
+SameRun a b = (b.next ≡ a.next) × (b.left ≡ a.left) × (b.blocks ≡ a.blocks) × SamePassed a b
 
 -- the pass has used k of them
 abbrev pub UsedRows : ℕ → Hand → Hand → Type 0
-UsedRows k a b = (b.next ≡ a.next + k) × (b.left + k ≡ a.left) × (b.blocks ≡ a.blocks)
+UsedRows k a b = (b.next ≡ a.next + k) × (b.left + k ≡ a.left) × (b.blocks ≡ a.blocks) × SamePassed a b
 
 -- at most n steps have changed nothing in the pass but that it has made these events, and let go of what it
 -- had

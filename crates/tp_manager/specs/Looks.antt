@@ -1,17 +1,17 @@
 -- What the words of a row say.
-use Rattle.std.specs.Prelude.{◌≡◌, ℕ, ◌+◌, ◌*◌, ◌<◌, ◌≤◌, List, Some}
+use Rattle.std.specs.Prelude.{◌≡◌, ◌≢◌, ℕ, ◌+◌, ◌*◌, ◌<◌, ◌≤◌, List, None, Some}
 use Rattle.tp_model.specs.declared.types.Element.{Element}
 use Rattle.tp_model.specs.declared.types.Limits.{Limits}
 use Rattle.tp_model.specs.declared.event.Event.{Event}
 use mathlib.Core.List.{IsPrefix}
-use Rattle.tp_model.specs.History.{IsSettled, IsUnborn, element_of, status_of}
+use Rattle.tp_model.specs.History.{IsSettled, IsUnborn, element_of, end_of, status_of}
 use Rattle.tp_model.specs.Steps.{IsArea, rows_of, tries}
 use Rattle.tp_model.specs.Words.{ClaimWord, FreeWord, TakenWord, KilledWord, AgainWord}
 use Rattle.tp_words.specs.declared.words.Head.{Head}
-use Rattle.tp_words.specs.declared.words.Head.TheVariants.{Filled}
+use Rattle.tp_words.specs.declared.words.Head.TheVariants.{Empty, Filled, Void}
 use Rattle.tp_words.specs.Words.{head_of}
 use Rattle.tp_rule.specs.Rule.{IsDraft}
-use Rattle.tp_rule.specs.Steps.{AllowsClaim, HasDead, Knows}
+use Rattle.tp_rule.specs.Steps.{AllowsClaim, HasDead, Knows, MayBeBorn}
 use Rattle.tp_rule.specs.declared.view.Known.TheVariants.{RowHead}
 use Rattle.tp_rule.specs.declared.view.View.{View}
 use Rattle.tp_manager.specs.Calls.{IsWaiting}
@@ -27,6 +27,9 @@ pub record HeadFound (v : View) (i : ℕ) (head : Head) : Type 0 where
   pub born : (e : Element) → element_of v.seen i ≡ Some e → head ≡ head_of e
   pub draft : IsUnborn v.seen i → IsDraft head
   pub knows : Knows v (RowHead i head)
+  -- where it names a unit that has not ended, an element may be born there
+  pub ahead : (stage root u : ℕ) → head ≡ Filled stage root (Some u) → end_of v.seen u ≡ None
+      → MayBeBorn v.limits v.seen i
 
 -- a scan goes on from row i to the row `next`, which is after it, and at most the first one after its part
 -- or spare block
@@ -43,7 +46,7 @@ IsBornAs h i b = (e : Element) × (element_of h i ≡ Some e) × (head_of e ≡ 
 abbrev pub Contains : View → ℕ → Head → Contents → Type 0
 Contains v i head (Holds birth) = IsBornAs v.seen i birth × (head ≡ Filled birth.stage birth.root birth.by)
 Contains v i head DeadDraft = IsUnborn v.seen i × HasDead v i
-Contains v i head Nothing = IsUnborn v.seen i
+Contains v i head Nothing = IsUnborn v.seen i × (head ≢ Empty → head ≢ Void → MayBeBorn v.limits v.seen i)
 
 -- the element of row i, whose claim word was found in history a to be w, has this status in history b: where that
 -- claim is still there the next attempt may begin; or it is consumed or killed; or there is a history from a to

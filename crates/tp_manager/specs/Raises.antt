@@ -7,17 +7,19 @@ use Rattle.tp_model.specs.declared.types.Element.{Element}
 use Rattle.tp_model.specs.declared.types.Limits.{Limits}
 use Rattle.tp_model.specs.declared.types.TheConstants.{BLOCK_ROWS}
 use Rattle.tp_model.specs.declared.event.Event.{Event}
-use Rattle.tp_model.specs.History.{IsSettled, element_of, status_of}
+use Rattle.tp_model.specs.History.{IsSettled, IsUnborn, element_of, status_of}
+use Rattle.tp_rule.specs.Steps.{MayBeBorn}
 use Rattle.tp_model.specs.Steps.{part_rows}
 use Rattle.tp_manager.specs.Bounds.{claim_steps_left}
 use Rattle.tp_manager.specs.Calls.{AtPoint, Follows}
 use Rattle.tp_manager.specs.Shown.{AllRise, PassShown, low_of, marks_of}
 
--- row i may be of use to claims of the stage: no element is born in it, or one of the stage that is neither
--- consumed nor killed
+-- row i may be of use to claims of the stage: an element of the stage is born in it that is neither consumed
+-- nor killed; or none is, and one may be born there yet
 abbrev pub IsOfUse : Limits → ℕ → ℕ → List Event → Type 0
-IsOfUse l stage i h = (x : Element) → element_of h i ≡ Some x
-    → (x.stage ≡ stage) × ¬ IsSettled (status_of l.attempts h i)
+IsOfUse l stage i h = ((x : Element) → element_of h i ≡ Some x
+    → (x.stage ≡ stage) × ¬ IsSettled (status_of l.attempts h i))
+    × (IsUnborn h i → MayBeBorn l h i)
 
 -- the mark that the pass remembers of part p is the part's end, or its row may have been of use at a point of
 -- the call

@@ -2,6 +2,7 @@
 ghost use Rattle.tp_model.specs.declared.types.TheConstants.{BLOCK_ROWS};
 ghost use Rattle.std.specs.Prelude.{◌≡◌, ◌+◌, ◌-◌, ◌<◌, ◌≤◌, [], true, false};
 ghost use Rattle.tp_rule.specs.Views.{hand_of, view_of, IsSameSeat};
+ghost use Rattle.tp_rule.specs.Steps.{HasCleared};
 ghost use Rattle.tp_rule.specs.Tables.{table_limits};
 ghost use Rattle.tp_manager.specs.Shown.{IsOf};
 ghost use Rattle.tp_manager.specs.Draws.{Drawn, HasRoom, NoRoom};
@@ -23,6 +24,7 @@ impl Shared {
         requires steady { IsSteady self.now.words seat.old }
         requires drawn { RemembersDrawn (view_of seat.old) run.old.drawn }
         requires no_drafts { (hand_of seat.old).drafts ≡ [] }
+        requires cleared { HasCleared (view_of seat.old) }
         ensures same { IsSameSeat seat.old seat.new }
         ensures drawn { RemembersDrawn (view_of seat.new) run.new.drawn }
         ensures risen { run.old.drawn ≤ run.new.drawn }
@@ -71,6 +73,7 @@ impl Shared {
         requires steady { IsSteady self.now.words seat.old }
         requires drawn { RemembersDrawn (view_of seat.old) run.old.drawn }
         requires no_drafts { (hand_of seat.old).drafts ≡ [] }
+        requires cleared { HasCleared (view_of seat.old) }
         requires run { ((hand_of seat.old).next ≡ run.old.next) × ((hand_of seat.old).left ≡ run.old.left) }
         ensures same { IsSameSeat seat.old seat.new }
         ensures drawn { RemembersDrawn (view_of seat.new) run.new.drawn }
@@ -79,7 +82,7 @@ impl Shared {
         ensures done { run.new.done ≡ run.old.done }
         ensures yes { result ≡ true → let l = table_limits self.now.words in
             Drawn l (draw_steps l + run.old.left) (view_of seat.old) (view_of seat.new) run.new }
-        ensures headed { result ≡ true → AreHeaded (view_of seat.new) run.old.next run.old.left }
+        ensures cleared { HasCleared (view_of seat.new) }
         ensures no { result ≡ false → let l = table_limits self.now.words in
             Tried l (l.spare - run.old.drawn) (view_of seat.old) (view_of seat.new)
             × (run.new ≡ record run.old { drawn = l.spare }) }

@@ -6,7 +6,7 @@ ghost use Rattle.tp_words.specs.declared.words.Head.TheVariants.{Empty};
 ghost use Rattle.tp_words.specs.declared.places.TheConstants.{MARK_KINDS};
 ghost use Rattle.tp_rule.specs.Views.{seen_by, view_of, IsSameSeat};
 ghost use Rattle.tp_rule.specs.Rule.{IsInside};
-ghost use Rattle.tp_rule.specs.Steps.{IsLow, Knows};
+ghost use Rattle.tp_rule.specs.Steps.{IsLow, Knows, MayBeBorn};
 ghost use Rattle.tp_rule.specs.declared.view.Known.TheVariants.{MarkAbove, PartMark};
 ghost use Rattle.tp_rule.specs.Tables.{table_limits};
 ghost use Rattle.tp_manager.specs.CallSteps.{Acted, IsSteady, Looked};
@@ -234,6 +234,7 @@ impl Shared {
         ensures bare { result ≡ true → let l = table_limits self.now.words in
             Acted l 1 (view_of seat.old) (view_of seat.new)
             × ((i : ℕ) → row ≤ i → i < part * l.rows + l.rows → IsUnborn (seen_by seat.new) i) }
+        ensures ahead { result ≡ true → MayBeBorn (table_limits self.now.words) (seen_by seat.new) row }
         ensures more { result ≡ false → Looked (table_limits self.now.words) 1 (view_of seat.old)
             (view_of seat.new) }
     {

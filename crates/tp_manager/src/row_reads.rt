@@ -9,7 +9,7 @@ ghost use Rattle.tp_words.specs.Words.{claim_value, IsFitClaim};
 ghost use Rattle.tp_rule.specs.Views.{seen_by, view_of, IsSameSeat};
 ghost use Rattle.tp_rule.specs.declared.view.Known.TheVariants.{PartMark};
 ghost use Rattle.tp_rule.specs.Tables.{table_limits};
-ghost use Rattle.tp_rule.specs.Steps.{IsLow, Knows, NoneFrom};
+ghost use Rattle.tp_rule.specs.Steps.{IsLow, Knows, MayBeBorn};
 ghost use Rattle.tp_words.specs.declared.places.TheConstants.{MARK_KINDS};
 ghost use Rattle.tp_manager.specs.CallSteps.{Acted, IsSteady, Looked};
 ghost use Rattle.tp_manager.specs.BetweenCalls.{RemembersDrawn};
@@ -51,7 +51,7 @@ impl Shared {
         ensures same { IsSameSeat seat.old seat.new }
         ensures acted { Acted (table_limits self.now.words) 1 (view_of seat.old) (view_of seat.new) }
         ensures told { HeadFound (view_of seat.new) row result }
-        ensures none { result ≡ Empty → NoneFrom (table_limits self.now.words) (seen_by seat.new) row }
+        ensures none { result ≡ Empty → MayBeBorn (table_limits self.now.words) (seen_by seat.new) row }
     {
         self.words.load_head(seat, row)
     }
@@ -67,6 +67,8 @@ impl Shared {
         ensures told { HeadFound (view_of seat.new) row.old result }
         ensures on { GoesOn (table_limits self.now.words) row.old row.new }
         ensures none { (i : ℕ) → row.old < i → i < row.new → IsUnborn (seen_by seat.new) i }
+        ensures ahead { (i : ℕ) → row.old ≤ i → i < row.new → (i ≡ row.old → result ≡ Empty)
+            → MayBeBorn (table_limits self.now.words) (seen_by seat.new) i }
     {
         let here = *row;
         let head = self.head_at(seat, here);
@@ -123,12 +125,7 @@ impl Shared {
         match self.words.load_unit(seat, unit) {
             UnitWord::Undecided => Contents::Nothing,
             UnitWord::Aborted => Contents::DeadDraft,
-            UnitWord::Committed { first, count } => {
-                if row < first as u32 || row - first as u32 >= count as u32 {
-                    return Contents::Nothing;
-                }
-                Contents::Holds(birth)
-            }
+            UnitWord::Committed { first: _, count: _ } => Contents::Holds(birth),
         }
     }
 

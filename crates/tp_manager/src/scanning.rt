@@ -1,11 +1,11 @@
 //! A server's look for work.
-ghost use Rattle.std.specs.Prelude.{◌≡◌, ◌⊎◌, ℕ, ◌+◌, ◌-◌, ◌*◌, ◌<◌, ◌≤◌};
+ghost use Rattle.std.specs.Prelude.{◌≡◌, ◌≢◌, ◌⊎◌, ℕ, ◌+◌, ◌-◌, ◌*◌, ◌<◌, ◌≤◌};
 ghost use Rattle.std.specs.Prelude.{slice_index, IfSome, MatchOption, Option, true, false};
 ghost use Rattle.tp_model.specs.declared.types.Element.{Element as element};
 ghost use Rattle.tp_model.specs.Steps.{block_first, part_rows, rows_of, IsServerStage};
 ghost use Rattle.tp_words.specs.Words.{claim_value, head_of, IsFitClaim};
 ghost use Rattle.tp_model.specs.Words.{claim_word, TakenWord};
-ghost use Rattle.tp_words.specs.declared.words.Head.TheVariants.{Empty, Filled};
+ghost use Rattle.tp_words.specs.declared.words.Head.TheVariants.{Empty, Filled, Void};
 ghost use Rattle.tp_words.specs.declared.places.TheConstants.{MARK_KINDS};
 ghost use Rattle.tp_rule.specs.Views.{seen_by, view_of, IsSameSeat};
 ghost use Rattle.tp_rule.specs.Steps.{Knows};
@@ -58,6 +58,7 @@ pub(crate) enum Stand {
 fn is_of_stage(head: Head, stage: u8) -> bool
     ensures yes { result ≡ true → (e : element) → head ≡ head_of e → e.stage ≡ stage }
     ensures no { result ≡ false → (e : element) → head ≡ head_of e → ¬ (e.stage ≡ stage) }
+    ensures full { result ≡ true → (head ≢ Empty) × (head ≢ Void) }
     ensures aside { result ≡ false → (found root : ℕ) (by : Option ℕ) → head ≡ Filled found root by
         → ¬ (found ≡ stage) }
 {

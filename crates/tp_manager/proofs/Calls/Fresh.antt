@@ -137,6 +137,7 @@ module _ (seat : SeatShown) (l : Limits) (given : ℕ) (k : Keeps seat l given) 
       used_below = omega arith;
       claims = ap (λ (a : Hand). claims_in a.mine) h;
       no_drafts = ap (λ (a : Hand). a.drafts) h;
+      cleared = λ i low high. let none : (hand (view_of next)).passed_to ≡ 0 = ap (λ (a : Hand). a.passed_to) h in absurd (omega arith);
       blank = ap (λ (a : Hand). a.next_body) h;
       open_is = ap (λ (a : Hand). a.open_unit) h;
       work = tt;

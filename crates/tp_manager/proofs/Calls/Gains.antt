@@ -11,7 +11,7 @@ use Rattle.tp_manager.specs.declared.manager.Run.{Run}
 use Rattle.tp_manager.specs.Calls.{claims_in}
 use Rattle.tp_manager.specs.CallSteps.{Gained, Looked}
 use Rattle.tp_manager.specs.BetweenCalls.{Rests}
-use Rattle.tp_manager.proofs.Calls.Passes.{claims_append, done_walked, drawn_later, steady_at}
+use Rattle.tp_manager.proofs.Calls.Passes.{claims_append, done_walked, drawn_later, steady_at, cleared_later}
 use Rattle.tp_manager.proofs.Calls.CallSteps.{walked_begins, walked_few, walked_then}
 
 module _ (l : Limits) where
@@ -19,7 +19,7 @@ module _ (l : Limits) where
   gained_looked n v w a = record {
     marks = a.marks;
     walk = a.walk;
-    run = (ap (λ (z : Hand). z.next) a.kept, ap (λ (z : Hand). z.left) a.kept, ap (λ (z : Hand). z.blocks) a.kept);
+    run = (ap (λ (z : Hand). z.next) a.kept, ap (λ (z : Hand). z.left) a.kept, ap (λ (z : Hand). z.blocks) a.kept, (ap (λ (z : Hand). z.passed_from) a.kept, ap (λ (z : Hand). z.passed_to) a.kept));
     claimed = ap (λ (z : Hand). z.claimed) a.kept;
     mine = ap (λ (z : Hand). z.mine) a.kept ∙ sym (append_nil (hand v).mine);
     drafts = λ e. ap (λ (z : Hand). z.drafts) a.kept ∙ e;
@@ -31,7 +31,7 @@ module _ (l : Limits) where
   gained_then n m es fs v w y a b = record {
     marks = a.marks ++ b.marks;
     walk = walked_then l n m a.marks b.marks v w y a.walk b.walk;
-    run = (b.run.0 ∙ a.run.0, b.run.1 ∙ a.run.1, b.run.2 ∙ a.run.2);
+    run = (b.run.0 ∙ a.run.0, b.run.1 ∙ a.run.1, b.run.2 ∙ a.run.2, (b.run.3.0 ∙ a.run.3.0, b.run.3.1 ∙ a.run.3.1));
     claimed = b.claimed ∙ a.claimed;
     mine = b.mine ∙ (ap (λ z. z ++ fs) a.mine ∙ append_assoc (hand v).mine es fs);
     drafts = λ e. b.drafts (a.drafts e);
@@ -66,6 +66,7 @@ module _ (l : Limits) (seat next : SeatShown) (number : ℕ) (run : Run) (used :
     used_below = subst (λ (z : Limits). used ≤ z.units) (same ∙ lim) r.used_below;
     claims = ap claims_in a.mine ∙ (claims_append (hand (view_of seat)).mine es ∙ (let k = r.claims in omega arith));
     no_drafts = a.drafts r.no_drafts;
+    cleared = cleared_later (view_of seat) (view_of next) a.run.3 a.walk.knows r.cleared;
     blank = a.body ∙ r.blank;
     open_is = a.open_unit r.open_is;
     work = tt;

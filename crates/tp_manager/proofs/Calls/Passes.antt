@@ -1,8 +1,8 @@
 -- What is so of a pass after a call.
 use Rattle.std.proofs.Common.{◌≡◌, ℕ, ◌+◌, ◌≤◌, List, [], ◌∷◌, ◌++◌, sym, refl, ap, ◌∙◌, subst, arith, Option, Some, None}
-use Rattle.tp_rule.specs.declared.view.Known.TheVariants.{BlocksDrawn}
+use Rattle.tp_rule.specs.declared.view.Known.TheVariants.{BlocksDrawn, RowHead}
 use Rattle.tp_rule.specs.declared.view.Known.{Known}
-use Rattle.tp_rule.specs.Steps.{Knows}
+use Rattle.tp_rule.specs.Steps.{Knows, HasCleared}
 use mathlib.Core.List.{IsPrefix}
 use mathlib.Core.Logic.{dite}
 use native.Mathlib.Decide.{dec_le}
@@ -12,7 +12,7 @@ use Rattle.tp_model.specs.History.{IsUnborn}
 use Rattle.tp_model.specs.Steps.{rows_of, IsLegal}
 use Rattle.tp_model.proofs.Bridges.{begins_refl, claim_later, found_later, is_born, element_of-id}
 use Rattle.tp_model.proofs.Later.{births_inside}
-use Rattle.tp_rule.specs.Views.{SeatShown, view_of}
+use Rattle.tp_rule.specs.Views.{SeatShown, view_of, hand}
 use Rattle.tp_rule.specs.declared.view.Hand.{Hand}
 use Rattle.tp_rule.specs.declared.view.View.{View}
 use Rattle.tp_manager.specs.declared.manager.Run.{Run}
@@ -20,7 +20,7 @@ use Rattle.tp_manager.specs.declared.manager.Task.{Task}
 use Rattle.tp_manager.specs.Shown.{Spot, PassShown, shown}
 use Rattle.tp_manager.specs.Calls.{AtPoint, IsQuiet}
 use Rattle.tp_model.specs.declared.trace.TraceEntry.{TraceEntry}
-use Rattle.tp_manager.specs.CallSteps.{Steady, Looked, Stepped}
+use Rattle.tp_manager.specs.CallSteps.{Steady, Looked, Stepped, SamePassed}
 use Rattle.tp_manager.specs.BetweenCalls.{Rests, IsTask, unit_in, RemembersDone, RemembersDrawn}
 use Rattle.tp_manager.specs.Calls.{claims_in}
 use Rattle.tp_manager.proofs.Rows.Looks.{unborn_if}
@@ -55,6 +55,10 @@ pub done_walked : (l : Limits) (n : ℕ) (ms : List TraceEntry) (v w : View) (la
 done_walked l n ms v w last same a old = λ i is. subst (λ (z : Limits). IsSettledRow z w.seen i) (sym a.steady.pass.1)
     (settled_row l v.seen w.seen i a.steady.shows.legal (walked_begins l n ms v w a) (subst (λ (z : Limits). IsSettledRow z v.seen i) same (old i is)))
 
+-- rows that are known to have heads are so
+pub cleared_later : (v w : View) → SamePassed (hand v) (hand w) → ((x : Known) → Knows v x → Knows w x) → HasCleared v → HasCleared w
+cleared_later v w same knows r i low high = let from = same.0 in let to = same.1 in let t = r i (omega arith) (omega arith) in (t.0, t.1, knows (RowHead i t.0) t.2)
+
 -- the pass has looked at it
 pub rests_drawn : (seat : SeatShown) (number : ℕ) (run : Run) (used : ℕ) (task : Option Task) (n : ℕ) → Rests seat number run used task → RemembersDrawn (view_of seat) n → Rests seat number (record run { drawn = n }) used task
 rests_drawn seat number run used task n r drawn = record {
@@ -67,6 +71,7 @@ rests_drawn seat number run used task n r drawn = record {
   used_below = r.used_below;
   claims = r.claims;
   no_drafts = r.no_drafts;
+  cleared = r.cleared;
   blank = r.blank;
   open_is = r.open_is;
   work = r.work;
@@ -85,6 +90,7 @@ module _ (l : Limits) (seat next : SeatShown) (same : (view_of seat).limits ≡ 
     used_below = subst (λ (z : Limits). used ≤ z.units) (same ∙ lim) r.used_below;
     claims = ap (λ (z : Hand). claims_in z.mine) k ∙ r.claims;
     no_drafts = ap (λ (z : Hand). z.drafts) k ∙ r.no_drafts;
+    cleared = cleared_later (view_of seat) (view_of next) (ap (λ (z : Hand). z.passed_from) k, ap (λ (z : Hand). z.passed_to) k) a.walk.knows r.cleared;
     blank = ap (λ (z : Hand). z.next_body) k ∙ r.blank;
     open_is = ap (λ (z : Hand). z.open_unit) k ∙ r.open_is;
     work = task_later (view_of seat).seen (view_of next).seen number task (looked_begins l n (view_of seat) (view_of next) a) r.work;

@@ -22,7 +22,7 @@ use Rattle.tp_manager.specs.CallSteps.{Acted, Looked, Steady, Stepped, with_trac
 use Rattle.tp_manager.specs.BetweenCalls.{Rests}
 use Rattle.tp_manager.proofs.Claims.UnitsChosen.{choice, chose_walked}
 use Rattle.tp_manager.proofs.Kills.Moves.{moved}
-use Rattle.tp_manager.proofs.Calls.Passes.{done_walked, drawn_later, steady_at, task_later}
+use Rattle.tp_manager.proofs.Calls.Passes.{done_walked, drawn_later, steady_at, task_later, cleared_later}
 use Rattle.tp_manager.proofs.Calls.Points.{opening_any}
 use Rattle.tp_manager.proofs.Calls.CallSteps.{acted_then, at_point, grew_hand, has_looked, opening_first, point_last, walked_begins, walked_then}
 use Rattle.tp_model.proofs.Bridges.{begins_trans}
@@ -96,6 +96,7 @@ left_rests l u n number run used task seat next w s g a same r =
       used_below = subst (λ (z : Limits). used ≤ z.units) (same ∙ lim) r.used_below;
       claims = ap (λ (z : Hand). claims_in z.mine) h ∙ r.claims;
       no_drafts = ap (λ (z : Hand). z.drafts) h ∙ r.no_drafts;
+      cleared = cleared_later (view_of seat) (view_of next) (ap (λ (z : Hand). z.passed_from) h, ap (λ (z : Hand). z.passed_to) h) k.knows r.cleared;
       blank = ap (λ (z : Hand). z.next_body) h ∙ r.blank;
       open_is = ap (λ (z : Hand). z.open_unit) h ∙ r.open_is;
       work = task_later (view_of seat).seen (view_of next).seen number task (walked_begins l (1 + n) _ _ _ k) r.work;

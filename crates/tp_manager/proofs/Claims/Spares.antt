@@ -1,4 +1,5 @@
 -- Looks at the rows of the spare blocks, and rows that are left behind.
+use Rattle.tp_manager.proofs.Calls.Passes.{cleared_later}
 use Rattle.std.proofs.Common.{◌≡◌, ℕ, suc, ◌+◌, ◌*◌, ◌<◌, ◌≤◌, List, [], ◌∷◌, ◌++◌, MatchOption, Option, Some, None, sym, refl, ap, ◌∙◌, subst, inl, inr, ⊎_elim, arith, suc-mul, mul-le-mul_right}
 use mathlib.Core.Logic.{dite}
 use native.Mathlib.Decide.{dec_le}
@@ -11,7 +12,7 @@ use Rattle.tp_model.specs.Passes.{Ascend, IsOwnArea, opening_of}
 use Rattle.tp_model.specs.Steps.{block_first}
 use Rattle.tp_model.proofs.Areas.{area_inside, ascend_in, own_area}
 use Rattle.tp_model.proofs.Bridges.{begins_refl, in_cons, in_left, in_none, in_right}
-use Rattle.tp_rule.specs.Steps.{IsLeftBehind, IsSo, Knows, Voids, unchanged}
+use Rattle.tp_rule.specs.Steps.{IsLeftBehind, IsSo, Knows, Voids, unchanged, HasCleared}
 use Rattle.tp_rule.specs.Views.{hand}
 use Rattle.tp_rule.specs.declared.view.Hand.{Hand}
 use Rattle.tp_rule.specs.declared.view.Known.{Known}
@@ -86,6 +87,16 @@ module _ (l : Limits) where
   -- rows that are left behind stay so
   pub left_tried : (n first k : ℕ) (v w : View) → Tried l n v w → AreLeft l v first k → AreLeft l w first k
   left_tried n first k v w t left i low high = let r = left i low high in (r.0, subst (λ (a : Hand). IsLeftBehind l a i) (sym t.hand_is) r.1)
+
+  -- what the pass left unused at last has heads still
+  pub cleared_tried : (n : ℕ) (v w : View) → Tried l n v w → HasCleared v → HasCleared w
+  cleared_tried n v w t r = cleared_later v w (ap (λ (z : Hand). z.passed_from) t.hand_is, ap (λ (z : Hand). z.passed_to) t.hand_is) t.walk.knows r
+
+  -- and so has what it left as it drew a block, where all of that is known to have heads
+  pub cleared_drew : (n m b : ℕ) (v w y : View) → Drew l n b v w → Tried l m w y → AreHeaded y (hand v).next (hand v).left → HasCleared y
+  cleared_drew n m b v w y d t r i low high = let h = t.hand_is in let x = d.hand_is in
+      let from : (hand y).passed_from ≡ (hand v).next = ap (λ (z : Hand). z.passed_from) h ∙ ap (λ (z : Hand). z.passed_from) x in
+      let to : (hand y).passed_to ≡ (hand v).next + (hand v).left = ap (λ (z : Hand). z.passed_to) h ∙ ap (λ (z : Hand). z.passed_to) x in r i (omega arith) (omega arith)
 
   -- as a block is drawn, the rows of the old run are left behind
   pub left_behind : (n b : ℕ) (v w : View) → Steady l v → Drew l n b v w → AreLeft l w (hand v).next (hand v).left

@@ -29,7 +29,7 @@ use Rattle.tp_manager.specs.CallSteps.{Steady, Stepped, with_trace}
 use Rattle.tp_manager.specs.BetweenCalls.{Rests}
 use Rattle.tp_manager.specs.Scans.{EachRow, Sought, Took, PassedBy}
 use Rattle.tp_manager.proofs.Calls.CallSteps.{grew_hand, grew_seen, has_looked, opening_is, grew_steady, walked_begins, walked_then}
-use Rattle.tp_manager.proofs.Calls.Passes.{claims_append, done_walked, steady_at, task_later, drawn_later}
+use Rattle.tp_manager.proofs.Calls.Passes.{claims_append, done_walked, steady_at, task_later, drawn_later, cleared_later}
 
 -- a unit that nobody claimed isn't in a pass's own claims
 pub unused_mine : (c u : ℕ) (h : List Event) → claim_of h u ≡ None → claim_of (events_by c h) u ≡ None
@@ -172,6 +172,7 @@ chose_rests l u n stage number run used task seat next w s g a same r =
       used_below = subst (λ (z : Limits). used ≤ z.units) (same ∙ lim) r.used_below;
       claims = ap (λ (z : Hand). claims_in z.mine) h ∙ r.claims;
       no_drafts = ap (λ (z : Hand). z.drafts) h ∙ r.no_drafts;
+      cleared = cleared_later (view_of seat) (view_of next) (ap (λ (z : Hand). z.passed_from) h, ap (λ (z : Hand). z.passed_to) h) (idle_walked l u (view_of seat) w s g n stage (view_of next) a).knows r.cleared;
       blank = ap (λ (z : Hand). z.next_body) h ∙ r.blank;
       open_is = ap (λ (z : Hand). z.open_unit) h ∙ r.open_is;
       work = task_later (view_of seat).seen (view_of next).seen number task (walked_begins l (1 + n) _ _ _ (idle_walked l u (view_of seat) w s g n stage (view_of next) a)) r.work;
@@ -194,6 +195,7 @@ took_rests l u n from stage attempt root row number run used task seat next w x 
       used_below = subst (λ (z : Limits). used + 1 ≤ z.units) lim (omega arith);
       claims = ap (λ (z : Hand). claims_in z.mine) h ∙ (claims_append (hand v).mine (Claim (hand v).number u x.id attempt ∷ []) ∙ (let c = r.claims in omega arith));
       no_drafts = ap (λ (z : Hand). z.drafts) h ∙ r.no_drafts;
+      cleared = cleared_later v y (ap (λ (z : Hand). z.passed_from) h, ap (λ (z : Hand). z.passed_to) h) (took_walked l u v w s g n from stage attempt y x k).knows r.cleared;
       blank = ap (λ (z : Hand). z.next_body) h ∙ r.blank;
       open_is = ap (λ (z : Hand). z.open_unit) h;
       work = (x.id, attempt, x, subst (λ c. claim_of y.seen u ≡ Some (record { pass = c; item = x.id; attempt = attempt })) r.number_is (ap (λ z. claim_of z u) ends ∙ new_claim k.before (hand v).number u x.id attempt unused), k.born, root_is, row_is);

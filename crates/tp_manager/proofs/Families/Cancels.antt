@@ -145,7 +145,7 @@ module _ (t t' : Spot) (v w : View) (old : PassShown) (is : shown t v ≡ old) (
     own = a.swept.own;
     mine = a.swept.gained.mine;
     open_unit = a.swept.gained.open_unit free ∙ sym free;
-    run = a.swept.gained.run;
+    run = (a.swept.gained.run.0, a.swept.gained.run.1, a.swept.gained.run.2);
     request = request;
     settled = a.settled;
     walk = a.walk;

@@ -56,7 +56,7 @@ module _ (l : Limits) where
           gained = record {
             marks = record { kind = kinds.AbortExchange; seen = w.seen } ∷ [];
             walk = walk;
-            run = (ap (λ (z : Hand). z.next) x, ap (λ (z : Hand). z.left) x, ap (λ (z : Hand). z.blocks) x);
+            run = (ap (λ (z : Hand). z.next) x, ap (λ (z : Hand). z.left) x, ap (λ (z : Hand). z.blocks) x, (ap (λ (z : Hand). z.passed_from) x, ap (λ (z : Hand). z.passed_to) x));
             claimed = ap (λ (a : Hand). a.claimed) x;
             mine = ap (λ (a : Hand). a.mine) x;
             drafts = λ q. ap (λ (a : Hand). a.drafts) x;
@@ -121,7 +121,7 @@ module _ (l : Limits) where
       let kill : Gained l 1 (e ∷ []) w y = record {
         marks = record { kind = kinds.KillExchange; seen = y.seen } ∷ [];
         walk = walk;
-        run = (ap (λ (z : Hand). z.next) x, ap (λ (z : Hand). z.left) x, ap (λ (z : Hand). z.blocks) x);
+        run = (ap (λ (z : Hand). z.next) x, ap (λ (z : Hand). z.left) x, ap (λ (z : Hand). z.blocks) x, (ap (λ (z : Hand). z.passed_from) x, ap (λ (z : Hand). z.passed_to) x));
         claimed = ap (λ (z : Hand). z.claimed) x;
         mine = ap (λ (z : Hand). z.mine) x;
         drafts = λ q. ap (λ (z : Hand). z.drafts) x ∙ q;
@@ -200,11 +200,11 @@ module _ (t t' : Spot) (v w : View) (old : PassShown) (is : shown t v ≡ old) (
     begins = a.begins;
     seen = a.ends;
     open_unit = a.gained.open_unit free ∙ sym free;
-    run = a.gained.run;
+    run = (a.gained.run.0, a.gained.run.1, a.gained.run.2);
   }
 
   only_aborts : (n i : ℕ) (es : List Event) → length es ≤ tries l.attempts → Freed l n i es v w → OnlyAborts l i old (shown t' w)
-  only_aborts n i es few a = subst (λ (p : PassShown). OnlyAborts l i p (shown t' w)) is record { aborts = es; few = few; held = a.aborts; mine = a.gained.mine; open_unit = a.gained.open_unit free ∙ sym free; run = a.gained.run }
+  only_aborts n i es few a = subst (λ (p : PassShown). OnlyAborts l i p (shown t' w)) is record { aborts = es; few = few; held = a.aborts; mine = a.gained.mine; open_unit = a.gained.open_unit free ∙ sym free; run = (a.gained.run.0, a.gained.run.1, a.gained.run.2) }
 
   -- the element is born when the kill fails, and has that status then
   stands_at_end : (n i : ℕ) (s : Status) (es : List Event) → Freed l n i es v w → HasElement w.seen i → status_of l.attempts w.seen i ≡ s → AtPoint old (shown t' w) (HasStatus l i s)

@@ -147,7 +147,7 @@ module _ (t t' : Spot) (v w : View) (old : PassShown) (is : shown t v ≡ old) (
     adds = record { mine = f.gained.mine; before = f.before; seen = f.ends; begins = f.begins };
     held = f.held;
     open_unit = f.gained.open_unit free ∙ sym free;
-    run = f.gained.run;
+    run = (f.gained.run.0, f.gained.run.1, f.gained.run.2);
   }
 
   pub collects_shown : (n i : ℕ) (x : Element) → Slain l n i [] v w → element_of w.seen i ≡ Some x → x.stage ≡ 15 → Collects i x old (shown t' w)
@@ -156,7 +156,7 @@ module _ (t t' : Spot) (v w : View) (old : PassShown) (is : shown t v ≡ old) (
     is_born = born;
     is_reply = staged;
     open_unit = s.gained.open_unit free ∙ sym free;
-    run = s.gained.run;
+    run = (s.gained.run.0, s.gained.run.1, s.gained.run.2);
   }
 
 module _ (t t' : Spot) (v x w : View) (old : PassShown) (is : shown t v ≡ old) (l : Limits) (n m : ℕ) (a : Acted l n v x) (b : Looked l m x w) where

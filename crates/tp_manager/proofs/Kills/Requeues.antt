@@ -29,7 +29,7 @@ use Rattle.tp_manager.specs.Requeues.{IsBetween, IsPastRequeue, Renewed, Requeue
 use Rattle.tp_manager.specs.CallSteps.{Acted, Looked, with_trace}
 use Rattle.tp_manager.specs.BetweenCalls.{Rests}
 use Rattle.tp_manager.proofs.Kills.Moves.{moved}
-use Rattle.tp_manager.proofs.Calls.Passes.{done_walked, drawn_later, claims_append, quiet_looked, steady_at, task_later}
+use Rattle.tp_manager.proofs.Calls.Passes.{done_walked, drawn_later, claims_append, quiet_looked, steady_at, task_later, cleared_later}
 use Rattle.tp_manager.proofs.Calls.Points.{opening_kept}
 use Rattle.tp_manager.proofs.Calls.CallSteps.{acted_then, at_point, grew_hand, grew_walked, looked, looked_begins, grew_steady, walked_begins, walked_then}
 
@@ -147,6 +147,7 @@ rests_renewed l seat next number run used task same r n i round a = let k = a.ke
   used_below = subst (λ (z : Limits). used ≤ z.units) (same ∙ lim) r.used_below;
   claims = ap (λ (z : Hand). claims_in z.mine) k ∙ (claims_append (hand (view_of seat)).mine (Requeue (hand (view_of seat)).number i round ∷ []) ∙ (let c = r.claims in omega arith));
   no_drafts = ap (λ (z : Hand). z.drafts) k ∙ r.no_drafts;
+  cleared = cleared_later (view_of seat) (view_of next) (ap (λ (z : Hand). z.passed_from) k, ap (λ (z : Hand). z.passed_to) k) a.walk.knows r.cleared;
   blank = ap (λ (z : Hand). z.next_body) k ∙ r.blank;
   open_is = ap (λ (z : Hand). z.open_unit) k ∙ r.open_is;
   work = task_later (view_of seat).seen (view_of next).seen number task (walked_begins l n a.marks (view_of seat) (view_of next) a.walk) r.work;

@@ -12,7 +12,7 @@ use Rattle.tp_model.specs.History.{IsSettled, IsUnborn, element_of, status_of}
 use Rattle.tp_model.proofs.Bridges.{begins_refl, begins_trans, found_later}
 use Rattle.tp_rule.specs.Rule.{Concerns, IsInside, IsOther, IsSettledRow}
 use Rattle.tp_rule.proofs.Tellings.{inside_below, other_full}
-use Rattle.tp_rule.specs.Steps.{AreFinishedFor, HasAside, HasDead, IsLow, IsSo, Knows, KnowsUseless, RaisesMark, noted, unchanged}
+use Rattle.tp_rule.specs.Steps.{AreFinishedFor, HasAside, HasDead, IsLow, IsSo, Knows, KnowsUseless, RaisesMark, noted, unchanged, MayBeBorn}
 use Rattle.tp_rule.specs.Views.{hand}
 use Rattle.tp_rule.specs.declared.view.Hand.{Hand}
 use Rattle.tp_rule.specs.declared.view.Known.TheVariants.{PartMark, RowHead}
@@ -199,28 +199,29 @@ module _ (l : Limits) where
   pub remembered_passed : (stage : ℕ) (lows : List ℕ) (p i n : ℕ) (ms : List TraceEntry) (v w : View) → 1 ≤ stage → Remembers stage v lows → Stepped l n ms v w → p * l.rows ≤ i → i < p * l.rows + slice_index lows p → PassedBy l stage i w.seen w.seen
   remembered_passed stage lows p i n ms v w server r a low high = over_passed stage w.seen p (slice_index lows p) i server (low_kept stage v w p n ms lows a r (omega arith)).1 low high
 
-  -- a row in which nothing is born may be of use
-  pub use_unborn : (stage i : ℕ) (h : List Event) → IsUnborn h i → IsOfUse l stage i h
-  use_unborn stage i h un x born = let e : None ≡ Some x = sym un ∙ born in absurd cc
+  -- a row in which nothing is born, and something may be yet, may be of use
+  pub use_unborn : (stage i : ℕ) (h : List Event) → IsUnborn h i → MayBeBorn l h i → IsOfUse l stage i h
+  use_unborn stage i h un may = (λ x born. let e : None ≡ Some x = sym un ∙ born in absurd cc, λ _. may)
 
   -- and one whose head was found empty
-  pub use_empty : (stage i : ℕ) (h : List Event) (head : Head) → ((x : Element) → element_of h i ≡ Some x → head ≡ head_of x) → ¬ ¬ (head ≡ Empty) → IsOfUse l stage i h
-  use_empty stage i h Empty is none x born = let e : Empty ≡ head_of x = is x born in absurd cc
-  use_empty stage i h Void is none x born = absurd (none (λ e. absurd cc))
-  use_empty stage i h (Filled found root by) is none x born = absurd (none (λ e. absurd cc))
+  pub use_empty : (stage i : ℕ) (h : List Event) (head : Head) → ((x : Element) → element_of h i ≡ Some x → head ≡ head_of x) → (head ≡ Empty → MayBeBorn l h i) → ¬ ¬ (head ≡ Empty) → IsOfUse l stage i h
+  use_empty stage i h Empty is may none = (λ x born. let e : Empty ≡ head_of x = is x born in absurd cc, λ _. may refl)
+  use_empty stage i h Void is may none = absurd (none (λ e. absurd cc))
+  use_empty stage i h (Filled found root by) is may none = absurd (none (λ e. absurd cc))
 
   -- and one with an element of the stage that was neither consumed nor killed
-  pub use_found : (stage i : ℕ) (a b g : List Event) (birth : Birth) → IsPrefix b g → IsBornAs g i birth → birth.stage ≡ stage → WasUnsettled l i a b → WasOfUse l stage i a b
-  use_found stage i a b g birth begins there staged was = (
+  pub use_found : (stage i : ℕ) (a b : List Event) (birth : Birth) → IsBornAs a i birth → birth.stage ≡ stage → WasUnsettled l i a b → WasOfUse l stage i a b
+  use_found stage i a b birth there staged was = let e = there.0 in let born_then : element_of was.0 i ≡ Some e = found_later a was.0 was.1 i e there.1 in (
     was.0,
     was.1,
     was.2,
-    λ x born. let e = there.0 in
-        let born_too : element_of g i ≡ Some x = found_later was.0 g (begins_trans was.0 b g was.2 begins) i x born in
-        let same : x ≡ e = one x e born_too there.1 in (ap (λ (z : Element). z.stage) same ∙ (of_head e there.2 ∙ staged), was.3),
+    (
+      λ x born. let same : x ≡ e = one x e born born_then in (ap (λ (z : Element). z.stage) same ∙ (of_head e there.2 ∙ staged), was.3),
+      λ un. let q : None ≡ Some e = sym un ∙ born_then in absurd cc,
+    ),
   )
     where
-      one : (x y : Element) → element_of g i ≡ Some x → element_of g i ≡ Some y → x ≡ y
+      one : (x y : Element) → element_of was.0 i ≡ Some x → element_of was.0 i ≡ Some y → x ≡ y
       one x y p q = cc
 
       of_head : (e : Element) → head_of e ≡ Filled birth.stage birth.root birth.by → e.stage ≡ birth.stage

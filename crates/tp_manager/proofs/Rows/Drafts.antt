@@ -37,7 +37,7 @@ use Rattle.tp_manager.specs.BetweenCalls.{Rests, IsTask, RemembersDone, Remember
 use Rattle.tp_manager.specs.Drafts.{Shut, Wrote, output}
 use Rattle.tp_rule.specs.Rule.{IsSettledRow}
 use Rattle.tp_rule.proofs.Births.{claimed_inside}
-use Rattle.tp_manager.proofs.Calls.Passes.{claims_append, steady_at, drawn_later}
+use Rattle.tp_manager.proofs.Calls.Passes.{claims_append, steady_at, drawn_later, cleared_later}
 use Rattle.tp_manager.proofs.Calls.CallSteps.{grew_hand, grew_steady, grew_walked, walked_few, walked_none, walked_then, walked_begins}
 
 module _ (l : Limits) where
@@ -46,7 +46,7 @@ module _ (l : Limits) where
     marks = a.marks ++ b.marks;
     walk = walked_few l (draft_steps (length xs) + draft_steps (length ys)) (draft_steps (length (xs ++ ys))) _ v y (omega (arith, length-append xs ys)) g;
     seen = b.seen ∙ a.seen;
-    run = let p = a.run.0 in let q = b.run.0 in let r = a.run.1 in let s = b.run.1 in (omega (arith, length-append xs ys), omega (arith, length-append xs ys), b.run.2 ∙ a.run.2);
+    run = let p = a.run.0 in let q = b.run.0 in let r = a.run.1 in let s = b.run.1 in (omega (arith, length-append xs ys), omega (arith, length-append xs ys), b.run.2 ∙ a.run.2, (b.run.3.0 ∙ a.run.3.0, b.run.3.1 ∙ a.run.3.1));
     claimed = b.claimed ∙ a.claimed;
     mine = b.mine ∙ a.mine;
     drafts = b.drafts ∙ (ap (λ z. z ++ ys) a.drafts ∙ append_assoc (hand v).drafts xs ys);
@@ -55,7 +55,7 @@ module _ (l : Limits) where
   }
 
   pub wrote_none : (v : View) → Steady l v → Wrote l [] v v
-  wrote_none v s = record { marks = []; walk = walked_none l v s; seen = refl; run = (omega arith, omega arith, refl); claimed = refl; mine = refl; drafts = sym (append_nil (hand v).drafts); blank = λ q. q; open_unit = refl }
+  wrote_none v s = record { marks = []; walk = walked_none l v s; seen = refl; run = (omega arith, omega arith, refl, (refl, refl)); claimed = refl; mine = refl; drafts = sym (append_nil (hand v).drafts); blank = λ q. q; open_unit = refl }
 
   shut_by : (kind : StepKind) (f : Hand → Hand) (es : List Event) (v w : View) → looks kind ≡ true → (s : Steady l v) → (g : Grew kind f es v w) → Steady l w → (f (hand v)).trace ≡ (hand v).trace → (f (hand v)).number ≡ (hand v).number → SameRun (hand v) (f (hand v))
       → (f (hand v)).claimed ≡ (hand v).claimed → (f (hand v)).mine ≡ (hand v).mine ++ es → (f (hand v)).drafts ≡ [] → (f (hand v)).next_body ≡ (hand v).next_body → (f (hand v)).open_unit ≡ None → Shut l 1 0 es v w
@@ -65,7 +65,7 @@ module _ (l : Limits) where
     before = v.seen ++ g.between;
     begins = (g.between, refl);
     ends = g.seen;
-    run = let d : (hand w).next ≡ (hand v).next = ap (λ (a : Hand). a.next) x ∙ run.0 in let e : (hand w).left ≡ (hand v).left = ap (λ (a : Hand). a.left) x ∙ run.1 in (omega arith, omega arith, ap (λ (a : Hand). a.blocks) x ∙ run.2);
+    run = let d : (hand w).next ≡ (hand v).next = ap (λ (a : Hand). a.next) x ∙ run.0 in let e : (hand w).left ≡ (hand v).left = ap (λ (a : Hand). a.left) x ∙ run.1 in (omega arith, omega arith, ap (λ (a : Hand). a.blocks) x ∙ run.2, (ap (λ (a : Hand). a.passed_from) x ∙ run.3.0, ap (λ (a : Hand). a.passed_to) x ∙ run.3.1));
     claimed = ap (λ (a : Hand). a.claimed) x ∙ claimed;
     mine = ap (λ (a : Hand). a.mine) x ∙ mine;
     drafts = ap (λ (a : Hand). a.drafts) x ∙ drafts;
@@ -74,10 +74,10 @@ module _ (l : Limits) where
   }
 
   pub shut_hit : (kind : StepKind) (e : Event) (v w : View) → looks kind ≡ true → (s : Steady l v) → Grew kind (with_end e) (e ∷ []) v w → Shut l 1 0 (e ∷ []) v w
-  shut_hit kind e v w d s g = shut_by kind (with_end e) (e ∷ []) v w d s g (grew_steady l kind (with_end e) (e ∷ []) v w s g refl) refl refl (refl, refl, refl) refl refl refl refl refl
+  shut_hit kind e v w d s g = shut_by kind (with_end e) (e ∷ []) v w d s g (grew_steady l kind (with_end e) (e ∷ []) v w s g refl) refl refl (refl, refl, refl, (refl, refl)) refl refl refl refl refl
 
   pub shut_miss : (kind : StepKind) (v w : View) → looks kind ≡ true → (s : Steady l v) → Grew kind with_lost [] v w → Shut l 1 0 [] v w
-  shut_miss kind v w d s g = shut_by kind with_lost [] v w d s g (grew_steady l kind with_lost [] v w s g refl) refl refl (refl, refl, refl) refl (sym (append_nil (hand v).mine)) refl refl refl
+  shut_miss kind v w d s g = shut_by kind with_lost [] v w d s g (grew_steady l kind with_lost [] v w s g refl) refl refl (refl, refl, refl, (refl, refl)) refl (sym (append_nil (hand v).mine)) refl refl refl
 
 pub other_abort : (c u : ℕ) (h : List Event) → end_of h u ≡ Some Aborted → ¬ (In (Abort c u) h) → EndedByOther c u h
 other_abort c u h lost not = let t = aborted_by h u lost in (t.0, t.1, λ same. not (subst (λ z. In (Abort z u) h) same t.1))
@@ -106,6 +106,7 @@ shut_rests l n k es seat next number run used run' task same t none more less st
   used_below = subst (λ (z : Limits). used ≤ z.units) (same ∙ lim) r.used_below;
   claims = ap claims_in t.mine ∙ (claims_append (hand (view_of seat)).mine es ∙ (let c = r.claims in omega arith));
   no_drafts = t.drafts;
+  cleared = cleared_later (view_of seat) w t.run.3 t.walk.knows r.cleared;
   blank = t.blank r.blank;
   open_is = t.open_unit;
   work = tt;
@@ -146,7 +147,7 @@ wrote_shut l xs es v w y wr sh = record {
   before = sh.before;
   begins = begins_trans v.seen w.seen sh.before (walked_begins l _ wr.marks v w wr.walk) sh.begins;
   ends = sh.ends;
-  run = let a = sh.run.0 in let b = wr.run.0 in let c = sh.run.1 in let d = wr.run.1 in (omega arith, omega arith, sh.run.2 ∙ wr.run.2);
+  run = let a = sh.run.0 in let b = wr.run.0 in let c = sh.run.1 in let d = wr.run.1 in (omega arith, omega arith, sh.run.2 ∙ wr.run.2, (sh.run.3.0 ∙ wr.run.3.0, sh.run.3.1 ∙ wr.run.3.1));
   claimed = sh.claimed ∙ wr.claimed;
   mine = sh.mine ∙ ap (λ z. z ++ es) wr.mine;
   drafts = sh.drafts;

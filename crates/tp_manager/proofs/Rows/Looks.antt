@@ -1,5 +1,6 @@
 -- What the words that were found say of a row.
-use Rattle.std.proofs.Common.{◌≡◌, ◌≢◌, ℕ, ◌+◌, ◌<◌, ◌≤◌, nat_lt, Bool, true, false, cond, Option, Some, None, List, [], ◌∷◌, slice_index, refl, sym, ◌∙◌, ap, subst, ⊎_elim, arith}
+use Rattle.tp_model.proofs.WordProofs.{unended}
+use Rattle.std.proofs.Common.{◌≡◌, ◌≢◌, ℕ, ◌+◌, ◌<◌, ◌≤◌, nat_lt, Bool, true, false, cond, Option, Some, None, List, [], ◌∷◌, slice_index, refl, sym, ◌∙◌, ap, subst, inl, inr, ⊎_elim, arith}
 use Rattle.std.proofs.lemmas.Bool.Decides.{nat_tests}
 use mathlib.Core.List.{IsPrefix}
 use Rattle.tp_model.specs.declared.types.Element.{Element}
@@ -7,7 +8,7 @@ use Rattle.tp_model.specs.declared.types.Limits.{Limits}
 use Rattle.tp_model.specs.declared.types.Status.TheVariants.{Waiting, Held, Consumed, Parked}
 use Rattle.tp_model.specs.declared.event.Event.{Event}
 use Rattle.tp_model.specs.declared.trace.StepKind.{StepKind}
-use Rattle.tp_model.specs.History.{IsUnborn, element_of, UnitEnd, Committed, Aborted, end_of, status_of}
+use Rattle.tp_model.specs.History.{IsUnborn, element_of, UnitEnd, Committed, Aborted, end_of, status_of, UnitClaim, claim_of}
 use Rattle.tp_model.specs.Words.{TakenWord, claim_word, taken_status}
 use Rattle.tp_model.specs.Steps.{IsArea, rows_of, units_of, IsLegal}
 use Rattle.tp_model.proofs.Areas.{one_area}
@@ -19,13 +20,13 @@ use Rattle.tp_words.specs.declared.words.Head.TheVariants.{Empty, Filled}
 use Rattle.tp_words.specs.declared.words.Claim.{Claim}
 use Rattle.tp_words.specs.declared.words.Claim.TheVariants as claims
 use Rattle.tp_words.specs.Words.{claim_value, head_of}
-use Rattle.tp_rule.specs.Steps.{Grew}
+use Rattle.tp_rule.specs.Steps.{Grew, IsAreaBy, MayBeBorn}
 use Rattle.tp_rule.specs.declared.view.Hand.{Hand}
 use Rattle.tp_rule.specs.declared.view.Known.TheVariants.{RowHead}
 use Rattle.tp_rule.specs.declared.view.View.{View}
 use Rattle.tp_manager.specs.declared.row_reads.Birth.{Birth}
 use Rattle.tp_manager.specs.Looks.{GoesOn, HeadFound, IsBornAs}
-use Rattle.tp_rule.proofs.Births.{by_unit}
+use Rattle.tp_rule.proofs.Births.{by_unit, claimed_inside}
 
 -- after the last row of its part or spare block a scan goes on
 pub goes_end : (l k : Limits) → l ≡ k → (i next : ℕ) → (first : ℕ) × IsArea k first next × (first ≤ i) × (i < next) → next ≤ rows_of k → GoesOn l i next
@@ -34,6 +35,16 @@ goes_end l k same i next t inside = subst (λ (z : Limits). GoesOn z i next) (sy
   inside = inside;
   area = λ first end other low high. let one = (one_area k t.0 next first end i t.1 other t.2 t.3 low high).1 in omega arith;
 }
+
+-- where an element may be born in a row, it may in the later ones of its area
+pub ahead_on : (l : Limits) (h : List Event) (i j first end : ℕ) → IsArea l first end → first ≤ i → i ≤ j → j < end → MayBeBorn l h i → MayBeBorn l h j
+ahead_on l h i j first end area low later high may = record {
+  none = λ from to k other from_low past below. let one = one_area l first end from to j area other (omega arith) high from_low (omega arith) in let same_first = one.0 in let same_end = one.1 in may.none from to k other (omega arith) (omega arith) below;
+  last = λ c from to x by from_low below made. let one = one_area l first end from to j area (area_by l h c from to by) (omega arith) high from_low below in let same_first = one.0 in let same_end = one.1 in may.last c from to x by (omega arith) (omega arith) made;
+}
+  where
+    area_by : (l : Limits) (h : List Event) (c from to : ℕ) → IsAreaBy l h c from to → IsArea l from to
+    area_by l h c from to by = ⊎_elim (λ part. inl (c, part)) (λ t. inr (t.0, t.1)) by
 
 -- births
 
@@ -58,6 +69,14 @@ module _ (l : Limits) where
 
   pub none_outside : (v : View) (i s r u : ℕ) (b : Option ℕ) (head : Head) → head ≡ Filled s r b → b ≡ Some u → HeadFound v i head → IsLegal l v.seen → ¬ (u < units_of l) → IsUnborn v.seen i
   none_outside v i s r u b head is q t legal out = unborn_if v.seen i (λ x p. out (by_unit l v.seen legal i x u p (same_by x s r u b head is (t.born x p) q)).inside)
+
+  -- a unit that isn't one of the table's has not ended
+  pub unended_outside : (h : List Event) (u : ℕ) → IsLegal l h → ¬ (u < units_of l) → end_of h u ≡ None
+  unended_outside h u legal out = unended l h legal u (go (claim_of h u) refl)
+    where
+      go : (o : Option UnitClaim) → claim_of h u ≡ o → claim_of h u ≡ None
+      go None is = is
+      go (Some t) is = absurd (out (claimed_inside l h u t legal is))
 
   -- the unit has made no element i
   abbrev pub MadeNot : List Event → ℕ → ℕ → Type 0

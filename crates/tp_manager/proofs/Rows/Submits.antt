@@ -14,7 +14,7 @@ use Rattle.tp_model.specs.Steps.{IsLegal, Step}
 use Rattle.tp_model.proofs.Histories.{legal_at}
 use Rattle.tp_model.proofs.Bridges.{new_birth}
 use Rattle.tp_rule.specs.Views.{SeatShown, hand, next_row, view_of}
-use Rattle.tp_rule.specs.Steps.{Bodied, Drafts, Publishes, birth, bodied, drafted, next_element, noted, stored, unchanged, with_birth, with_body, with_draft}
+use Rattle.tp_rule.specs.Steps.{Bodied, Drafts, Publishes, birth, bodied, drafted, next_element, noted, stored, unchanged, with_birth, with_body, with_draft, HasCleared}
 use Rattle.tp_rule.proofs.Bodied.{bodied_seen}
 use Rattle.tp_rule.specs.declared.view.Hand.{Hand}
 use Rattle.tp_rule.specs.declared.view.View.{View}
@@ -28,7 +28,7 @@ use Rattle.tp_manager.specs.Bounds.{body_steps, next_steps}
 use Rattle.tp_manager.specs.Calls.{Adds, claims_in}
 use Rattle.tp_manager.specs.Shown.{PassShown, Spot, shown}
 use Rattle.tp_manager.proofs.Calls.CallSteps.{grew_steady, grew_hand, grew_walked, walked_begins, walked_few, walked_none, walked_then}
-use Rattle.tp_manager.proofs.Calls.Passes.{claims_append, done_walked, steady_at, task_later, drawn_later}
+use Rattle.tp_manager.proofs.Calls.Passes.{claims_append, done_walked, steady_at, task_later, drawn_later, cleared_later}
 
 -- a run whose first row is used
 pub run_on : (l : Limits) (h : List Event) (c : ℕ) (blocks : List ℕ) (next left : ℕ) → 0 < left → IsRun l h c blocks next left → IsRun l h c blocks (next + 1) (left - 1)
@@ -97,6 +97,10 @@ module _ (l : Limits) (body : List ℕ) (v a : View) (s : Steady l v) (whole : B
   pub body_seen : a.seen ≡ v.seen
   body_seen = bodied_seen whole.stores body v a whole.view
 
+-- they leave what is known of rows that the pass left unused
+pub body_cleared : (l : Limits) (body : List ℕ) (v a : View) → Steady l v → Bodied body v a → HasCleared v → HasCleared a
+body_cleared l body v a s whole = cleared_later v a (ap (λ (z : Hand). z.passed_from) whole.hand_is, ap (λ (z : Hand). z.passed_to) whole.hand_is) (body_walked l body v a s whole).knows
+
 -- a draft of unit u: its body, and then its head
 module _ (l : Limits) (body : List ℕ) (stage root u : ℕ) (v a w : View) (s : Steady l v) (whole : Bodied body v a) (head : Drafts a stage root u w) (room : 0 < (hand v).left) where
   abbrev pub D : Element
@@ -119,7 +123,7 @@ module _ (l : Limits) (body : List ℕ) (stage root u : ℕ) (v a w : View) (s :
     marks = body_marks l body v a s whole ++ record { kind = kinds.DraftStore; seen = a.seen } ∷ [];
     walk = walked_then l body_steps 1 _ _ v a w (body_walked l body v a s whole) (stored_walked l (with_draft D) a w (body_steady l body v a s whole) head refl refl draft_steady);
     seen = ap (λ (z : View). z.seen) head ∙ body_seen l body v a s whole;
-    run = (ap (λ (z : Hand). z.next) h, (let rest : (hand w).left ≡ (hand v).left - 1 = ap (λ (z : Hand). z.left) h in omega arith), ap (λ (z : Hand). z.blocks) h);
+    run = (ap (λ (z : Hand). z.next) h, (let rest : (hand w).left ≡ (hand v).left - 1 = ap (λ (z : Hand). z.left) h in omega arith), ap (λ (z : Hand). z.blocks) h, (ap (λ (z : Hand). z.passed_from) h, ap (λ (z : Hand). z.passed_to) h));
     claimed = ap (λ (z : Hand). z.claimed) h;
     mine = ap (λ (z : Hand). z.mine) h;
     drafts = ap (λ (z : Hand). z.drafts) h;
@@ -188,6 +192,7 @@ made_rests l body stage seat next a same s whole g room number run used task r =
       used_below = subst (λ (z : Limits). used ≤ z.units) (same ∙ lim) r.used_below;
       claims = ap (λ (z : Hand). claims_in z.mine) h ∙ (claims_append (hand v).mine (birth a stage ∷ []) ∙ (let c = r.claims in omega arith));
       no_drafts = ap (λ (z : Hand). z.drafts) h;
+      cleared = cleared_later v w (ap (λ (z : Hand). z.passed_from) h, ap (λ (z : Hand). z.passed_to) h) walk.knows r.cleared;
       blank = ap (λ (z : Hand). z.next_body) h;
       open_is = ap (λ (z : Hand). z.open_unit) h ∙ r.open_is;
       work = task_later v.seen w.seen number task (walked_begins l next_steps _ v w walk) r.work;

@@ -17,7 +17,7 @@ use Rattle.tp_manager.specs.CallSteps.{Steady}
 use Rattle.tp_manager.specs.BetweenCalls.{Rests, unit_in}
 use Rattle.tp_manager.specs.Drafts.{Shut}
 use Rattle.tp_manager.proofs.Calls.CallSteps.{follows, climbs_same, remembers}
-use Rattle.tp_manager.proofs.Calls.Passes.{done_walked, steady_at}
+use Rattle.tp_manager.proofs.Calls.Passes.{done_walked, steady_at, cleared_later}
 use Rattle.tp_manager.proofs.Rows.Drafts.{units_few, own_work, own_count, own_first, wrote_shut, committed_answer, task_claimed, shut_done, shut_hit, shut_miss, shut_rests, shut_closes, shut_uses, shut_loses}
 use Rattle.tp_manager.proofs.manager.Manager.close.Goals as goal
 use Rattle.tp_manager.proofs.manager.Manager.close.Goals.{In-Some, After-write_all, then-count-eq0, else-count-eq0}
@@ -114,3 +114,6 @@ returns-else-commit_exchange-clause-answer c = let at = goal.at.returns-else-com
       inl (shut_uses (spot c.pass.inside.seat.table c.pass.inside.lows c.pass.inside.run.drawn c.pass.inside.from) (spot c.commit_exchange.new.seat.table c.pass.inside.lows c.pass.inside.run.drawn c.pass.inside.from) v y c.args.pass.now c.pass.view_is l _ _ _ sh),
       shut_loses (spot c.pass.inside.seat.table c.pass.inside.lows c.pass.inside.run.drawn c.pass.inside.from) (spot c.commit_exchange.new.seat.table c.pass.inside.lows c.pass.inside.run.drawn c.pass.inside.from) v y c.args.pass.now c.pass.view_is l _ _ u sh miss.1 (subst (λ k. ¬ (In (Abort k u) y.seen)) c.write_all.ensures.wrote.walk.number miss.2),
     )
+
+pub commit_exchange-requires-clause-cleared : goal.commit_exchange-requires-clause-cleared
+commit_exchange-requires-clause-cleared c = let w = c.write_all.ensures.wrote in cleared_later (view_of c.pass.inside.seat) (view_of c.write_all.new.seat) w.run.3 w.walk.knows c.pass.invariant.0.cleared

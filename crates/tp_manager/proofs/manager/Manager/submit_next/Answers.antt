@@ -11,7 +11,7 @@ use Rattle.tp_manager.specs.Bounds.{next_steps}
 use Rattle.tp_manager.specs.CallSteps.{Steady}
 use Rattle.tp_manager.proofs.Calls.CallSteps.{follows, climbs_same, remembers}
 use Rattle.tp_manager.proofs.Calls.Passes.{steady_at}
-use Rattle.tp_manager.proofs.Rows.Submits.{made_adds, made_request, made_rests, made_walked}
+use Rattle.tp_manager.proofs.Rows.Submits.{body_cleared, made_adds, made_request, made_rests, made_walked}
 use Rattle.tp_manager.proofs.manager.Manager.submit_next.Goals as goal
 use Rattle.tp_manager.proofs.manager.Manager.submit_next.Goals.{After-publish}
 
@@ -52,3 +52,8 @@ returns-clause-answer c = let at = (goal.at.returns-clause-answer c).After-publi
     blocks = search rules;
   };
 }
+
+pub publish-requires-clause-cleared : goal.publish-requires-clause-cleared
+publish-requires-clause-cleared c = let l : Limits = table_limits c.self.inside.shared.words in
+    let lim : (view_of c.pass.inside.seat).limits ≡ l = ap (λ (p : PassShown). p.limits) c.pass.view_is ∙ (c.requires.own.1 ∙ (sym (ap (λ (m : ManagerShown). m.limits) c.self.view_is) ∙ sym c.self.inside.shared.same)) in
+    body_cleared l c.args.body (view_of c.pass.inside.seat) (view_of c.store_draft_body.new.seat) (steady_at _ _ _ lim c.pass.invariant.0.steady) c.store_draft_body.ensures.view c.pass.invariant.0.cleared

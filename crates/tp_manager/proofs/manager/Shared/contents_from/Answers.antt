@@ -5,20 +5,25 @@ use Rattle.tp_model.specs.History.{Committed, element_of, end_of}
 use Rattle.tp_words.specs.Words.{head_of, unit_value}
 use Rattle.tp_rule.specs.Tables.{table_limits}
 use Rattle.tp_rule.specs.Views.{seen_by, view_of}
-use Rattle.tp_rule.specs.Steps.{Knows}
+use Rattle.tp_rule.specs.Steps.{Knows, MayBeBorn}
 use Rattle.tp_rule.specs.declared.view.Known.TheVariants.{RowHead}
 use Rattle.tp_words.specs.declared.words.Head.TheVariants.{Filled}
 use Rattle.tp_manager.specs.CallSteps.{Acted}
 use Rattle.tp_manager.proofs.Calls.CallSteps.{acted_by, looked, looked_none, looked_few}
-use Rattle.tp_manager.proofs.Rows.Looks.{head_now, none_outside, none_unit, there_unit}
+use Rattle.tp_manager.proofs.Rows.Looks.{head_now, none_outside, none_unit, there_unit, unended_outside}
 use Rattle.tp_manager.proofs.manager.Shared.contents_from.Goals as goal
-use Rattle.tp_manager.proofs.manager.Shared.contents_from.Goals.{After-load_unit, In-Committed, then-row-first-via-then-row-first, then-row-first-via-else-row-first+then-row-first-2}
+use Rattle.tp_manager.proofs.manager.Shared.contents_from.Goals.{After-load_unit, In-Committed}
 
 one : (c : After-load_unit) → Acted (table_limits c.args.self.now.words) 1 (view_of c.args.seat.now) (view_of c.load_unit.new.seat)
 one c = acted_by _ kinds.Load _ _ c.requires.steady.steady refl c.load_unit.ensures.grew
 
 now : (c : After-load_unit) → (x : Element) → element_of (seen_by c.load_unit.new.seat) c.args.row ≡ Some x → c.args.head ≡ head_of x
 now c = head_now kinds.Load _ _ _ _ c.args.row c.in-Filled.stage c.in-Filled.root c.in-Filled.by c.args.head c.requires.told c.load_unit.ensures.grew c.in-Filled.is
+
+-- the head is known afterwards
+still_known : (c : After-load_unit) → Knows (view_of c.load_unit.new.seat) (RowHead c.args.row (Filled c.in-Filled.stage c.in-Filled.root (Some c.in-Some.unit)))
+still_known c = subst (λ z. Knows (view_of c.load_unit.new.seat) (RowHead c.args.row z)) (c.in-Filled.is ∙ ap (λ b. Filled c.in-Filled.stage c.in-Filled.root b) c.in-Some.is)
+    (c.load_unit.ensures.grew.knows (RowHead c.args.row c.args.head) c.requires.told.knows)
 
 ended : (c : In-Committed) → end_of (seen_by c.load_unit.new.seat) c.in-Some.unit ≡ Some (Committed c.in-Committed.first c.in-Committed.count)
 ended c = sym c.load_unit.ensures.end ∙ ap unit_value c.in-Committed.is
@@ -30,16 +35,22 @@ pub returns-then-not-is_unit-clause-looked : goal.returns-then-not-is_unit-claus
 returns-then-not-is_unit-clause-looked c = looked_few _ 0 1 _ _ (omega arith) (looked_none _ _ c.requires.steady.steady)
 
 pub returns-then-not-is_unit-clause-told : goal.returns-then-not-is_unit-clause-told
-returns-then-not-is_unit-clause-told c = let a = c.in-Filled in
-    none_outside (table_limits c.args.self.now.words) (view_of c.args.seat.now) c.args.row a.stage a.root c.in-Some.unit a.by c.args.head a.is c.in-Some.is c.requires.told c.requires.steady.steady.shows.legal (c.is_unit.ensures.no c.if-not-is_unit.true)
+returns-then-not-is_unit-clause-told c = let a = c.in-Filled in let legal = c.requires.steady.steady.shows.legal in (
+  none_outside (table_limits c.args.self.now.words) (view_of c.args.seat.now) c.args.row a.stage a.root c.in-Some.unit a.by c.args.head a.is c.in-Some.is c.requires.told legal (c.is_unit.ensures.no c.if-not-is_unit.true),
+  λ some full. c.requires.told.ahead a.stage a.root c.in-Some.unit (a.is ∙ ap (λ b. Filled a.stage a.root b) c.in-Some.is)
+      (unended_outside (table_limits c.args.self.now.words) (seen_by c.args.seat.now) c.in-Some.unit legal (c.is_unit.ensures.no c.if-not-is_unit.true)),
+)
 
 pub returns-in-Undecided-clause-looked : goal.returns-in-Undecided-clause-looked
 returns-in-Undecided-clause-looked c = looked _ 1 _ _ (one (goal.at.returns-in-Undecided-clause-looked c).After-load_unit)
 
 pub returns-in-Undecided-clause-told : goal.returns-in-Undecided-clause-told
-returns-in-Undecided-clause-told c = let a = c.in-Filled in let o = (goal.at.returns-in-Undecided-clause-told c).After-load_unit in
-    none_unit (table_limits c.args.self.now.words) (seen_by c.load_unit.new.seat) c.args.row a.stage a.root c.in-Some.unit a.by c.args.head a.is c.in-Some.is (now o) (one o).walk.steady.shows.legal
-    (λ f m e low high. let none : end_of (seen_by c.load_unit.new.seat) c.in-Some.unit ≡ None = sym c.load_unit.ensures.end ∙ ap unit_value c.in-Undecided.is in absurd cc)
+returns-in-Undecided-clause-told c = let a = c.in-Filled in let o = (goal.at.returns-in-Undecided-clause-told c).After-load_unit in let w = view_of c.load_unit.new.seat in
+    let none : end_of w.seen c.in-Some.unit ≡ None = sym c.load_unit.ensures.end ∙ ap unit_value c.in-Undecided.is in (
+      none_unit (table_limits c.args.self.now.words) w.seen c.args.row a.stage a.root c.in-Some.unit a.by c.args.head a.is c.in-Some.is (now o) (one o).walk.steady.shows.legal (λ f m e low high. absurd cc),
+      λ some full. subst (λ l. MayBeBorn l w.seen c.args.row) (c.requires.steady.steady.pass.1 ∙ sym (one o).walk.steady.pass.1)
+          (c.load_unit.ensures.grew.ahead c.args.row a.stage a.root c.in-Some.unit (still_known o) none),
+    )
 
 pub returns-in-Aborted-clause-looked : goal.returns-in-Aborted-clause-looked
 returns-in-Aborted-clause-looked c = looked _ 1 _ _ (one (goal.at.returns-in-Aborted-clause-looked c).After-load_unit)
@@ -52,25 +63,17 @@ returns-in-Aborted-clause-told c = let a = c.in-Filled in let o = (goal.at.retur
     a.stage,
     a.root,
     c.in-Some.unit,
-    subst (λ z. Knows (view_of c.load_unit.new.seat) (RowHead c.args.row z)) (a.is ∙ ap (λ b. Filled a.stage a.root b) c.in-Some.is) (c.load_unit.ensures.grew.knows (RowHead c.args.row c.args.head) c.requires.told.knows),
+    still_known o,
     sym c.load_unit.ensures.end ∙ ap unit_value c.in-Aborted.is,
   ),
 )
 
-pub returns-then-row-first-clause-looked : goal.returns-then-row-first-clause-looked
-returns-then-row-first-clause-looked c = looked _ 1 _ _ (one (goal.at.returns-then-row-first-clause-looked c).After-load_unit)
+pub returns-in-Committed-clause-looked : goal.returns-in-Committed-clause-looked
+returns-in-Committed-clause-looked c = looked _ 1 _ _ (one (goal.at.returns-in-Committed-clause-looked c).After-load_unit)
 
-pub returns-then-row-first-clause-told : goal.returns-then-row-first-clause-told
-returns-then-row-first-clause-told c = let at = goal.at.returns-then-row-first-clause-told c in let a = c.in-Filled in let o = at.After-load_unit in let end_is = ended at.In-Committed in
-    none_unit (table_limits c.args.self.now.words) (seen_by c.load_unit.new.seat) c.args.row a.stage a.root c.in-Some.unit a.by c.args.head a.is c.in-Some.is (now o) (one o).walk.steady.shows.legal
-    (λ f m e low high. let same : f ≡ c.in-Committed.first = cc in let count : m ≡ c.in-Committed.count = cc in
-    elim c.then-row-first.branch [ then-row-first-via-then-row-first w ↦ (let less = w.if-row-first.true in absurd (omega arith)) | then-row-first-via-else-row-first+then-row-first-2 w ↦ (let less = w.if-row-first.false in let more = w.if-row-first-2.true in absurd (omega arith)) ])
-
-pub returns-else-row-first-2-clause-looked : goal.returns-else-row-first-2-clause-looked
-returns-else-row-first-2-clause-looked c = looked _ 1 _ _ (one (goal.at.returns-else-row-first-2-clause-looked c).After-load_unit)
-
-pub returns-else-row-first-2-clause-told : goal.returns-else-row-first-2-clause-told
-returns-else-row-first-2-clause-told c = let at = goal.at.returns-else-row-first-2-clause-told c in let a = c.in-Filled in let low = c.if-row-first.false in let high = c.if-row-first-2.false in (
-  there_unit (table_limits c.args.self.now.words) (seen_by c.load_unit.new.seat) c.args.row c.in-Some.unit c.in-Committed.first c.in-Committed.count a.stage a.root a.by c.args.head (one at.After-load_unit).walk.steady.shows.legal (ended at.In-Committed) (omega arith) (omega arith) a.is (now at.After-load_unit),
-  a.is,
-)
+pub returns-in-Committed-clause-told : goal.returns-in-Committed-clause-told
+returns-in-Committed-clause-told c = let o = (goal.at.returns-in-Committed-clause-told c).After-load_unit in let a = c.in-Filled in let end_is = ended (goal.at.returns-in-Committed-clause-told c).In-Committed in
+    let place = c.load_unit.ensures.grew.output c.args.row a.stage a.root c.in-Some.unit c.in-Committed.first c.in-Committed.count (still_known o) end_is in (
+      there_unit (table_limits c.args.self.now.words) (seen_by c.load_unit.new.seat) c.args.row c.in-Some.unit c.in-Committed.first c.in-Committed.count a.stage a.root a.by c.args.head (one o).walk.steady.shows.legal end_is place.0 place.1 a.is (now o),
+      a.is,
+    )

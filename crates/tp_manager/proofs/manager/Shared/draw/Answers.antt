@@ -1,3 +1,4 @@
+use Rattle.tp_manager.proofs.Claims.Spares.{cleared_tried}
 use Rattle.std.proofs.Common.{◌≡◌, ◌+◌, ◌-◌, ap, sym, ◌∙◌, arith, rules, refl}
 use Rattle.tp_model.specs.declared.types.Limits.{Limits}
 use Rattle.tp_model.specs.Steps.{block_first}
@@ -35,3 +36,6 @@ loop-run-preserved c = let l : Limits = table_limits c.args.self.now.words in le
       drawn = t.1;
       tried = tried_few l ((b - c.args.run.now.drawn) + 1) (n - c.args.run.now.drawn) _ w (omega arith) (tried_then l (b - c.args.run.now.drawn) 1 _ v w i.tried t.0);
     }
+
+pub draw-requires-clause-cleared : goal.draw-requires-clause-cleared
+draw-requires-clause-cleared c = cleared_tried (table_limits c.args.self.now.words) _ (view_of c.args.seat.now) (view_of c.loop-run.seat) c.loop-run.invariant.tried c.requires.cleared

@@ -69,7 +69,7 @@ returns-in-Nothing-clause-acted c = acted_few _ 2 _ _ _ (omega arith) (two (goal
 
 pub returns-in-Nothing-clause-no : goal.returns-in-Nothing-clause-no
 returns-in-Nothing-clause-no c = λ _. let l : Limits = table_limits c.args.self.now.words in let b = c.contents_from.ensures.looked in
-    passed (goal.at.returns-in-Nothing-clause-no c).After-head_on-head 1 (view_of c.contents_from.new.seat) b (omega arith) (over_unborn l c.args.row.now _ (seen_by c.contents_from.new.seat) (looked_begins l _ _ _ b) c.in-Nothing.ensures.told)
+    passed (goal.at.returns-in-Nothing-clause-no c).After-head_on-head 1 (view_of c.contents_from.new.seat) b (omega arith) (over_unborn l c.args.row.now _ (seen_by c.contents_from.new.seat) (looked_begins l _ _ _ b) c.in-Nothing.ensures.told.0)
 
 pub returns-in-Nothing-clause-low : goal.returns-in-Nothing-clause-low
 returns-in-Nothing-clause-low c = still_low (goal.at.returns-in-Nothing-clause-low c).After-head_on-head (view_of c.contents_from.new.seat)

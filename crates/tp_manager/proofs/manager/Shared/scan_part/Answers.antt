@@ -1,3 +1,4 @@
+use Rattle.tp_rule.specs.Steps.{MayBeBorn}
 use Rattle.std.proofs.Common.{inr, inl, ◌+◌, ◌-◌, ◌*◌, ℕ, slice_index, arith, subst, sym}
 use Rattle.tp_model.specs.declared.types.Limits.{Limits}
 use Rattle.tp_rule.specs.Tables.{table_limits}
@@ -54,7 +55,7 @@ returns-then-is_bare_to-clause-rests c = let l : Limits = table_limits c.args.se
     let e = c.requires.first.0 in
     let inside = lows_inside l c.args.lows.now c.args.stage (view_of c.args.seat.now) c.requires.steady.steady.pass.1 c.requires.steady.steady.known c.requires.remembers c.args.part in
     dite (dec_le (low + 1) l.rows)
-    (λ less. inr (w.seen, subst (λ z. IsPrefix z w.seen) (sym (steps_in l 1 _ _ w bare.0.walk)) bare.0.walk.closes, begins_refl w.seen, use_unborn l c.args.stage (c.args.part * l.rows + low) w.seen (bare.1 (c.args.part * l.rows + low) (omega arith) (omega arith))))
+    (λ less. inr (w.seen, subst (λ z. IsPrefix z w.seen) (sym (steps_in l 1 _ _ w bare.0.walk)) bare.0.walk.closes, begins_refl w.seen, use_unborn l c.args.stage (c.args.part * l.rows + low) w.seen (bare.1 (c.args.part * l.rows + low) (omega arith) (omega arith)) (subst (MayBeBorn l w.seen) (omega arith) (c.is_bare_to.ensures.ahead c.if-is_bare_to.true))))
     (λ all. inl (omega arith))
 
 pub returns-clause-rests : goal.returns-clause-rests

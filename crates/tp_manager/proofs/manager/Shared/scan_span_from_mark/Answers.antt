@@ -1,3 +1,4 @@
+use Rattle.tp_manager.proofs.Marks.Lows.{rises_at_then}
 use Rattle.std.proofs.Common.{◌≡◌, ◌⊎◌, ◌+◌, ◌-◌, ◌*◌, ◌<◌, ◌≤◌, ℕ, List, slice_index, inl, ⊎_elim, refl, sym, ap, subst, arith, rules, mul-le-mul_right}
 use Rattle.tp_model.specs.declared.types.Limits.{Limits}
 use Rattle.tp_model.specs.declared.trace.TraceEntry.{TraceEntry}
@@ -9,7 +10,7 @@ use Rattle.tp_rule.specs.declared.view.Known.TheVariants.{PartMark}
 use Rattle.tp_manager.specs.Bounds.{try_steps}
 use Rattle.tp_manager.specs.CallSteps.{Looked, Stepped}
 use Rattle.tp_manager.specs.BetweenCalls.{RemembersDone}
-use Rattle.tp_manager.specs.Marks.{Remembers, Rose}
+use Rattle.tp_manager.specs.Marks.{Remembers, Rose, RisesAt}
 use Rattle.tp_manager.specs.Scans.{EachRow, PassedBy}
 use Rattle.tp_manager.proofs.Calls.CallSteps.{remembers_kind, sought_few}
 use mathlib.Core.Logic.{dite}
@@ -201,3 +202,9 @@ returns-clause-few c = let l : Limits = table_limits c.args.self.now.words in le
     made_few ((1 + k * s) + 1) _ v (view_of c.raise_low-2.new.seat) (omega arith)
     (made_then (1 + k * s) 1 v y (view_of c.raise_low-2.new.seat) (made_then 1 (k * s) v w y (made l 1 _ v w c.low_at-mark.ensures.acted.walk) (made l (k * s) _ w y (all_since at.After-loop-row).walk))
     (made l 1 _ y (view_of c.raise_low-2.new.seat) c.raise_low-2.ensures.looked.walk))
+
+pub returns-in-Some-clause-lows : goal.returns-in-Some-clause-lows
+returns-in-Some-clause-lows c = rises_at_then c.args.part c.args.lows.now c.low_at-mark.new.lows c.raise_low.new.lows c.low_at-mark.ensures.lows (subst (λ lows. RisesAt c.args.part lows c.raise_low.new.lows) c.loop-row.invariant.lows c.raise_low.ensures.lows)
+
+pub returns-clause-lows : goal.returns-clause-lows
+returns-clause-lows c = rises_at_then c.args.part c.args.lows.now c.low_at-mark.new.lows c.raise_low-2.new.lows c.low_at-mark.ensures.lows (subst (λ lows. RisesAt c.args.part lows c.raise_low-2.new.lows) c.loop-row.invariant.lows c.raise_low-2.ensures.lows)

@@ -1,3 +1,4 @@
+use Rattle.tp_rule.specs.Steps.{MayBeBorn}
 use Rattle.std.proofs.Common.{nat_eq, true, ◌≡◌, ◌+◌, ◌<◌, ◌≤◌, ℕ, List, sym, ◌∙◌, inl, inr, refl, ⊎_elim, arith, subst}
 use Rattle.tp_model.specs.declared.event.Event.{Event}
 use Rattle.tp_model.specs.declared.types.Element.{Element}
@@ -83,7 +84,7 @@ returns-then-not-is_of_stage-clause-low c = let l : Limits = table_limits c.args
 
 pub returns-in-Nothing-clause-told : goal.returns-in-Nothing-clause-told
 returns-in-Nothing-clause-told c = let l : Limits = table_limits c.args.self.now.words in let h = seen_by c.contents_from.new.seat in let at = goal.at.returns-in-Nothing-clause-told c in let b = c.contents_from.ensures.looked in
-    passed at.After-head_on-head 1 (view_of c.contents_from.new.seat) b (omega arith) (pass_unborn l c.args.stage c.args.row.now _ h h (looked_begins l _ _ _ b) c.in-Nothing.ensures.told)
+    passed at.After-head_on-head 1 (view_of c.contents_from.new.seat) b (omega arith) (pass_unborn l c.args.stage c.args.row.now _ h h (looked_begins l _ _ _ b) c.in-Nothing.ensures.told.0)
 
 pub returns-in-Nothing-clause-low : goal.returns-in-Nothing-clause-low
 returns-in-Nothing-clause-low c = still_low (goal.at.returns-in-Nothing-clause-low c).After-head_on-head (view_of c.contents_from.new.seat)
@@ -176,7 +177,13 @@ on c m y rest = let l : Limits = table_limits c.args.self.now.words in (looked_b
 -- nothing is born between the row and the next
 gap : (c : After-head_on-head) (m : ℕ) (y : View) → Looked (table_limits c.args.self.now.words) m (view_of c.head_on-head.new.seat) y → (now : ℕ) → c.args.row.now < now → now < c.head_on-head.new.row
     → WasOfUse (table_limits c.args.self.now.words) c.args.stage now (seen_by c.args.seat.now) y.seen
-gap c m y rest now past less = let t = on c m y rest in (seen_by c.head_on-head.new.seat, t.0, t.1, use_unborn (table_limits c.args.self.now.words) c.args.stage now (seen_by c.head_on-head.new.seat) (c.head_on-head.ensures.none now past less))
+gap c m y rest now past less = let t = on c m y rest in (seen_by c.head_on-head.new.seat, t.0, t.1, use_unborn (table_limits c.args.self.now.words) c.args.stage now (seen_by c.head_on-head.new.seat) (c.head_on-head.ensures.none now past less)
+    (c.head_on-head.ensures.ahead now (omega arith) less (λ same. absurd (omega arith))))
+
+-- the element is there as its claim is found
+there_now : (c : After-stand_of) → Looked (table_limits c.args.self.now.words) 2 (view_of c.head_on-head.new.seat) (view_of c.load_claim-claim.new.seat) → IsBornAs (seen_by c.load_claim-claim.new.seat) c.args.row.now c.in-Holds.birth
+there_now c a = there_later (seen_by c.contents_from.new.seat) (seen_by c.load_claim-claim.new.seat) c.args.row.now c.in-Holds.birth
+    (looked_begins _ 1 _ _ (looked _ 1 _ _ (acted_by _ kinds.Load _ _ c.contents_from.ensures.looked.walk.steady refl c.load_claim-claim.ensures.grew))) c.in-Holds.ensures.told.0
 
 -- the row's own element was of use
 own : (c : After-stand_of) → Looked (table_limits c.args.self.now.words) 2 (view_of c.head_on-head.new.seat) (view_of c.load_claim-claim.new.seat) → c.in-Holds.birth.stage ≡ c.args.stage
@@ -184,19 +191,20 @@ own : (c : After-stand_of) → Looked (table_limits c.args.self.now.words) 2 (vi
     → WasOfUse (table_limits c.args.self.now.words) c.args.stage c.args.row.now (seen_by c.args.seat.now) y.seen
 own c a staged was y after = let l : Limits = table_limits c.args.self.now.words in let first = looked_begins l 1 _ _ (looked l 1 _ _ c.head_on-head.ensures.acted) in
     use_later l c.args.stage c.args.row.now (seen_by c.args.seat.now) (seen_by c.load_claim-claim.new.seat) (seen_by c.stand_of.new.seat) y.seen (begins_trans _ _ _ first (looked_begins l 2 _ _ a)) after
-    (use_found l c.args.stage c.args.row.now (seen_by c.load_claim-claim.new.seat) (seen_by c.stand_of.new.seat) (seen_by c.stand_of.new.seat) c.in-Holds.birth (begins_refl _) (there c a) staged was)
+    (use_found l c.args.stage c.args.row.now (seen_by c.load_claim-claim.new.seat) (seen_by c.stand_of.new.seat) c.in-Holds.birth (there_now c a) staged was)
 
 pub returns-then-not-is_of_stage-clause-stays : goal.returns-then-not-is_of_stage-clause-stays
 returns-then-not-is_of_stage-clause-stays c = let l : Limits = table_limits c.args.self.now.words in let at = (goal.at.returns-then-not-is_of_stage-clause-stays c).After-head_on-head in let e = c.head_on-head.ensures in let y = view_of c.head_on-head.new.seat in
     let none = looked_none l y e.acted.walk.steady in let t = on at 0 y none in
     stays_by l c.args.stage c.args.low.now c.args.row.now c.past_other.result c.head_on-head.new.row (seen_by c.args.seat.now) y.seen c.requires.low (⊎_elim (λ same. inl same) (λ t. inr (t.0, t.1)) c.past_other.ensures.moves)
-    (λ here same. (y.seen, t.0, t.1, use_empty l c.args.stage c.args.row.now y.seen c.head_on-head.result e.told.born (λ full. let up = c.past_other.ensures.exact here full in absurd (omega arith))))
+    (λ here same. (y.seen, t.0, t.1, use_empty l c.args.stage c.args.row.now y.seen c.head_on-head.result e.told.born (λ empty. e.ahead c.args.row.now (omega arith) e.on.on (λ same. empty)) (λ full. let up = c.past_other.ensures.exact here full in absurd (omega arith))))
     (gap at 0 y none c.past_other.result)
 
 pub returns-in-Nothing-clause-stays : goal.returns-in-Nothing-clause-stays
 returns-in-Nothing-clause-stays c = let l : Limits = table_limits c.args.self.now.words in let at = (goal.at.returns-in-Nothing-clause-stays c).After-head_on-head in let y = view_of c.contents_from.new.seat in let b = c.contents_from.ensures.looked in let t = on at 1 y b in
     stays_by l c.args.stage c.args.low.now c.args.row.now c.args.low.now c.head_on-head.new.row (seen_by c.args.seat.now) y.seen c.requires.low (inl refl)
-    (λ _ _. (y.seen, begins_trans _ _ _ t.0 t.1, begins_refl y.seen, use_unborn l c.args.stage c.args.row.now y.seen c.in-Nothing.ensures.told)) (gap at 1 y b c.args.low.now)
+    (λ _ _. (y.seen, begins_trans _ _ _ t.0 t.1, begins_refl y.seen, use_unborn l c.args.stage c.args.row.now y.seen c.in-Nothing.ensures.told.0
+    (let full = c.is_of_stage.ensures.full c.if-not-is_of_stage.false in subst (λ k. MayBeBorn k y.seen c.args.row.now) b.walk.steady.pass.1 (c.in-Nothing.ensures.told.1 full.0 full.1)))) (gap at 1 y b c.args.low.now)
 
 pub returns-in-DeadDraft-clause-stays : goal.returns-in-DeadDraft-clause-stays
 returns-in-DeadDraft-clause-stays c = let l : Limits = table_limits c.args.self.now.words in let at = (goal.at.returns-in-DeadDraft-clause-stays c).After-head_on-head in let y = view_of c.contents_from.new.seat in
