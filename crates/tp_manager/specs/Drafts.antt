@@ -1,6 +1,6 @@
 -- The drafts that a pass stores, the rows that it draws for them, and the end of their unit. In each
 -- definition l are the table's limits, v is the view before, and w the view after.
-use Rattle.std.specs.Prelude.{◌≡◌, ℕ, ◌+◌, List, [], ◌++◌, length}
+use Rattle.std.specs.Prelude.{◌≡◌, ℕ, List, [], ◌++◌, length}
 use Rattle.std.specs.Prelude.{Some, None}
 use mathlib.Core.List.{IsPrefix}
 use Rattle.tp_model.specs.declared.types.Element.{Element}

@@ -1,20 +1,17 @@
 -- Where an element may be born yet: behind an empty head and behind a draft of an undecided unit its pass made nothing.
-use Rattle.std.proofs.Common.{◌≡◌, ◌⊎◌, ◌≢◌, ℕ, zero, suc, ◌+◌, ◌-◌, ◌*◌, ◌/◌, ◌<◌, ◌≤◌, List, get_or, sym, ◌∙◌, ap, subst, inl, inr, ⊎_elim, arith, Option, Some, None, refl, mul-zero}
+use Rattle.std.proofs.Common.{◌≡◌, ◌≢◌, ℕ, zero, suc, ◌+◌, ◌-◌, ◌*◌, ◌/◌, ◌<◌, ◌≤◌, List, get_or, sym, ◌∙◌, subst, inl, inr, ⊎_elim, arith, Some, None, refl, mul-zero}
 use mathlib.Core.Logic.{dite}
-use mathlib.Core.Option.{some}
-use lib.ListN.{get_elem?}
 use native.Mathlib.Decide.{dec_le}
 use Rattle.tp_model.specs.declared.event.Event.{Event}
 use Rattle.tp_model.specs.declared.types.Element.{Element}
 use Rattle.tp_model.specs.declared.types.Limits.{Limits}
-use Rattle.tp_model.specs.History.{Committed, In, births, end_of, pass_of}
+use Rattle.tp_model.specs.History.{Committed, In, births, end_of}
 use Rattle.tp_model.specs.Passes.{IsOwnArea}
 use Rattle.tp_model.specs.Steps.{IsArea, block_first, part_rows, rows_of}
 use Rattle.tp_model.proofs.Areas.{area_inside, one_area, own_area}
 use Rattle.tp_model.proofs.Bridges.{births_of}
 use Rattle.tp_words.proofs.PlaceLemmas.{block_area, part_area}
 use Rattle.tp_words.specs.Places.{head_place}
-use Rattle.tp_words.specs.Words.{pack_head}
 use Rattle.tp_words.specs.declared.words.Head.TheVariants.{Filled}
 use Rattle.tp_rule.specs.Rule.{AtSeat, HandHolds, NamesUnit, Rule, StillSo, drawn_in}
 use Rattle.tp_rule.specs.Steps.{IsAreaBy, Made, MayBeBorn}

@@ -12,7 +12,7 @@ use Rattle.tp_model.specs.declared.trace.StepKind.TheVariants as kinds
 use Rattle.tp_model.specs.declared.types.Element.{Element}
 use Rattle.tp_model.specs.declared.types.Limits.{Limits}
 use Rattle.tp_model.specs.declared.types.TheConstants.{BLOCK_ROWS}
-use Rattle.tp_model.specs.History.{In, here, there, IsUnborn, births, end_of}
+use Rattle.tp_model.specs.History.{In, here, there, IsUnborn, births}
 use Rattle.tp_model.specs.Passes.{Ascend, IsRun, IsOwnArea}
 use Rattle.tp_model.specs.Steps.{IsRowOfBlock, block_first, rows_of}
 use Rattle.tp_model.proofs.Areas.{ascend_in, ascend_more, ascend_wider, block_before}

@@ -95,29 +95,29 @@ module _ (k : Limits) (t : Turn k) where
       let world : World k h' ws = world_stored k h h' t.state.words a.word a.number t.rule.world (legal_more k h e t.rule.world.legal a.step) (e ∷ [], refl) a.there a.told a.rest a.may (λ s p q. absurd (a.unmarked s p q)) in
       let still = still_left k t.state.words a.word a.number a.there t.rule.world.wide a.may in let rises = drawn_rises k t.state.words a.word a.number a.there t.rule.world.wide a.may in
       let rule = moved_to k t record {
-          kind = a.kind;
-          f = a.f;
-          seen = h';
-          history = h';
-          words = ws;
-          owner = t.rule.owner;
-          stays = λ z. (a.stays z).0;
-          begins = begins_refl h';
-          grows = (e ∷ [], refl);
-          world = world;
-          mine = a.mine;
-          others = λ b ne draws hold. hand_frame k h e t.state.words ws b a.step (λ is. ne (sym is ∙ a.own)) rises hold
-              (λ first end i own low high. let top = own_inside k b.number b.blocks first end own in row_left k t.state.words a.word a.number a.there i (omega arith) (λ q. mine_alone k t b ne draws first end i own (a.tells_own i q) low high))
-              (λ x q low high. mine_alone k t b ne draws hold.first hold.end x.id hold.area (a.births_own x q) low high);
-          known = t.view.known;
-          knows = λ x p. still x (seat.known x p);
-          still = still;
-          same = λ c. refl;
-          draws = draws_still k t a.f a.stays;
-          drew = λ b ne hold draws. draws;
-          raised = λ b below. inl (drawn_left k t.state.words a.word a.number a.there a.uncounted b below);
-          holds = holds_still k t a.f a.stays;
-        } in (
+        kind = a.kind;
+        f = a.f;
+        seen = h';
+        history = h';
+        words = ws;
+        owner = t.rule.owner;
+        stays = λ z. (a.stays z).0;
+        begins = begins_refl h';
+        grows = (e ∷ [], refl);
+        world = world;
+        mine = a.mine;
+        others = λ b ne draws hold. hand_frame k h e t.state.words ws b a.step (λ is. ne (sym is ∙ a.own)) rises hold
+            (λ first end i own low high. let top = own_inside k b.number b.blocks first end own in row_left k t.state.words a.word a.number a.there i (omega arith) (λ q. mine_alone k t b ne draws first end i own (a.tells_own i q) low high))
+            (λ x q low high. mine_alone k t b ne draws hold.first hold.end x.id hold.area (a.births_own x q) low high);
+        known = t.view.known;
+        knows = λ x p. still x (seat.known x p);
+        still = still;
+        same = λ c. refl;
+        draws = draws_still k t a.f a.stays;
+        drew = λ b ne hold draws. draws;
+        raised = λ b below. inl (drawn_left k t.state.words a.word a.number a.there a.uncounted b below);
+        holds = holds_still k t a.f a.stays;
+      } in (
         rule.0,
         record {
           between = seen.0;

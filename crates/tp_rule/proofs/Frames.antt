@@ -239,24 +239,27 @@ module _ (k : Limits) (t : Turn k) where
 
   -- the rule holds with that history
   pub moved_to : (m : Move) → (r : Rule k record { words = m.words; homes = t.state.homes; views = set t.state.views t.id (after m.kind m.f m.seen m.known t.view) }) × (r.history ≡ m.history)
-  moved_to m = let r = t.rule in let old = seat_holds in (record {
-    history = m.history;
-    owner = m.owner;
-    world = m.world;
-    seats = seats_after k m.history m.words m.owner t.state.views t.id (after m.kind m.f m.seen m.known t.view)
-        (seat_after k r.history m.history t.state.words m.words r.owner m.owner t.id t.view m.kind m.f m.seen m.known m.stays m.same
-        (λ a p _. subst (λ (z : Hand). IsDrawer k m.owner (m.f z)) (sym (only_hand t.view t.one a p)) m.draws) m.begins m.knows
-        (λ a p _. subst (λ (z : Hand). HandHolds k m.history m.words (m.f z)) (sym (only_hand t.view t.one a p)) m.mine) old)
-        (λ j u apart e. let there = r.seats j u e in
-        let other : (a : Hand) → In a u.hands → a.number ≢ me.number = λ a p same. apart (sym (there.owns a p) ∙ (ap r.owner.seat same ∙ old.owns me (one_in t.view t.one))) in
-        seat_frame k r.history m.history t.state.words m.words r.owner m.owner j u m.grows m.still m.same (λ a p. m.drew a (other a p) (there.hands a p) (there.draws a p)) (λ a p. m.others a (other a p) (there.draws a p)) there);
-    complete = λ c below. seated_after (λ (a : Hand). a.number ≡ c) t.state.views t.id t.view m.kind m.f m.seen m.known t.at (λ a p so. m.stays a ∙ so) (r.complete c below);
-    drawers = λ b below. ⊎_elim
-        (λ was. seated_after (λ (a : Hand). In b a.blocks) t.state.views t.id t.view m.kind m.f m.seen m.known t.at
-        (λ a p has. let is = only_hand t.view t.one a p in subst (λ (z : Hand). In b (m.f z).blocks) (sym is) (m.holds b (subst (λ (z : Hand). In b z.blocks) is has))) (r.drawers b was))
-        (λ has. let g : Hand → Hand = λ a. noted m.kind m.seen (m.f a) in let w : View = after m.kind m.f m.seen m.known t.view in
-        (t.id, w, g me, set_here t.state.views t.id w (at_below t.state.views t.view t.id t.at), in_map_to g (one_in t.view t.one), has)) (m.raised b below);
-  }, λ i. m.history)
+  moved_to m = let r = t.rule in let old = seat_holds in (
+    record {
+      history = m.history;
+      owner = m.owner;
+      world = m.world;
+      seats = seats_after k m.history m.words m.owner t.state.views t.id (after m.kind m.f m.seen m.known t.view)
+          (seat_after k r.history m.history t.state.words m.words r.owner m.owner t.id t.view m.kind m.f m.seen m.known m.stays m.same
+          (λ a p _. subst (λ (z : Hand). IsDrawer k m.owner (m.f z)) (sym (only_hand t.view t.one a p)) m.draws) m.begins m.knows
+          (λ a p _. subst (λ (z : Hand). HandHolds k m.history m.words (m.f z)) (sym (only_hand t.view t.one a p)) m.mine) old)
+          (λ j u apart e. let there = r.seats j u e in
+          let other : (a : Hand) → In a u.hands → a.number ≢ me.number = λ a p same. apart (sym (there.owns a p) ∙ (ap r.owner.seat same ∙ old.owns me (one_in t.view t.one))) in
+          seat_frame k r.history m.history t.state.words m.words r.owner m.owner j u m.grows m.still m.same (λ a p. m.drew a (other a p) (there.hands a p) (there.draws a p)) (λ a p. m.others a (other a p) (there.draws a p)) there);
+      complete = λ c below. seated_after (λ (a : Hand). a.number ≡ c) t.state.views t.id t.view m.kind m.f m.seen m.known t.at (λ a p so. m.stays a ∙ so) (r.complete c below);
+      drawers = λ b below. ⊎_elim
+          (λ was. seated_after (λ (a : Hand). In b a.blocks) t.state.views t.id t.view m.kind m.f m.seen m.known t.at
+          (λ a p has. let is = only_hand t.view t.one a p in subst (λ (z : Hand). In b (m.f z).blocks) (sym is) (m.holds b (subst (λ (z : Hand). In b z.blocks) is has))) (r.drawers b was))
+          (λ has. let g : Hand → Hand = λ a. noted m.kind m.seen (m.f a) in let w : View = after m.kind m.f m.seen m.known t.view in
+          (t.id, w, g me, set_here t.state.views t.id w (at_below t.state.views t.view t.id t.at), in_map_to g (one_in t.view t.one), has)) (m.raised b below);
+    },
+    λ i. m.history,
+  )
 
   pub moved : (m : Move) → Rule k record { words = m.words; homes = t.state.homes; views = set t.state.views t.id (after m.kind m.f m.seen m.known t.view) }
   moved m = (moved_to m).0

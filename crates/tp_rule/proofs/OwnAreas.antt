@@ -44,8 +44,8 @@ module _ (k : Limits) where
         (λ new. let t = new.1 stage root u named in (t.0, t.1, t.2)) (g.heads first end i own low high);
     output = λ first end i stage root u from count own low high named is. ⊎_elim
         (λ same. let old : NamesUnit ws i stage root u = (named.0, sym same ∙ named.1) in let mine = g.own first end own in ⊎_elim
-            (λ was. r.output first end i stage root u from count mine low high old was)
-            (λ now. let d = r.decided first end i stage root u mine low high old now.1 in now.0 d.0 d.1 d.2) (g.committed i u from count is))
+        (λ was. r.output first end i stage root u from count mine low high old was)
+        (λ now. let d = r.decided first end i stage root u mine low high old now.1 in now.0 d.0 d.1 d.2) (g.committed i u from count is))
         (λ new. absurd ((new.1 stage root u named).3 from count is)) (g.heads first end i own low high);
     cleared = λ first end i own away low high. ⊎_elim
         (λ same. ⊎_elim (λ some. inl (λ none. some (sym same ∙ none))) (λ t. let from = t.0 in let to = t.1 in let same_from = g.passed.0 in let same_to = g.passed.1 in inr (omega arith, omega arith))

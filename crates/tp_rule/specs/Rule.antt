@@ -6,7 +6,7 @@ use mathlib.Core.Option.{some}
 use mathlib.Core.List.{IsPrefix}
 use lib.ListN.{get_elem?}
 use Rattle.atomic_table.specs.Table.{State}
-use Rattle.tp_model.specs.History.{Aborted, Committed, In, IsClaim, IsSettled, IsUnborn, IsUnused, births, element_of}
+use Rattle.tp_model.specs.History.{Aborted, Committed, In, IsSettled, IsUnborn, IsUnused, births, element_of}
 use Rattle.tp_model.specs.History.{end_of, events_by, status_of}
 use Rattle.tp_model.specs.Passes.{AreEnded, Ascend, IsOwnArea, IsOwnOpen}
 use Rattle.tp_model.specs.Steps.{IsArea, IsBody, IsLegal, IsRowOfBlock, block_first, rows_of}

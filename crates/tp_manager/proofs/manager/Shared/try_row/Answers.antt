@@ -177,8 +177,13 @@ on c m y rest = let l : Limits = table_limits c.args.self.now.words in (looked_b
 -- nothing is born between the row and the next
 gap : (c : After-head_on-head) (m : ℕ) (y : View) → Looked (table_limits c.args.self.now.words) m (view_of c.head_on-head.new.seat) y → (now : ℕ) → c.args.row.now < now → now < c.head_on-head.new.row
     → WasOfUse (table_limits c.args.self.now.words) c.args.stage now (seen_by c.args.seat.now) y.seen
-gap c m y rest now past less = let t = on c m y rest in (seen_by c.head_on-head.new.seat, t.0, t.1, use_unborn (table_limits c.args.self.now.words) c.args.stage now (seen_by c.head_on-head.new.seat) (c.head_on-head.ensures.none now past less)
-    (c.head_on-head.ensures.ahead now (omega arith) less (λ same. absurd (omega arith))))
+gap c m y rest now past less = let t = on c m y rest in (
+  seen_by c.head_on-head.new.seat,
+  t.0,
+  t.1,
+  use_unborn (table_limits c.args.self.now.words) c.args.stage now (seen_by c.head_on-head.new.seat) (c.head_on-head.ensures.none now past less)
+      (c.head_on-head.ensures.ahead now (omega arith) less (λ same. absurd (omega arith))),
+)
 
 -- the element is there as its claim is found
 there_now : (c : After-stand_of) → Looked (table_limits c.args.self.now.words) 2 (view_of c.head_on-head.new.seat) (view_of c.load_claim-claim.new.seat) → IsBornAs (seen_by c.load_claim-claim.new.seat) c.args.row.now c.in-Holds.birth
@@ -203,8 +208,13 @@ returns-then-not-is_of_stage-clause-stays c = let l : Limits = table_limits c.ar
 pub returns-in-Nothing-clause-stays : goal.returns-in-Nothing-clause-stays
 returns-in-Nothing-clause-stays c = let l : Limits = table_limits c.args.self.now.words in let at = (goal.at.returns-in-Nothing-clause-stays c).After-head_on-head in let y = view_of c.contents_from.new.seat in let b = c.contents_from.ensures.looked in let t = on at 1 y b in
     stays_by l c.args.stage c.args.low.now c.args.row.now c.args.low.now c.head_on-head.new.row (seen_by c.args.seat.now) y.seen c.requires.low (inl refl)
-    (λ _ _. (y.seen, begins_trans _ _ _ t.0 t.1, begins_refl y.seen, use_unborn l c.args.stage c.args.row.now y.seen c.in-Nothing.ensures.told.0
-    (let full = c.is_of_stage.ensures.full c.if-not-is_of_stage.false in subst (λ k. MayBeBorn k y.seen c.args.row.now) b.walk.steady.pass.1 (c.in-Nothing.ensures.told.1 full.0 full.1)))) (gap at 1 y b c.args.low.now)
+    (λ _ _. (
+      y.seen,
+      begins_trans _ _ _ t.0 t.1,
+      begins_refl y.seen,
+      use_unborn l c.args.stage c.args.row.now y.seen c.in-Nothing.ensures.told.0
+          (let full = c.is_of_stage.ensures.full c.if-not-is_of_stage.false in subst (λ k. MayBeBorn k y.seen c.args.row.now) b.walk.steady.pass.1 (c.in-Nothing.ensures.told.1 full.0 full.1)),
+    )) (gap at 1 y b c.args.low.now)
 
 pub returns-in-DeadDraft-clause-stays : goal.returns-in-DeadDraft-clause-stays
 returns-in-DeadDraft-clause-stays c = let l : Limits = table_limits c.args.self.now.words in let at = (goal.at.returns-in-DeadDraft-clause-stays c).After-head_on-head in let y = view_of c.contents_from.new.seat in

@@ -1,4 +1,4 @@
-use Rattle.std.proofs.Common.{◌≡◌, ◌<◌, rules, sym, ◌∙◌, ap, subst}
+use Rattle.std.proofs.Common.{◌<◌, rules, sym, ◌∙◌, ap, subst}
 use Rattle.tp_model.specs.Steps.{rows_of}
 use Rattle.tp_rule.specs.Doors.{Permits, key_of}
 use Rattle.tp_rule.specs.Plays.{loads_head}
