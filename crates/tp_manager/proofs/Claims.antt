@@ -6,3 +6,5 @@ pub mod GivenRows
 pub mod Circles
 pub mod EachTurn
 pub mod Behind
+pub mod Leans
+pub mod LeanTurns

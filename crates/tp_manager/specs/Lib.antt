@@ -1,5 +1,6 @@
 pub mod Shown
 pub mod Bounds
+pub mod RowSteps
 pub mod Calls
 pub mod Upward
 pub mod Raises
@@ -7,6 +8,7 @@ pub mod CallSteps
 pub mod BetweenCalls
 pub mod Marks
 pub mod Scans
+pub mod Leans
 pub mod Drafts
 pub mod Looks
 pub mod Kills

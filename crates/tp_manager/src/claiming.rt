@@ -3,6 +3,7 @@ ghost use Rattle.std.specs.Prelude.{◌≡◌, ℕ, None};
 ghost use Rattle.tp_model.specs.Steps.{AreLimits, IsServerStage};
 ghost use Rattle.tp_manager.specs.Shown.{marks_of, IsOf};
 ghost use Rattle.tp_manager.specs.Bounds.{claim_steps, claim_steps_left};
+ghost use Rattle.tp_manager.specs.RowSteps.{lean_claim_steps};
 ghost use Rattle.tp_manager.specs.Calls.{Claims, Follows};
 ghost use Rattle.tp_model.specs.declared.types.Limits.{Limits};
 ghost use Rattle.tp_manager.specs.Upward.{FirstInFirstOut};
@@ -14,7 +15,7 @@ use tp_model::types::{Claimed, Work};
 impl Manager {
     /// Takes the element with the least id that was found to wait in the stage, 1 to 14, into a new unit of
     /// work of the pass, which has none open. `NoUnit` where the pass has used its units; `Idle` where nothing
-    /// was found to wait.
+    /// was found to wait. None of its steps is for a row behind the element that it takes (`lean`).
     pub fn claim(&self, pass: &mut Pass, stage: u8) -> Claimed
         requires own { IsOf self.now pass.old }
         requires stage { IsServerStage stage }
@@ -25,6 +26,9 @@ impl Manager {
         ensures follows { Follows (claim_steps self.now.limits) pass.old pass.new }
         ensures answer { Claims self.now.limits stage pass.old pass.new result }
         ensures few { Follows (claim_steps_left self.now.limits (marks_of pass.old.lows stage)) pass.old pass.new }
+        ensures lean { let lows = marks_of pass.old.lows stage in
+            let n = lean_claim_steps self.now.limits stage lows result pass.old.seen pass.new.seen in
+            Follows n pass.old pass.new }
         ensures raises { RaisesMarks self.now.limits stage pass.old pass.new result }
     {
         let seat = &mut pass.seat;

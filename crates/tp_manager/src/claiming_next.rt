@@ -9,6 +9,8 @@ ghost use Rattle.tp_model.specs.declared.types.TheConstants.{BLOCK_ROWS};
 ghost use Rattle.tp_manager.specs.Calls.{ClaimsNext, Follows};
 ghost use Rattle.tp_manager.specs.Shown.{marks_of, IsOf, NoneFalls};
 ghost use Rattle.tp_manager.specs.CallSteps.{IsSteady, StepsTo};
+ghost use Rattle.tp_manager.specs.RowSteps.{lean_claim_next_steps, lean_turn_steps};
+ghost use Rattle.tp_manager.specs.Leans.{span_steps, IsLean, IsLeanAmong, IsLeanAt, IsLeanWithin};
 ghost use Rattle.tp_manager.specs.Marks.{Remembers};
 ghost use Rattle.tp_manager.specs.Scans.{Begun, EachRow, IsSpare, PassedBy};
 ghost use Rattle.tp_manager.specs.BetweenCalls.{RemembersDone};
@@ -88,6 +90,8 @@ impl Shared {
         ensures lows { RisesAt part lows.old lows.new }
         ensures few { let l = table_limits self.now.words in
             StepsTo (2 + (l.rows - slice_index lows.old part) * try_steps) (view_of seat.old) (view_of seat.new) }
+        ensures lean { let l = table_limits self.now.words in let n = slice_index lows.old part in
+            IsLeanWithin l stage 2 (part * l.rows + n) (l.rows - n) from to (view_of seat.old) (view_of seat.new) }
         ensures told { let l = table_limits self.now.words in let n = 2 + (to - from) * try_steps in
             MatchOption result
             (Sought l n (EachRow (PassedBy l stage) from to) (view_of seat.old) (view_of seat.new))
@@ -138,6 +142,8 @@ impl Shared {
         ensures lows { RisesAt part lows.old lows.new }
         ensures few { let l = table_limits self.now.words in
             StepsTo (3 + (l.rows - slice_index lows.old part) * try_steps) (view_of seat.old) (view_of seat.new) }
+        ensures lean { let l = table_limits self.now.words in let n = slice_index lows.old part in
+            IsLeanWithin l stage 3 (part * l.rows + n) (l.rows - n) from to (view_of seat.old) (view_of seat.new) }
         ensures told { let l = table_limits self.now.words in let n = 3 + (to - from) * try_steps in
             MatchOption result
             (Sought l n (EachRow (PassedBy l stage) from to) (view_of seat.old) (view_of seat.new))
@@ -174,6 +180,8 @@ impl Shared {
         ensures lows { NoneFalls lows.old lows.new }
         ensures few { let l = table_limits self.now.words in
             StepsTo (scan_steps l try_steps 3 lows.old l.parts) (view_of seat.old) (view_of seat.new) }
+        ensures lean { let l = table_limits self.now.words in
+            IsLeanAmong l stage (3 * l.parts) lows.old l.parts from to (view_of seat.old) (view_of seat.new) }
         ensures told { let l = table_limits self.now.words in let n = 3 * l.parts + (to - from) * try_steps in
             MatchOption result
             (Begun l (PassedBy l stage) n from to (view_of seat.old) (view_of seat.new))
@@ -213,6 +221,8 @@ impl Shared {
         ensures same { IsSameSeat seat.old seat.new }
         ensures drawn { RemembersDrawn (view_of seat.new) drawn.new }
         ensures risen { drawn.old ≤ drawn.new }
+        ensures lean { let l = table_limits self.now.words in
+            IsLeanAt l stage (drawn_steps l.spare) from (to - from) (view_of seat.old) (view_of seat.new) }
         ensures told { let l = table_limits self.now.words in
             let n = drawn_steps l.spare + (to - from) * try_steps in MatchOption result
             (Begun l (PassedBy l stage) n from to (view_of seat.old) (view_of seat.new))
@@ -261,6 +271,8 @@ impl Shared {
         ensures few { let l = table_limits self.now.words in let p = part_rows l in
             let n = drawn_steps l.spare + (to - p - (from - p)) * try_steps in
             StepsTo (scan_steps l try_steps 3 lows.old l.parts + n) (view_of seat.old) (view_of seat.new) }
+        ensures lean { let l = table_limits self.now.words in
+            IsLean l (span_steps l stage lows.old from to) (view_of seat.old) (view_of seat.new) }
         ensures told { let l = table_limits self.now.words in let n = circle_steps l (to - from) in
             MatchOption result
             (Begun l (PassedBy l stage) n from to (view_of seat.old) (view_of seat.new))
@@ -306,6 +318,8 @@ impl Shared {
         ensures few { let l = table_limits self.now.words in
             let n = 2 * drawn_steps l.spare + BLOCK_ROWS * l.spare * try_steps in
             StepsTo (2 * scan_steps l try_steps 3 lows.old l.parts + n) (view_of seat.old) (view_of seat.new) }
+        ensures lean { let l = table_limits self.now.words in
+            IsLean l (lean_turn_steps l stage lows.old) (view_of seat.old) (view_of seat.new) }
         ensures told { let l = table_limits self.now.words in
             let n = 6 * l.parts + 2 * drawn_steps l.spare + rows_of l * try_steps in MatchOption result
             (Sought l n (EachRow (PassedBy l stage) 0 (rows_of l)) (view_of seat.old) (view_of seat.new))
@@ -332,6 +346,9 @@ impl Manager {
         ensures limits { AreLimits self.now.limits }
         ensures follows { Follows (claim_next_steps self.now.limits) pass.old pass.new }
         ensures few { let n = claim_next_steps_left self.now.limits (marks_of pass.old.lows stage) in
+            Follows n pass.old pass.new }
+        ensures lean { let lows = marks_of pass.old.lows stage in
+            let n = lean_claim_next_steps self.now.limits stage lows pass.old.seen pass.new.seen in
             Follows n pass.old pass.new }
         ensures answer { ClaimsNext self.now.limits stage pass.old pass.new result }
     {

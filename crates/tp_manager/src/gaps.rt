@@ -6,6 +6,7 @@ ghost use Rattle.tp_rule.specs.Tables.{table_limits};
 ghost use Rattle.tp_manager.specs.CallSteps.{IsSteady};
 ghost use Rattle.tp_manager.specs.BetweenCalls.{RemembersDone};
 ghost use Rattle.tp_manager.specs.Bounds.{try_steps};
+ghost use Rattle.tp_manager.specs.Leans.{scan_end, IsLeanAt};
 ghost use Rattle.tp_manager.specs.Marks.{IsGap, Remembers, RemembersGaps, RestsAt, RisesAt, Rose};
 ghost use Rattle.tp_manager.specs.Scans.{Begun, IsSpare, OfPart, PassedBy, Sought, Took};
 ghost use Rattle.tp_manager.specs.Spares.{Passed};
@@ -75,6 +76,8 @@ impl Shared {
         requires spare { IsSpare unit (view_of seat.old) × (unit < 65535) }
         ensures same { IsSameSeat seat.old seat.new }
         ensures inside { IfSome result (λ t. t.element.id < to) }
+        ensures lean { let l = table_limits self.now.words in
+            IsLeanAt l stage 0 from (scan_end to result - from) (view_of seat.old) (view_of seat.new) }
         ensures told { let l = table_limits self.now.words in let n = (to - from) * try_steps in
             MatchOption result
             (Begun l (PassedBy l stage) n from to (view_of seat.old) (view_of seat.new))
@@ -114,6 +117,8 @@ impl Shared {
         ensures same { IsSameSeat seat.old seat.new }
         ensures gap { IsGap stage (view_of seat.new) gap.new }
         ensures inside { IfSome result (λ t. t.element.id < to) }
+        ensures lean { let l = table_limits self.now.words in
+            IsLeanAt l stage 0 from (scan_end to result - from) (view_of seat.old) (view_of seat.new) }
         ensures told { let l = table_limits self.now.words in let n = (to - from) * try_steps in
             MatchOption result
             (Begun l (PassedBy l stage) n from to (view_of seat.old) (view_of seat.new))
@@ -161,6 +166,8 @@ impl Shared {
         ensures same { IsSameSeat seat.old seat.new }
         ensures gap { IsGap stage (view_of seat.new) gap.new }
         ensures inside { IfSome result (λ t. t.element.id < to) }
+        ensures lean { let l = table_limits self.now.words in
+            IsLeanAt l stage 0 from (scan_end to result - from) (view_of seat.old) (view_of seat.new) }
         ensures told { let l = table_limits self.now.words in let n = (to - from) * try_steps in
             MatchOption result
             (Passed l n (PassedBy l stage) from to (view_of seat.old) (view_of seat.new))
@@ -206,6 +213,9 @@ impl Shared {
             RestsAt l stage part (slice_index lows.new part) (view_of seat.old) (view_of seat.new) }
         ensures inside { let l = table_limits self.now.words in
             IfSome result (λ t. t.element.id < part * l.rows + l.rows) }
+        ensures lean { let l = table_limits self.now.words in let end = scan_end (part * l.rows + l.rows) result in
+            let n = part * l.rows + slice_index lows.old part in
+            IsLeanAt l stage 2 n (end - n) (view_of seat.old) (view_of seat.new) }
         ensures told { let l = table_limits self.now.words in
             let n = 2 + (l.rows - slice_index lows.old part) * try_steps in MatchOption result
             (Sought l n (OfPart l (PassedBy l stage) part) (view_of seat.old) (view_of seat.new))

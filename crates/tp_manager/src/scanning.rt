@@ -12,9 +12,12 @@ ghost use Rattle.tp_rule.specs.Steps.{Knows};
 ghost use Rattle.tp_rule.specs.declared.view.Known.TheVariants.{PartMark};
 ghost use Rattle.tp_rule.specs.Tables.{table_limits};
 ghost use Rattle.tp_manager.specs.Bounds.{marked_steps, scan_steps, spare_left, try_steps};
+ghost use Rattle.tp_manager.specs.Bounds.{drawn_steps};
+ghost use Rattle.tp_manager.specs.RowSteps.{lean_scan_steps, parts_left};
 ghost use Rattle.tp_manager.specs.Shown.{NoneFalls};
 ghost use Rattle.tp_manager.specs.declared.scanning.Stand.TheVariants as stands;
 ghost use Rattle.tp_manager.specs.Looks.{GoesOn, HasStand};
+ghost use Rattle.tp_manager.specs.Leans.{scan_end, IsLean, IsLeanAt, IsLeanIn};
 ghost use Rattle.tp_manager.specs.Spares.{SpareRests};
 ghost use Rattle.tp_manager.specs.Marks.{AreFinished, CameTo, RestInParts, RestsAt, WasOfUse};
 ghost use Rattle.tp_manager.specs.Scans.{Begun};
@@ -57,6 +60,7 @@ pub(crate) enum Stand {
 #[inline(always)]
 fn is_of_stage(head: Head, stage: u8) -> bool
     ensures yes { result ≡ true → (e : element) → head ≡ head_of e → e.stage ≡ stage }
+    ensures full { result ≡ true → ¬ (head ≡ Empty) }
     ensures no { result ≡ false → (e : element) → head ≡ head_of e → ¬ (e.stage ≡ stage) }
     ensures full { result ≡ true → (head ≢ Empty) × (head ≢ Void) }
     ensures aside { result ≡ false → (found root : ℕ) (by : Option ℕ) → head ≡ Filled found root by
@@ -165,6 +169,8 @@ impl Shared {
             ((low.old < row.old) × (low.new ≡ low.old))
             ⊎ WasOfUse l stage low.new (seen_by seat.old) (seen_by seat.new) }
         ensures behind { IfSome result (λ t. (low.new < row.new) × (t.element.id ≡ row.old)) }
+        ensures lean { let l = table_limits self.now.words in
+            IsLeanAt l stage 0 row.old 1 (view_of seat.old) (view_of seat.new) }
         ensures told { let l = table_limits self.now.words in let n = try_steps in MatchOption result
             (Sought l n (EachRow (PassedBy l stage) row.old row.new) (view_of seat.old) (view_of seat.new))
             (λ t. Took l n row.old stage unit (view_of seat.old) (view_of seat.new) t.element t.attempt
@@ -237,6 +243,9 @@ impl Shared {
             RestsAt l stage part (slice_index lows.new part) (view_of seat.old) (view_of seat.new) }
         ensures inside { let l = table_limits self.now.words in
             IfSome result (λ t. t.element.id < part * l.rows + l.rows) }
+        ensures lean { let l = table_limits self.now.words in let end = scan_end (part * l.rows + l.rows) result in
+            let n = part * l.rows + slice_index lows.old part in
+            IsLeanAt l stage 3 n (end - n) (view_of seat.old) (view_of seat.new) }
         ensures told { let l = table_limits self.now.words in
             let n = 3 + (l.rows - slice_index lows.old part) * try_steps in MatchOption result
             (Sought l n (OfPart l (PassedBy l stage) part) (view_of seat.old) (view_of seat.new))
@@ -293,6 +302,9 @@ impl Shared {
         ensures rests { let l = table_limits self.now.words in
             RestInParts l stage lows.new (view_of seat.old) (view_of seat.new) result }
         ensures inside { IfSome result (λ t. t.element.id < part_rows (table_limits self.now.words)) }
+        ensures lean { let l = table_limits self.now.words in let end = scan_end (part_rows l) result in
+            let k = 3 * (parts_left l lows.old l.parts + 1) in
+            IsLeanIn l stage k lows.old l.parts end (view_of seat.old) (view_of seat.new) }
         ensures told { let l = table_limits self.now.words in
             let n = scan_steps l try_steps 3 lows.old l.parts in MatchOption result
             (Sought l n (EachRow (PassedBy l stage) 0 (part_rows l)) (view_of seat.old) (view_of seat.new))
@@ -342,6 +354,9 @@ impl Shared {
         ensures lows { RisesAt (table_limits self.now.words).parts lows.old lows.new }
         ensures rests { let l = table_limits self.now.words in let end = block_first l drawn.new in
             SpareRests l stage end (slice_index lows.new l.parts) (view_of seat.old) (view_of seat.new) }
+        ensures lean { let l = table_limits self.now.words in let k = 3 * drawn_steps l.spare in
+            let n = part_rows l + slice_index lows.old l.parts in let end = scan_end (rows_of l) result in
+            IsLeanAt l stage k n (end - n) (view_of seat.old) (view_of seat.new) }
         ensures told { let l = table_limits self.now.words in
             let n = spare_left l try_steps (slice_index lows.old l.parts) in MatchOption result
             (Begun l (PassedBy l stage) n (part_rows l) (rows_of l) (view_of seat.old) (view_of seat.new))
@@ -383,6 +398,9 @@ impl Shared {
         ensures spare { let l = table_limits self.now.words in CameTo (part_rows l) result
             → SpareRests l stage
             (block_first l drawn.new) (slice_index lows.new l.parts) (view_of seat.old) (view_of seat.new) }
+        ensures lean { let l = table_limits self.now.words in
+            let n = lean_scan_steps l stage lows.old (scan_end (rows_of l) result) in
+            IsLean l n (view_of seat.old) (view_of seat.new) }
         ensures told { let l = table_limits self.now.words in let t = try_steps in
             let n = marked_steps l t lows.old in MatchOption result
             (Sought l n (EachRow (PassedBy l stage) 0 (rows_of l)) (view_of seat.old) (view_of seat.new))

@@ -7,6 +7,7 @@ ghost use Rattle.tp_rule.specs.Tables.{table_limits};
 ghost use Rattle.tp_manager.specs.CallSteps.{IsSteady};
 ghost use Rattle.tp_manager.specs.Bounds.{look_steps, try_steps};
 ghost use Rattle.tp_manager.specs.Finds.{Hits, PassedOver};
+ghost use Rattle.tp_manager.specs.Leans.{scan_end, IsLeanAt};
 ghost use Rattle.tp_manager.specs.Spares.{Passed, SpareRests};
 ghost use Rattle.tp_manager.specs.Marks.{Remembers, RemembersGaps, RisesAt};
 ghost use Rattle.tp_manager.specs.Scans.{IsSpare, NoneBehind, PassedBy, Took};
@@ -44,6 +45,9 @@ impl Shared {
         ensures lows { RisesAt (table_limits self.now.words).parts lows.old lows.new }
         ensures rests { let l = table_limits self.now.words in
             SpareRests l stage end (slice_index lows.new l.parts) (view_of seat.old) (view_of seat.new) }
+        ensures lean { let l = table_limits self.now.words in
+            let n = part_rows l + slice_index lows.old l.parts in let end = scan_end (rows_of l) result in
+            IsLeanAt l stage 2 n (end - n) (view_of seat.old) (view_of seat.new) }
         ensures told { let l = table_limits self.now.words in
             let n = 2 + (BLOCK_ROWS * l.spare - slice_index lows.old l.parts) * try_steps in MatchOption result
             (Passed l n (PassedBy l stage) (part_rows l) (rows_of l) (view_of seat.old) (view_of seat.new))

@@ -7,13 +7,19 @@ use Rattle.tp_manager.specs.Shown.{ManagerShown, PassShown, Spot, marks_of, show
 use Rattle.tp_manager.specs.Raises.{RaisesMarks}
 use Rattle.tp_manager.proofs.Marks.Rests.{rests_before, rests_shown, spare_before, spare_shown}
 use Rattle.tp_manager.specs.Bounds.{claim_steps, claim_steps_left, marked_steps, part_steps, spare_left, try_steps}
+use Rattle.tp_manager.specs.RowSteps.{lean_scan_steps}
 use Rattle.tp_manager.specs.Calls.{Claims, Takes}
-use Rattle.tp_manager.specs.CallSteps.{Steady}
+use Rattle.tp_manager.specs.CallSteps.{Steady, StepsTo}
 use Rattle.tp_manager.specs.Marks.{Recalls}
 use Rattle.tp_manager.proofs.Calls.CallSteps.{follows, remembers}
 use Rattle.tp_manager.proofs.Marks.Lows.{claim_few, claim_shown, marked_most, recalls_in, remembers_in, rises_in}
 use Rattle.tp_manager.proofs.Calls.Passes.{done_walked, drawn_walked, rests_drawn, steady_at}
 use Rattle.tp_manager.proofs.Claims.UnitsChosen.{chose_steady, chose_walked, chose_rests, idle_walked, idle_answer, took_walked, took_answer, took_first, took_rests}
+use Rattle.tp_rule.specs.declared.view.View.{View}
+use Rattle.tp_model.specs.Steps.{rows_of}
+use Rattle.tp_manager.specs.Leans.{IsLean}
+use Rattle.tp_manager.proofs.Calls.Makes.{walked_made}
+use Rattle.tp_manager.proofs.Claims.Leans.{lean_claim}
 use Rattle.tp_manager.proofs.manager.Manager.claim.Goals as goal
 use Rattle.tp_manager.proofs.manager.Manager.claim.Goals.{After-choose_unit}
 
@@ -75,6 +81,26 @@ pub returns-in_default-clause-few : goal.returns-in_default-clause-few
 returns-in_default-clause-few c = let at = (goal.at.returns-in_default-clause-few c).After-choose_unit in let l : Limits = table_limits c.self.inside.shared.words in let told = c.in_default.ensures.told in
     follows (spot c.pass.inside.seat.table c.pass.inside.lows c.pass.inside.run.drawn c.pass.inside.from) (spot c.scan.new.seat.table (set c.pass.inside.lows c.args.stage c.scan.new.lows) c.scan.new.drawn c.pass.inside.from) (rises_in c.pass.inside.lows c.scan.new.lows c.args.stage (kinds at) c.scan.ensures.lows, c.scan.ensures.risen) (view_of c.pass.inside.seat) (view_of c.scan.new.seat) c.args.pass.now c.pass.view_is l _ _
     (idle_walked l _ _ (view_of c.choose_unit.new.seat) (steady at) c.choose_unit.ensures.chooses _ c.args.stage _ told) (claim_steps_left c.args.self.now.limits (marks_of c.args.pass.now.lows c.args.stage)) (few at)
+
+-- so by what is born in each row, up to row e
+lean : (c : After-choose_unit) (e : ℕ) (y : View) → IsLean (table_limits c.self.inside.shared.words) (lean_scan_steps (table_limits c.self.inside.shared.words) c.args.stage (marks_of c.pass.inside.lows c.args.stage) e) (view_of c.choose_unit.new.seat) y → Steady (table_limits c.self.inside.shared.words) y
+    → StepsTo (1 + lean_scan_steps c.args.self.now.limits c.args.stage (marks_of c.args.pass.now.lows c.args.stage) e c.args.pass.now.seen y.seen) (view_of c.pass.inside.seat) y
+lean c e y scan steady_then = let l : Limits = table_limits c.self.inside.shared.words in let v = view_of c.pass.inside.seat in
+    subst (λ h. StepsTo (1 + lean_scan_steps c.args.self.now.limits c.args.stage (marks_of c.args.pass.now.lows c.args.stage) e h y.seen) v y) (ap (λ (p : PassShown). p.seen) c.pass.view_is)
+    (lean_claim l c.args.self.now.limits c.args.stage e (marks_of c.pass.inside.lows c.args.stage) (marks_of c.args.pass.now.lows c.args.stage) _ v (view_of c.choose_unit.new.seat) y (limits c) (ap (λ (p : PassShown). marks_of p.lows c.args.stage) c.pass.view_is)
+    (chose_walked l _ v (view_of c.choose_unit.new.seat) (steady c) c.choose_unit.ensures.chooses) scan steady_then)
+
+pub returns-in_default-clause-lean : goal.returns-in_default-clause-lean
+returns-in_default-clause-lean c = let at = (goal.at.returns-in_default-clause-lean c).After-choose_unit in let l : Limits = table_limits c.self.inside.shared.words in let told = c.in_default.ensures.told in
+    let v = view_of c.pass.inside.seat in let y = view_of c.scan.new.seat in let walk = idle_walked l _ _ (view_of c.choose_unit.new.seat) (steady at) c.choose_unit.ensures.chooses _ c.args.stage _ told in
+    follows (spot c.pass.inside.seat.table c.pass.inside.lows c.pass.inside.run.drawn c.pass.inside.from) (spot c.scan.new.seat.table (set c.pass.inside.lows c.args.stage c.scan.new.lows) c.scan.new.drawn c.pass.inside.from) (rises_in c.pass.inside.lows c.scan.new.lows c.args.stage (kinds at) c.scan.ensures.lows, c.scan.ensures.risen) v y c.args.pass.now c.pass.view_is l _ _
+    (walked_made l _ _ v y walk _ (subst (λ (z : Limits). StepsTo (1 + lean_scan_steps c.args.self.now.limits c.args.stage (marks_of c.args.pass.now.lows c.args.stage) (rows_of z) c.args.pass.now.seen y.seen) v y) (limits at) (lean at (rows_of l) y c.in_default.ensures.lean walk.steady))) _ (omega arith)
+
+pub returns-clause-lean : goal.returns-clause-lean
+returns-clause-lean c = let at = (goal.at.returns-clause-lean c).After-choose_unit in let l : Limits = table_limits c.self.inside.shared.words in let told = c.in-Some.ensures.told in
+    let v = view_of c.pass.inside.seat in let y = view_of c.scan.new.seat in let walk = took_walked l _ _ (view_of c.choose_unit.new.seat) (steady at) c.choose_unit.ensures.chooses _ 0 _ _ _ _ told.0 in
+    follows (spot c.pass.inside.seat.table c.pass.inside.lows c.pass.inside.run.drawn c.pass.inside.from) (spot c.scan.new.seat.table (set c.pass.inside.lows c.args.stage c.scan.new.lows) c.scan.new.drawn c.pass.inside.from) (rises_in c.pass.inside.lows c.scan.new.lows c.args.stage (kinds at) c.scan.ensures.lows, c.scan.ensures.risen) v y c.args.pass.now c.pass.view_is l _ _
+    (walked_made l _ _ v y walk _ (lean at (c.in-Some.taken.element.id + 1) y c.in-Some.ensures.lean walk.steady)) _ (omega arith)
 
 pub returns-in_default-clause-answer : goal.returns-in_default-clause-answer
 returns-in_default-clause-answer c = let at = (goal.at.returns-in_default-clause-answer c).After-choose_unit in let l : Limits = table_limits c.self.inside.shared.words in let told = c.in_default.ensures.told in

@@ -11,6 +11,8 @@ use Rattle.tp_model.specs.declared.trace.TraceEntry.{TraceEntry}
 use Rattle.tp_manager.specs.CallSteps.{Stepped}
 use Rattle.tp_manager.specs.Marks.{RestsAt}
 use Rattle.tp_manager.proofs.Marks.Rests.{begun_walked, rests_behind, spare_before}
+use Rattle.tp_manager.proofs.Claims.Leans.{ends_far, ends_inside, lean_early, lean_marked}
+use Rattle.tp_manager.specs.Leans.{scan_end}
 use Rattle.tp_manager.proofs.manager.Shared.scan.Goals as goal
 use Rattle.tp_manager.proofs.manager.Shared.scan.Goals.{After-scan_blocks}
 
@@ -20,6 +22,15 @@ returns-clause-told c = let l : Limits = table_limits c.args.self.now.words in l
     let less = spare_rises l try_steps n m (c.scan_parts.ensures.lows l.parts) in
     scan_behind l c.args.stage c.args.unit 0 (k + spare_left l try_steps m) (k + spare_left l try_steps n) 0 (rows_of l) v v y c.scan_blocks.result (omega arith) (looked_none l v c.requires.steady.steady)
     (scan_both l c.args.stage c.args.unit k (spare_left l try_steps m) v (view_of c.scan_parts.new.seat) y c.scan_blocks.result c.in_default.ensures.told c.scan_blocks.ensures.told)
+
+pub returns-in-Some-clause-lean : goal.returns-in-Some-clause-lean
+returns-in-Some-clause-lean c = lean_early (table_limits c.args.self.now.words) c.args.stage (c.in-Some.taken.element.id + 1) c.args.lows.now _ _ c.in-Some.ensures.lean
+
+pub returns-clause-lean : goal.returns-clause-lean
+returns-clause-lean c = let l : Limits = table_limits c.args.self.now.words in let o = c.scan_blocks.result in
+    lean_marked l c.args.stage (part_rows l) (scan_end (rows_of l) o) c.args.lows.now c.scan_parts.new.lows _ _ _ (c.scan_parts.ensures.lows l.parts)
+    (ends_far l _ _ (part_rows l) (rows_of l) c.args.stage c.args.unit _ _ o (omega arith) c.scan_blocks.ensures.told) (ends_inside l _ _ (part_rows l) c.args.stage c.args.unit _ _ o c.scan_blocks.ensures.told)
+    c.in_default.ensures.lean c.scan_blocks.ensures.lean
 
 -- the steps in the parts, and then in the spare blocks
 blocks : (c : After-scan_blocks) → (ms : List TraceEntry) × Stepped (table_limits c.args.self.now.words) (spare_left (table_limits c.args.self.now.words) try_steps (slice_index c.scan_parts.new.lows (table_limits c.args.self.now.words).parts)) ms (view_of c.scan_parts.new.seat) (view_of c.scan_blocks.new.seat)

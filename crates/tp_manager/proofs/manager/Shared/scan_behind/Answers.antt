@@ -15,6 +15,8 @@ use Rattle.tp_manager.proofs.Marks.Raises.{IsPast, goes_walked, past_near, rose_
 use Rattle.tp_manager.proofs.Calls.Passes.{done_walked}
 use Rattle.tp_manager.proofs.Marks.Useless.{rose_later}
 use Rattle.tp_manager.proofs.Rows.Seeks.{begun_looked}
+use Rattle.tp_manager.proofs.Claims.Leans.{ends_far, lean_apart}
+use Rattle.tp_manager.specs.Leans.{scan_end}
 use Rattle.tp_manager.proofs.manager.Shared.scan_behind.Goals as goal
 use Rattle.tp_manager.proofs.manager.Shared.scan_behind.Goals.{After-scan_to}
 
@@ -53,6 +55,12 @@ run c next n b past = let l : Limits = table_limits c.args.self.now.words in let
 
 pub scan_run-requires-clause-run : goal.scan_run-requires-clause-run
 scan_run-requires-clause-run c = (run (goal.at.scan_run-requires-clause-run c).After-scan_to c.past_done-next.result _ c.in_default.ensures.told c.past_done-next.ensures).0
+
+pub returns-clause-lean : goal.returns-clause-lean
+returns-clause-lean c = let begin : ℕ = c.later_to-begin.result in let next : ℕ = c.past_done-next.result in let r = run (goal.at.returns-clause-lean c).After-scan_to next _ c.in_default.ensures.told c.past_done-next.ensures in
+    let a = later_near begin c.left_of-left.result.0 c.args.from c.args.to c.requires.rows.0 c.later_to-begin.ensures in let low = a.0 in let up = r.0.0 in let e : ℕ = scan_end c.args.to c.scan_run.result in
+    let far = ends_far (table_limits c.args.self.now.words) _ _ next c.args.to c.args.stage c.args.unit _ _ c.scan_run.result r.2 c.scan_run.ensures.told in
+    lean_apart (table_limits c.args.self.now.words) c.args.stage 0 c.args.from (begin - c.args.from) 0 next (e - next) 0 c.args.from (e - c.args.from) _ _ _ (omega arith) (omega arith) (omega arith) (omega arith) c.in_default.ensures.lean c.scan_run.ensures.lean
 
 pub returns-clause-told : goal.returns-clause-told
 returns-clause-told c = let l : Limits = table_limits c.args.self.now.words in let s = try_steps in let begin : ℕ = c.later_to-begin.result in let next : ℕ = c.past_done-next.result in

@@ -1,4 +1,4 @@
-use Rattle.std.proofs.Common.{◌≡◌, ◌⊎◌, ◌+◌, ◌-◌, ◌*◌, ◌<◌, ◌≤◌, ℕ, refl, inl, inr, ⊎_elim, arith, rules, mul-le-mul_right}
+use Rattle.std.proofs.Common.{◌≡◌, ◌⊎◌, ◌+◌, ◌-◌, ◌*◌, ◌<◌, ◌≤◌, ℕ, ap, refl, inl, inr, ⊎_elim, arith, rules, mul-le-mul_right}
 use Rattle.tp_model.specs.declared.types.Limits.{Limits}
 use Rattle.tp_rule.specs.Tables.{table_limits}
 use Rattle.tp_rule.specs.Views.{seen_by, view_of}
@@ -10,8 +10,10 @@ use Rattle.tp_manager.proofs.Calls.Passes.{drawn_walked}
 use Rattle.tp_manager.proofs.Claims.Scans.{none_passed, passed_widens, took_few, took_from, took_then}
 use Rattle.tp_manager.proofs.Rows.Seeks.{begun_few, begun_looked, begun_on, rows_more, sought_up}
 use Rattle.tp_manager.proofs.Calls.CallSteps.{sought_few}
+use Rattle.tp_manager.specs.Leans.{IsLeanAt}
+use Rattle.tp_manager.proofs.Claims.Leans.{lean_apart, lean_at, lean_free, lean_row, lean_start}
 use Rattle.tp_manager.proofs.manager.Shared.scan_block_span.Goals as goal
-use Rattle.tp_manager.proofs.manager.Shared.scan_block_span.Goals.{After-loop-row}
+use Rattle.tp_manager.proofs.manager.Shared.scan_block_span.Goals.{After-loop-row, After-try_row}
 
 -- the steps at the rows, after the load of the counter
 since : (c : After-loop-row) → Looked (table_limits c.args.self.now.words) (c.loop-row.invariant.begun.0 * try_steps) (view_of c.blocks_end.new.seat) (view_of c.loop-row.seat)
@@ -31,6 +33,7 @@ loop-row-init c = let span = c.requires.span in let a = span.1 in let b = span.2
   from = omega arith;
   inside = omega arith;
   low = omega arith;
+  lean = (0, omega arith, omega arith, lean_start (table_limits c.args.self.now.words) c.args.stage c.args.from (view_of c.blocks_end.new.seat));
   begun = (0, omega arith, omega arith, inl (refl, refl));
 }
 
@@ -48,6 +51,24 @@ returns-in-Some-try_row-clause-told c = let l : Limits = table_limits c.args.sel
       c.in-Some-try_row.ensures.told.1,
     )
 
+-- the rows up to this one, and this one
+lean : (c : After-try_row) → IsLeanAt (table_limits c.args.self.now.words) c.args.stage 0 c.args.from (c.loop-row.row + 1 - c.args.from) (view_of c.blocks_end.new.seat) (view_of c.try_row.new.seat)
+lean c = let t = c.loop-row.invariant.lean in lean_row (table_limits c.args.self.now.words) c.args.stage c.args.from t.0 c.loop-row.row _ _ _ c.loop-row.invariant.from t.1 t.3 c.try_row.ensures.lean
+
+pub returns-in-Some-try_row-clause-lean : goal.returns-in-Some-try_row-clause-lean
+returns-in-Some-try_row-clause-lean c = let l : Limits = table_limits c.args.self.now.words in let load = c.in-Some.ensures.told in let one = drawn_one l.spare load.0 in
+    let from = c.loop-row.invariant.from in let less = c.loop-row-test.true in let end = (earlier_near c.earlier-end.result c.in-Some.drawn_end c.args.to c.earlier-end.ensures).1 in
+    lean_apart l c.args.stage 1 c.args.from 0 0 c.args.from (c.loop-row.row + 1 - c.args.from) (drawn_steps l.spare) c.args.from (c.args.to - c.args.from) _ _ _ (omega arith) (omega arith) (omega arith) (omega arith)
+    (lean_at l c.args.stage 1 c.args.from _ _ _ load.1.walk) (lean (goal.at.returns-in-Some-try_row-clause-lean c).After-try_row)
+
+pub returns-clause-lean : goal.returns-clause-lean
+returns-clause-lean c = let l : Limits = table_limits c.args.self.now.words in let load = c.in-Some.ensures.told in let one = drawn_one l.spare load.0 in let t = c.loop-row.invariant.lean in let k : ℕ = t.0 in let le = t.2 in
+    lean_apart l c.args.stage 1 c.args.from 0 0 c.args.from k (drawn_steps l.spare) c.args.from (c.args.to - c.args.from) _ _ _ (omega arith) (omega arith) (omega arith) (omega arith)
+    (lean_at l c.args.stage 1 c.args.from _ _ _ load.1.walk) t.3
+
+pub returns-in_default-clause-lean : goal.returns-in_default-clause-lean
+returns-in_default-clause-lean c = lean_free (table_limits c.args.self.now.words) c.args.stage _ _ _ (view_of c.args.seat.now) (view_of c.blocks_end.new.seat) (ap view_of c.in_default.ensures.told.1)
+
 pub loop-row-preserved : goal.loop-row-preserved
 loop-row-preserved c = let l : Limits = table_limits c.args.self.now.words in let P = PassedBy l c.args.stage in let s = try_steps in let i = c.loop-row.invariant in let b = i.begun in let k : ℕ = b.0 in let x = b.1 in let on = c.try_row.ensures.on.on in let from_on = i.from in
     let less = c.loop-row-test.true in let end = (earlier_near c.earlier-end.result c.in-Some.drawn_end c.args.to c.earlier-end.ensures).1 in record {
@@ -55,6 +76,7 @@ loop-row-preserved c = let l : Limits = table_limits c.args.self.now.words in le
       from = omega arith;
       inside = c.try_row.ensures.on.inside;
       low = c.try_row.ensures.low.0;
+      lean = (c.loop-row.row + 1 - c.args.from, omega arith, omega arith, lean (goal.at.loop-row-preserved c).After-try_row);
       begun = (
         k + 1,
         omega arith,

@@ -1,10 +1,10 @@
-use Rattle.std.proofs.Common.{◌+◌, ◌-◌, ◌*◌, ◌≤◌, slice_index, arith, inl, subst, sym}
+use Rattle.std.proofs.Common.{ℕ, ap, ◌+◌, ◌-◌, ◌*◌, ◌≤◌, slice_index, arith, inl, subst, sym}
 use Rattle.tp_model.specs.declared.types.Limits.{Limits}
 use Rattle.tp_model.specs.declared.types.TheConstants.{BLOCK_ROWS}
 use Rattle.tp_model.specs.Steps.{part_rows, rows_of}
 use Rattle.tp_rule.specs.Tables.{table_limits}
 use Rattle.tp_rule.specs.Views.{view_of}
-use Rattle.tp_manager.specs.Bounds.{spare_left, try_steps}
+use Rattle.tp_manager.specs.Bounds.{drawn_steps, spare_left, try_steps}
 use Rattle.tp_manager.proofs.Marks.Lows.{drawn_one}
 use Rattle.tp_manager.specs.Marks.{RemembersGaps}
 use Rattle.tp_manager.specs.Spares.{SpareRests}
@@ -12,6 +12,8 @@ use Rattle.tp_manager.proofs.Marks.Rests.{drawn_walked, spare_before}
 use Rattle.tp_manager.proofs.Claims.Spares.{scan_drawn}
 use Rattle.tp_rule.specs.Views.{SeatShown}
 use Rattle.tp_manager.proofs.Calls.CallSteps.{gaps_kind, remembers_kind}
+use Rattle.tp_manager.proofs.Claims.Leans.{lean_behind, lean_free}
+use Rattle.tp_manager.specs.Leans.{scan_end}
 use Rattle.tp_manager.proofs.manager.Shared.scan_blocks.Goals as goal
 
 pub returns-clause-told : goal.returns-clause-told
@@ -24,6 +26,13 @@ returns-clause-rests c = let l : Limits = table_limits c.args.self.now.words in 
     let w = drawn_walked l c.args.stage c.args.unit (2 + (BLOCK_ROWS * l.spare - n) * try_steps) (part_rows l) (rows_of l) (view_of c.blocks_end.new.seat) (view_of c.scan_spare.new.seat) c.scan_spare.result c.scan_spare.ensures.told in
     subst (λ e. SpareRests l c.args.stage e (slice_index c.scan_spare.new.lows l.parts) (view_of c.args.seat.now) (view_of c.scan_spare.new.seat)) end
     (spare_before l 1 _ _ w.0 (view_of c.args.seat.now) (view_of c.blocks_end.new.seat) (view_of c.scan_spare.new.seat) load.walk w.1 c.args.stage _ _ c.scan_spare.ensures.rests)
+
+pub returns-clause-lean : goal.returns-clause-lean
+returns-clause-lean c = let l : Limits = table_limits c.args.self.now.words in let load = c.in-Some.ensures.told in let one = drawn_one l.spare load.0 in let N : ℕ = part_rows l + slice_index c.args.lows.now l.parts in
+    lean_behind l c.args.stage 1 N (scan_end (rows_of l) c.scan_spare.result - N) 2 (3 * drawn_steps l.spare) _ _ _ _ (omega arith) load.1.walk c.scan_spare.ensures.lean
+
+pub returns-in_default-clause-lean : goal.returns-in_default-clause-lean
+returns-in_default-clause-lean c = lean_free (table_limits c.args.self.now.words) c.args.stage _ _ _ (view_of c.args.seat.now) (view_of c.blocks_end.new.seat) (ap view_of c.in_default.ensures.told.1)
 
 pub returns-in_default-clause-rests : goal.returns-in_default-clause-rests
 returns-in_default-clause-rests c = let l : Limits = table_limits c.args.self.now.words in let none = c.in_default.ensures.told.0 in let few = c.blocks_end.ensures.drawn.0 in

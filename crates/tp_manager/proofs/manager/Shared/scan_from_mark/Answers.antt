@@ -25,6 +25,8 @@ use Rattle.tp_manager.proofs.Calls.Passes.{done_walked}
 use Rattle.tp_manager.proofs.Marks.Raises.{done_passed, goes_walked, over_passed, past_near, rose_both, rose_past, rose_then, took_looked, use_later}
 use Rattle.tp_manager.proofs.Claims.Scans.{passed_widens, scan_behind, took_few, took_from, took_then}
 use Rattle.tp_manager.proofs.Rows.Seeks.{part_on, begun_few, begun_looked, begun_on, rows_more, sought_from, sought_then}
+use Rattle.tp_manager.specs.Leans.{IsLeanAt, scan_end}
+use Rattle.tp_manager.proofs.Claims.Leans.{ends_far, ends_most, lean_apart, lean_between, lean_less, lean_row, lean_start}
 use Rattle.tp_manager.proofs.manager.Shared.scan_from_mark.Goals as goal
 use Rattle.tp_manager.proofs.manager.Shared.scan_from_mark.Goals.{After-loop-row, After-low_at-mark, After-past_done-begin, After-try_row}
 
@@ -224,6 +226,28 @@ returns-then-row-end-clause-told c = let l : Limits = table_limits c.args.self.n
     (scan_behind l c.args.stage c.args.unit 0 (n + m) (2 + (l.rows - slice_index c.args.lows.now c.args.part) * s) (c.args.part * l.rows) _ v v y c.scan_behind-found.result (omega arith) (looked_none l v c.requires.steady.steady)
     (scan_on l c.args.stage c.requires.stage.0 n m c.args.unit (c.args.part * l.rows) c.try_row.new.row _ v (view_of c.raise_low-then-row-end.new.seat) y c.scan_behind-found.result (omega arith) raised c.scan_behind-found.ensures.told))
 
+-- what is made from the mark up to the row, and there
+lean : (c : After-try_row) → IsLeanAt (table_limits c.args.self.now.words) c.args.stage 0 c.past_done-begin.result (c.loop-row.row + 1 - c.past_done-begin.result) (view_of c.low_at-mark.new.seat) (view_of c.try_row.new.seat)
+lean c = let i = c.loop-row.invariant in lean_row (table_limits c.args.self.now.words) c.args.stage c.past_done-begin.result (c.loop-row.row - c.past_done-begin.result) c.loop-row.row _ _ _ i.from (omega arith) i.lean c.try_row.ensures.lean
+
+pub returns-in-Some-clause-lean : goal.returns-in-Some-clause-lean
+returns-in-Some-clause-lean c = let l : Limits = table_limits c.args.self.now.words in let at = goal.at.returns-in-Some-clause-lean c in let F : ℕ = c.past_done-begin.result in let N : ℕ = c.args.part * l.rows + slice_index c.args.lows.now c.args.part in
+    let start = c.loop-row.invariant.from in let behind = (begins at.After-past_done-begin).0 in let e = first at.After-low_at-mark in let low = above at.After-low_at-mark in let is = c.in-Some.ensures.behind.1 in
+    lean_between l c.args.stage 1 F (c.loop-row.row + 1 - F) 1 2 N (c.in-Some.taken.element.id + 1 - N) _ _ _ _ _ _ (omega arith) (omega arith) (omega arith) c.low_at-mark.ensures.acted.walk (lean at.After-try_row) c.raise_low.ensures.looked.walk
+
+pub returns-then-row-end-clause-lean : goal.returns-then-row-end-clause-lean
+returns-then-row-end-clause-lean c = let l : Limits = table_limits c.args.self.now.words in let at = goal.at.returns-then-row-end-clause-lean c in let F : ℕ = c.past_done-begin.result in let N : ℕ = c.args.part * l.rows + slice_index c.args.lows.now c.args.part in
+    let start = c.loop-row.invariant.from in let behind = (begins at.After-past_done-begin).0 in let e = first at.After-low_at-mark in let wd = wide at.After-low_at-mark in let low = above at.After-low_at-mark in
+    let on = c.try_row.ensures.on.on in let next : ℕ = c.try_row.new.row in let to : ℕ = c.args.part * c.args.self.now.places.limits.rows + c.args.self.now.places.limits.rows in let top = (near at.After-try_row).1 in let o = c.scan_behind-found.result in
+    let far = ends_far l _ _ next to c.args.stage c.args.unit _ _ o (omega arith) c.scan_behind-found.ensures.told in let same : scan_end to o ≤ scan_end (c.args.part * l.rows + l.rows) o = ends_most to (c.args.part * l.rows + l.rows) o (omega arith) in
+    lean_apart l c.args.stage 2 F (c.loop-row.row + 1 - F) 0 next (scan_end to o - next) 2 N (scan_end (c.args.part * l.rows + l.rows) o - N) _ _ _ (omega arith) (omega arith) (omega arith) (omega arith)
+    (lean_between l c.args.stage 1 F (c.loop-row.row + 1 - F) 1 2 F (c.loop-row.row + 1 - F) _ _ _ _ _ _ (omega arith) (omega arith) (omega arith) c.low_at-mark.ensures.acted.walk (lean at.After-try_row) c.raise_low-then-row-end.ensures.looked.walk) c.scan_behind-found.ensures.lean
+
+pub returns-clause-lean : goal.returns-clause-lean
+returns-clause-lean c = let l : Limits = table_limits c.args.self.now.words in let at = goal.at.returns-clause-lean c in let F : ℕ = c.past_done-begin.result in let N : ℕ = c.args.part * l.rows + slice_index c.args.lows.now c.args.part in let i = c.loop-row.invariant in
+    let start = i.from in let high = i.inside in let behind = (begins at.After-past_done-begin).0 in let e = first at.After-low_at-mark in let wd = wide at.After-low_at-mark in let low = above at.After-low_at-mark in
+    lean_between l c.args.stage 1 F (c.loop-row.row - F) 1 2 N (c.args.part * l.rows + l.rows - N) _ _ _ _ _ _ (omega arith) (omega arith) (omega arith) c.low_at-mark.ensures.acted.walk i.lean c.raise_low-2.ensures.looked.walk
+
 pub loop-row-init : goal.loop-row-init
 loop-row-init c = let at = goal.at.loop-row-init c in let b = begins at.After-past_done-begin in let inside = b.2 in record {
   same = refl;
@@ -237,6 +261,7 @@ loop-row-init c = let at = goal.at.loop-row-init c in let b = begins at.After-pa
       (subst (λ z. Rose c.args.stage (view_of c.low_at-mark.new.seat) (z + c.low_at-mark.result) (z + slice_index c.low_at-mark.new.lows c.args.part)) (first at.After-low_at-mark) c.low_at-mark.ensures.rose)
       (rose_past (table_limits c.args.self.now.words) (view_of c.low_at-mark.new.seat) c.past_done-begin.result (from at.After-past_done-begin) _ c.args.done (still_done at.After-low_at-mark) c.past_done-begin.ensures b.0 c.args.stage);
   stuck = λ less. absurd (omega arith);
+  lean = lean_less (table_limits c.args.self.now.words) c.args.stage 0 c.past_done-begin.result 0 0 c.past_done-begin.result _ _ _ (omega arith) (omega arith) (omega arith) (lean_start (table_limits c.args.self.now.words) c.args.stage c.past_done-begin.result (view_of c.low_at-mark.new.seat));
   begun = inl (refl, refl);
 }
 
@@ -253,6 +278,7 @@ loop-row-preserved c = let l : Limits = table_limits c.args.self.now.words in le
       low = c.try_row.ensures.low.0;
       rose = rose at.After-try_row _ _ t.walk;
       stuck = stuck at.After-try_row _ _ t.walk;
+      lean = lean_less l c.args.stage 0 F (c.loop-row.row + 1 - F) 0 F (c.try_row.new.row - F) _ _ (omega arith) (omega arith) (omega arith) (lean at.After-try_row);
       begun = begun_few l P (passed_widens l c.args.stage) (d * s + s) F _ c.try_row.new.row _ _ (rows_more d (c.try_row.new.row - F) s (omega arith)) (begun_on l P (passed_widens l c.args.stage) (d * s) F s c.loop-row.row _ _ _ i.begun c.try_row.new.row start t);
     }
 

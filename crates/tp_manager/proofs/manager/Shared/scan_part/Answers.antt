@@ -16,6 +16,8 @@ use mathlib.Core.List.{IsPrefix}
 use Rattle.tp_model.proofs.Bridges.{begins_refl}
 use mathlib.Core.Logic.{dite}
 use native.Mathlib.Decide.{dec_le}
+use Rattle.tp_manager.proofs.Claims.Leans.{lean_at, lean_behind, lean_less}
+use Rattle.tp_manager.specs.Leans.{scan_end}
 use Rattle.tp_manager.proofs.manager.Shared.scan_part.Goals as goal
 
 pub is_bare_to-requires-clause-row : goal.is_bare_to-requires-clause-row
@@ -49,6 +51,14 @@ pub returns-clause-told : goal.returns-clause-told
 returns-clause-told c = let l : Limits = table_limits c.args.self.now.words in let m : ℕ = (l.rows - slice_index c.args.lows.now c.args.part) * try_steps in
     scan_behind l c.args.stage c.args.unit 1 (2 + m) (3 + m) (c.args.part * l.rows) (c.args.part * l.rows + l.rows) (view_of c.args.seat.now) (view_of c.is_bare_to.new.seat) (view_of c.scan_from_mark.new.seat) c.scan_from_mark.result (omega arith)
     (c.is_bare_to.ensures.more c.if-is_bare_to.false) c.scan_from_mark.ensures.told
+
+pub returns-then-is_bare_to-clause-lean : goal.returns-then-is_bare_to-clause-lean
+returns-then-is_bare_to-clause-lean c = let l : Limits = table_limits c.args.self.now.words in let N : ℕ = c.args.part * l.rows + slice_index c.args.lows.now c.args.part in
+    lean_less l c.args.stage 1 N 0 3 N (c.args.part * l.rows + l.rows - N) _ _ (omega arith) (omega arith) (omega arith) (lean_at l c.args.stage 1 N _ _ _ (c.is_bare_to.ensures.bare c.if-is_bare_to.true).0.walk)
+
+pub returns-clause-lean : goal.returns-clause-lean
+returns-clause-lean c = let l : Limits = table_limits c.args.self.now.words in let N : ℕ = c.args.part * l.rows + slice_index c.args.lows.now c.args.part in
+    lean_behind l c.args.stage 1 N (scan_end (c.args.part * l.rows + l.rows) c.scan_from_mark.result - N) 2 3 _ _ _ _ (omega arith) (c.is_bare_to.ensures.more c.if-is_bare_to.false).walk c.scan_from_mark.ensures.lean
 
 pub returns-then-is_bare_to-clause-rests : goal.returns-then-is_bare_to-clause-rests
 returns-then-is_bare_to-clause-rests c = let l : Limits = table_limits c.args.self.now.words in let bare = c.is_bare_to.ensures.bare c.if-is_bare_to.true in let low = slice_index c.args.lows.now c.args.part in let w = view_of c.is_bare_to.new.seat in

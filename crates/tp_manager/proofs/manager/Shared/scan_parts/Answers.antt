@@ -1,8 +1,9 @@
-use Rattle.std.proofs.Common.{suc, inr, ⊎_elim, ◌≡◌, ◌+◌, ◌-◌, ◌*◌, ◌<◌, slice_index, sym, ◌∙◌, refl, ap, inl, arith, rules, subst, mul-le-mul_right, suc-mul}
+use Rattle.std.proofs.Common.{ℕ, ◌≤◌, suc, inr, ⊎_elim, ◌≡◌, ◌+◌, ◌-◌, ◌*◌, ◌<◌, slice_index, sym, ◌∙◌, refl, ap, inl, arith, rules, subst, mul-le-mul_right, suc-mul}
 use Rattle.tp_model.specs.declared.types.Limits.{Limits}
 use Rattle.tp_rule.specs.Tables.{table_limits}
 use Rattle.tp_rule.specs.Views.{view_of}
 use Rattle.tp_manager.specs.Bounds.{scan_steps, try_steps}
+use Rattle.tp_manager.specs.RowSteps.{parts_left}
 use Rattle.tp_manager.specs.Scans.{EachRow, OfPart, PassedBy, Sought, Took}
 use Rattle.tp_manager.proofs.Marks.Lows.{rises_then, scan_next, scan_rises}
 use Rattle.tp_manager.proofs.Calls.CallSteps.{rises_none, sought_few}
@@ -13,7 +14,11 @@ use mathlib.Core.Logic.{dite}
 use native.Mathlib.Decide.{dec_le}
 use Rattle.tp_manager.proofs.Rows.Seeks.{rows_more, begun_done, begun_few, begun_looked, begun_on, one_row, part_widens, sought_all}
 use Rattle.tp_manager.proofs.Calls.Passes.{done_walked}
+use Rattle.tp_model.specs.Steps.{part_rows}
+use Rattle.tp_manager.specs.Leans.{IsLeanAt, IsLeanIn}
+use Rattle.tp_manager.proofs.Claims.Leans.{lean_from, lean_part, lean_parts, parts_more, parts_rise}
 use Rattle.tp_manager.proofs.manager.Shared.scan_parts.Goals as goal
+use Rattle.tp_manager.proofs.manager.Shared.scan_parts.Goals.{After-scan_part, else-lows-part-via-then-lows-part+else-part-last, else-lows-part-via-else-lows-part}
 
 pub scan_part-requires-clause-part : goal.scan_part-requires-clause-part
 scan_part-requires-clause-part c = subst (λ (z : Limits). c.loop-part.part < z.parts) (sym c.args.self.now.same) c.loop-part-test.true
@@ -37,8 +42,37 @@ loop-part-init c = record {
   rest = λ q low. refl;
   done = λ q less. c.first_open-begin.ensures.finished q less;
   rests = λ q low high. absurd (omega arith);
+  lean = lean_from (table_limits c.args.self.now.words) c.args.stage _ _ _ c.args.lows.now (view_of c.args.seat.now);
   begun = inl (refl, refl);
 }
+
+-- this part has rows left, or it is the last one
+more : (c : After-scan_part) → (3 * parts_left (table_limits c.args.self.now.words) c.args.lows.now c.loop-part.part + 3 * (c.loop-part.part + 1 - (table_limits c.args.self.now.words).parts)) + 3
+    ≤ 3 * parts_left (table_limits c.args.self.now.words) c.args.lows.now (c.loop-part.part + 1) + 3 * (c.loop-part.part + 2 - (table_limits c.args.self.now.words).parts)
+more c = let l : Limits = table_limits c.args.self.now.words in let n = c.loop-part.part in let lows = c.args.lows.now in let count : l.parts ≡ c.args.self.now.places.limits.parts = ap (λ (z : Limits). z.parts) c.args.self.now.same in
+    let wide : l.rows ≡ c.args.self.now.places.limits.rows = ap (λ (z : Limits). z.rows) c.args.self.now.same in let rise = parts_rise l lows n (n + 1) (omega arith) in let before = c.loop-part-test.true in
+    elim c.else-lows-part.branch [
+      | else-lows-part-via-then-lows-part+else-part-last w ↦ (let last = w.if-part-last.false in omega arith)
+      | else-lows-part-via-else-lows-part w ↦ (let one = parts_more l lows n (λ is. w.if-lows-part.false (c.loop-part.invariant.rest n (omega arith) ∙ (is ∙ wide))) in omega arith)
+    ]
+
+-- what is made in the parts so far, and in this one up to row e
+lean : (c : After-scan_part) (e end : ℕ) → c.loop-part.part * (table_limits c.args.self.now.words).rows ≤ end → e ≤ end → e ≤ c.loop-part.part * (table_limits c.args.self.now.words).rows + (table_limits c.args.self.now.words).rows
+    → IsLeanAt (table_limits c.args.self.now.words) c.args.stage 3 (c.loop-part.part * (table_limits c.args.self.now.words).rows + slice_index c.loop-part.lows c.loop-part.part) (e - (c.loop-part.part * (table_limits c.args.self.now.words).rows + slice_index c.loop-part.lows c.loop-part.part)) (view_of c.loop-part.seat) (view_of c.scan_part.new.seat)
+    → IsLeanIn (table_limits c.args.self.now.words) c.args.stage (3 * parts_left (table_limits c.args.self.now.words) c.args.lows.now (c.loop-part.part + 1) + 3 * (c.loop-part.part + 2 - (table_limits c.args.self.now.words).parts)) c.args.lows.now (c.loop-part.part + 1) end (view_of c.args.seat.now) (view_of c.scan_part.new.seat)
+lean c e end behind before inside own = let l : Limits = table_limits c.args.self.now.words in let n = c.loop-part.part in let i = c.loop-part.invariant in let lows = c.args.lows.now in
+    lean_part l c.args.stage (3 * parts_left l lows n + 3 * (n + 1 - l.parts)) n 3 _ (slice_index c.loop-part.lows n) (part_rows l) end e lows _ _ _ (more c) (i.rest n (omega arith)) behind before inside i.lean own
+
+pub returns-in-Some-clause-lean : goal.returns-in-Some-clause-lean
+returns-in-Some-clause-lean c = let l : Limits = table_limits c.args.self.now.words in let n = c.loop-part.part in let less : n < l.parts = subst (λ (z : Limits). n < z.parts) (sym c.args.self.now.same) c.loop-part-test.true in
+    let id : ℕ = c.in-Some.taken.element.id in let low = c.in-Some.ensures.told.0.reach in let inside = c.in-Some.ensures.inside in let rise = parts_rise l c.args.lows.now (n + 1) l.parts (omega arith) in
+    lean_parts l c.args.stage (3 * parts_left l c.args.lows.now (n + 1) + 3 * (n + 2 - l.parts)) (n + 1) (3 * (parts_left l c.args.lows.now l.parts + 1)) l.parts (id + 1) c.args.lows.now _ _ (omega arith) (omega arith)
+    (lean (goal.at.returns-in-Some-clause-lean c).After-scan_part (id + 1) (id + 1) (omega arith) (omega arith) (omega arith) c.in-Some.ensures.lean)
+
+pub returns-clause-lean : goal.returns-clause-lean
+returns-clause-lean c = let l : Limits = table_limits c.args.self.now.words in let n = c.loop-part.part in let count : l.parts ≡ c.args.self.now.places.limits.parts = ap (λ (z : Limits). z.parts) c.args.self.now.same in
+    let high = c.loop-part.auto.part-end in let within = c.first_open-begin.ensures.part in let rise = parts_rise l c.args.lows.now n l.parts (omega arith) in
+    lean_parts l c.args.stage (3 * parts_left l c.args.lows.now n + 3 * (n + 1 - l.parts)) n (3 * (parts_left l c.args.lows.now l.parts + 1)) l.parts (part_rows l) c.args.lows.now _ _ (omega arith) (omega arith) c.loop-part.invariant.lean
 
 pub returns-in-Some-clause-lows : goal.returns-in-Some-clause-lows
 returns-in-Some-clause-lows c = rises_then c.args.lows.now c.loop-part.lows c.scan_part.new.lows c.loop-part.invariant.rises c.scan_part.ensures.lows.0
@@ -82,6 +116,9 @@ loop-part-preserved c = let l : Limits = table_limits c.args.self.now.words in l
   rest = λ q low. c.scan_part.ensures.lows.1 q (λ is. absurd (omega arith)) ∙ i.rest q (omega arith);
   done = λ q less. (let from = i.from in c.scan_part.ensures.lows.1 q (λ is. absurd (omega arith)) ∙ i.done q less);
   rests = parts_on l c.args.stage c.first_open-begin.result n _ _ (OfPart l P) _ c.loop-part.lows c.scan_part.new.lows _ _ _ i.begun c.in_default.ensures.told.walk i.rests c.scan_part.ensures.rests c.scan_part.ensures.lows.1;
+  lean = let top = rows_more n l.parts l.rows (subst (λ (z : Limits). n < z.parts) (sym c.args.self.now.same) c.loop-part-test.true) in let same : n + 2 - l.parts ≡ n + 1 + 1 - l.parts = omega arith in
+      subst (λ z. IsLeanIn l c.args.stage (3 * parts_left l lows (n + 1) + 3 * z) lows (n + 1) (part_rows l) (view_of c.args.seat.now) (view_of c.scan_part.new.seat)) same
+      (lean (goal.at.loop-part-preserved c).After-scan_part (n * l.rows + l.rows) (part_rows l) (omega arith) (omega arith) (omega arith) c.in_default.ensures.lean);
   begun = begun_few l (OfPart l P) W (scan_steps l s 3 lows n + (3 + (l.rows - slice_index lows n) * s)) c.first_open-begin.result _ (n + 1) _ _ (scan_next l lows s 3 n)
       (begun_on l (OfPart l P) W (scan_steps l s 3 lows n) c.first_open-begin.result (3 + (l.rows - slice_index lows n) * s) n _ _ _ i.begun (n + 1) i.from
       (subst (λ m. Sought l (3 + (l.rows - m) * s) (EachRow (OfPart l P) n (n + 1)) (view_of c.loop-part.seat) (view_of c.scan_part.new.seat)) (i.rest n (omega arith))
@@ -114,6 +151,7 @@ loop-part-preserved-then-part-last c = let l : Limits = table_limits c.args.self
       rests = λ q low high. dite (dec_le n q)
           (λ at. let same : n ≡ q = omega arith in inl (subst (λ z. slice_index c.loop-part.lows z ≡ l.rows) same finished))
           (λ not. i.rests q low (omega arith));
+      lean = let rise = parts_rise l lows n (n + 1) (omega arith) in lean_parts l c.args.stage (3 * parts_left l lows n + 3 * (n + 1 - l.parts)) n _ (n + 1) (part_rows l) lows _ _ (omega arith) (omega arith) i.lean;
       begun = ⊎_elim
           (λ t. absurd (let at = t.0 in let more = c.if-part-last.true in c.first_open-begin.ensures.open (omega arith) (subst (λ z. slice_index lows z ≡ l.rows) at (sym (i.rest n (omega arith)) ∙ finished))))
           (λ sought. inr (sought_few l (scan_steps l s 3 lows n) (scan_steps l s 3 lows (n + 1)) _ _ _ (scan_rises l lows s 3 n (n + 1) (omega arith))

@@ -1,4 +1,4 @@
-use Rattle.std.proofs.Common.{◌+◌, ◌-◌, ◌*◌, ◌≤◌, ℕ, List, arith, rules, mul-le-mul_right}
+use Rattle.std.proofs.Common.{inl, refl, ◌+◌, ◌-◌, ◌*◌, ◌≤◌, ℕ, List, arith, rules, mul-le-mul_right}
 use Rattle.tp_model.specs.declared.trace.TraceEntry.{TraceEntry}
 use Rattle.tp_model.specs.declared.types.Limits.{Limits}
 use Rattle.tp_rule.specs.Tables.{table_limits}
@@ -13,6 +13,8 @@ use Rattle.tp_manager.proofs.Families.Cancels.{few_rows}
 use Rattle.tp_manager.proofs.Marks.Raises.{goes_walked, rose_none, rose_then}
 use Rattle.tp_manager.proofs.Marks.Useless.{Goes, rose_later}
 use Rattle.tp_manager.proofs.Rows.Seeks.{begun_few, begun_looked, begun_on, rows_more}
+use Rattle.tp_manager.specs.Leans.{IsLeanAt}
+use Rattle.tp_manager.proofs.Claims.Leans.{lean_less, lean_row, lean_start}
 use Rattle.tp_manager.proofs.manager.Shared.scan_run.Goals as goal
 use Rattle.tp_manager.proofs.manager.Shared.scan_run.Goals.{After-try_row}
 
@@ -58,6 +60,30 @@ returns-in-Some-clause-told c = let l : Limits = table_limits c.args.self.now.wo
       c.in-Some.ensures.told.1,
     )
 
+pub loop-row-init : goal.loop-row-init
+loop-row-init c = record {
+  same = refl;
+  from = omega arith;
+  inside = let r = c.requires.rows in omega arith;
+  low = omega arith;
+  gap = c.requires.gap;
+  run = c.requires.run;
+  lean = (0, omega arith, omega arith, lean_start (table_limits c.args.self.now.words) c.args.stage c.args.from (view_of c.args.seat.now));
+  begun = (0, omega arith, omega arith, inl (refl, refl));
+}
+
+-- the rows up to this one, and this one
+lean : (c : After-try_row) → IsLeanAt (table_limits c.args.self.now.words) c.args.stage 0 c.args.from (c.loop-row.row + 1 - c.args.from) (view_of c.args.seat.now) (view_of c.try_row.new.seat)
+lean c = let t = c.loop-row.invariant.lean in lean_row (table_limits c.args.self.now.words) c.args.stage c.args.from t.0 c.loop-row.row _ _ _ c.loop-row.invariant.from t.1 t.3 c.try_row.ensures.lean
+
+pub returns-in-Some-clause-lean : goal.returns-in-Some-clause-lean
+returns-in-Some-clause-lean c = let at = c.in-Some.ensures.behind.1 in
+    lean_less (table_limits c.args.self.now.words) c.args.stage 0 c.args.from (c.loop-row.row + 1 - c.args.from) 0 c.args.from (c.in-Some.taken.element.id + 1 - c.args.from) _ _ (omega arith) (omega arith) (omega arith) (lean (goal.at.returns-in-Some-clause-lean c).After-try_row)
+
+pub returns-clause-lean : goal.returns-clause-lean
+returns-clause-lean c = let t = c.loop-row.invariant.lean in let k : ℕ = t.0 in let le = t.2 in
+    lean_less (table_limits c.args.self.now.words) c.args.stage 0 c.args.from k 0 c.args.from (c.args.to - c.args.from) _ _ (omega arith) (omega arith) (omega arith) t.3
+
 pub loop-row-preserved-then-row-to : goal.loop-row-preserved-then-row-to
 loop-row-preserved-then-row-to c = let l : Limits = table_limits c.args.self.now.words in let P = PassedBy l c.args.stage in let s = try_steps in let i = c.loop-row.invariant in let b = i.begun in let k : ℕ = b.0 in
     let at = (goal.at.loop-row-preserved-then-row-to c).After-try_row in let next = c.try_row.ensures.on.on in let from_on = i.from in let told = c.in_default.ensures.told in record {
@@ -67,6 +93,7 @@ loop-row-preserved-then-row-to c = let l : Limits = table_limits c.args.self.now
       low = omega arith;
       gap = longer_gap c.args.stage (view_of c.try_row.new.seat) c.loop-row.gap c.longer-then-row-to.result c.loop-row.begin c.try_row.new.low c.longer-then-row-to.ensures (gap at _ _ told.walk) (run at _ _ told.walk);
       run = rose_none l c.args.stage (view_of c.try_row.new.seat) c.try_row.new.row;
+      lean = (c.loop-row.row + 1 - c.args.from, (let up = c.try_row.ensures.on.on in omega arith), (let before = c.loop-row-test.true in omega arith), lean at);
       begun = begun at (begun_on l P (passed_widens l c.args.stage) (k * s) c.args.from s c.loop-row.row _ _ _ b.3 c.try_row.new.row from_on told);
     }
 
@@ -79,6 +106,7 @@ loop-row-preserved c = let l : Limits = table_limits c.args.self.now.words in le
       low = c.try_row.ensures.low.0;
       gap = gap at _ _ told.walk;
       run = run at _ _ told.walk;
+      lean = (c.loop-row.row + 1 - c.args.from, (let up = c.try_row.ensures.on.on in omega arith), (let before = c.loop-row-test.true in omega arith), lean at);
       begun = begun at (begun_on l P (passed_widens l c.args.stage) (k * s) c.args.from s c.loop-row.row _ _ _ b.3 c.try_row.new.row from_on told);
     }
 

@@ -3,6 +3,7 @@ use Rattle.tp_model.specs.Steps.{rows_of}
 use Rattle.tp_rule.specs.Tables.{table_limits}
 use Rattle.tp_rule.specs.Views.{IsSameSeat, view_of}
 use Rattle.tp_manager.specs.Bounds.{try_steps}
+use Rattle.tp_manager.specs.Leans.{IsLeanAt}
 use Rattle.tp_manager.specs.Marks.{IsGap, Rose}
 use Rattle.tp_manager.specs.Scans.{Begun, PassedBy}
 use Rattle.tp_manager.proofs.manager.Shared.scan_run.Given as goal
@@ -15,6 +16,7 @@ invariant-loop-row l = record {
   low : l.low ≤ l.row;
   gap : IsGap l.stage (view_of l.seat) l.gap;
   run : Rose l.stage (view_of l.seat) l.begin l.low;
+  lean : (k : ℕ) × (k ≤ l.row - l.from) × (k ≤ l.to - l.from) × IsLeanAt (table_limits l.self.words) l.stage 0 l.from k (view_of l.initial.seat) (view_of l.seat);
   begun : (k : ℕ) × (k ≤ l.row - l.from) × (k ≤ l.to - l.from) × Begun (table_limits l.self.words) (PassedBy (table_limits l.self.words) l.stage) (k * try_steps) l.from l.row (view_of l.initial.seat) (view_of l.seat);
 }
 

@@ -11,6 +11,7 @@ use Rattle.tp_manager.proofs.Calls.Passes.{done_walked}
 use Rattle.tp_manager.proofs.Claims.Scans.{none_passed, passed_widens, scan_behind}
 use Rattle.tp_manager.proofs.Rows.Seeks.{sought_bare}
 use Rattle.tp_manager.proofs.Calls.CallSteps.{remembers_kind, sought_few}
+use Rattle.tp_manager.proofs.Claims.LeanTurns.{lean_late, within_none}
 use Rattle.tp_manager.proofs.manager.Shared.scan_span.Goals as goal
 
 pub is_bare-requires-clause-row : goal.is_bare-requires-clause-row
@@ -48,3 +49,12 @@ pub returns-clause-few : goal.returns-clause-few
 returns-clause-few c = let l : Limits = table_limits c.args.self.now.words in let v = view_of c.args.seat.now in let w = view_of c.is_bare.new.seat in
     let n : ℕ = 2 + (l.rows - slice_index c.args.lows.now c.args.part) * try_steps in
     made_few (1 + n) _ v (view_of c.scan_span_from_mark.new.seat) (omega arith) (made_then 1 n v w (view_of c.scan_span_from_mark.new.seat) (made l 1 _ v w (c.is_bare.ensures.more c.if-is_bare.false).walk) c.scan_span_from_mark.ensures.few)
+
+pub returns-then-is_bare-clause-lean : goal.returns-then-is_bare-clause-lean
+returns-then-is_bare-clause-lean c = let l : Limits = table_limits c.args.self.now.words in let n : ℕ = slice_index c.args.lows.now c.args.part in
+    lean_late l c.args.stage 1 (c.args.part * l.rows + n) (l.rows - n) 0 3 c.args.from c.args.to _ (view_of c.args.seat.now) (view_of c.is_bare.new.seat) (view_of c.is_bare.new.seat) (omega arith) (c.is_bare.ensures.bare c.if-is_bare.true).0.walk
+    (within_none l c.args.stage (c.args.part * l.rows + n) (l.rows - n) c.args.from c.args.to (view_of c.is_bare.new.seat))
+
+pub returns-clause-lean : goal.returns-clause-lean
+returns-clause-lean c = let l : Limits = table_limits c.args.self.now.words in let n : ℕ = slice_index c.args.lows.now c.args.part in
+    lean_late l c.args.stage 1 (c.args.part * l.rows + n) (l.rows - n) 2 3 c.args.from c.args.to _ (view_of c.args.seat.now) (view_of c.is_bare.new.seat) (view_of c.scan_span_from_mark.new.seat) (omega arith) (c.is_bare.ensures.more c.if-is_bare.false).walk c.scan_span_from_mark.ensures.lean

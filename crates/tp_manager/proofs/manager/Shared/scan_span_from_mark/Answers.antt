@@ -1,5 +1,5 @@
 use Rattle.tp_manager.proofs.Marks.Lows.{rises_at_then}
-use Rattle.std.proofs.Common.{◌≡◌, ◌⊎◌, ◌+◌, ◌-◌, ◌*◌, ◌<◌, ◌≤◌, ℕ, List, slice_index, inl, ⊎_elim, refl, sym, ap, subst, arith, rules, mul-le-mul_right}
+use Rattle.std.proofs.Common.{◌≡◌, ◌⊎◌, ◌+◌, ◌-◌, ◌*◌, ◌<◌, ◌≤◌, ℕ, List, slice_index, inl, inr, ⊎_elim, refl, sym, ap, subst, arith, rules, mul-le-mul_right}
 use Rattle.tp_model.specs.declared.types.Limits.{Limits}
 use Rattle.tp_model.specs.declared.trace.TraceEntry.{TraceEntry}
 use Rattle.tp_model.specs.Steps.{IsRowOf}
@@ -21,6 +21,10 @@ use Rattle.tp_manager.proofs.Calls.Passes.{done_walked}
 use Rattle.tp_manager.proofs.Marks.Raises.{done_passed, goes_walked, over_passed, past_near, rose_both, rose_past, rose_then, took_looked}
 use Rattle.tp_manager.proofs.Claims.Scans.{passed_widens, took_few, took_from, took_then}
 use Rattle.tp_manager.proofs.Rows.Seeks.{part_on, begun_few, begun_looked, begun_on, rows_more, sought_from, sought_then}
+use Rattle.tp_manager.specs.Leans.{IsLeanAt}
+use Rattle.tp_manager.proofs.Claims.Leans.{lean_between, lean_row, lean_start}
+use Rattle.tp_manager.proofs.Marks.Lows.{rises_at_then}
+use Rattle.tp_manager.proofs.Claims.LeanTurns.{lean_span}
 use Rattle.tp_manager.proofs.manager.Shared.scan_span_from_mark.Goals as goal
 use Rattle.tp_manager.proofs.manager.Shared.scan_span_from_mark.Goals.{After-later-begin, After-loop-row, After-low_at-mark, After-try_row}
 
@@ -131,8 +135,13 @@ loop-row-init c = let at = (goal.at.loop-row-init c).After-later-begin in let b 
   rose = rose_both (table_limits c.args.self.now.words) c.args.stage (view_of c.low_at-mark.new.seat) _ (marked at) _
       (subst (λ z. Rose c.args.stage (view_of c.low_at-mark.new.seat) (z + c.low_at-mark.result) (z + slice_index c.low_at-mark.new.lows c.args.part)) (ap (λ (z : Limits). c.args.part * z.rows) c.args.self.now.same) c.low_at-mark.ensures.rose)
       (rose_past (table_limits c.args.self.now.words) (view_of c.low_at-mark.new.seat) c.past_done-known.result (marked at) _ c.args.done (still_done at) c.past_done-known.ensures k.0 c.args.stage);
+  lean = (0, omega arith, omega arith, lean_start (table_limits c.args.self.now.words) c.args.stage c.later-begin.result (view_of c.low_at-mark.new.seat));
   begun = (0, omega arith, omega arith, inl (refl, refl));
 }
+
+-- the rows up to this one, and this one
+lean : (c : After-try_row) → IsLeanAt (table_limits c.args.self.now.words) c.args.stage 0 c.later-begin.result (c.loop-row.row + 1 - c.later-begin.result) (view_of c.low_at-mark.new.seat) (view_of c.try_row.new.seat)
+lean c = let t = c.loop-row.invariant.lean in lean_row (table_limits c.args.self.now.words) c.args.stage c.later-begin.result t.0 c.loop-row.row _ _ _ c.loop-row.invariant.from t.1 t.3 c.try_row.ensures.lean
 
 pub loop-row-preserved : goal.loop-row-preserved
 loop-row-preserved c = let l : Limits = table_limits c.args.self.now.words in let at = goal.at.loop-row-preserved c in let t = c.in_default.ensures.told in let i = c.loop-row.invariant in let on = c.try_row.ensures.on.on in let n = near at.After-try_row in
@@ -145,6 +154,7 @@ loop-row-preserved c = let l : Limits = table_limits c.args.self.now.words in le
       above = more at.After-try_row;
       low = c.try_row.ensures.low.0;
       rose = rose at.After-try_row _ _ t.walk;
+      lean = (c.loop-row.row + 1 - F, omega arith, omega arith, lean at.After-try_row);
       begun = (
         k + 1,
         omega arith,
@@ -208,3 +218,15 @@ returns-in-Some-clause-lows c = rises_at_then c.args.part c.args.lows.now c.low_
 
 pub returns-clause-lows : goal.returns-clause-lows
 returns-clause-lows c = rises_at_then c.args.part c.args.lows.now c.low_at-mark.new.lows c.raise_low-2.new.lows c.low_at-mark.ensures.lows (subst (λ lows. RisesAt c.args.part lows c.raise_low-2.new.lows) c.loop-row.invariant.lows c.raise_low-2.ensures.lows)
+
+pub returns-in-Some-clause-lean : goal.returns-in-Some-clause-lean
+returns-in-Some-clause-lean c = let l : Limits = table_limits c.args.self.now.words in let at = goal.at.returns-in-Some-clause-lean c in let F : ℕ = c.later-begin.result in let n : ℕ = slice_index c.args.lows.now c.args.part in let m : ℕ = c.loop-row.row + 1 - F in
+    let up = above at.After-later-begin in let less = c.loop-row-test.true in let top = c.requires.span.2 in let start = c.loop-row.invariant.from in let from = (begins at.After-later-begin).1 in
+    lean_span l c.args.stage 2 F m 2 (c.args.part * l.rows + n) (l.rows - n) c.args.from c.args.to (view_of c.args.seat.now) (view_of c.raise_low.new.seat) (omega arith) (omega arith) (omega arith) from (inl (omega arith))
+    (lean_between l c.args.stage 1 F m 1 2 F m _ _ _ _ _ _ (omega arith) (omega arith) (omega arith) c.low_at-mark.ensures.acted.walk (lean at.After-try_row) c.raise_low.ensures.looked.walk)
+
+pub returns-clause-lean : goal.returns-clause-lean
+returns-clause-lean c = let l : Limits = table_limits c.args.self.now.words in let at = goal.at.returns-clause-lean c in let F : ℕ = c.later-begin.result in let n : ℕ = slice_index c.args.lows.now c.args.part in let t = c.loop-row.invariant.lean in let k : ℕ = t.0 in let most = t.2 in
+    let up = above at.After-later-begin in let top = c.requires.span.2 in let from = (begins at.After-later-begin).1 in let high = (begins at.After-later-begin).2 in let e = first at.After-low_at-mark in let w = wide at.After-low_at-mark in
+    lean_span l c.args.stage 2 F k 2 (c.args.part * l.rows + n) (l.rows - n) c.args.from c.args.to (view_of c.args.seat.now) (view_of c.raise_low-2.new.seat) (omega arith) (omega arith) (omega arith) from (dite (dec_le F c.args.to) (λ in_it. inl (omega arith)) (λ out. inr (omega arith)))
+    (lean_between l c.args.stage 1 F k 1 2 F k _ _ _ _ _ _ (omega arith) (omega arith) (omega arith) c.low_at-mark.ensures.acted.walk t.3 c.raise_low-2.ensures.looked.walk)

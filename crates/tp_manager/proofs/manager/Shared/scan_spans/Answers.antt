@@ -1,4 +1,4 @@
-use Rattle.std.proofs.Common.{◌≡◌, ◌⊎◌, ◌+◌, ◌-◌, ◌*◌, ◌<◌, ◌≤◌, ℕ, List, slice_index, sym, ◌∙◌, ap, ⊎_elim, arith, subst, suc-mul, mul-le-mul_right}
+use Rattle.std.proofs.Common.{◌≡◌, ◌⊎◌, ◌+◌, ◌-◌, ◌*◌, ◌<◌, ◌≤◌, ℕ, List, slice_index, refl, inl, sym, ◌∙◌, ap, ⊎_elim, arith, subst, suc-mul, mul-le-mul_right}
 use Rattle.tp_model.specs.declared.types.Limits.{Limits}
 use Rattle.tp_rule.specs.Tables.{table_limits}
 use Rattle.tp_rule.specs.Views.{SeatShown, view_of}
@@ -13,6 +13,9 @@ use Rattle.tp_manager.proofs.Calls.Makes.{made_few, made_then}
 use Rattle.tp_manager.proofs.Calls.Passes.{done_walked}
 use Rattle.tp_manager.proofs.Claims.Scans.{passed_widens, took_few, took_then}
 use Rattle.tp_manager.proofs.Rows.Seeks.{begun_few, begun_looked, begun_on}
+use Rattle.tp_manager.specs.Leans.{IsLeanAmong}
+use Rattle.tp_manager.proofs.Calls.CallSteps.{rises_none}
+use Rattle.tp_manager.proofs.Claims.LeanTurns.{among_part, among_parts, among_start}
 use Rattle.tp_manager.proofs.manager.Shared.scan_spans.Goals as goal
 use Rattle.tp_manager.proofs.manager.Shared.scan_spans.Goals.{else-row-end, then-row-end+in_default}
 
@@ -60,6 +63,8 @@ loop-part-preserved c = let l : Limits = table_limits c.args.self.now.words in l
                 (made_few (scan_steps l s 3 lows n + (3 + (l.rows - slice_index lows n) * s)) (scan_steps l s 3 lows (n + 1)) (view_of c.args.seat.now) (view_of w.scan_span.new.seat) (scan_next l lows s 3 n)
                 (made_then (scan_steps l s 3 lows n) (3 + (l.rows - slice_index lows n) * s) (view_of c.args.seat.now) (view_of c.loop-part.seat) (view_of w.scan_span.new.seat) i.few
                 (subst (λ m. StepsTo (3 + (l.rows - m) * s) (view_of c.loop-part.seat) (view_of w.scan_span.new.seat)) (i.rest n (omega arith)) found.few)));
+            lean = subst (λ (z : SeatShown). IsLeanAmong l c.args.stage (3 * (n + 1)) lows (n + 1) c.args.from c.args.to (view_of c.args.seat.now) (view_of z)) (sym w.seat-is)
+                (among_part l c.args.stage (3 * n) n 3 (3 * (n + 1)) (slice_index c.loop-part.lows n) c.args.from c.args.to row end lows _ _ _ (omega arith) (i.rest n (omega arith)) from_on b i.lean found.lean);
             begun = subst (λ (z : ℕ × SeatShown). Begun l P (3 * (n + 1) + (z.0 - c.args.from) * s) c.args.from z.0 (view_of c.args.seat.now) (view_of z.1)) (λ j. (sym e j, sym w.seat-is j))
                 (begun_few l P W (3 * n + (row - c.args.from) * s + (3 + (end - row) * s)) c.args.from (3 * (n + 1) + (end - c.args.from) * s) end _ _ (more n (n + 1) c.args.from row end end s (omega arith) from_on (omega arith) (omega arith))
                 (begun_on l P W (3 * n + (row - c.args.from) * s) c.args.from (3 + (end - row) * s) row _ _ _ i.begun end from_on w.in_default.ensures.told));
@@ -75,6 +80,8 @@ loop-part-preserved c = let l : Limits = table_limits c.args.self.now.words in l
             rest = λ q low. subst (λ z. slice_index z q ≡ slice_index lows q) (sym w.lows-is) (i.rest q (omega arith));
             few = subst (λ (z : SeatShown). StepsTo (scan_steps l s 3 lows (n + 1)) (view_of c.args.seat.now) (view_of z)) (sym w.seat-is)
                 (made_few (scan_steps l s 3 lows n) (scan_steps l s 3 lows (n + 1)) (view_of c.args.seat.now) (view_of c.loop-part.seat) (scan_rises l lows s 3 n (n + 1) (omega arith)) i.few);
+            lean = subst (λ (z : SeatShown). IsLeanAmong l c.args.stage (3 * (n + 1)) lows (n + 1) c.args.from c.args.to (view_of c.args.seat.now) (view_of z)) (sym w.seat-is)
+                (among_parts l c.args.stage (3 * n) n (3 * (n + 1)) (n + 1) c.args.from c.args.to lows _ _ (omega arith) (omega arith) i.lean);
             begun = subst (λ (z : ℕ × SeatShown). Begun l P (3 * (n + 1) + (z.0 - c.args.from) * s) c.args.from z.0 (view_of c.args.seat.now) (view_of z.1)) (λ j. (sym e j, sym w.seat-is j))
                 (begun_few l P W (3 * n + (row - c.args.from) * s) c.args.from (3 * (n + 1) + (row - c.args.from) * s) row _ _ (omega arith) i.begun);
           }
@@ -91,3 +98,28 @@ pub returns-clause-few : goal.returns-clause-few
 returns-clause-few c = let l : Limits = table_limits c.args.self.now.words in let s = try_steps in let n = c.loop-part.part in let lows = c.args.lows.now in
     let count : l.parts ≡ c.args.self.now.places.limits.parts = ap (λ (z : Limits). z.parts) c.args.self.now.same in let high = c.loop-part.auto.part-end in
     made_few (scan_steps l s 3 lows n) (scan_steps l s 3 lows l.parts) (view_of c.args.seat.now) (view_of c.loop-part.seat) (scan_rises l lows s 3 n l.parts (omega arith)) c.loop-part.invariant.few
+
+pub loop-part-init : goal.loop-part-init
+loop-part-init c = let span = c.requires.span in let up = span.0 in record {
+  from = omega arith;
+  reach = omega arith;
+  inside = up;
+  same = refl;
+  remembers = c.requires.remembers;
+  rises = rises_none c.args.lows.now;
+  rest = λ q low. refl;
+  few = omega arith;
+  lean = among_start (table_limits c.args.self.now.words) c.args.stage (3 * 0) 0 c.args.from c.args.to c.args.lows.now (view_of c.args.seat.now);
+  begun = inl (refl, refl);
+}
+
+pub returns-in-Some-clause-lean : goal.returns-in-Some-clause-lean
+returns-in-Some-clause-lean c = let l : Limits = table_limits c.args.self.now.words in let i = c.loop-part.invariant in let n = c.loop-part.part in let lows = c.args.lows.now in let end = c.earlier-end.result in
+    let less : n < l.parts = subst (λ (z : Limits). n < z.parts) (sym c.args.self.now.same) c.loop-part-test.true in let top = ends end _ c.args.to c.earlier-end.ensures in
+    among_parts l c.args.stage (3 * (n + 1)) (n + 1) (3 * l.parts) l.parts c.args.from c.args.to lows _ _ (omega arith) (omega arith)
+    (among_part l c.args.stage (3 * n) n 3 (3 * (n + 1)) (slice_index c.loop-part.lows n) c.args.from c.args.to c.loop-part.row end lows _ _ _ (omega arith) (i.rest n (omega arith)) i.from top.1 i.lean c.scan_span.ensures.lean)
+
+pub returns-clause-lean : goal.returns-clause-lean
+returns-clause-lean c = let l : Limits = table_limits c.args.self.now.words in let n = c.loop-part.part in let lows = c.args.lows.now in
+    let count : l.parts ≡ c.args.self.now.places.limits.parts = ap (λ (z : Limits). z.parts) c.args.self.now.same in let high = c.loop-part.auto.part-end in
+    among_parts l c.args.stage (3 * n) n (3 * l.parts) l.parts c.args.from c.args.to lows _ _ (omega arith) (omega arith) c.loop-part.invariant.lean

@@ -4,6 +4,7 @@ use Rattle.tp_rule.specs.Views.{IsSameSeat, view_of}
 use Rattle.tp_manager.specs.Bounds.{scan_steps, try_steps}
 use Rattle.tp_manager.specs.Shown.{NoneFalls}
 use Rattle.tp_manager.specs.CallSteps.{StepsTo}
+use Rattle.tp_manager.specs.Leans.{IsLeanAmong}
 use Rattle.tp_manager.specs.Marks.{Remembers}
 use Rattle.tp_manager.specs.Scans.{Begun, PassedBy}
 use Rattle.tp_manager.proofs.manager.Shared.scan_spans.Given as goal
@@ -19,5 +20,6 @@ invariant-loop-part l = record {
   rises : NoneFalls l.initial.lows l.lows;
   rest : (q : ℕ) → l.part ≤ q → slice_index l.lows q ≡ slice_index l.initial.lows q;
   few : StepsTo (scan_steps (table_limits l.self.words) try_steps 3 l.initial.lows l.part) (view_of l.initial.seat) (view_of l.seat);
+  lean : IsLeanAmong (table_limits l.self.words) l.stage (3 * l.part) l.initial.lows l.part l.from l.to (view_of l.initial.seat) (view_of l.seat);
   begun : Begun (table_limits l.self.words) (PassedBy (table_limits l.self.words) l.stage) (3 * l.part + (l.row - l.from) * try_steps) l.from l.row (view_of l.initial.seat) (view_of l.seat);
 }

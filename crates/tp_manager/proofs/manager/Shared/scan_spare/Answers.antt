@@ -24,6 +24,8 @@ use Rattle.tp_manager.proofs.Marks.Rests.{drawn_walked, spare_behind, spare_rest
 use Rattle.tp_manager.proofs.Claims.Spares.{sought_passed}
 use Rattle.tp_manager.proofs.Calls.CallSteps.{gaps_kind, looked_begins, looked_none, remembers_kind, sought_few, walked_begins, walked_then}
 use Rattle.tp_rule.specs.declared.view.Known.TheVariants.{PartMark}
+use Rattle.tp_manager.specs.Leans.{IsLeanAt, scan_end}
+use Rattle.tp_manager.proofs.Claims.Leans.{ends_far, ends_most, lean_apart, lean_between, lean_less, lean_row, lean_start}
 use Rattle.tp_manager.proofs.manager.Shared.scan_spare.Goals as goal
 use Rattle.tp_manager.proofs.manager.Shared.scan_spare.Goals.{After-loop-row, After-low_at-mark, After-part_rows, After-try_row}
 
@@ -107,6 +109,29 @@ raise_low-requires-2-clause-mark c = let at = goal.at.raise_low-requires-2-claus
 pub raise_low-requires-2-clause-remembers : goal.raise_low-requires-2-clause-remembers
 raise_low-requires-2-clause-remembers c = subst (Remembers c.args.stage (view_of c.loop-row.seat)) (sym c.loop-row.invariant.lows) (remembers_kind c.args.stage c.low_at-mark.new.lows _ _ _ _ _ (all_since (goal.at.raise_low-requires-2-clause-remembers c).After-loop-row).walk c.low_at-mark.ensures.remembers)
 
+-- what is made from the mark up to the row, and there
+lean : (c : After-try_row) → IsLeanAt (table_limits c.args.self.now.words) c.args.stage 0 (c.part_rows.result + slice_index c.low_at-mark.new.lows c.args.self.now.places.limits.parts) (c.loop-row.row + 1 - (c.part_rows.result + slice_index c.low_at-mark.new.lows c.args.self.now.places.limits.parts)) (view_of c.low_at-mark.new.seat) (view_of c.try_row.new.seat)
+lean c = let i = c.loop-row.invariant in let F : ℕ = c.part_rows.result + slice_index c.low_at-mark.new.lows c.args.self.now.places.limits.parts in
+    lean_row (table_limits c.args.self.now.words) c.args.stage F (c.loop-row.row - F) c.loop-row.row _ _ _ i.from (omega arith) i.lean c.try_row.ensures.lean
+
+pub returns-in-Some-clause-lean : goal.returns-in-Some-clause-lean
+returns-in-Some-clause-lean c = let l : Limits = table_limits c.args.self.now.words in let at = goal.at.returns-in-Some-clause-lean c in let F : ℕ = c.part_rows.result + slice_index c.low_at-mark.new.lows c.args.self.now.places.limits.parts in let N : ℕ = part_rows l + slice_index c.args.lows.now l.parts in
+    let start = c.loop-row.invariant.from in let is = c.in-Some.ensures.behind.1 in let low = above at.After-low_at-mark in let behind = front at.After-part_rows in
+    lean_between l c.args.stage 1 F (c.loop-row.row + 1 - F) 1 2 N (c.in-Some.taken.element.id + 1 - N) _ _ _ _ _ _ (omega arith) (omega arith) (omega arith) c.low_at-mark.ensures.acted.walk (lean at.After-try_row) c.raise_low.ensures.looked.walk
+
+pub returns-then-row-end-clause-lean : goal.returns-then-row-end-clause-lean
+returns-then-row-end-clause-lean c = let l : Limits = table_limits c.args.self.now.words in let at = goal.at.returns-then-row-end-clause-lean c in let F : ℕ = c.part_rows.result + slice_index c.low_at-mark.new.lows c.args.self.now.places.limits.parts in let N : ℕ = part_rows l + slice_index c.args.lows.now l.parts in
+    let start = c.loop-row.invariant.from in let top = c.requires.end.1 in let low = above at.After-low_at-mark in let behind = front at.After-part_rows in let less = c.if-row-end.true in
+    let on = c.try_row.ensures.on.on in let next : ℕ = c.try_row.new.row in let o = c.scan_behind-found.result in
+    let far = ends_far l _ _ next c.args.end c.args.stage c.args.unit _ _ o (omega arith) c.scan_behind-found.ensures.told in let most : scan_end c.args.end o ≤ scan_end (rows_of l) o = ends_most c.args.end (rows_of l) o top in
+    lean_apart l c.args.stage 2 F (c.loop-row.row + 1 - F) 0 next (scan_end c.args.end o - next) 2 N (scan_end (rows_of l) o - N) _ _ _ (omega arith) (omega arith) (omega arith) (omega arith)
+    (lean_between l c.args.stage 1 F (c.loop-row.row + 1 - F) 1 2 F (c.loop-row.row + 1 - F) _ _ _ _ _ _ (omega arith) (omega arith) (omega arith) c.low_at-mark.ensures.acted.walk (lean at.After-try_row) c.raise_low-then-row-end.ensures.looked.walk) c.scan_behind-found.ensures.lean
+
+pub returns-clause-lean : goal.returns-clause-lean
+returns-clause-lean c = let l : Limits = table_limits c.args.self.now.words in let at = goal.at.returns-clause-lean c in let F : ℕ = c.part_rows.result + slice_index c.low_at-mark.new.lows c.args.self.now.places.limits.parts in let N : ℕ = part_rows l + slice_index c.args.lows.now l.parts in let i = c.loop-row.invariant in
+    let start = i.from in let high = i.inside in let low = above at.After-low_at-mark in let behind = front at.After-part_rows in
+    lean_between l c.args.stage 1 F (c.loop-row.row - F) 1 2 N (rows_of l - N) _ _ _ _ _ _ (omega arith) (omega arith) (omega arith) c.low_at-mark.ensures.acted.walk i.lean c.raise_low-2.ensures.looked.walk
+
 pub loop-row-init : goal.loop-row-init
 loop-row-init c = let l : Limits = table_limits c.args.self.now.words in let at = goal.at.loop-row-init c in let top = inside at.After-low_at-mark in let f = front at.After-part_rows in record {
   same = refl;
@@ -118,6 +143,7 @@ loop-row-init c = let l : Limits = table_limits c.args.self.now.words in let at 
   low = omega arith;
   rose = let e = start at.After-part_rows in subst (λ (z : ℕ × ℕ). Rose c.args.stage (view_of c.low_at-mark.new.seat) (z.0 + c.low_at-mark.result) (z.1 + slice_index c.low_at-mark.new.lows c.args.self.now.places.limits.parts)) (λ i. ((e ∙ sym f) i, e i)) c.low_at-mark.ensures.rose;
   stuck = λ less. absurd (omega arith);
+  lean = let F : ℕ = c.part_rows.result + slice_index c.low_at-mark.new.lows c.args.self.now.places.limits.parts in lean_less l c.args.stage 0 F 0 0 F _ _ _ (omega arith) (omega arith) (omega arith) (lean_start l c.args.stage F (view_of c.low_at-mark.new.seat));
   begun = inl (refl, refl);
 }
 
@@ -158,6 +184,7 @@ loop-row-preserved c = let l : Limits = table_limits c.args.self.now.words in le
       low = c.try_row.ensures.low.0;
       rose = rose at.After-try_row _ _ t.walk;
       stuck = stuck at.After-try_row _ _ t.walk;
+      lean = lean_less l c.args.stage 0 F (c.loop-row.row + 1 - F) 0 F (c.try_row.new.row - F) _ _ (omega arith) (omega arith) (omega arith) (lean at.After-try_row);
       begun = begun_few l P (passed_widens l c.args.stage) (d * s + s) F _ c.try_row.new.row _ _ (rows_more d (c.try_row.new.row - F) s (omega arith)) (begun_on l P (passed_widens l c.args.stage) (d * s) F s c.loop-row.row _ _ _ i.begun c.try_row.new.row from t);
     }
 

@@ -14,6 +14,7 @@ use Rattle.tp_model.specs.declared.types.TheConstants.{BLOCK_ROWS}
 use Rattle.tp_rule.specs.declared.view.View.{View}
 use Rattle.tp_manager.specs.Bounds.{drawn_steps, scan_steps, try_steps}
 use Rattle.tp_manager.proofs.Calls.Makes.{made_few, made_then, scan_less}
+use Rattle.tp_manager.proofs.Claims.LeanTurns.{turn_early, turn_lean}
 use Rattle.tp_manager.proofs.manager.Shared.scan_turn.Goals as goal
 use Rattle.tp_manager.proofs.manager.Shared.scan_turn.Goals.{After-earlier-from}
 
@@ -57,3 +58,9 @@ returns-clause-few c = let at = (goal.at.returns-clause-few c).After-earlier-fro
     let e = all at in let top = inside at in let few = both l from (omega arith) in let v = view_of c.args.seat.now in let w = view_of c.scan_rows.new.seat in let y = view_of c.scan_rows-2.new.seat in
     let a : ℕ = k + (drawn_steps l.spare + (rows_of l - part_rows l - (from - part_rows l)) * try_steps) in let b : ℕ = k' + (drawn_steps l.spare + (from - part_rows l - (0 - part_rows l)) * try_steps) in
     made_few (a + b) _ v y (omega arith) (made_then a b v w y (one l c.rows-rows.result from k v w e c.scan_rows.ensures.few) c.scan_rows-2.ensures.few)
+
+pub returns-in-Some-clause-lean : goal.returns-in-Some-clause-lean
+returns-in-Some-clause-lean c = turn_early (table_limits c.args.self.now.words) c.args.stage c.args.lows.now c.earlier-from.result c.rows-rows.result _ _ c.scan_rows.ensures.lean
+
+pub returns-clause-lean : goal.returns-clause-lean
+returns-clause-lean c = turn_lean (table_limits c.args.self.now.words) c.args.stage c.args.lows.now c.scan_rows.new.lows c.earlier-from.result c.rows-rows.result _ _ _ c.scan_rows.ensures.lows c.scan_rows.ensures.lean c.scan_rows-2.ensures.lean

@@ -6,7 +6,8 @@ use Rattle.tp_model.specs.declared.types.Limits.{Limits}
 use Rattle.tp_model.specs.declared.trace.StepKind.TheVariants as kinds
 use Rattle.tp_model.specs.History.{status_of}
 use Rattle.tp_model.specs.Steps.{IsServerStage}
-use Rattle.tp_model.proofs.Bridges.{begins_refl, begins_trans}
+use Rattle.tp_model.specs.declared.trace.TraceEntry.{TraceEntry}
+use Rattle.tp_model.proofs.Bridges.{begins_refl, begins_trans, found_later}
 use Rattle.tp_words.specs.Words.{head_of}
 use Rattle.tp_words.specs.declared.words.Head.TheVariants.{Filled}
 use Rattle.tp_rule.specs.Tables.{table_limits}
@@ -19,13 +20,15 @@ use mathlib.Core.List.{IsPrefix}
 use Rattle.std.proofs.lemmas.Bool.Decides.{eqb_tells}
 use Rattle.tp_rule.proofs.Reading.{grew_begins}
 use Rattle.tp_manager.specs.Looks.{IsBornAs}
-use Rattle.tp_manager.specs.CallSteps.{Looked}
+use Rattle.tp_manager.specs.CallSteps.{Looked, Stepped}
 use Rattle.tp_manager.specs.Marks.{Rose, WasOfUse, WasUnsettled}
 use Rattle.tp_manager.specs.Scans.{EachRow, PassedBy, Sought}
 use Rattle.tp_manager.proofs.Families.Cancels.{few_rows}
 use Rattle.tp_manager.proofs.Marks.Raises.{near_low, near_past, not_waiting, stays_by, use_empty, use_found, use_later, use_unborn, rose_aside, rose_dead, rose_none, rose_one, unconcerned}
-use Rattle.tp_manager.proofs.Calls.CallSteps.{acted_by, looked, looked_begins, looked_none, looked_then}
+use Rattle.tp_manager.proofs.Calls.CallSteps.{acted_by, looked, looked_begins, looked_none, looked_then, walked_then}
 use Rattle.tp_manager.proofs.Rows.Looks.{there_later}
+use Rattle.tp_manager.specs.Leans.{IsLeanAt}
+use Rattle.tp_manager.proofs.Claims.Leans.{changes_later, changes_more, lean_changed, lean_other, lean_own, lean_took, lean_unborn}
 use Rattle.tp_manager.proofs.Claims.Scans.{allows_later, none_passed, pass_missed, pass_other, pass_status, pass_unborn, passed_widens, took_by, took_few}
 use Rattle.tp_manager.proofs.Rows.Seeks.{sought_on}
 use Rattle.tp_manager.proofs.manager.Shared.try_row.Goals as goal
@@ -48,6 +51,9 @@ staged stage h i b there is = head_stage there.0 there.2 ∙ is there.0 (sym the
   where
     head_stage : (e : Element) → head_of e ≡ Filled b.stage b.root b.by → b.stage ≡ e.stage
     head_stage e p = cc
+
+born_stage : (e : Element) (b : Birth) → head_of e ≡ Filled b.stage b.root b.by → e.stage ≡ b.stage
+born_stage e b p = cc
 
 of_stage : (c : After-load_claim-claim) → c.in-Holds.birth.stage ≡ c.args.stage
 of_stage c = staged c.args.stage (seen_by c.contents_from.new.seat) c.args.row.now c.in-Holds.birth c.in-Holds.ensures.told.0
@@ -166,13 +172,57 @@ returns-in-Err-clause-low c = still_low (goal.at.returns-in-Err-clause-low c).Af
 pub returns-in-Ok-clause-low : goal.returns-in-Ok-clause-low
 returns-in-Ok-clause-low c = still_low (goal.at.returns-in-Ok-clause-low c).After-head_on-head (view_of c.claim_exchange.new.seat)
 
--- two rows that are one are found so
-nat_eq_of : (m n : ℕ) → m ≡ n → nat_eq m n ≡ true
-nat_eq_of m n same = ⊎_elim (λ t. t.0) (λ t. absurd (t.1 same)) (eqb_tells m n)
-
 -- the call goes on from its beginning
 on : (c : After-head_on-head) (m : ℕ) (y : View) → Looked (table_limits c.args.self.now.words) m (view_of c.head_on-head.new.seat) y → IsPrefix (seen_by c.args.seat.now) (seen_by c.head_on-head.new.seat) × IsPrefix (seen_by c.head_on-head.new.seat) y.seen
 on c m y rest = let l : Limits = table_limits c.args.self.now.words in (looked_begins l 1 _ _ (looked l 1 _ _ c.head_on-head.ensures.acted), looked_begins l m _ _ rest)
+
+-- what is made at the row, by what is born in it
+lean_to : (c : After-head_on-head) (m : ℕ) (y : View) → Looked (table_limits c.args.self.now.words) m (view_of c.head_on-head.new.seat) y → (ms : List TraceEntry) × Stepped (table_limits c.args.self.now.words) (1 + m) ms (view_of c.args.seat.now) y
+lean_to c m y rest = (_, walked_then (table_limits c.args.self.now.words) 1 m _ _ _ _ y c.head_on-head.ensures.acted.walk rest.walk)
+
+pub returns-then-not-is_of_stage-clause-lean : goal.returns-then-not-is_of_stage-clause-lean
+returns-then-not-is_of_stage-clause-lean c = lean_other (table_limits c.args.self.now.words) c.args.stage c.args.row.now _ _ _ c.head_on-head.ensures.acted.walk
+
+pub returns-in-Nothing-clause-lean : goal.returns-in-Nothing-clause-lean
+returns-in-Nothing-clause-lean c = let b = c.contents_from.ensures.looked in let w = lean_to (goal.at.returns-in-Nothing-clause-lean c).After-head_on-head 1 (view_of c.contents_from.new.seat) b in
+    lean_unborn (table_limits c.args.self.now.words) c.args.stage c.args.row.now w.0 _ _ c.head_on-head.result (b.walk.knows _ c.head_on-head.ensures.told.knows) (c.is_of_stage.ensures.full c.if-not-is_of_stage.false) (c.is_of_stage.ensures.yes c.if-not-is_of_stage.false) w.1
+
+pub returns-in-DeadDraft-clause-lean : goal.returns-in-DeadDraft-clause-lean
+returns-in-DeadDraft-clause-lean c = let b = c.contents_from.ensures.looked in let w = lean_to (goal.at.returns-in-DeadDraft-clause-lean c).After-head_on-head 1 (view_of c.contents_from.new.seat) b in
+    lean_unborn (table_limits c.args.self.now.words) c.args.stage c.args.row.now w.0 _ _ c.head_on-head.result (b.walk.knows _ c.head_on-head.ensures.told.knows) (c.is_of_stage.ensures.full c.if-not-is_of_stage.false) (c.is_of_stage.ensures.yes c.if-not-is_of_stage.false) w.1
+
+-- where an element of the stage is born, whose claim isn't exchanged
+own_lean : (c : After-stand_of) → Looked (table_limits c.args.self.now.words) 2 (view_of c.head_on-head.new.seat) (view_of c.load_claim-claim.new.seat) → c.in-Holds.birth.stage ≡ c.args.stage
+    → (ms : List TraceEntry) → Stepped (table_limits c.args.self.now.words) 4 ms (view_of c.args.seat.now) (view_of c.stand_of.new.seat) → IsLeanAt (table_limits c.args.self.now.words) c.args.stage 0 c.args.row.now 1 (view_of c.args.seat.now) (view_of c.stand_of.new.seat)
+own_lean c a staged ms walk = let t = there c a in lean_own (table_limits c.args.self.now.words) c.args.stage c.args.row.now ms _ _ t.0 t.1 (born_stage t.0 c.in-Holds.birth t.2 ∙ staged) walk
+
+pub returns-in-Over-clause-lean : goal.returns-in-Over-clause-lean
+returns-in-Over-clause-lean c = let at = goal.at.returns-in-Over-clause-lean c in let a = claimed at.After-load_claim-claim in
+    let w = lean_to at.After-head_on-head 3 (view_of c.stand_of.new.seat) (found at.After-stand_of a) in own_lean at.After-stand_of a (of_stage at.After-load_claim-claim) w.0 w.1
+
+pub returns-in-Busy-clause-lean : goal.returns-in-Busy-clause-lean
+returns-in-Busy-clause-lean c = let at = goal.at.returns-in-Busy-clause-lean c in let a = claimed at.After-load_claim-claim in
+    let w = lean_to at.After-head_on-head 3 (view_of c.stand_of.new.seat) (found at.After-stand_of a) in own_lean at.After-stand_of a (of_stage at.After-load_claim-claim) w.0 w.1
+
+pub returns-in-Err-clause-lean : goal.returns-in-Err-clause-lean
+returns-in-Err-clause-lean c = let l : Limits = table_limits c.args.self.now.words in let at = goal.at.returns-in-Err-clause-lean c in let first = claimed at.After-load_claim-claim in let e = c.element_at-element.ensures in let miss = c.in-Err.ensures.miss in
+    let since = looked_then l 1 body_steps _ _ _ c.stand_of.ensures.looked e.looked in let b = looked l 1 _ _ (acted_by l kinds.ClaimExchange _ _ e.looked.walk.steady refl miss.0) in let i = c.args.row.now in
+    let w = lean_to at.After-head_on-head _ (view_of c.claim_exchange.new.seat) (looked_then l _ 1 _ _ _ (looked_then l 2 (1 + body_steps) _ _ _ first since) b) in
+    let low = changes_later (seen_by c.args.seat.now) (seen_by c.load_claim-claim.new.seat) i (begins_trans _ _ _ (on at.After-head_on-head 0 (view_of c.head_on-head.new.seat) (looked_none l _ c.head_on-head.ensures.acted.walk.steady)).0 (looked_begins l _ _ _ first)) in
+    let more = changes_more (seen_by c.load_claim-claim.new.seat) (seen_by c.claim_exchange.new.seat) i (begins_trans _ _ _ (looked_begins l _ _ _ since) (looked_begins l 1 _ _ b)) (λ same. miss.1 (miss.2 ∙ (same ∙ sym c.load_claim-claim.ensures.claim))) in
+    lean_changed l c.args.stage i w.0 _ _ c.element_at-element.result (found_later _ _ (looked_begins l 1 _ _ b) i _ e.born) (e.head.0 ∙ of_stage at.After-load_claim-claim) (omega arith) w.1
+
+pub returns-in-Ok-clause-lean : goal.returns-in-Ok-clause-lean
+returns-in-Ok-clause-lean c = let l : Limits = table_limits c.args.self.now.words in let at = goal.at.returns-in-Ok-clause-lean c in let m = found at.After-stand_of (claimed at.After-load_claim-claim) in let e = c.element_at-element.ensures in
+    let a = looked_then l _ body_steps _ _ _ (looked_then l 1 3 _ _ _ (looked l 1 _ _ c.head_on-head.ensures.acted) m) e.looked in
+    let is : c.element_at-element.result.stage ≡ c.args.stage = e.head.0 ∙ of_stage at.After-load_claim-claim in
+    subst (λ z. IsLeanAt l c.args.stage 0 z 1 (view_of c.args.seat.now) (view_of c.claim_exchange.new.seat)) e.head.2
+    (lean_took l c.args.stage _ c.args.row.now c.args.unit (c.in-Ready.attempts + 1) c.element_at-element.result _ _ (omega arith)
+    (took_by l c.args.stage c.args.unit (c.in-Ready.attempts + 1) c.element_at-element.result _ c.args.row.now _ _ _ e.head.2 a e.born is c.in-Ok.ensures.hit))
+
+-- two rows that are one are found so
+nat_eq_of : (m n : ℕ) → m ≡ n → nat_eq m n ≡ true
+nat_eq_of m n same = ⊎_elim (λ t. t.0) (λ t. absurd (t.1 same)) (eqb_tells m n)
 
 -- nothing is born between the row and the next
 gap : (c : After-head_on-head) (m : ℕ) (y : View) → Looked (table_limits c.args.self.now.words) m (view_of c.head_on-head.new.seat) y → (now : ℕ) → c.args.row.now < now → now < c.head_on-head.new.row
