@@ -60,7 +60,6 @@ pub(crate) enum Stand {
 #[inline(always)]
 fn is_of_stage(head: Head, stage: u8) -> bool
     ensures yes { result ≡ true → (e : element) → head ≡ head_of e → e.stage ≡ stage }
-    ensures full { result ≡ true → ¬ (head ≡ Empty) }
     ensures no { result ≡ false → (e : element) → head ≡ head_of e → ¬ (e.stage ≡ stage) }
     ensures full { result ≡ true → (head ≢ Empty) × (head ≢ Void) }
     ensures aside { result ≡ false → (found root : ℕ) (by : Option ℕ) → head ≡ Filled found root by

@@ -185,11 +185,11 @@ returns-then-not-is_of_stage-clause-lean c = lean_other (table_limits c.args.sel
 
 pub returns-in-Nothing-clause-lean : goal.returns-in-Nothing-clause-lean
 returns-in-Nothing-clause-lean c = let b = c.contents_from.ensures.looked in let w = lean_to (goal.at.returns-in-Nothing-clause-lean c).After-head_on-head 1 (view_of c.contents_from.new.seat) b in
-    lean_unborn (table_limits c.args.self.now.words) c.args.stage c.args.row.now w.0 _ _ c.head_on-head.result (b.walk.knows _ c.head_on-head.ensures.told.knows) (c.is_of_stage.ensures.full c.if-not-is_of_stage.false) (c.is_of_stage.ensures.yes c.if-not-is_of_stage.false) w.1
+    lean_unborn (table_limits c.args.self.now.words) c.args.stage c.args.row.now w.0 _ _ c.head_on-head.result (b.walk.knows _ c.head_on-head.ensures.told.knows) ((c.is_of_stage.ensures.full c.if-not-is_of_stage.false).0) (c.is_of_stage.ensures.yes c.if-not-is_of_stage.false) w.1
 
 pub returns-in-DeadDraft-clause-lean : goal.returns-in-DeadDraft-clause-lean
 returns-in-DeadDraft-clause-lean c = let b = c.contents_from.ensures.looked in let w = lean_to (goal.at.returns-in-DeadDraft-clause-lean c).After-head_on-head 1 (view_of c.contents_from.new.seat) b in
-    lean_unborn (table_limits c.args.self.now.words) c.args.stage c.args.row.now w.0 _ _ c.head_on-head.result (b.walk.knows _ c.head_on-head.ensures.told.knows) (c.is_of_stage.ensures.full c.if-not-is_of_stage.false) (c.is_of_stage.ensures.yes c.if-not-is_of_stage.false) w.1
+    lean_unborn (table_limits c.args.self.now.words) c.args.stage c.args.row.now w.0 _ _ c.head_on-head.result (b.walk.knows _ c.head_on-head.ensures.told.knows) ((c.is_of_stage.ensures.full c.if-not-is_of_stage.false).0) (c.is_of_stage.ensures.yes c.if-not-is_of_stage.false) w.1
 
 -- where an element of the stage is born, whose claim isn't exchanged
 own_lean : (c : After-stand_of) → Looked (table_limits c.args.self.now.words) 2 (view_of c.head_on-head.new.seat) (view_of c.load_claim-claim.new.seat) → c.in-Holds.birth.stage ≡ c.args.stage
