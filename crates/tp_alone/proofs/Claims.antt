@@ -20,7 +20,7 @@ use Rattle.tp_model.proofs.Lists.{if_other}
 use Rattle.tp_model.proofs.Bridges.{born_either, found_later, in_none}
 use Rattle.tp_model.proofs.Histories.{status_of-snoc}
 use Rattle.tp_plain.specs.declared.pass_state.PassState.{PassState}
-use Rattle.tp_plain.specs.OneThread.{IsBefore, State, Waits, next_unit, pass_at, taken, turn_of}
+use Rattle.tp_plain.specs.OneThread.{IsPlainBefore, State, Waits, next_unit, pass_at, taken, turn_of}
 use Rattle.tp_plain.specs.Computed.{claim_next_of_stage, claim_of_stage, next_waiting, with_claim, work_on}
 use Rattle.tp_plain.proofs.Computations.{claim_idle, claim_next_idle, claim_next_works, claim_works}
 use Rattle.tp_manager.specs.Calls.{Claims, FoundNone, FoundNoneBefore, IsQuiet, IsWaiting, Opens, claims_in, opening}
@@ -40,7 +40,7 @@ claim_next_none : (s : State) (c stage : ℕ) → s.limits.units ≤ (pass_at s 
 claim_next_none s c stage used = rw (le-ltb (pass_at s c).claimed s.limits.units used) refl
 
 -- no id of a circle comes before itself
-not_itself : (from i : ℕ) → ¬ IsBefore from i i
+not_itself : (from i : ℕ) → ¬ IsPlainBefore from i i
 not_itself from i = ⊎_elim (λ p. (let less = p.1 in omega arith)) (λ p. ⊎_elim (λ low. (let under = p.0 in omega arith)) (λ less. omega arith) p.1)
 
 same_work : (w : Work) (u k : ℕ) → w.unit ≡ u → w.attempt ≡ k → let v : Work = record { unit = u; element = w.element; attempt = k } in w ≡ v
@@ -107,9 +107,9 @@ module _ (l : Limits) (keeper keeper' : KeeperShown) (olds news : List PassShown
 
     module _ (from : ℕ) (first : FoundNoneBefore l stage from work.element.id old new) where
       -- no other one that waited comes before it
-      none_before : (e : Element) (m : ℕ) → Waits before stage e m → ¬ IsBefore from work.element.id e.id
+      none_before : (e : Element) (m : ℕ) → Waits before stage e m → ¬ IsPlainBefore from work.element.id e.id
       none_before e m w less =
-          let other : work.element.id ≢ e.id = λ same. not_itself from work.element.id (subst (IsBefore from work.element.id) (sym same) less) in
+          let other : work.element.id ≢ e.id = λ same. not_itself from work.element.id (subst (IsPlainBefore from work.element.id) (sym same) less) in
           let at = first e (found_later h (opening old new) (opens l keeper keeper' olds news h h' n c old new a) e.id e w.born) w.stage_is less in
           let still : status_of l.attempts (h ++ event ∷ []) e.id ≡ Waiting m =
           status_of-snoc l.attempts h event e.id ∙ (if_other work.element.id e.id (Held work.unit work.attempt) (status_of l.attempts h e.id) other ∙ w.waits) in

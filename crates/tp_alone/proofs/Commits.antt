@@ -12,7 +12,7 @@ use Rattle.tp_model.specs.History.{end_of, first_id}
 use Rattle.tp_model.proofs.Bridges.{append_nil}
 use Rattle.tp_model.proofs.Lists.{if_other}
 use Rattle.tp_plain.specs.declared.pass_state.PassState.{PassState}
-use Rattle.tp_plain.specs.OneThread.{State, HasRoom, made_of, next_row, ready, root_of, spent, with_draw}
+use Rattle.tp_plain.specs.OneThread.{State, HasPlainRoom, made_of, next_row, ready, root_of, spent, with_draw}
 use Rattle.tp_plain.specs.Computed.{abort_of, commit_of, committed_by, has_room}
 use Rattle.tp_plain.proofs.Computations.{abort_already, abort_goes, commit_goes, commit_lost}
 use Rattle.tp_manager.specs.Calls.{Closes, Commits, IsRoot, Loses, UsesRows, claims_in}
@@ -52,7 +52,7 @@ module _ (l : Limits) (keeper keeper' : KeeperShown) (olds news : List PassShown
         let literal : (let x : PassState = record { next = used.next + k; left = used.left - k; claimed = claims_in old.mine; holding = None; turns = turns_in old.from } in state_of new ≡ x) = (let turns : turns_in new.from ≡ turns_in old.from = ap turns_in turn in cc) in
         literal ∙ ap (λ (x : PassState). spent x k) (sym used.readied.0)
 
-    has_rows : HasRoom before c k
+    has_rows : HasPlainRoom before c k
     has_rows =
         let used = uses l keeper keeper' olds news h h' n c old new a k row run in
         let left : (ready before c k).left ≡ used.left = ap (λ (x : PassState). x.left) used.readied.0 in

@@ -9,16 +9,16 @@ use Rattle.tp_model.specs.History.{born, element_of}
 use Rattle.tp_model.specs.Steps.{IsLegal}
 use Rattle.tp_plain.specs.Computed.{next_waiting}
 use Rattle.tp_plain.specs.Looks.{attempts_in, look_at, looks_after_all}
-use Rattle.tp_plain.specs.OneThread.{IsBefore, State, Waits}
+use Rattle.tp_plain.specs.OneThread.{IsPlainBefore, State, Waits}
 use Rattle.tp_plain.proofs.Claims.{Best, no_best, best, best_is, look_of_waits, mapped, waits_of}
 
 -- of two ids in a circle the one comes before the other
-before_less : (from i j : ℕ) → i < j → IsBefore from j i ⊎ IsBefore from i j
+before_less : (from i j : ℕ) → i < j → IsPlainBefore from j i ⊎ IsPlainBefore from i j
 before_less from i j less = dite (dec_le from i)
     (λ low. inl (inl (low, less)))
     (λ under. dite (dec_le from j) (λ high. inr (inr (omega arith, inl high))) (λ both. inl (inr (omega arith, inr less))))
 
-pub not_before : (from i j : ℕ) → ¬ IsBefore from i j → ¬ IsBefore from j i → i ≡ j
+pub not_before : (from i j : ℕ) → ¬ IsPlainBefore from i j → ¬ IsPlainBefore from j i → i ≡ j
 not_before from i j one two = dite (dec_le i j)
     (λ le. dite (dec_le j i) (λ ge. (omega arith))
     (λ over. absurd (⊎_elim (λ p. two p) (λ p. one p) (before_less from i j (omega arith)))))
@@ -35,7 +35,7 @@ module _ (s : State) (from stage : ℕ) (legal : IsLegal s.limits s.history) whe
       go None b = refl
       go (Some k) (best l there waits least) = absurd (none l.element (attempts_in l.status) (waits_of s from stage legal l there waits))
 
-  pub first_waits : (e : Element) (n : ℕ) → Waits s stage e n → ((d : Element) (m : ℕ) → Waits s stage d m → ¬ IsBefore from e.id d.id)
+  pub first_waits : (e : Element) (n : ℕ) → Waits s stage e n → ((d : Element) (m : ℕ) → Waits s stage d m → ¬ IsPlainBefore from e.id d.id)
       → next_waiting s from stage ≡ Some (record { element = e; status = Waiting n })
   first_waits e n w first = go (next_waiting s from stage) (best_is from stage looks)
     where
@@ -43,9 +43,9 @@ module _ (s : State) (from stage : ℕ) (legal : IsLegal s.limits s.history) whe
       go None (no_best none) = let t = look_of_waits s from stage legal e n w in absurd (none _ t.0 t.1)
       go (Some k) (best l there waits least) =
           let t = look_of_waits s from stage legal e n w in
-          let low : ¬ IsBefore from l.element.id e.id = least _ t.0 t.1 in
+          let low : ¬ IsPlainBefore from l.element.id e.id = least _ t.0 t.1 in
           let x : Waits s stage l.element (attempts_in l.status) = waits_of s from stage legal l there waits in
-          let high : ¬ IsBefore from e.id l.element.id = first l.element (attempts_in l.status) x in
+          let high : ¬ IsPlainBefore from e.id l.element.id = first l.element (attempts_in l.status) x in
           let id : l.element.id ≡ e.id = not_before from l.element.id e.id low high in
           let one : Some l.element ≡ Some e = sym x.born ∙ (ap (element_of s.history) id ∙ w.born) in
           let same : l.element ≡ e = cc in

@@ -8,7 +8,7 @@
 #![tactic(auto)]
 
 ghost use Rattle.std.specs.Prelude.{◌≤◌, length};
-ghost use Rattle.tp_journal.specs.Journal.{IsOpen};
+ghost use Rattle.tp_journal.specs.Journal.{IsJournalOpen};
 
 use anyhow::Result;
 use std::alloc::Global;
@@ -79,7 +79,7 @@ fn take_batches<D: Device>(
     alloc: Global,
     journal: &mut Journal<D>,
 ) -> Result<ExitCode>
-    requires { IsOpen D.seen D.may_leave journal.old }
+    requires { IsJournalOpen D.seen D.may_leave journal.old }
 {
     let mut input = rt.reader();
     let mut chunk = Vec::new(alloc);
@@ -104,8 +104,8 @@ fn take_lines<D: Device>(
     journal: &mut Journal<D>,
     chunk: &mut Vec<u8>,
 ) -> Result<bool>
-    requires { IsOpen D.seen D.may_leave journal.old }
-    ensures { IsOpen D.seen D.may_leave journal.new }
+    requires { IsJournalOpen D.seen D.may_leave journal.old }
+    ensures { IsJournalOpen D.seen D.may_leave journal.new }
 {
     let count = lines_len(chunk);
     if count == 0 {
@@ -134,8 +134,8 @@ fn take<D: Device>(
     journal: &mut Journal<D>,
     lines: &[u8],
 ) -> std::result::Result<(), AppendError>
-    requires { IsOpen D.seen D.may_leave journal.old }
-    ensures { IsOpen D.seen D.may_leave journal.new }
+    requires { IsJournalOpen D.seen D.may_leave journal.old }
+    ensures { IsJournalOpen D.seen D.may_leave journal.new }
 {
     if lines.first() == Some(&b'!') {
         return journal.replace(alloc, lines);

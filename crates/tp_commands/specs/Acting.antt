@@ -25,7 +25,7 @@ use Rattle.tp_desk.specs.declared.order.Order.{Order}
 use Rattle.tp_desk.specs.declared.order.Order.TheVariants as orders
 use Rattle.tp_desk.specs.declared.turned.Turned.{Turned}
 use Rattle.tp_desk.specs.declared.turned.Turned.TheVariants as turneds
-use Rattle.tp_desk.specs.InHand.{IsSteady, work_of}
+use Rattle.tp_desk.specs.InHand.{IsDeskSteady, work_of}
 use Rattle.tp_desk.specs.Given.{ClaimsGiven, given_steps}
 use Rattle.tp_desk.specs.Orders.{ClaimsBy, KeepsTurn, steps_by}
 use Rattle.tp_desk.specs.Steady.{shown}
@@ -58,7 +58,7 @@ pub record PlaceShown : Type 0 where
 -- the desk is steady: its registers are the fold of what it has committed since it began
 abbrev pub IsSteadyPlace : PlaceShown → Type 0
 IsSteadyPlace p = IfSome p.began (λ began. let d = p.desk in
-    (drafts : List DraftView) × IsSteady d.behaviour d.registers d.pending began.1 began.0 d.pass d.work drafts)
+    (drafts : List DraftView) × IsDeskSteady d.behaviour d.registers d.pending began.1 began.0 d.pass d.work drafts)
 
 -- what was laid aside
 abbrev pub work_in : {X : Type 0} {F : X → Type 0} → Option (Aside X F) → Option Work

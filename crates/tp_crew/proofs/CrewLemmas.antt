@@ -18,7 +18,7 @@ use Rattle.tp_alone.specs.Thread.{Stays}
 use Rattle.tp_rollover.specs.Managed.{IsNewPass}
 use Rattle.tp_rollover.proofs.Seen.{quiet_stays}
 use Rattle.tp_manager.specs.Shown.{IsKeptBy, KeeperShown, ManagerShown, PassShown, view_in}
-use Rattle.tp_desk.specs.Serving.{AreEnded, Leaves, gained}
+use Rattle.tp_desk.specs.Serving.{AreUnitsEnded, Leaves, gained}
 use Rattle.tp_desk.proofs.Serves.{ended_none, leaves_then, serves_more, serves_none, still_ended}
 use Rattle.tp_crew.proofs.FoldStarts.{desk_at}
 use Rattle.tp_crew.specs.declared.crew.Crew.{Crew}
@@ -211,7 +211,7 @@ module _ {B : Type 0} (behaviour : B → Behaviour) (registers : B → List ℕ)
       shows = shows;
       serves = serves_more (behaviour u) (registers u) (registers u) (registers u) p p q [] [] s.number s.sees (s.quiet.mine ∙ sym (append_none p.mine)) refl
           (λ c v outs at. absurd (in_none at)) refl (λ v t claimed. absurd (none_is v t claimed)) (serves_none (behaviour u) (registers u) p);
-      ended = subst (λ (l : List Event). AreEnded None (gained p.mine l) q.seen) (sym s.quiet.mine) (still_ended (gained p.mine p.mine) p.seen q.seen None s.sees (ended_none p));
+      ended = subst (λ (l : List Event). AreUnitsEnded None (gained p.mine l) q.seen) (sym s.quiet.mine) (still_ended (gained p.mine p.mine) p.seen q.seen None s.sees (ended_none p));
     };
     behaviour_is = refl;
   }

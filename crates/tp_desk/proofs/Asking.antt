@@ -14,7 +14,7 @@ use Rattle.tp_server.specs.Pending.{Pending}
 use Rattle.tp_manager.specs.Calls.{Follows}
 use Rattle.tp_manager.specs.Shown.{PassShown}
 use Rattle.tp_desk.specs.Asking.{commit_to, prepare_of, settling, turn_asks}
-use Rattle.tp_desk.specs.InHand.{InHand, IsSteady}
+use Rattle.tp_desk.specs.InHand.{InHand, IsDeskSteady}
 use Rattle.tp_desk.specs.Turns.{registers_left, settled}
 use Rattle.tp_desk.proofs.Keeping.{seen_on}
 
@@ -27,7 +27,7 @@ same_some a b e = cc
 
 -- the element in hand is born in what the pass has seen since
 pub in_hand_born : (behaviour : Behaviour) (r : List ℕ) (pending : Option Pending) (start : List ℕ) (f p q : PassShown) (work : Option Work) (drafts : List DraftView) (w : Work) (n : ℕ)
-    → IsSteady behaviour r pending start f p work drafts → work ≡ Some w → Follows n p q → element_of q.seen w.element.id ≡ Some w.element
+    → IsDeskSteady behaviour r pending start f p work drafts → work ≡ Some w → Follows n p q → element_of q.seen w.element.id ≡ Some w.element
 in_hand_born behaviour r pending start f p q work drafts w n s taken follows =
     let held : InHand behaviour r pending (Some w) drafts f p = subst (λ (o : Option Work). InHand behaviour r pending o drafts f p) taken s.in_hand in
     let seen = seen_on n p q follows in

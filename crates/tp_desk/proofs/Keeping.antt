@@ -34,8 +34,8 @@ use Rattle.tp_desk.specs.Given.{GivenFails}
 use Rattle.tp_desk.specs.Orders.{ClaimsBy}
 use Rattle.tp_desk.specs.declared.order.Order.{Order}
 use Rattle.tp_desk.specs.declared.order.Order.TheVariants as orders
-use Rattle.tp_desk.specs.InHand.{InHand, IsFree, IsSteady, work_of}
-use Rattle.tp_desk.specs.Serving.{AreEnded, AreFresh, Leaves, Serves, done_with, draft_in, gained}
+use Rattle.tp_desk.specs.InHand.{InHand, IsFree, IsDeskSteady, work_of}
+use Rattle.tp_desk.specs.Serving.{AreUnitsEnded, AreUnitsFresh, Leaves, Serves, done_with, draft_in, gained}
 use Rattle.tp_desk.specs.Turns.{EndsOpen, Finishes, kept_by, registers_left}
 use Rattle.tp_desk.proofs.Serves.{all_ended, ended_other, fresh_gained, gained_more, leaves_then, serves_more, still_ended}
 
@@ -62,7 +62,7 @@ none_some : (t : UnitClaim) → None ≡ Some t → ⊥
 none_some t e = cc
 
 -- a claim of a unit that is not claimed yet
-fresh_claim : (before : List Event) (c u i n : ℕ) → claim_of before u ≡ None → AreFresh before (Claim c u i n ∷ [])
+fresh_claim : (before : List Event) (c u i n : ℕ) → claim_of before u ≡ None → AreUnitsFresh before (Claim c u i n ∷ [])
 fresh_claim before c u i n none = λ v t claimed.
     let same : claim_by v (Claim c u i n) ≡ Some t = sym (first-snoc (claim_by v) [] (Claim c u i n)) ∙ claimed in
     subst (λ (w : ℕ). claim_of before w ≡ None) (some_if u v _ t same).0 none
@@ -82,7 +82,7 @@ serves_quiet behaviour start r f p q number seen same s =
     append_nil' [] = refl
     append_nil' (x ∷ l) = ap (λ (m : List Event). x ∷ m) (append_nil' l)
 
-serves_claim : (behaviour : Behaviour) (start r : List ℕ) (f p q : PassShown) (c u i n : ℕ) → q.number ≡ p.number → IsPrefix p.seen q.seen → q.mine ≡ p.mine ++ Claim c u i n ∷ [] → AreFresh p.mine (Claim c u i n ∷ []) → Serves behaviour start r f p → Serves behaviour start r f q
+serves_claim : (behaviour : Behaviour) (start r : List ℕ) (f p q : PassShown) (c u i n : ℕ) → q.number ≡ p.number → IsPrefix p.seen q.seen → q.mine ≡ p.mine ++ Claim c u i n ∷ [] → AreUnitsFresh p.mine (Claim c u i n ∷ []) → Serves behaviour start r f p → Serves behaviour start r f q
 serves_claim behaviour start r f p q c u i n number seen adds fresh s =
     serves_more behaviour start r r f p q (Claim c u i n ∷ []) [] number seen adds refl (λ d v outs at. absurd (no_commit d v c u i n outs (in_one at))) refl fresh s
 
@@ -114,8 +114,8 @@ outputs_drafts u root id (d ∷ ds) = ap (λ (l : List DraftView). d ∷ l) (out
 
 module _ (behaviour : Behaviour) (r : List ℕ) (pending : Option Pending) (start : List ℕ) (f p : PassShown) where
   -- an element was taken in hand
-  claims : (work : Option Work) (drafts : List DraftView) → work ≡ None → IsSteady behaviour r pending start f p work drafts
-      → (l : Limits) (n stage : ℕ) (q : PassShown) (w : Work) → Follows n p q → Opens l stage w p q → IsSteady behaviour r pending start f q (Some w) drafts
+  claims : (work : Option Work) (drafts : List DraftView) → work ≡ None → IsDeskSteady behaviour r pending start f p work drafts
+      → (l : Limits) (n stage : ℕ) (q : PassShown) (w : Work) → Follows n p q → Opens l stage w p q → IsDeskSteady behaviour r pending start f q (Some w) drafts
   claims work drafts none s l n stage q w follows takes =
       let g : List Event = gained f.mine p.mine in
       let x : Event = Claim p.number w.unit w.element.id w.attempt in
@@ -125,7 +125,7 @@ module _ (behaviour : Behaviour) (r : List ℕ) (pending : Option Pending) (star
       let fresh : claim_of g w.unit ≡ None = fresh_gained f.mine p.mine w.unit s.serves.mine takes.fresh in
       let claimed : claim_of (g ++ x ∷ []) w.unit ≡ Some t = first-snoc (claim_by w.unit) g x ∙ rw (fresh) (if_same w.unit w.unit (Some t) None refl) in
       let seen = seen_on n p q follows in
-      let ended : AreEnded (Some w.unit) (g ++ x ∷ []) q.seen = λ v y is.
+      let ended : AreUnitsEnded (Some w.unit) (g ++ x ∷ []) q.seen = λ v y is.
       ⊎_elim (λ before. ⊎_elim (λ same. absurd (not_both p.open_unit v free.open_unit same)) (λ e. inr e) (still_ended g p.seen q.seen p.open_unit seen s.ended v y before))
       (λ here. inl (ap Some (some_if w.unit v t y here.1).0)) (option_or-some (claim_of g v) (claim_by v x) y (sym (first-snoc (claim_by v) g x) ∙ is)) in
       record {
@@ -136,12 +136,12 @@ module _ (behaviour : Behaviour) (r : List ℕ) (pending : Option Pending) (star
           is_born = takes.is_born;
           prepared = λ some. absurd (no_some pending free.unprepared some);
         };
-        ended = subst (λ (o : Option ℕ). AreEnded o (gained f.mine q.mine) q.seen) (sym takes.open_unit) (subst (λ (h : List Event). AreEnded (Some w.unit) h q.seen) (sym now) ended);
+        ended = subst (λ (o : Option ℕ). AreUnitsEnded o (gained f.mine q.mine) q.seen) (sym takes.open_unit) (subst (λ (h : List Event). AreUnitsEnded (Some w.unit) h q.seen) (sym now) ended);
       }
 
   -- nothing was taken
-  idles : (work : Option Work) (drafts : List DraftView) → work ≡ None → IsSteady behaviour r pending start f p work drafts
-      → (n : ℕ) (q : PassShown) → Follows n p q → IsQuiet p q → IsSteady behaviour r pending start f q work drafts
+  idles : (work : Option Work) (drafts : List DraftView) → work ≡ None → IsDeskSteady behaviour r pending start f p work drafts
+      → (n : ℕ) (q : PassShown) → Follows n p q → IsQuiet p q → IsDeskSteady behaviour r pending start f q work drafts
   idles work drafts none s n q follows quiet =
       let free : IsFree pending p = subst (λ (o : Option Work). InHand behaviour r pending o drafts f p) none s.in_hand in
       let seen = seen_on n p q follows in
@@ -149,36 +149,36 @@ module _ (behaviour : Behaviour) (r : List ℕ) (pending : Option Pending) (star
       record {
         serves = serves_quiet behaviour start r f p q follows.number seen quiet.mine s.serves;
         in_hand = subst (λ (o : Option Work). InHand behaviour r pending o drafts f q) (sym none) here;
-        ended = subst (λ (o : Option ℕ). AreEnded o (gained f.mine q.mine) q.seen) (sym quiet.open_unit) (subst (λ (m : List Event). AreEnded p.open_unit (gained f.mine m) q.seen) (sym quiet.mine) (still_ended (gained f.mine p.mine) p.seen q.seen p.open_unit seen s.ended));
+        ended = subst (λ (o : Option ℕ). AreUnitsEnded o (gained f.mine q.mine) q.seen) (sym quiet.open_unit) (subst (λ (m : List Event). AreUnitsEnded p.open_unit (gained f.mine m) q.seen) (sym quiet.mine) (still_ended (gained f.mine p.mine) p.seen q.seen p.open_unit seen s.ended));
       }
 
   -- the open unit ended without a Commit
-  pub leaves : (work : Option Work) (drafts : List DraftView) → IsSteady behaviour r pending start f p work drafts
+  pub leaves : (work : Option Work) (drafts : List DraftView) → IsDeskSteady behaviour r pending start f p work drafts
       → (n u : ℕ) (q : PassShown) → Follows n p q → Closes u p q → Adds (Abort p.number u) p q ⊎ Loses u p q → Leaves behaviour start r f q
   leaves work drafts s n u q follows closes how =
       let g : List Event = gained f.mine p.mine in
       let seen = seen_on n p q follows in
-      let all : AreEnded None g q.seen = all_ended g p.seen q.seen p.open_unit u seen closes.was_open closes.ended s.ended in
+      let all : AreUnitsEnded None g q.seen = all_ended g p.seen q.seen p.open_unit u seen closes.was_open closes.ended s.ended in
       ⊎_elim (λ adds. record {
         shows = follows.shows;
         serves = serves_abort behaviour start r f p q p.number u follows.number seen adds.mine s.serves;
-        ended = subst (λ (h : List Event). AreEnded None h q.seen) (sym (ap (gained f.mine) adds.mine ∙ gained_more f.mine p.mine (Abort p.number u ∷ []) s.serves.mine)) (ended_other g q.seen None (Abort p.number u) (λ v. refl) all);
+        ended = subst (λ (h : List Event). AreUnitsEnded None h q.seen) (sym (ap (gained f.mine) adds.mine ∙ gained_more f.mine p.mine (Abort p.number u ∷ []) s.serves.mine)) (ended_other g q.seen None (Abort p.number u) (λ v. refl) all);
       })
       (λ loses. record {
         shows = follows.shows;
         serves = serves_quiet behaviour start r f p q follows.number seen loses.0 s.serves;
-        ended = subst (λ (m : List Event). AreEnded None (gained f.mine m) q.seen) (sym loses.0) all;
+        ended = subst (λ (m : List Event). AreUnitsEnded None (gained f.mine m) q.seen) (sym loses.0) all;
       }) how
 
   -- the unit of the work in hand was committed
-  kept : (work : Option Work) (drafts : List DraftView) → IsSteady behaviour r pending start f p work drafts → IsSome pending
+  kept : (work : Option Work) (drafts : List DraftView) → IsDeskSteady behaviour r pending start f p work drafts → IsSome pending
       → (r' : List ℕ) → Some r' ≡ registers_of pending → (n first count : ℕ) (q : PassShown) → Follows n p q → Commits first count drafts p q → Leaves behaviour start r' f q
   kept None drafts s some r' made n first count q follows commits = absurd (no_some pending s.in_hand.unprepared some)
   kept (Some w) drafts s some r' made n first count q follows commits =
       let g : List Event = gained f.mine p.mine in
       let seen = seen_on n p q follows in
       let unit : commits.unit ≡ w.unit = same_some _ _ (sym commits.closes.was_open ∙ s.in_hand.open_unit) in
-      let all : AreEnded None g q.seen = all_ended g p.seen q.seen p.open_unit commits.unit seen commits.closes.was_open commits.closes.ended s.ended in
+      let all : AreUnitsEnded None g q.seen = all_ended g p.seen q.seen p.open_unit commits.unit seen commits.closes.was_open commits.closes.ended s.ended in
       let outs : List Element = outputs commits.unit commits.root commits.row drafts in
       let allowed : Allows behaviour r w.element (Ok (record { registers = r'; drafts = map draft_in outs })) =
       subst (λ (ds : List DraftView). Allows behaviour r w.element (Ok (record { registers = r'; drafts = ds })))
@@ -187,27 +187,27 @@ module _ (behaviour : Behaviour) (r : List ℕ) (pending : Option Pending) (star
       record {
         shows = follows.shows;
         serves = serves_commit behaviour start r r' f p q p.number outs w follows.number seen adds s.in_hand.claimed s.in_hand.is_born allowed s.serves;
-        ended = subst (λ (h : List Event). AreEnded None h q.seen) (sym (ap (gained f.mine) adds ∙ gained_more f.mine p.mine (Commit p.number w.unit outs ∷ []) s.serves.mine)) (ended_other g q.seen None (Commit p.number w.unit outs) (λ v. refl) all);
+        ended = subst (λ (h : List Event). AreUnitsEnded None h q.seen) (sym (ap (gained f.mine) adds ∙ gained_more f.mine p.mine (Commit p.number w.unit outs ∷ []) s.serves.mine)) (ended_other g q.seen None (Commit p.number w.unit outs) (λ v. refl) all);
       }
 
 -- what it leaves is a steady desk with nothing in hand
 pub emptied : (behaviour behaviour' : Behaviour) (start r r' : List ℕ) (f q : PassShown) (pending : Option Pending) (drafts : List DraftView)
-    → Leaves behaviour start r f q → behaviour' ≡ behaviour → r' ≡ r → pending ≡ None → q.open_unit ≡ None → IsSteady behaviour' r' pending start f q None drafts
+    → Leaves behaviour start r f q → behaviour' ≡ behaviour → r' ≡ r → pending ≡ None → q.open_unit ≡ None → IsDeskSteady behaviour' r' pending start f q None drafts
 emptied behaviour behaviour' start r r' f q pending drafts x same_behaviour same_r clear free =
     rw (same_behaviour, same_r) (record {
       serves = x.serves;
       in_hand = record { open_unit = free; unprepared = clear };
-      ended = subst (λ (o : Option ℕ). AreEnded o (gained f.mine q.mine) q.seen) (sym free) x.ended;
+      ended = subst (λ (o : Option ℕ). AreUnitsEnded o (gained f.mine q.mine) q.seen) (sym free) x.ended;
     })
 
 -- a desk with nothing in hand stays steady where another worked meanwhile with its pass and its server
 pub still_steady : (behaviour behaviour' : Behaviour) (start r r' : List ℕ) (pending pending' : Option Pending) (f p q : PassShown) (work : Option Work) (drafts : List DraftView)
-    → IsSteady behaviour r pending start f p work drafts → work ≡ None → Leaves behaviour r r' p q → behaviour' ≡ behaviour → q.open_unit ≡ None → pending' ≡ None
-    → IsSteady behaviour' r' pending' start f q work drafts
+    → IsDeskSteady behaviour r pending start f p work drafts → work ≡ None → Leaves behaviour r r' p q → behaviour' ≡ behaviour → q.open_unit ≡ None → pending' ≡ None
+    → IsDeskSteady behaviour' r' pending' start f q work drafts
 still_steady behaviour behaviour' start r r' pending pending' f p q work drafts s none left same free clear =
     let idle : IsFree pending p = subst (λ (o : Option Work). InHand behaviour r pending o drafts f p) none s.in_hand in
-    let ended : AreEnded None (gained f.mine p.mine) p.seen = subst (λ (o : Option ℕ). AreEnded o (gained f.mine p.mine) p.seen) idle.open_unit s.ended in
-    subst (λ (o : Option Work). IsSteady behaviour' r' pending' start f q o drafts) (sym none)
+    let ended : AreUnitsEnded None (gained f.mine p.mine) p.seen = subst (λ (o : Option ℕ). AreUnitsEnded o (gained f.mine p.mine) p.seen) idle.open_unit s.ended in
+    subst (λ (o : Option Work). IsDeskSteady behaviour' r' pending' start f q o drafts) (sym none)
     (emptied behaviour behaviour' start r' r' f q pending' drafts (leaves_then behaviour start r r' f p q s.serves ended left) same refl clear free)
 
 -- what a claim took, in either order
@@ -226,23 +226,23 @@ nounit_by orders.InTurn l stage p q answer = answer
 
 -- a claim, whatever its answer
 pub claimed : (behaviour : Behaviour) (r : List ℕ) (pending : Option Pending) (start : List ℕ) (f p q : PassShown) (work : Option Work) (drafts : List DraftView) (l : Limits) (order : Order) (n stage : ℕ) (answer : Claimed)
-    → work ≡ None → IsSteady behaviour r pending start f p work drafts → Follows n p q → ClaimsBy order l stage p q answer → IsSteady behaviour r pending start f q (work_of answer) drafts
+    → work ≡ None → IsDeskSteady behaviour r pending start f p work drafts → Follows n p q → ClaimsBy order l stage p q answer → IsDeskSteady behaviour r pending start f q (work_of answer) drafts
 claimed behaviour r pending start f p q work drafts l order n stage (claimeds.Work w) none s follows takes = claims behaviour r pending start f p work drafts none s l n stage q w follows (opens_by order l stage w p q takes)
 claimed behaviour r pending start f p q work drafts l order n stage claimeds.Idle none s follows answer =
     let idle = idle_by order l stage p q answer in
-    subst (λ (o : Option Work). IsSteady behaviour r pending start f q o drafts) none (idles behaviour r pending start f p work drafts none s n q follows idle.1)
+    subst (λ (o : Option Work). IsDeskSteady behaviour r pending start f q o drafts) none (idles behaviour r pending start f p work drafts none s n q follows idle.1)
 claimed behaviour r pending start f p q work drafts l order n stage claimeds.NoUnit none s follows answer =
     let same = nounit_by order l stage p q answer in
-    subst (λ (x : PassShown). IsSteady behaviour r pending start f x None drafts) (sym same.1) (subst (λ (o : Option Work). IsSteady behaviour r pending start f p o drafts) none s)
+    subst (λ (x : PassShown). IsDeskSteady behaviour r pending start f x None drafts) (sym same.1) (subst (λ (o : Option Work). IsDeskSteady behaviour r pending start f p o drafts) none s)
 
 -- a claim of a given element that took it, and one that was refused
 pub given : (behaviour : Behaviour) (r : List ℕ) (pending : Option Pending) (start : List ℕ) (f p q : PassShown) (work : Option Work) (drafts : List DraftView) (l : Limits) (n stage id : ℕ) (w : Work)
-    → work ≡ None → IsSteady behaviour r pending start f p work drafts → Follows n p q → Opens l stage w p q × (w.element.id ≡ id) → IsSteady behaviour r pending start f q (Some w) drafts
+    → work ≡ None → IsDeskSteady behaviour r pending start f p work drafts → Follows n p q → Opens l stage w p q × (w.element.id ≡ id) → IsDeskSteady behaviour r pending start f q (Some w) drafts
 given behaviour r pending start f p q work drafts l n stage id w none s follows takes = claims behaviour r pending start f p work drafts none s l n stage q w follows takes.0
 
 pub not_given : (behaviour : Behaviour) (r : List ℕ) (pending : Option Pending) (start : List ℕ) (f p q : PassShown) (work : Option Work) (drafts : List DraftView) (l : Limits) (n stage id : ℕ) (why : Refusal)
-    → work ≡ None → IsSteady behaviour r pending start f p work drafts → Follows n p q → GivenFails l stage id p q why → IsSteady behaviour r pending start f q work drafts
-not_given behaviour r pending start f p q work drafts l n stage id refusals.NoUnit none s follows says = subst (λ x. IsSteady behaviour r pending start f x work drafts) (sym says.1) s
+    → work ≡ None → IsDeskSteady behaviour r pending start f p work drafts → Follows n p q → GivenFails l stage id p q why → IsDeskSteady behaviour r pending start f q work drafts
+not_given behaviour r pending start f p q work drafts l n stage id refusals.NoUnit none s follows says = subst (λ x. IsDeskSteady behaviour r pending start f x work drafts) (sym says.1) s
 not_given behaviour r pending start f p q work drafts l n stage id refusals.NotThere none s follows says = idles behaviour r pending start f p work drafts none s n q follows says.1
 not_given behaviour r pending start f p q work drafts l n stage id refusals.BadStage none s follows says = idles behaviour r pending start f p work drafts none s n q follows says.1
 not_given behaviour r pending start f p q work drafts l n stage id refusals.NotWaiting none s follows says = idles behaviour r pending start f p work drafts none s n q follows says.1
@@ -257,7 +257,7 @@ not_given behaviour r pending start f p q work drafts l n stage id refusals.NotH
 
 -- a commit, whatever its answer
 pub committed : (behaviour : Behaviour) (r r' : List ℕ) (pending : Option Pending) (start : List ℕ) (f p q : PassShown) (work : Option Work) (drafts : List DraftView) (n : ℕ) (outcome : Outcome)
-    → IsSteady behaviour r pending start f p work drafts → IsSome pending → Follows n p q → Settles drafts p q outcome → Some r' ≡ registers_left outcome r pending → Leaves behaviour start r' f q
+    → IsDeskSteady behaviour r pending start f p work drafts → IsSome pending → Follows n p q → Settles drafts p q outcome → Some r' ≡ registers_left outcome r pending → Leaves behaviour start r' f q
 committed behaviour r r' pending start f p q work drafts n (outcomes.Committed first count) s some follows settles made =
     kept behaviour r pending start f p work drafts s some r' made n first count q follows settles
 committed behaviour r r' pending start f p q work drafts n outcomes.Lost s some follows settles made =
@@ -273,7 +273,7 @@ left_by outcomes.Full r r' made is = same_some r' r is
 
 -- prepared work was committed with its drafts, whatever the answer
 pub finishes : (behaviour : Behaviour) (r r' : List ℕ) (pending : Option Pending) (start : List ℕ) (f p q : PassShown) (work : Option Work) (drafts : List DraftView) (outcome : Outcome)
-    → IsSteady behaviour r pending start f p work drafts → IsSome pending → Settles drafts p q outcome → Some r' ≡ registers_left outcome r pending → IfSome work (λ w. Finishes behaviour r w p q outcome r')
+    → IsDeskSteady behaviour r pending start f p work drafts → IsSome pending → Settles drafts p q outcome → Some r' ≡ registers_left outcome r pending → IfSome work (λ w. Finishes behaviour r w p q outcome r')
 finishes behaviour r r' pending start f p q None drafts outcome s some settles is = tt
 finishes behaviour r r' None start f p q (Some w) drafts outcome s some settles is = absurd (no_some {A = Pending} None refl some)
 finishes behaviour r r' (Some made) start f p q (Some w) drafts outcome s some settles is =
@@ -286,7 +286,7 @@ gives_up p q AlreadyAborted ends = (ends.0, ends.1, inr ends.3)
 
 -- what a desk that ends leaves, whether a unit was open or not
 pub left : (behaviour behaviour' : Behaviour) (r r' : List ℕ) (pending : Option Pending) (start : List ℕ) (f p : PassShown) (work : Option Work) (drafts : List DraftView)
-    → IsSteady behaviour r pending start f p work drafts → behaviour' ≡ behaviour → r' ≡ r
+    → IsDeskSteady behaviour r pending start f p work drafts → behaviour' ≡ behaviour → r' ≡ r
     → (q : PassShown) → IsPassView q.limits (view_in q) → EndsOpen p.open_unit p q → IfSome p.open_unit (λ _. Follows abort_steps p q) → Leaves behaviour' start r' f q
 left behaviour behaviour' r r' pending start f p work drafts s same_behaviour same_r q shows adds follows =
     rw (same_behaviour, same_r) (go p.open_unit refl adds follows)
@@ -295,7 +295,7 @@ left behaviour behaviour' r r' pending start f p work drafts s same_behaviour sa
     go None is same follows = subst (Leaves behaviour start r f) (sym same) (record {
       shows = subst (λ (x : PassShown). IsPassView x.limits (view_in x)) same shows;
       serves = s.serves;
-      ended = subst (λ (o : Option ℕ). AreEnded o (gained f.mine p.mine) p.seen) is s.ended;
+      ended = subst (λ (o : Option ℕ). AreUnitsEnded o (gained f.mine p.mine) p.seen) is s.ended;
     })
     go (Some u) is up follows =
         let gives = gives_up p q up.0 up.1 in

@@ -17,7 +17,7 @@ use Rattle.tp_server.specs.Behaviour.{Behaviour, Done, Folds}
 use Rattle.tp_server.proofs.Made.{folds-append}
 use Rattle.tp_manager.specs.Calls.{HasEnded}
 use Rattle.tp_manager.specs.Shown.{PassShown}
-use Rattle.tp_desk.specs.Serving.{AreEnded, AreFresh, AreTaken, Leaves, Serves, done, done_by, done_with, gained}
+use Rattle.tp_desk.specs.Serving.{AreUnitsEnded, AreUnitsFresh, AreTaken, Leaves, Serves, done, done_by, done_with, gained}
 
 dropped : (a more : List Event) → drop (length a) (a ++ more) ≡ more
 dropped [] more = refl
@@ -79,7 +79,7 @@ pub serves_more : (behaviour : Behaviour) (start r r' : List ℕ) (f p q : PassS
     → filter_map (done_by (gained f.mine p.mine ++ more) q.seen) more ≡ es
     → ((c u : ℕ) (outs : List Element) → In (Commit c u outs) more → (x : Element) × (taken_by (gained f.mine p.mine ++ more) q.seen (Commit c u outs) ≡ Some x))
     → Folds behaviour r es r'
-    → AreFresh p.mine more
+    → AreUnitsFresh p.mine more
     → Serves behaviour start r f p → Serves behaviour start r' f q
 serves_more behaviour start r r' f p q more es number seen adds took all folds fresh_more s =
     let g : List Event = gained f.mine p.mine in
@@ -94,7 +94,7 @@ serves_more behaviour start r r' f p q more es number seen adds took all folds f
     ⊎_elim (λ before. let one = s.claimed c u outs before in
     (one.0, subst (λ (h : List Event). taken_by (g ++ more) h (Commit c u outs) ≡ Some one.0) seen.1 (kept g more p.seen seen.0 (Commit c u outs) one.0 one.1)))
     (λ after. all c u outs after) (in_either g more at) in
-    let fresh : AreFresh f.mine (g ++ more) = λ u t claimed.
+    let fresh : AreUnitsFresh f.mine (g ++ more) = λ u t claimed.
     ⊎_elim (λ before. s.fresh u t before) (λ after. unclaimed_before f.mine p.mine u s.mine (fresh_more u t after.1))
     (option_or-some (claim_of g u) (claim_of more u) t (sym (first-append (claim_by u) g more) ∙ claimed)) in
     record {
@@ -102,7 +102,7 @@ serves_more behaviour start r r' f p q more es number seen adds took all folds f
       seen = begins_trans f.seen p.seen q.seen s.seen seen;
       mine = subst (IsPrefix f.mine) (sym adds) (begun_more f.mine p.mine more s.mine);
       claimed = subst (λ (l : List Event). AreTaken l q.seen) (sym now) claimed;
-      fresh = subst (AreFresh f.mine) (sym now) fresh;
+      fresh = subst (AreUnitsFresh f.mine) (sym now) fresh;
       folded = subst (λ (l : List Event). Folds behaviour start (done l q.seen) r') (sym now) folded;
     }
 
@@ -111,7 +111,7 @@ pub ended_later : (h k : List Event) (u : ℕ) → IsPrefix h k → HasEnded h u
 ended_later h k u b e = subst (λ (l : List Event). HasEnded l u) b.1 (e.0, first-kept _ h b.0 e.0 e.1)
 
 -- all units have ended, where the open one has
-pub all_ended : (g h k : List Event) (o : Option ℕ) (u : ℕ) → IsPrefix h k → o ≡ Some u → HasEnded k u → AreEnded o g h → AreEnded None g k
+pub all_ended : (g h k : List Event) (o : Option ℕ) (u : ℕ) → IsPrefix h k → o ≡ Some u → HasEnded k u → AreUnitsEnded o g h → AreUnitsEnded None g k
 all_ended g h k o u b is e all = λ v t claimed.
     ⊎_elim (λ same. inr (subst (HasEnded k) (some_same u v (sym is ∙ same)) e)) (λ old. inr (ended_later h k v b old)) (all v t claimed)
   where
@@ -119,11 +119,11 @@ all_ended g h k o u b is e all = λ v t claimed.
     some_same x y e = cc
 
 -- they stay so
-pub still_ended : (g h k : List Event) (o : Option ℕ) → IsPrefix h k → AreEnded o g h → AreEnded o g k
+pub still_ended : (g h k : List Event) (o : Option ℕ) → IsPrefix h k → AreUnitsEnded o g h → AreUnitsEnded o g k
 still_ended g h k o b all = λ v t claimed. ⊎_elim (λ same. inl same) (λ old. inr (ended_later h k v b old)) (all v t claimed)
 
 -- an event that is no claim
-pub ended_other : (g h : List Event) (o : Option ℕ) (e : Event) → ((u : ℕ) → claim_by u e ≡ None) → AreEnded o g h → AreEnded o (g ++ e ∷ []) h
+pub ended_other : (g h : List Event) (o : Option ℕ) (e : Event) → ((u : ℕ) → claim_by u e ≡ None) → AreUnitsEnded o g h → AreUnitsEnded o (g ++ e ∷ []) h
 ended_other g h o e other all = λ v t claimed.
     ⊎_elim (λ before. all v t before) (λ now. absurd (no_some _ t (other v) now.1)) (option_or-some (claim_of g v) (claim_by v e) t (sym (first-snoc (claim_by v) g e) ∙ claimed))
   where
@@ -138,14 +138,14 @@ fresh_gained a b u p none =
 -- ---- one desk after another
 
 -- a unit of later events took the same element, where none of them was claimed before
-taken_later : (g more h : List Event) → AreFresh g more → (c u : ℕ) (outs : List Element) (x : Element) → taken_by more h (Commit c u outs) ≡ Some x → taken_by (g ++ more) h (Commit c u outs) ≡ Some x
+taken_later : (g more h : List Event) → AreUnitsFresh g more → (c u : ℕ) (outs : List Element) (x : Element) → taken_by more h (Commit c u outs) ≡ Some x → taken_by (g ++ more) h (Commit c u outs) ≡ Some x
 taken_later g more h fresh c u outs x is =
     option_and_then_some (λ (t : UnitClaim). element_of h t.item) (claim_of more u) x is (λ t claimed found.
     let none : claim_of g u ≡ None = fresh u t claimed in
     let both : claim_of (g ++ more) u ≡ Some t = first-append (claim_by u) g more ∙ rw (none) claimed in
     rw (both) found)
 
-all_later : (g more h es : List Event) → AreFresh g more → ((c u : ℕ) (outs : List Element) → In (Commit c u outs) es → (x : Element) × (taken_by more h (Commit c u outs) ≡ Some x)) → filter_map (done_by (g ++ more) h) es ≡ filter_map (done_by more h) es
+all_later : (g more h es : List Event) → AreUnitsFresh g more → ((c u : ℕ) (outs : List Element) → In (Commit c u outs) es → (x : Element) × (taken_by more h (Commit c u outs) ≡ Some x)) → filter_map (done_by (g ++ more) h) es ≡ filter_map (done_by more h) es
 all_later g more h [] fresh all = refl
 all_later g more h (Enqueue c y ∷ es) fresh all = all_later g more h es fresh (λ c u outs p. all c u outs (there p))
 all_later g more h (Claim c u i n ∷ es) fresh all = all_later g more h es fresh (λ c u outs p. all c u outs (there p))
@@ -162,24 +162,24 @@ pub serves_then : (behaviour : Behaviour) (start r r' : List ℕ) (f p q : PassS
 serves_then behaviour start r r' f p q a b =
     let g : List Event = gained f.mine p.mine in
     let more : List Event = gained p.mine q.mine in
-    let fresh : AreFresh g more = λ u t claimed. fresh_gained f.mine p.mine u a.mine (b.fresh u t claimed) in
+    let fresh : AreUnitsFresh g more = λ u t claimed. fresh_gained f.mine p.mine u a.mine (b.fresh u t claimed) in
     serves_more behaviour start r r' f p q more (done more q.seen) b.number b.seen (whole p.mine q.mine b.mine) (all_later g more q.seen more fresh b.claimed)
     (λ c u outs at. let one = b.claimed c u outs at in (one.0, taken_later g more q.seen fresh c u outs one.0 one.1)) b.folded b.fresh a
 
 -- and the units of both have ended
 pub ended_then : (f p q : PassShown) → IsPrefix f.mine p.mine → IsPrefix p.mine q.mine → IsPrefix p.seen q.seen
-    → AreEnded None (gained f.mine p.mine) p.seen → AreEnded None (gained p.mine q.mine) q.seen → AreEnded None (gained f.mine q.mine) q.seen
+    → AreUnitsEnded None (gained f.mine p.mine) p.seen → AreUnitsEnded None (gained p.mine q.mine) q.seen → AreUnitsEnded None (gained f.mine q.mine) q.seen
 ended_then f p q first mine seen a b =
     let g : List Event = gained f.mine p.mine in
     let more : List Event = gained p.mine q.mine in
     let both : gained f.mine q.mine ≡ g ++ more = ap (gained f.mine) (whole p.mine q.mine mine) ∙ gained_more f.mine p.mine more first in
-    subst (λ (l : List Event). AreEnded None l q.seen) (sym both) (λ u t claimed.
+    subst (λ (l : List Event). AreUnitsEnded None l q.seen) (sym both) (λ u t claimed.
     ⊎_elim (λ before. still_ended g p.seen q.seen None seen a u t before) (λ after. b u t after.1)
     (option_or-some (claim_of g u) (claim_of more u) t (sym (first-append (claim_by u) g more) ∙ claimed)))
 
 -- what a desk leaves goes on from what another left before
 pub leaves_then : (behaviour : Behaviour) (start r r' : List ℕ) (f p q : PassShown) → Serves behaviour start r f p
-    → AreEnded None (gained f.mine p.mine) p.seen → Leaves behaviour r r' p q → Leaves behaviour start r' f q
+    → AreUnitsEnded None (gained f.mine p.mine) p.seen → Leaves behaviour r r' p q → Leaves behaviour start r' f q
 leaves_then behaviour start r r' f p q serves ended b = record {
   shows = b.shows;
   serves = serves_then behaviour start r r' f p q serves b.serves;
@@ -205,10 +205,10 @@ serves_none behaviour start p = record {
   seen = ([], append_none p.seen);
   mine = ([], append_none p.mine);
   claimed = subst (λ (l : List Event). AreTaken l p.seen) (sym (gained_none p.mine)) (λ c u outs at. absurd (in_none at));
-  fresh = subst (AreFresh p.mine) (sym (gained_none p.mine)) (λ u t claimed. absurd (none_is u t claimed));
+  fresh = subst (AreUnitsFresh p.mine) (sym (gained_none p.mine)) (λ u t claimed. absurd (none_is u t claimed));
   folded = subst (λ (l : List Event). Folds behaviour start (done l p.seen) start) (sym (gained_none p.mine)) refl;
 }
 
-pub ended_none : (p : PassShown) → AreEnded None (gained p.mine p.mine) p.seen
+pub ended_none : (p : PassShown) → AreUnitsEnded None (gained p.mine p.mine) p.seen
 ended_none p =
-    subst (λ (l : List Event). AreEnded None l p.seen) (sym (gained_none p.mine)) (λ u t claimed. absurd (none_is u t claimed))
+    subst (λ (l : List Event). AreUnitsEnded None l p.seen) (sym (gained_none p.mine)) (λ u t claimed. absurd (none_is u t claimed))

@@ -8,7 +8,7 @@ use Rattle.tp_model.specs.declared.types.Work.{Work}
 use Rattle.tp_server.specs.Behaviour.{Behaviour, IsMade}
 use Rattle.tp_server.specs.Pending.{Pending}
 use Rattle.tp_manager.specs.Shown.{PassShown}
-use Rattle.tp_desk.specs.Serving.{AreEnded, Serves, gained}
+use Rattle.tp_desk.specs.Serving.{AreUnitsEnded, Serves, gained}
 
 -- the pass has the unit of this work open, claimed it since it showed `first`, and the work is prepared or
 -- not
@@ -34,11 +34,11 @@ InHand behaviour registers pending (Some work) drafts first pass =
 -- What holds between the calls of a desk that began with a pass and a server which showed `first` and
 -- `start`: the server's registers are led to by what the desk has committed, the work in hand is what the
 -- pass and the server say, and each unit that the desk claimed has ended but for the one in hand.
-pub record IsSteady (behaviour : Behaviour) (registers : List ℕ) (pending : Option Pending) (start : List ℕ)
+pub record IsDeskSteady (behaviour : Behaviour) (registers : List ℕ) (pending : Option Pending) (start : List ℕ)
     (first pass : PassShown) (work : Option Work) (drafts : List DraftView) : Type 0 where
   pub serves : Serves behaviour start registers first pass
   pub in_hand : InHand behaviour registers pending work drafts first pass
-  pub ended : AreEnded pass.open_unit (gained first.mine pass.mine) pass.seen
+  pub ended : AreUnitsEnded pass.open_unit (gained first.mine pass.mine) pass.seen
 
 -- the work that a claim puts in hand
 abbrev pub work_of : Claimed → Option Work

@@ -24,8 +24,8 @@ AreTaken events h = (c u : ℕ) (outs : List Element) → In (Commit c u outs) e
     × (taken_by events h (Commit c u outs) ≡ Some x)
 
 -- each unit that was claimed among the events was claimed by none before them
-abbrev pub AreFresh : List Event → List Event → Type 0
-AreFresh before events = (u : ℕ) (t : UnitClaim) → claim_of events u ≡ Some t → claim_of before u ≡ None
+abbrev pub AreUnitsFresh : List Event → List Event → Type 0
+AreUnitsFresh before events = (u : ℕ) (t : UnitClaim) → claim_of events u ≡ Some t → claim_of before u ≡ None
 
 -- an output as the draft that it was
 abbrev pub draft_in : Element → DraftView
@@ -53,16 +53,16 @@ pub record Serves (behaviour : Behaviour) (start registers : List ℕ) (old new 
   pub seen : IsPrefix old.seen new.seen
   pub mine : IsPrefix old.mine new.mine
   pub claimed : AreTaken (gained old.mine new.mine) new.seen
-  pub fresh : AreFresh old.mine (gained old.mine new.mine)
+  pub fresh : AreUnitsFresh old.mine (gained old.mine new.mine)
   pub folded : Folds behaviour start (done (gained old.mine new.mine) new.seen) registers
 
 -- each unit that was claimed among the events has ended, or is the one that may be open
-abbrev pub AreEnded : Option ℕ → List Event → List Event → Type 0
-AreEnded but events h = (u : ℕ) (t : UnitClaim) → claim_of events u ≡ Some t → (but ≡ Some u) ⊎ HasEnded h u
+abbrev pub AreUnitsEnded : Option ℕ → List Event → List Event → Type 0
+AreUnitsEnded but events h = (u : ℕ) (t : UnitClaim) → claim_of events u ≡ Some t → (but ≡ Some u) ⊎ HasEnded h u
 
 -- what the lenders of a pass and a server find when the desk has ended; the pass shows what every pass shows
 -- between calls
 pub record Leaves (behaviour : Behaviour) (start registers : List ℕ) (old new : PassShown) : Type 0 where
   pub shows : IsPassView new.limits (view_in new)
   pub serves : Serves behaviour start registers old new
-  pub ended : AreEnded None (gained old.mine new.mine) new.seen
+  pub ended : AreUnitsEnded None (gained old.mine new.mine) new.seen

@@ -6,14 +6,14 @@ use Rattle.std.specs.declared.dyn_box.DynBox.{DynBox}
 use Rattle.tp_server.specs.Behaviour.{Behaviour}
 use Rattle.tp_server.specs.Pending.{Pending}
 use Rattle.tp_desk.specs.declared.desk.Desk.{Desk}
-use Rattle.tp_desk.specs.InHand.{IsSteady}
+use Rattle.tp_desk.specs.InHand.{IsDeskSteady}
 
 module _ {X : Type 0} {F : X → Type 0} where
   -- the desk is steady
   abbrev pub SteadyDesk : (DynBox X Global F → Behaviour) → (DynBox X Global F → List ℕ)
       → (DynBox X Global F → Option Pending) → Desk X F → Type 0
   SteadyDesk behaviour registers pending d =
-      IsSteady (behaviour d.server.now) (registers d.server.now) (pending d.server.now)
+      IsDeskSteady (behaviour d.server.now) (registers d.server.now) (pending d.server.now)
       (registers d.first_server.value)
       d.first_pass.value d.pass.now d.work d.drafts.items
 

@@ -14,8 +14,8 @@ use Rattle.tp_model.specs.declared.types.Work.{Work}
 use Rattle.tp_server.specs.Pending.{Pending}
 use Rattle.tp_manager.specs.Calls.{AnswersAbort, Claims, Follows, Settles}
 use Rattle.tp_manager.specs.Shown.{PassShown}
-use Rattle.tp_desk.specs.InHand.{IsSteady, work_of}
-use Rattle.tp_desk.specs.Serving.{AreEnded, gained}
+use Rattle.tp_desk.specs.InHand.{IsDeskSteady, work_of}
+use Rattle.tp_desk.specs.Serving.{AreUnitsEnded, gained}
 use Rattle.tp_desk.specs.Turns.{registers_left}
 use Rattle.tp_desk.specs.declared.order.Order.TheVariants as orders
 use Rattle.tp_desk.proofs.Keeping.{claimed, committed, emptied, gives_up, leaves}
@@ -26,13 +26,13 @@ use Rattle.tp_images.specs.Pictures.{bytes_of, smaller, spaceless}
 
 -- with this work in hand, or none, since it showed the first
 abbrev pub Resizing : PassShown → PassShown → Option Work → Type 0
-Resizing first pass work = IsSteady spaceless [] None [] first pass work []
+Resizing first pass work = IsDeskSteady spaceless [] None [] first pass work []
 
 pub begins : (p : PassShown) → p.open_unit ≡ None → Resizing p p None
 begins p free = record {
   serves = serves_none spaceless [] p;
   in_hand = record { open_unit = free; unprepared = refl };
-  ended = subst (λ (o : Option ℕ). AreEnded o (gained p.mine p.mine) p.seen) (sym free) (ended_none p);
+  ended = subst (λ (o : Option ℕ). AreUnitsEnded o (gained p.mine p.mine) p.seen) (sym free) (ended_none p);
 }
 
 pub claims : (f p q : PassShown) (l : Limits) (n : ℕ) (answer : Claimed) → Resizing f p None → Follows n p q → Claims l 2 p q answer → Resizing f q (work_of answer)
@@ -59,7 +59,7 @@ pub commits : (f p q : PassShown) (w : Work) (n : ℕ) (drafts : List DraftView)
     → Follows n p q → Settles drafts p q outcome → q.open_unit ≡ None → Resizing f q None
 commits f p q w n drafts outcome s some are follows says free =
     let made : Pending = record { prepared_for = w.element; registers = [] } in
-    let ready : IsSteady spaceless [] (Some made) [] f p (Some w) drafts = record {
+    let ready : IsDeskSteady spaceless [] (Some made) [] f p (Some w) drafts = record {
       serves = s.serves;
       in_hand = record {
         open_unit = s.in_hand.open_unit;

@@ -2,7 +2,7 @@
 use Rattle.std.proofs.Common.{◌≡◌, ◌⊎◌, inl, inr, ⊎_elim, ℕ, List, [], ◌∷◌, ◌++◌, length, replicate, sym, ap, subst, arith}
 use Rattle.std.specs.Prelude.{Result, Ok, Err, OnOk, is_ok}
 use Rattle.tp_journal.specs.declared.device.Failed.{Failed}
-use Rattle.tp_journal.specs.Device.{Elapses, Follows, Grown, HasCause, Holds, Mixed, Only}
+use Rattle.tp_journal.specs.Device.{Elapses, FollowsStep, Grown, HasCause, HoldsBytes, Mixed, Only}
 use Rattle.tp_journal.specs.Event.{Event}
 use Rattle.tp_journal.specs.History.{faults_after, leaves_after, left_after, seen_after, spare_after, spare_leaves_after}
 
@@ -27,18 +27,18 @@ module _ (past now : List Event) (call number : ℕ) (bytes : List ℕ) (r : Ans
       told (Ok u) = record { later = omega arith; failed = tt }
       told (Err e) = record { later = omega arith; failed = omega arith }
 
-pub written : (past now : List Event) (at : ℕ) (bytes : List ℕ) (r : Answer) → now ≡ (1, at, is_ok r, bytes) ∷ past → OnOk r (Holds (seen_after past) at bytes (seen_after now))
+pub written : (past now : List Event) (at : ℕ) (bytes : List ℕ) (r : Answer) → now ≡ (1, at, is_ok r, bytes) ∷ past → OnOk r (HoldsBytes (seen_after past) at bytes (seen_after now))
 written past now at bytes (Ok u) is = ap seen_after is
 written past now at bytes (Err e) is = tt
 
-pub written-crash : (past now : List Event) (at : ℕ) (bytes : List ℕ) (r : Answer) → now ≡ (1, at, is_ok r, bytes) ∷ past → Follows (Mixed at bytes) (leaves_after past) (leaves_after now)
+pub written-crash : (past now : List Event) (at : ℕ) (bytes : List ℕ) (r : Answer) → now ≡ (1, at, is_ok r, bytes) ∷ past → FollowsStep (Mixed at bytes) (leaves_after past) (leaves_after now)
 written-crash past now at bytes r is = λ c left. subst (λ (l : List Event). leaves_after l c) is left
 
 pub grown : (past now : List Event) (count : ℕ) (r : Answer) → now ≡ (2, count, is_ok r, []) ∷ past → OnOk r (seen_after now ≡ seen_after past ++ replicate count 0)
 grown past now count (Ok u) is = ap seen_after is
 grown past now count (Err e) is = tt
 
-pub grown-crash : (past now : List Event) (count : ℕ) (r : Answer) → now ≡ (2, count, is_ok r, []) ∷ past → Follows (Grown count) (leaves_after past) (leaves_after now)
+pub grown-crash : (past now : List Event) (count : ℕ) (r : Answer) → now ≡ (2, count, is_ok r, []) ∷ past → FollowsStep (Grown count) (leaves_after past) (leaves_after now)
 grown-crash past now count r is = λ c left. subst (λ (l : List Event). leaves_after l c) is left
 
 pub synced : (past now : List Event) (r : Answer) → now ≡ (3, 0, is_ok r, []) ∷ past → OnOk r (Only (seen_after past) (leaves_after now))

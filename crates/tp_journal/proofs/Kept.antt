@@ -4,16 +4,16 @@ use Rattle.std.proofs.lemmas.List.Elements.{All-append, All-take}
 use Rattle.std.proofs.lemmas.List.{length-take-le, take_at}
 use Rattle.sha2.specs.Hashers.{Holds256}
 use Rattle.tp_journal.specs.Device.{LeavesOnly, Only}
-use Rattle.tp_journal.specs.Journal.{Keeps, Stands}
+use Rattle.tp_journal.specs.Journal.{KeepsText, Stands}
 use Rattle.tp_journal.specs.Text.{HasSealed, IsBatch, IsDamage, IsFrontOf, IsRecovered, IsSealed, IsSet, IsText, end_line, first_line, text_of, with_end}
 use Rattle.tp_journal.specs.declared.journal.Journal.{Journal}
 use Rattle.tp_journal.proofs.Ends.{sealed-text}
 use Rattle.tp_journal.proofs.Moments.{started}
 use Rattle.tp_journal.proofs.Texts.{rest-text, text-is_text}
 
-pub kept : {D : Type 0} (seen : D → List ℕ) (may_leave : D → List ℕ → Type 0) (text : List ℕ) (journal : Journal D) → Stands seen may_leave text journal.len journal.device → journal.end ≡ length text → Holds256 journal.hasher text → Keeps seen may_leave (text_of (seen journal.device)) journal
+pub kept : {D : Type 0} (seen : D → List ℕ) (may_leave : D → List ℕ → Type 0) (text : List ℕ) (journal : Journal D) → Stands seen may_leave text journal.len journal.device → journal.end ≡ length text → Holds256 journal.hasher text → KeepsText seen may_leave (text_of (seen journal.device)) journal
 kept seen may_leave text journal stands end hashed =
-    subst (λ (t : List ℕ). Keeps seen may_leave t journal) (sym (rest-text text (seen journal.device) stands.at_rest)) (record { stands = stands; end = end; hashed = hashed })
+    subst (λ (t : List ℕ). KeepsText seen may_leave t journal) (sym (rest-text text (seen journal.device) stands.at_rest)) (record { stands = stands; end = end; hashed = hashed })
 
 -- nothing was done
 pub idle : {D : Type 0} (seen : D → List ℕ) (may_leave : D → List ℕ → Type 0) (moment : D → ℕ) (left_since : D → ℕ → List ℕ → Type 0) (P : List ℕ → Type 0) (d : D)

@@ -4,7 +4,7 @@ use Rattle.std.proofs.lemmas.List.Elements.{All-append, All-cons, All-head, All-
 use Rattle.std.proofs.lemmas.Bool.{cases_eq}
 use Rattle.std.proofs.lemmas.Bool.Decides.{nat_tests}
 use Rattle.std.proofs.lemmas.List.{append-nil, length-take-le, take_at, drop_at, drop-drop, drop-replicate, replicate-append-replicate}
-use Rattle.tp_journal.specs.Device.{EachMixed, Holds, Mixed}
+use Rattle.tp_journal.specs.Device.{EachMixed, HoldsBytes, Mixed}
 use Rattle.tp_journal.specs.Text.{HasTorn, IsAtRest, IsSet, IsText, text_of}
 
 pub text-append : (text rest : List ℕ) → IsText text → text_of (text ++ rest) ≡ text ++ text_of rest
@@ -46,7 +46,7 @@ module _ (text bytes file : List ℕ) (at : ℕ) (r : IsAtRest text file) (at_is
     torn = subst (λ (l : List ℕ). EachMixed l bytes (drop at c)) behind mixed.from_there;
   }
 
-  pub put-done : (new : List ℕ) → IsText bytes → Holds file at bytes new → IsAtRest (text ++ bytes) new
+  pub put-done : (new : List ℕ) → IsText bytes → HoldsBytes file at bytes new → IsAtRest (text ++ bytes) new
   put-done new is holds = record {
     text_is = All-append IsSet text bytes r.text_is is;
     free = r.free - length bytes;
@@ -55,7 +55,7 @@ module _ (text bytes file : List ℕ) (at : ℕ) (r : IsAtRest text file) (at_is
         ∙ ap (λ (l : List ℕ). text ++ bytes ++ l) (sym (drop-drop (length bytes) at file) ∙ ap (drop (length bytes)) behind ∙ drop-replicate (length bytes) r.free 0);
   }
 
-pub put-length : (at : ℕ) (bytes file new : List ℕ) → at + length bytes ≤ length file → Holds file at bytes new → length new ≡ length file
+pub put-length : (at : ℕ) (bytes file new : List ℕ) → at + length bytes ≤ length file → HoldsBytes file at bytes new → length new ≡ length file
 put-length at bytes file new room holds =
     omega (arith, room, ap length holds, length-append (take at file ++ bytes) (drop (at + length bytes) file), length-append (take at file) bytes, length-take-le at file (omega (arith, room)), length-drop (at + length bytes) file)
 

@@ -4,8 +4,8 @@ use Rattle.std.specs.Prelude.{replicate, Result, OnErr}
 use Rattle.tp_journal.specs.declared.device.Failed.{Failed}
 
 -- new is old with these bytes at this offset
-abbrev pub Holds : List ℕ → ℕ → List ℕ → List ℕ → Type 0
-Holds old at bytes new = new ≡ take at old ++ bytes ++ drop (at + length bytes) old
+abbrev pub HoldsBytes : List ℕ → ℕ → List ℕ → List ℕ → Type 0
+HoldsBytes old at bytes new = new ≡ take at old ++ bytes ++ drop (at + length bytes) old
 
 -- the bytes were written over the first of old: each of those is as it was or as it was written, and the
 -- rest is the same
@@ -27,8 +27,8 @@ pub record Grown (count : ℕ) (old new : List ℕ) : Type 0 where
   pub is : new ≡ old ++ replicate more 0
 
 -- each new outcome of a crash is an old outcome after a step
-abbrev pub Follows : (List ℕ → List ℕ → Type 0) → (List ℕ → Type 0) → (List ℕ → Type 0) → Type 0
-Follows step old new = (c : List ℕ) → new c → (d : List ℕ) × old d × step d c
+abbrev pub FollowsStep : (List ℕ → List ℕ → Type 0) → (List ℕ → Type 0) → (List ℕ → Type 0) → Type 0
+FollowsStep step old new = (c : List ℕ) → new c → (d : List ℕ) × old d × step d c
 
 -- a crash leaves this and nothing else
 abbrev pub Only : List ℕ → (List ℕ → Type 0) → Type 0

@@ -14,19 +14,19 @@ pub record Stands {D : Type 0} (seen : D → List ℕ) (may_leave : D → List �
   pub durable : Only (seen device) (may_leave device)
 
 -- a journal has this text
-pub record Keeps {D : Type 0} (seen : D → List ℕ) (may_leave : D → List ℕ → Type 0) (text : List ℕ)
+pub record KeepsText {D : Type 0} (seen : D → List ℕ) (may_leave : D → List ℕ → Type 0) (text : List ℕ)
     (journal : Journal D) : Type 0 where
   pub stands : Stands seen may_leave text journal.len journal.device
   pub end : journal.end ≡ length text
   pub hashed : Holds256 journal.hasher text
 
 -- a journal has the text that its file has
-abbrev pub IsSettled : {D : Type 0} → (D → List ℕ) → (D → List ℕ → Type 0) → Journal D → Type 0
-IsSettled seen may_leave journal = Keeps seen may_leave (text_of (seen journal.device)) journal
+abbrev pub IsJournalSettled : {D : Type 0} → (D → List ℕ) → (D → List ℕ → Type 0) → Journal D → Type 0
+IsJournalSettled seen may_leave journal = KeepsText seen may_leave (text_of (seen journal.device)) journal
 
 -- the same, unless it is poisoned
-abbrev pub IsOpen : {D : Type 0} → (D → List ℕ) → (D → List ℕ → Type 0) → Journal D → Type 0
-IsOpen seen may_leave journal = journal.poisoned ≡ false → IsSettled seen may_leave journal
+abbrev pub IsJournalOpen : {D : Type 0} → (D → List ℕ) → (D → List ℕ → Type 0) → Journal D → Type 0
+IsJournalOpen seen may_leave journal = journal.poisoned ≡ false → IsJournalSettled seen may_leave journal
 
 -- a crash leaves a file as it was, or one of what is recovered of it
 abbrev pub LeavesRecovered : List ℕ → (List ℕ → Type 0) → List ℕ → Type 0

@@ -3,7 +3,7 @@ ghost use Rattle.std.specs.Prelude.{◌≡◌, ◌⊎◌, ◌+◌, ◌<◌, ◌�
 ghost use Rattle.tp_journal.specs.declared.append.TheConstants.{MAX_LEN};
 ghost use Rattle.tp_journal.specs.declared.batch.Refusal.{Refusal};
 ghost use Rattle.tp_journal.specs.Device.{HasCause, LeavesOnly, Only};
-ghost use Rattle.tp_journal.specs.Journal.{IsOpen, IsSettled};
+ghost use Rattle.tp_journal.specs.Journal.{IsJournalOpen, IsJournalSettled};
 ghost use Rattle.tp_journal.specs.Text.{HasTorn, IsAtRest, IsBatch, IsText};
 ghost use Rattle.tp_journal.specs.Text.{end_line, first_line, text_of, with_end};
 
@@ -20,8 +20,8 @@ pub const MAX_LEN: usize = 2_305_843_009_213_693_952;
 impl<D: Device> Journal<D> {
     /// Adds a batch and its end. At `Ok` it is acknowledged: it is on the disk.
     pub fn append(&mut self, alloc: Global, batch: &[u8]) -> Result<(), AppendError>
-        requires open { IsOpen D.seen D.may_leave self.old }
-        ensures open { IsOpen D.seen D.may_leave self.new }
+        requires open { IsJournalOpen D.seen D.may_leave self.old }
+        ensures open { IsJournalOpen D.seen D.may_leave self.new }
         ensures acknowledged { OnOk result ((self.new.poisoned ≡ false)
             × (text_of (D.seen self.new.device) ≡ with_end (text_of (D.seen self.old.device) ++ batch.now))) }
         ensures accepted { OnOk result (IsBatch batch.now) }
@@ -65,8 +65,8 @@ impl<D: Device> Journal<D> {
 
     /// Puts the first line and one batch with its end in the place of the text: a crash leaves either text.
     pub fn replace(&mut self, alloc: Global, batch: &[u8]) -> Result<(), AppendError>
-        requires open { IsOpen D.seen D.may_leave self.old }
-        ensures open { IsOpen D.seen D.may_leave self.new }
+        requires open { IsJournalOpen D.seen D.may_leave self.old }
+        ensures open { IsJournalOpen D.seen D.may_leave self.new }
         ensures acknowledged { OnOk result ((self.new.poisoned ≡ false)
             × (text_of (D.seen self.new.device) ≡ with_end (first_line ++ batch.now))) }
         ensures accepted { OnOk result (IsBatch batch.now) }
@@ -109,7 +109,7 @@ impl<D: Device> Journal<D> {
 
     /// Writes bytes behind the text, where there is room for them.
     fn write(&mut self, bytes: &[u8]) -> Result<(), Failed>
-        requires settled { IsSettled D.seen D.may_leave self.old }
+        requires settled { IsJournalSettled D.seen D.may_leave self.old }
         requires text { IsText bytes.now }
         requires short { self.old.len ≤ MAX_LEN }
         ensures rest { OnOk result (IsAtRest (text_of (D.seen self.old.device) ++ bytes.now)

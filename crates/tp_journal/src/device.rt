@@ -1,6 +1,6 @@
 //! A file as the journal sees it: what it has, and what a crash may leave of it.
 ghost use Rattle.std.specs.Prelude.{◌≡◌, ◌≤◌, ◌⊎◌, ◌+◌, ◌++◌, List, ℕ, length, replicate, OnOk};
-ghost use Rattle.tp_journal.specs.Device.{Only, Follows, Mixed, Grown, Holds, Elapses, HasCause};
+ghost use Rattle.tp_journal.specs.Device.{Only, FollowsStep, Mixed, Grown, HoldsBytes, Elapses, HasCause};
 
 /// The disk has failed.
 #[derive(Clone, Copy, Debug, PartialEq, Eq)]
@@ -32,8 +32,8 @@ pub trait Device {
     /// Writes over what is there. Until a sync, a crash leaves each byte as it was or as it was written.
     fn write_at(&mut self, at: usize, bytes: &[u8]) -> Result<(), Failed>
         requires inside { at + length bytes.now ≤ length (seen self.old) }
-        ensures written { OnOk result (Holds (seen self.old) at bytes.now (seen self.new)) }
-        ensures crash { Follows (Mixed at bytes.now) (may_leave self.old) (may_leave self.new) }
+        ensures written { OnOk result (HoldsBytes (seen self.old) at bytes.now (seen self.new)) }
+        ensures crash { FollowsStep (Mixed at bytes.now) (may_leave self.old) (may_leave self.new) }
         ensures time { Elapses (moment self.old) (moment self.new) (left_since self.old) (left_since self.new)
             (may_leave self.new) }
         ensures cause { HasCause (faults self.old) (faults self.new) result };
@@ -41,7 +41,7 @@ pub trait Device {
     /// Adds bytes 0 at the end. Until a sync, a crash leaves any number of them.
     fn grow(&mut self, count: usize) -> Result<(), Failed>
         ensures grown { OnOk result (seen self.new ≡ seen self.old ++ replicate count 0) }
-        ensures crash { Follows (Grown count) (may_leave self.old) (may_leave self.new) }
+        ensures crash { FollowsStep (Grown count) (may_leave self.old) (may_leave self.new) }
         ensures time { Elapses (moment self.old) (moment self.new) (left_since self.old) (left_since self.new)
             (may_leave self.new) }
         ensures cause { HasCause (faults self.old) (faults self.new) result };

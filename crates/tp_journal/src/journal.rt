@@ -1,6 +1,6 @@
 //! The journal, and why it doesn't go on.
 ghost use Rattle.std.specs.Prelude.{◌≡◌, false, length};
-ghost use Rattle.tp_journal.specs.Journal.{IsSettled, Stands};
+ghost use Rattle.tp_journal.specs.Journal.{IsJournalSettled, Stands};
 ghost use Rattle.tp_journal.specs.declared.journal.AppendError.TheVariants.{Memory};
 
 use crate::recovery::Found;
@@ -50,7 +50,7 @@ impl<D: Device> Journal<D> {
     /// A journal of what was recovered from a device.
     pub fn new(device: D, found: &Found) -> Self
         requires stands { Stands D.seen D.may_leave found.now.text.items found.now.len device }
-        ensures settled { IsSettled D.seen D.may_leave result }
+        ensures settled { IsJournalSettled D.seen D.may_leave result }
         ensures device { result.device ≡ device }
         ensures fine { result.poisoned ≡ false }
     {

@@ -1,6 +1,6 @@
 //! A device that fails, or is torn, at one of its calls, for each of them.
 ghost use Rattle.std.specs.Prelude.{◌≡◌, length};
-ghost use Rattle.tp_journal.specs.Journal.{IsOpen};
+ghost use Rattle.tp_journal.specs.Journal.{IsJournalOpen};
 ghost use Rattle.tp_journal.specs.History.{counts_after, faults_after, leaves_after, left_after, only_after};
 ghost use Rattle.tp_journal.specs.History.{seen_after, spare_after, spare_leaves_after};
 
@@ -181,8 +181,8 @@ fn step(
     batch: &[u8],
     replaces: bool,
 ) -> Result<()>
-    requires { IsOpen (λ d. seen_after d.calls.events) (λ d. leaves_after d.calls.events) journal.old }
-    ensures { IsOpen (λ d. seen_after d.calls.events) (λ d. leaves_after d.calls.events) journal.new }
+    requires { IsJournalOpen (λ d. seen_after d.calls.events) (λ d. leaves_after d.calls.events) journal.old }
+    ensures { IsJournalOpen (λ d. seen_after d.calls.events) (λ d. leaves_after d.calls.events) journal.new }
 {
     if left.last.is_some() {
         return Ok(());
@@ -202,8 +202,8 @@ fn put(
     batch: &[u8],
     replaces: bool,
 ) -> std::result::Result<(), AppendError>
-    requires { IsOpen (λ d. seen_after d.calls.events) (λ d. leaves_after d.calls.events) journal.old }
-    ensures { IsOpen (λ d. seen_after d.calls.events) (λ d. leaves_after d.calls.events) journal.new }
+    requires { IsJournalOpen (λ d. seen_after d.calls.events) (λ d. leaves_after d.calls.events) journal.old }
+    ensures { IsJournalOpen (λ d. seen_after d.calls.events) (λ d. leaves_after d.calls.events) journal.new }
 {
     if replaces {
         return journal.replace(alloc, batch);

@@ -4,12 +4,12 @@ use Rattle.std.specs.Prelude.{◌⊎◌, Option, None, Some}
 use Rattle.std.specs.Io.KnownBytes.{Consumes, IsAtEnd}
 use Rattle.std.proofs.lemmas.List.{drop-drop, length-take-le, take_at}
 use Rattle.tp_journal.specs.Device.{LeavesOnly}
-use Rattle.tp_journal.specs.Journal.{IsOpen, IsSettled}
+use Rattle.tp_journal.specs.Journal.{IsJournalOpen, IsJournalSettled}
 use Rattle.tp_journal.specs.Text.{HasTorn, IsAtRest, IsBatch, IsPlain, end_line, first_line, text_of, with_end}
 use Rattle.tp_journal.specs.declared.journal.Journal.{Journal}
 use Rattle.tp_journal.proofs.Crashes.{keeps_batches, keeps_text}
-use Rattle.tp_kept.specs.Kept.{IsKept, Keeps, lines_in, rest_of}
-use Rattle.tp_kept.specs.Lines.{AreEnded, Puts, before, downs, plain_line, shut}
+use Rattle.tp_kept.specs.Kept.{IsKept, KeepsLines, lines_in, rest_of}
+use Rattle.tp_kept.specs.Lines.{AreWholeLines, Puts, before, downs, plain_line, shut}
 use Rattle.tp_kept.proofs.LinesLemmas.{shut_ended}
 use Rattle.tp_kept.proofs.EventsLemmas.{nothing}
 use Rattle.tp_kept.proofs.OwnLemmas.{lines_with}
@@ -27,29 +27,29 @@ module _ {D : Type 0} (seen : D → List ℕ) (may_leave : D → List ℕ → Ty
   pub kept_same : (j : Journal D) (failed failed' : Bool) (tried' : Option (List ℕ)) (lines lines' : List ℕ) → IsKept seen may_leave j failed tried lines → failed' ≡ failed → tried' ≡ tried → lines' ≡ lines → IsKept seen may_leave j failed' tried' lines'
   kept_same j failed failed' tried' lines lines' k same tries is = subst (λ l. IsKept seen may_leave j failed' tried' l) (sym is) (subst (λ t. IsKept seen may_leave j failed' t lines) (sym tries) (subst (λ b. IsKept seen may_leave j b tried lines) (sym same) k))
 
-  settled_keeps : (j : Journal D) → IsSettled seen may_leave j → Keeps (may_leave j.device) tried (lines_in (text_of (seen j.device)))
+  settled_keeps : (j : Journal D) → IsJournalSettled seen may_leave j → KeepsLines (may_leave j.device) tried (lines_in (text_of (seen j.device)))
   settled_keeps j settled file recovered left is =
       let same : file ≡ seen j.device = settled.stands.durable file left in
       let text : recovered ≡ text_of (seen j.device) = keeps_text (text_of (seen j.device)) file recovered settled.stands.is_sealed (subst (IsAtRest (text_of (seen j.device))) (sym same) settled.stands.at_rest) is in
       inl ([], ap lines_in text ∙ sym (append-nil (lines_in (text_of (seen j.device)))))
 
-  pub kept_new : (j : Journal D) (text : List ℕ) → IsSettled seen may_leave j → j.poisoned ≡ false → text ≡ text_of (seen j.device) → IsKept seen may_leave j false tried (lines_in text)
+  pub kept_new : (j : Journal D) (text : List ℕ) → IsJournalSettled seen may_leave j → j.poisoned ≡ false → text ≡ text_of (seen j.device) → IsKept seen may_leave j false tried (lines_in text)
   kept_new j text settled fine is = record {
     is_open = λ e. settled;
-    keeps = subst (λ t. Keeps (may_leave j.device) tried (lines_in t)) (sym is) (settled_keeps j settled);
+    keeps = subst (λ t. KeepsLines (may_leave j.device) tried (lines_in t)) (sym is) (settled_keeps j settled);
     fine = λ e. (fine, ap lines_in (sym is));
   }
 
   -- other lines took the place of all
-  pub kept_replaced : (j : Journal D) (text : List ℕ) → IsOpen seen may_leave j → j.poisoned ≡ false → text_of (seen j.device) ≡ with_end (first_line ++ text) → IsBatch text → length (first_line ++ text) < 2 ^ 64 → IsKept seen may_leave j false tried text
+  pub kept_replaced : (j : Journal D) (text : List ℕ) → IsJournalOpen seen may_leave j → j.poisoned ≡ false → text_of (seen j.device) ≡ with_end (first_line ++ text) → IsBatch text → length (first_line ++ text) < 2 ^ 64 → IsKept seen may_leave j false tried text
   kept_replaced j text now fine is batch_is short =
       subst (λ l. IsKept seen may_leave j false tried l) (ap lines_in is ∙ lines_with first_line text (inl refl) batch_is short) (kept_new j (text_of (seen j.device)) (now fine) fine refl)
 
-  module _ (j j' : Journal D) (lines batch : List ℕ) (was : IsKept seen may_leave j false tried lines) (now : IsOpen seen may_leave j') where
+  module _ (j j' : Journal D) (lines batch : List ℕ) (was : IsKept seen may_leave j false tried lines) (now : IsJournalOpen seen may_leave j') where
     abbrev text : List ℕ
     text = text_of (seen j.device)
 
-    settled : IsSettled seen may_leave j
+    settled : IsJournalSettled seen may_leave j
     settled = was.is_open (was.fine refl).0
 
     -- a batch was appended
@@ -63,7 +63,7 @@ module _ {D : Type 0} (seen : D → List ℕ) (may_leave : D → List ℕ → Ty
         ap lines_in is ∙ (lines_with text batch settled.stands.is_sealed batch_is (omega (arith, short, length-append (text ++ batch) (end_line (text ++ batch)))) ∙ ap (λ l. l ++ batch) (was.fine refl).1) in
         record {
           is_open = now;
-          keeps = subst (Keeps (may_leave j'.device) tried) added (settled_keeps j' (now fine));
+          keeps = subst (KeepsLines (may_leave j'.device) tried) added (settled_keeps j' (now fine));
           fine = λ e. (fine, added);
         }
 
@@ -72,8 +72,8 @@ module _ {D : Type 0} (seen : D → List ℕ) (may_leave : D → List ℕ → Ty
         → LeavesOnly moment left_since j.device j'.device (HasTorn text (batch ++ end_line (text ++ batch))) → IsBatch batch → (j'.device ≡ j.device) ⊎ (length (with_end (text ++ batch)) < 2 ^ 64) → IsKept seen may_leave j' true tried lines
     kept_torn moment left_since counts leaves batch_is within = record { is_open = now; keeps = keeps within; fine = λ e. absurd cc }
       where
-        keeps : (j'.device ≡ j.device) ⊎ (length (with_end (text ++ batch)) < 2 ^ 64) → Keeps (may_leave j'.device) tried lines
-        keeps (inl same) = subst (λ d. Keeps (may_leave d) tried lines) (sym same) was.keeps
+        keeps : (j'.device ≡ j.device) ⊎ (length (with_end (text ++ batch)) < 2 ^ 64) → KeepsLines (may_leave j'.device) tried lines
+        keeps (inl same) = subst (λ d. KeepsLines (may_leave d) tried lines) (sym same) was.keeps
         keeps (inr short) = λ file recovered left is.
             let torn = leaves.each file (counts j'.device (moment j.device) file leaves.later left) in
             let less : length (text ++ batch) < 2 ^ 64 = omega (arith, short, length-append (text ++ batch) (end_line (text ++ batch))) in
@@ -87,7 +87,7 @@ module _ {D : Type 0} (seen : D → List ℕ) (may_leave : D → List ℕ → Ty
         → LeavesOnly moment left_since j.device j'.device (λ c. IsAtRest text c ⊎ IsAtRest (with_end (first_line ++ batch)) c) → IsBatch batch → length (first_line ++ batch) < 2 ^ 64 → IsKept seen may_leave j' true (Some batch) lines
     kept_tried moment left_since counts leaves batch_is short = record { is_open = now; keeps = keeps; fine = λ e. absurd cc }
       where
-        keeps : Keeps (may_leave j'.device) (Some batch) lines
+        keeps : KeepsLines (may_leave j'.device) (Some batch) lines
         keeps = λ file recovered left is.
             let rests = leaves.each file (counts j'.device (moment j.device) file leaves.later left) in
             elim rests [
@@ -101,7 +101,7 @@ handed_more given ready at n =
     append_assoc given (take n (drop at ready)) (drop (at + n) ready) ∙ ap (λ l. given ++ l) (ap (λ l. take n (drop at ready) ++ l) (sym (drop-drop n at ready)) ∙ take-append-drop n (drop at ready))
 
 -- lines that have ended are a batch, where there are some
-pub batch_of : (lines : List ℕ) → AreEnded lines → 1 ≤ length lines → IsBatch lines
+pub batch_of : (lines : List ℕ) → AreWholeLines lines → 1 ≤ length lines → IsBatch lines
 batch_of lines (plain, inl none) some = absurd (omega (arith, ap length none, some))
 batch_of lines (plain, inr t) some = record { plain = plain; front = t.0; ends = t.1 }
 
@@ -142,8 +142,8 @@ pub rest_over : (ready line : List ℕ) (rest : Option (List ℕ)) → ready ≡
 rest_over ready line rest none end = subst (λ r. IsAtEnd (rest_of r line rest)) (sym none) end
 
 -- a line with its end
-pub one_line : (lines line : List ℕ) → All IsPlain line → lines ≡ shut line → AreEnded lines
-one_line lines line plain is = subst AreEnded (sym is) (shut_ended line plain)
+pub one_line : (lines line : List ℕ) → All IsPlain line → lines ≡ shut line → AreWholeLines lines
+one_line lines line plain is = subst AreWholeLines (sym is) (shut_ended line plain)
 
 -- it has one
 pub one_some : (lines line : List ℕ) → lines ≡ shut line → 1 ≤ length lines

@@ -6,12 +6,12 @@ use Rattle.std.proofs.lemmas.List.Elements.{All-append, All-cons, All-head, All-
 use Rattle.tp_journal.specs.Text.{IsPlain}
 use Rattle.tp_session.specs.Heard.{IsInLine}
 use Rattle.tp_session.proofs.HeardLemmas.{EndsAt, ends_at, no_end}
-use Rattle.tp_kept.specs.Lines.{AreEnded, Puts, before, downs, given_from, given_in, is_own, longer, opens, own_dump, plain_line, shut}
+use Rattle.tp_kept.specs.Lines.{AreWholeLines, Puts, before, downs, given_from, given_in, is_own, longer, opens, own_dump, plain_line, shut}
 use Rattle.tp_session.specs.declared.reading.TheConstants.{MAX_KEPT}
 
 -- ---- put down
 
-pub ended_then : (a b : List ℕ) → AreEnded a → AreEnded b → AreEnded (a ++ b)
+pub ended_then : (a b : List ℕ) → AreWholeLines a → AreWholeLines b → AreWholeLines (a ++ b)
 ended_then a b (plain, inl none) (plains, ends) = (
   All-append IsPlain a b plain plains,
   elim ends [
@@ -40,7 +40,7 @@ plain_if : (b : Bool) (xs ys : List ℕ) → All IsPlain xs → All IsPlain ys �
 plain_if true xs ys a b = a
 plain_if false xs ys a b = b
 
-pub shut_ended : (line : List ℕ) → All IsPlain line → AreEnded (shut line)
+pub shut_ended : (line : List ℕ) → All IsPlain line → AreWholeLines (shut line)
 shut_ended line plain =
     let dumps : All IsPlain (before line) = plain_if (opens (codes "rollover") line) own_dump [] (each_plain own_dump (refl, (refl, (refl, (refl, (refl, tt)))))) (All-nil IsPlain) in
     let text : All IsPlain (plain_line line) = plain_if (opens (codes "# covetrivet: ") line && nat_lt (length line) MAX_KEPT) (codes "#") line (each_plain (codes "#") (refl, tt)) plain in (

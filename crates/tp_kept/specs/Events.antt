@@ -126,7 +126,7 @@ contents_of events has = option_map (λ all.
     take (length all - length (written events)) all ++ told events) has
 
 -- between the two this was told and that was written, and nothing else has happened
-pub record Writes (more_told more_written : List ℕ) (old new : List Event) : Type 0 where
+pub record WritesAndTells (more_told more_written : List ℕ) (old new : List Event) : Type 0 where
   pub handed_is : handed new ≡ handed old
   pub told_is : told new ≡ told old ++ more_told
   pub written_is : written new ≡ written old ++ more_written
@@ -154,7 +154,7 @@ pub record WritesSoFar (kind : ℕ) (bytes rest : List ℕ) (before : Option (Li
   pub front : List ℕ
   pub bytes_are : bytes ≡ front ++ rest
   pub appends : Appends before after front
-  pub noted : Writes (shown_by kind front) front old new
+  pub noted : WritesAndTells (shown_by kind front) front old new
 
 -- they were written, all of them where it went well
 abbrev pub WritesNoted : ℕ → Result Unit Failed → List ℕ → Option (List ℕ) → List Event → Option (List ℕ)

@@ -64,13 +64,13 @@ abbrev pub given_in : List ℕ → List ℕ
 given_in text = given_from [] text
 
 -- lines with neither a byte 0 nor 23, each with its end
-abbrev pub AreEnded : List ℕ → Type 0
-AreEnded lines = All IsPlain lines × ((lines ≡ []) ⊎ ((front : List ℕ) × (lines ≡ front ++ 10 ∷ [])))
+abbrev pub AreWholeLines : List ℕ → Type 0
+AreWholeLines lines = All IsPlain lines × ((lines ≡ []) ⊎ ((front : List ℕ) × (lines ≡ front ++ 10 ∷ [])))
 
 -- The bytes were taken, behind what was there of a line: these lines have ended, and what follows is put down
 -- as it would be behind them all.
 pub record Puts (bytes line lines line' lines' : List ℕ) : Type 0 where
   pub added : List ℕ
   pub lines_are : lines' ≡ lines ++ added
-  pub ended : AreEnded added
+  pub ended : AreWholeLines added
   pub follows : (more : List ℕ) → downs line (bytes ++ more) ≡ added ++ downs line' more

@@ -4,7 +4,7 @@ ghost use Rattle.std.specs.Prelude.{if◌then◌else◌};
 ghost use Rattle.std.specs.Prelude.{length, min, take, true, false};
 ghost use Rattle.std.specs.Io.KnownBytes.{Appends, Consumes, IsAtEnd};
 ghost use Rattle.std.specs.Option.{is_some};
-ghost use Rattle.tp_journal.specs.Journal.{IsSettled};
+ghost use Rattle.tp_journal.specs.Journal.{IsJournalSettled};
 ghost use Rattle.tp_journal.specs.Text.{IsBatch, text_of};
 ghost use Rattle.tp_kept.specs.Events.{contents_of, has_gone_on, only_begun, told, written};
 ghost use Rattle.tp_kept.specs.Kept.{lines_in, rest_of};
@@ -36,7 +36,7 @@ impl<R: Source + Drop, W: Sink + Drop, D: Device + Drop> Kept<R, W, D> {
         journal: Journal<D>,
         text: &[u8],
     ) -> Result<Kept<R, W, D>, AllocError>
-        requires settled { IsSettled D.seen D.may_leave journal }
+        requires settled { IsJournalSettled D.seen D.may_leave journal }
         requires fine { journal.poisoned ≡ false }
         requires text { text.now ≡ text_of (D.seen journal.device) }
         requires asked { R.asked reader + MAX_ASKED < 2 ^ 64 }

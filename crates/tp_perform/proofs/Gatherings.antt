@@ -19,8 +19,8 @@ use Rattle.tp_manager.specs.Bounds.{gather_steps}
 use Rattle.tp_manager.specs.Calls.{IsQuiet}
 use Rattle.tp_manager.specs.Shown.{IsOf, KeeperShown, ManagerShown, PassShown}
 use Rattle.tp_desk.specs.declared.aside.Aside.{Aside}
-use Rattle.tp_desk.specs.InHand.{InHand, IsSteady}
-use Rattle.tp_desk.specs.Serving.{AreEnded, gained}
+use Rattle.tp_desk.specs.InHand.{InHand, IsDeskSteady}
+use Rattle.tp_desk.specs.Serving.{AreUnitsEnded, gained}
 use Rattle.tp_desk.proofs.Serves.{serves_more, still_ended}
 use Rattle.tp_workers.specs.Free.{IsFreePass, numbers}
 use Rattle.tp_commands.specs.declared.place.Place.{Place}
@@ -122,13 +122,13 @@ in_hand behaviour r pending f p q (Some w) drafts looks holds =
     }
 
 steady : (behaviour : Behaviour) (r : List ℕ) (pending : Option Pending) (start : List ℕ) (f p q : PassShown) (work : Option Work) (drafts : List DraftView)
-    → Looks p q → IsSteady behaviour r pending start f p work drafts → IsSteady behaviour r pending start f q work drafts
+    → Looks p q → IsDeskSteady behaviour r pending start f p work drafts → IsDeskSteady behaviour r pending start f q work drafts
 steady behaviour r pending start f p q work drafts looks s =
     let seen = looks.sees in
     record {
       serves = serves_more behaviour start r r f p q [] [] looks.number seen (looks.quiet.mine ∙ sym (append_nil p.mine)) refl (λ c u outs at. absurd (in_none at)) refl (λ u t claimed. absurd (none_some t claimed)) s.serves;
       in_hand = in_hand behaviour r pending f p q work drafts looks s.in_hand;
-      ended = subst (λ (o : Option ℕ). AreEnded o (gained f.mine q.mine) q.seen) (sym looks.quiet.open_unit) (subst (λ (h : List Event). AreEnded p.open_unit (gained f.mine h) q.seen) (sym looks.quiet.mine) (still_ended (gained f.mine p.mine) p.seen q.seen p.open_unit seen s.ended));
+      ended = subst (λ (o : Option ℕ). AreUnitsEnded o (gained f.mine q.mine) q.seen) (sym looks.quiet.open_unit) (subst (λ (h : List Event). AreUnitsEnded p.open_unit (gained f.mine h) q.seen) (sym looks.quiet.mine) (still_ended (gained f.mine p.mine) p.seen q.seen p.open_unit seen s.ended));
     }
 
 module _ {X : Type 0} {F : X → Type 0} (behaviour : DynBox X Global F → Behaviour) (registers : DynBox X Global F → List ℕ) (pending : DynBox X Global F → Option Pending) where

@@ -19,7 +19,7 @@ use Rattle.tp_model.specs.Drafts.{DraftView}
 use Rattle.tp_model.specs.History.{element_of, UnitClaim, UnitEnd, Committed, Aborted, end_of, rounds, status_of}
 use Rattle.tp_model.specs.Steps.{IsServerStage, IsBody, IsOpen, Step}
 use Rattle.tp_model.specs.Births.{IsWhole}
-use Rattle.tp_plain.specs.OneThread.{Answers, CallSubmit, CallClaim, CallClaimNext, CallCommit, CallAbort, CallKill, CallRelease, CallCollect, CallRequeue, CallRead, EndsByAbort, State, extended, pass_at, turn_of, next_row, ready, HasRoom}
+use Rattle.tp_plain.specs.OneThread.{Answers, CallSubmit, CallClaim, CallClaimNext, CallCommit, CallAbort, CallKill, CallRelease, CallCollect, CallRequeue, CallRead, EndsByAbort, State, extended, pass_at, turn_of, next_row, ready, HasPlainRoom}
 use Rattle.tp_plain.specs.Looks.{is_held_by, looks_after_all}
 use Rattle.tp_plain.specs.Reached.{IsReachable}
 use Rattle.tp_plain.specs.Computed.{is_server_stage, has_room, submit_of, with_request, next_waiting, claim_found, claim_of_stage, claim_next_found, claim_next_of_stage, abort_at, abort_of, commit_at, commit_of, unit_in_hand, kill_at, kill_found, release_at, release_found, collect_at, collect_found, requeue_at, requeue_found, read_found, ComputedAreAllowed}
@@ -52,7 +52,7 @@ module _ (s : State) (c : ℕ) (reached : IsReachable s) (is_pass : c < s.limits
           → let computed : Result ℕ Refusal × State = cond {A = Result ℕ Refusal × State} staged (cond {A = Result ℕ Refusal × State} room (Ok (next_row s c 1), with_request s c stage body) (Err refusal.Full, s)) (Err refusal.BadStage, s) in
           Answers s (CallSubmit c stage body computed.0) computed.1
       go true true staged room =
-          let below : HasRoom s c 1 = leb-true 1 (ready s c 1).left room in
+          let below : HasPlainRoom s c 1 = leb-true 1 (ready s c 1).left room in
           record { room = below; next = refl; step = may_submit s c stage body reached is_pass (stage_is stage staged) whole below; after = refl }
       go true false staged room = ((stage_is stage staged, is_full s c 1 reached (omega arith) (ready s c 1) refl (let none : (ready s c 1).left ≤ 0 = ltb-false 0 (ready s c 1).left room in omega arith)), refl)
       go false room staged _ = ((λ good. let clash : false ≡ true = sym staged ∙ is_stage stage good in cc), refl)
@@ -121,7 +121,7 @@ module _ (s : State) (c : ℕ) (reached : IsReachable s) (is_pass : c < s.limits
         P v = Answers s (CallCommit c drafts (Ok (computed v).0)) (computed v).1
 
         held : (found : Option Look) → find (λ (l : Look). is_held_by u l.status) (looks_after_all s.limits.attempts s.history) ≡ found → end_of s.history u ≡ None
-            → HasRoom s c (length drafts) → Answers s (CallCommit c drafts (Ok (commit_at s c u drafts None).0)) (commit_at s c u drafts None).1
+            → HasPlainRoom s c (length drafts) → Answers s (CallCommit c drafts (Ok (commit_at s c u drafts None).0)) (commit_at s c u drafts None).1
         held None is undecided room =
             let gone = aborted_of s (looks_after_all s.limits.attempts s.history) reached refl c u is_pass hand is in
             let clash : None ≡ Some Aborted = sym undecided ∙ gone in cc

@@ -18,7 +18,7 @@ use Rattle.tp_model.specs.Orders.{AreSomeOf}
 use Rattle.tp_model.specs.History.{In, here, births, born, element_of, claim_of, aborted, status_of, IsSettled}
 use Rattle.tp_model.specs.Families.{IsRequest}
 use Rattle.tp_model.specs.Steps.{Step, IsLegal}
-use Rattle.tp_plain.specs.OneThread.{State, Kills, KillsEach, IsUnsettled, Cancels, Answers, CallCancel}
+use Rattle.tp_plain.specs.OneThread.{State, PlainKills, KillsEach, IsUnsettled, PlainCancels, Answers, CallCancel}
 use Rattle.tp_plain.specs.Looks.{is_settled}
 use Rattle.tp_plain.specs.Walks.{walk_of}
 use Rattle.tp_plain.proofs.Walks.{walk_fresh, walk_has, walk_is}
@@ -157,7 +157,7 @@ module _ (s : State) (h : List Event) (c i : ℕ) where
     pub later : List Event
     pub after : t ≡ at_history s later
     pub aborts : ℕ
-    pub kills : Kills (at_history s h) c i aborts (at_history s later)
+    pub kills : PlainKills (at_history s h) c i aborts (at_history s later)
     pub slain : Slain s.limits h i later
 
 module _ (s : State) (h : List Event) (c i : ℕ) (is_pass : c < s.limits.parts) (legal : IsLegal s.limits h) where
@@ -194,8 +194,8 @@ module _ (s : State) (h : List Event) (c i : ℕ) (is_pass : c < s.limits.parts)
 
 -- the kills one after another
 
-kills_more : (s : State) (c : ℕ) (ids : List ℕ) (m : State) (i n : ℕ) (t : State) → KillsEach s c ids m → Kills m c i n t → KillsEach s c (ids ++ i ∷ []) t
-kills_more s c [] m i n t each one = (n, t, subst (λ x. Kills x c i n t) each one, refl)
+kills_more : (s : State) (c : ℕ) (ids : List ℕ) (m : State) (i n : ℕ) (t : State) → KillsEach s c ids m → PlainKills m c i n t → KillsEach s c (ids ++ i ∷ []) t
+kills_more s c [] m i n t each one = (n, t, subst (λ x. PlainKills x c i n t) each one, refl)
 kills_more s c (j ∷ ids) m i n t each one = (each.0, each.1, each.2, kills_more each.1 c ids m i n t each.3 one)
 
 module _ (s : State) (c root : ℕ) where
@@ -283,10 +283,10 @@ module _ (s : State) (c root : ℕ) (is_pass : c < s.limits.parts) (legal : IsLe
   swept_all : Swept s c root walk (unsettled_ids s root)
   swept_all = subst (λ xs. Swept s c root xs (ids_in s root xs)) (take_all (length walk) walk (omega arith)) (swept (length walk) (omega arith))
 
-  pub cancels : IsRequest s.history root → Cancels s c root (length (unsettled_ids s root)) (with_kills s c (unsettled_ids s root))
+  pub cancels : IsRequest s.history root → PlainCancels s c root (length (unsettled_ids s root)) (with_kills s c (unsettled_ids s root))
   cancels request =
       let w = swept_all in
-      subst (Cancels s c root (length (unsettled_ids s root))) (sym w.after)
+      subst (PlainCancels s c root (length (unsettled_ids s root))) (sym w.after)
       (record {
         request = request;
         ids = unsettled_ids s root;

@@ -19,7 +19,7 @@ use Rattle.tp_model.specs.History.{births, born, UnitClaim, claim_by, claim_of, 
 use Rattle.tp_model.specs.Counts.{is_waiting}
 use Rattle.tp_model.specs.Steps.{IsServerStage, IsOpen, Step, IsLegal, rows_of}
 use Rattle.tp_plain.specs.Computed.{next_waiting, with_claim, work_on}
-use Rattle.tp_plain.specs.OneThread.{IsBefore, State, pass_at, next_unit, turn_of, Waits, Takes, TakesNext}
+use Rattle.tp_plain.specs.OneThread.{IsPlainBefore, State, pass_at, next_unit, turn_of, Waits, PlainTakes, PlainTakesNext}
 use Rattle.tp_plain.specs.Reached.{PassFits, IsReachable}
 use Rattle.tp_plain.specs.Looks.{comes_before, look_at, look_after, looks_after_all, fresh_look, waits_in, sooner, attempts_in}
 use Rattle.tp_model.proofs.Lists.{first-snoc, if_same, if_other, some_if}
@@ -34,10 +34,10 @@ use Rattle.tp_plain.proofs.Rooms.{run_quiet}
 
 -- The order of a circle.
 
-pub before_is : (from i j : ℕ) → comes_before from i j ≡ true → IsBefore from j i
+pub before_is : (from i j : ℕ) → comes_before from i j ≡ true → IsPlainBefore from j i
 before_is from i j is = go (nat_lt i from) (nat_lt j from) (nat_lt i j) refl refl refl is
   where
-    go : (a b c : Bool) → nat_lt i from ≡ a → nat_lt j from ≡ b → nat_lt i j ≡ c → cond a (b && c) (b || c) ≡ true → IsBefore from j i
+    go : (a b c : Bool) → nat_lt i from ≡ a → nat_lt j from ≡ b → nat_lt i j ≡ c → cond a (b && c) (b || c) ≡ true → IsPlainBefore from j i
     go true true true p q r is = let below : j < from = grind (arith, nat_tests) in let less : i < j = grind (arith, nat_tests) in inr (below, inr less)
     go true true false p q r is = absurd (cc (is))
     go true false c p q r is = absurd (cc (is))
@@ -45,10 +45,10 @@ before_is from i j is = go (nat_lt i from) (nat_lt j from) (nat_lt i j) refl ref
     go false false true p q r is = let low : from ≤ i = grind (arith, nat_tests) in let less : i < j = grind (arith, nat_tests) in inl (low, less)
     go false false false p q r is = absurd (cc (is))
 
-pub not_before : (from i j : ℕ) → comes_before from i j ≡ false → ¬ IsBefore from j i
+pub not_before : (from i j : ℕ) → comes_before from i j ≡ false → ¬ IsPlainBefore from j i
 not_before from i j is = go (nat_lt i from) (nat_lt j from) (nat_lt i j) refl refl refl is
   where
-    go : (a b c : Bool) → nat_lt i from ≡ a → nat_lt j from ≡ b → nat_lt i j ≡ c → cond a (b && c) (b || c) ≡ false → ¬ IsBefore from j i
+    go : (a b c : Bool) → nat_lt i from ≡ a → nat_lt j from ≡ b → nat_lt i j ≡ c → cond a (b && c) (b || c) ≡ false → ¬ IsPlainBefore from j i
     go true true true p q r is before = cc (is)
     go true true false p q r is before =
         let high : i < from = grind (arith, nat_tests) in let more : j ≤ i = grind (arith, nat_tests) in
@@ -62,11 +62,11 @@ not_before from i j is = go (nat_lt i from) (nat_lt j from) (nat_lt i j) refl re
         let over : from ≤ j = grind (arith, nat_tests) in let more : j ≤ i = grind (arith, nat_tests) in
         ⊎_elim (λ x. let less = x.1 in omega arith) (λ x. let below = x.0 in omega arith) before
 
-before_itself : (from i : ℕ) → ¬ IsBefore from i i
+before_itself : (from i : ℕ) → ¬ IsPlainBefore from i i
 before_itself from i = ⊎_elim (λ x. let less = x.1 in omega arith) (λ x. let below = x.0 in ⊎_elim (λ low. omega arith) (λ less. omega arith) x.1)
 
 -- what comes before i, which comes before j, comes before j
-before_both : (from i j k : ℕ) → IsBefore from i k → IsBefore from j i → IsBefore from j k
+before_both : (from i j k : ℕ) → IsPlainBefore from i k → IsPlainBefore from j i → IsPlainBefore from j k
 before_both from i j k one two = ⊎_elim
     (λ x. let low = x.0 in let less = x.1 in ⊎_elim
     (λ y. let more = y.1 in inl (low, let z : k < j = omega arith in z))
@@ -79,7 +79,7 @@ before_both from i j k one two = ⊎_elim
 
 pub data Best (from stage : ℕ) (seen : List Look) : Option Look → Type 0 where
   no_best : ((m : Look) → Contains seen m → waits_in stage m ≡ true → ⊥) → Best from stage seen None
-  best : (l : Look) → Contains seen l → waits_in stage l ≡ true → ((m : Look) → Contains seen m → waits_in stage m ≡ true → ¬ IsBefore from l.element.id m.element.id) → Best from stage seen (Some l)
+  best : (l : Look) → Contains seen l → waits_in stage l ≡ true → ((m : Look) → Contains seen m → waits_in stage m ≡ true → ¬ IsPlainBefore from l.element.id m.element.id) → Best from stage seen (Some l)
 
 pub one_of : {A : Type 0} (x m : A) → Contains (x ∷ []) m → x ≡ m
 one_of {A} x m there = go there.0 there.1 there.2
@@ -98,7 +98,7 @@ last_seen seen x = Contains-append_right seen (x ∷ []) x (0, omega arith, refl
 module _ (from stage : ℕ) where
   -- no look at an element that waits comes before this one
   abbrev IsFirst : Look → Look → Type 0
-  IsFirst l m = waits_in stage m ≡ true → ¬ IsBefore from l.element.id m.element.id
+  IsFirst l m = waits_in stage m ≡ true → ¬ IsPlainBefore from l.element.id m.element.id
 
   better : (seen : List Look) (x : Look) (o : Option Look) → Best from stage seen o → Best from stage (seen ++ x ∷ []) (sooner from stage o x)
   better seen x None (no_best none) = go (waits_in stage x) refl
@@ -110,7 +110,7 @@ module _ (from stage : ℕ) where
     where
       go : (b less : Bool) → waits_in stage x ≡ b → comes_before from x.element.id l.element.id ≡ less → Best from stage (seen ++ x ∷ []) (cond (b && less) (Some x) (Some l))
       go true true is below =
-          let under : IsBefore from l.element.id x.element.id = before_is from x.element.id l.element.id below in
+          let under : IsPlainBefore from l.element.id x.element.id = before_is from x.element.id l.element.id below in
           best x (last_seen seen x) is (more_seen seen x (IsFirst x) (λ m seen_m w before. least m seen_m w (before_both from x.element.id l.element.id m.element.id before under)) (λ w. before_itself from x.element.id))
       go true false is below =
           best l (Contains-append_left seen (x ∷ []) l there) waits (more_seen seen x (IsFirst l) least (λ w. not_before from x.element.id l.element.id below))
@@ -129,7 +129,7 @@ module _ (from stage : ℕ) where
   best_is looks = best_of_all [] looks None (no_best (λ m there waits. nothing_there m there))
 
   best_parts : (seen : List Look) (l : Look) → Best from stage seen (Some l)
-      → Contains seen l × (waits_in stage l ≡ true) × ((m : Look) → Contains seen m → waits_in stage m ≡ true → ¬ IsBefore from l.element.id m.element.id)
+      → Contains seen l × (waits_in stage l ≡ true) × ((m : Look) → Contains seen m → waits_in stage m ≡ true → ¬ IsPlainBefore from l.element.id m.element.id)
   best_parts seen l (best k there waits least) = (there, waits, least)
 
   none_parts : (seen : List Look) → Best from stage seen None → (m : Look) → Contains seen m → waits_in stage m ≡ true → ⊥
@@ -208,13 +208,13 @@ module _ (s : State) (from stage : ℕ) (legal : IsLegal s.limits s.history) whe
       none_parts from stage looks (subst (Best from stage looks) is (best_is from stage looks)) (look_at limit s.history e) there.0 there.1
 
   module _ (l : Look) (is : next_waiting s from stage ≡ Some l) where
-    abbrev parts : Contains looks l × (waits_in stage l ≡ true) × ((m : Look) → Contains looks m → waits_in stage m ≡ true → ¬ IsBefore from l.element.id m.element.id)
+    abbrev parts : Contains looks l × (waits_in stage l ≡ true) × ((m : Look) → Contains looks m → waits_in stage m ≡ true → ¬ IsPlainBefore from l.element.id m.element.id)
     parts = best_parts from stage looks l (subst (Best from stage looks) is (best_is from stage looks))
 
     pub next_waits : Waits s stage l.element (attempts_in l.status)
     next_waits = waits_of l parts.0 parts.1
 
-    pub next_first : (e : Element) (n : ℕ) → Waits s stage e n → ¬ IsBefore from l.element.id e.id
+    pub next_first : (e : Element) (n : ℕ) → Waits s stage e n → ¬ IsPlainBefore from l.element.id e.id
     next_first e n w = let there = look_of_waits e n w in parts.2 (look_at limit s.history e) there.0 there.1
 
 -- what is known of the first look that waits, if there is one
@@ -309,7 +309,7 @@ module _ (s : State) (c stage : ℕ) (look : Look) (reached : IsReachable s) (is
   one_less : (attempts_in look.status + 1) - 1 ≡ attempts_in look.status
   one_less = omega arith
 
-  pub claim_takes : next_waiting s 0 stage ≡ Some look → Takes s c stage (work_on s c look) (with_claim s c look (pass_at s c).turns)
+  pub claim_takes : next_waiting s 0 stage ≡ Some look → PlainTakes s c stage (work_on s c look) (with_claim s c look (pass_at s c).turns)
   claim_takes is =
       let waits = next_waits s 0 stage reached.legal look is in
       record {
@@ -322,7 +322,7 @@ module _ (s : State) (c stage : ℕ) (look : Look) (reached : IsReachable s) (is
       }
 
   pub claim_next_takes : next_waiting s (turn_of s c stage) stage ≡ Some look
-      → TakesNext s c stage (work_on s c look) (with_claim s c look (slice_set (pass_at s c).turns stage (look.element.id + 1)))
+      → PlainTakesNext s c stage (work_on s c look) (with_claim s c look (slice_set (pass_at s c).turns stage (look.element.id + 1)))
   claim_next_takes is =
       let waits = next_waits s (turn_of s c stage) stage reached.legal look is in
       record {

@@ -21,7 +21,7 @@ use Rattle.tp_plain.specs.Computed.{commit_of}
 use Rattle.tp_model.specs.declared.types.Outcome.TheVariants as outcome
 use Rattle.tp_plain.proofs.Computations.{commit_goes}
 use Rattle.tp_model.specs.Births.{IsWhole, outputs}
-use Rattle.tp_plain.specs.OneThread.{root_of, State, pass_at, spent, Commits, HasRoom, ready, with_draw}
+use Rattle.tp_plain.specs.OneThread.{root_of, State, pass_at, spent, Commits, HasPlainRoom, ready, with_draw}
 use Rattle.tp_plain.specs.Reached.{PassFits, IsReachable}
 use Rattle.tp_plain.specs.Looks.{look_at, look_after, fresh_look, is_held_by}
 use Rattle.tp_model.proofs.Lists.{first-snoc, if_other, none_if}
@@ -144,7 +144,7 @@ module _ (s : State) (looks : List Look) (c : ℕ) (reached : IsReachable s) (ag
       held (Parked n) e = absurd (cc (e))
       held Killed e = absurd (cc (e))
 
-  pub left_by_commit : (pass_at s c).holding ≡ Some u → HasRoom s c (length ds) → CommitLeft (ready s c (length ds)) (with_draw s c (length ds)).drawn
+  pub left_by_commit : (pass_at s c).holding ≡ Some u → HasPlainRoom s c (length ds) → CommitLeft (ready s c (length ds)) (with_draw s c (length ds)).drawn
   left_by_commit hand room =
       let x = ready s c (length ds) in
       let drawn = (with_draw s c (length ds)).drawn in

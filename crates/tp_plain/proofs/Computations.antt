@@ -11,12 +11,12 @@ use Rattle.tp_model.specs.declared.event.Event.TheVariants.{Abort}
 use Rattle.tp_model.specs.Drafts.{DraftView}
 use Rattle.tp_model.specs.History.{Aborted, element_of, end_of, status_of}
 use Rattle.tp_model.specs.Steps.{IsServerStage}
-use Rattle.tp_plain.specs.OneThread.{State, pass_at, turn_of, HasRoom, next_row, moved, with_pass, with_draw, ready, freed, spent}
+use Rattle.tp_plain.specs.OneThread.{State, pass_at, turn_of, HasPlainRoom, next_row, moved, with_pass, with_draw, ready, freed, spent}
 use Rattle.tp_plain.specs.Computed.{is_server_stage, submit_of, with_request, next_waiting, work_on, with_claim, claim_of_stage, claim_next_of_stage, abort_of, committed_by, commit_of, read_of}
 use Rattle.tp_model.proofs.Bridges.{element_of-id}
 
 module _ (s : State) (c : ℕ) where
-  pub submit_goes : (stage : ℕ) (body : List ℕ) → IsServerStage stage → HasRoom s c 1
+  pub submit_goes : (stage : ℕ) (body : List ℕ) → IsServerStage stage → HasPlainRoom s c 1
       → submit_of s c stage body ≡ (Ok (next_row s c 1), with_request s c stage body)
   submit_goes stage body good room =
       let staged : is_server_stage stage ≡ true = and_from (nat_le 1 stage) (nat_le stage 14) (le-leb 1 stage good.0) (le-leb stage 14 good.1) in
@@ -46,11 +46,11 @@ module _ (s : State) (c : ℕ) where
         → abort_of s c ≡ (ended.AlreadyAborted, with_pass s c (freed (pass_at s c)))
     abort_already hand gone = rw (hand, gone) refl
 
-    pub commit_goes : (ds : List DraftView) → (pass_at s c).holding ≡ Some u → end_of s.history u ≡ None → HasRoom s c (length ds)
+    pub commit_goes : (ds : List DraftView) → (pass_at s c).holding ≡ Some u → end_of s.history u ≡ None → HasPlainRoom s c (length ds)
         → commit_of s c ds ≡ committed_by s c u ds
     commit_goes ds hand undecided room = rw (le-leb (length ds) (ready s c (length ds)).left room, hand, undecided) refl
 
-    pub commit_lost : (ds : List DraftView) → (pass_at s c).holding ≡ Some u → end_of s.history u ≡ Some Aborted → HasRoom s c (length ds)
+    pub commit_lost : (ds : List DraftView) → (pass_at s c).holding ≡ Some u → end_of s.history u ≡ Some Aborted → HasPlainRoom s c (length ds)
         → commit_of s c ds ≡ (outcome.Lost, with_pass (with_draw s c (length ds)) c (spent (ready s c (length ds)) (length ds)))
     commit_lost ds hand gone room = rw (le-leb (length ds) (ready s c (length ds)).left room, hand, gone) refl
 

@@ -14,7 +14,7 @@ use Rattle.tp_model.specs.declared.event.Event.TheVariants.{Enqueue, Claim, Comm
 use Rattle.tp_model.specs.History.{In, births, UnitClaim, claim_by, claim_of, Aborted, end_by, end_of, pass_of}
 use Rattle.tp_model.specs.Steps.{AreLimits, IsServerStage, IsBody, IsOpen, Step, block_first}
 use Rattle.tp_model.specs.Births.{request}
-use Rattle.tp_plain.specs.OneThread.{State, start, fresh_pass, no_pass, pass_at, moved, with_pass, draws, ready, next_row, with_draw, used_up, HasRoom}
+use Rattle.tp_plain.specs.OneThread.{State, start, fresh_pass, no_pass, pass_at, moved, with_pass, draws, ready, next_row, with_draw, used_up, HasPlainRoom}
 use Rattle.tp_plain.specs.Reached.{PassFits, IsReachable, RunFits}
 use Rattle.tp_model.proofs.Areas.{one_area}
 use Rattle.tp_model.proofs.Lists.{first-snoc, first-kept, option_or-None, if_same, if_other}
@@ -219,7 +219,7 @@ module _ (s : State) (c k : ℕ) (reached : IsReachable s) (is_pass : c < s.limi
       (reached_moved (after_draw s c k) e c used reached_ready step by is_pass own (ends ∙ ap end_at (sym ready_at)) (λ x p. subst (λ (y : PassState). (y.next ≤ x.id) × (x.id < end_at y)) (sym ready_at) (inside x p)))
 
 -- a pass may submit where it has a row
-pub may_submit : (s : State) (c stage : ℕ) (body : List ℕ) → IsReachable s → c < s.limits.parts → IsServerStage stage → IsBody body → HasRoom s c 1
+pub may_submit : (s : State) (c stage : ℕ) (body : List ℕ) → IsReachable s → c < s.limits.parts → IsServerStage stage → IsBody body → HasPlainRoom s c 1
     → Step s.limits s.history (Enqueue c (request (next_row s c 1) stage body))
 may_submit s c stage body reached is_pass good whole room =
     let run = (fits_ready s c 1 reached is_pass).run in

@@ -18,7 +18,7 @@ use Rattle.tp_plain.specs.Looks.{look_at, look_after, fresh_look}
 use Rattle.tp_plain.specs.Computed.{submit_of}
 use Rattle.tp_plain.proofs.Computations.{submit_goes}
 use Rattle.tp_model.specs.Births.{request}
-use Rattle.tp_plain.specs.OneThread.{State, Submits, HasRoom, ready, used_up, with_draw}
+use Rattle.tp_plain.specs.OneThread.{State, PlainSubmits, HasPlainRoom, ready, used_up, with_draw}
 use Rattle.tp_plain.specs.Reached.{IsReachable}
 use Rattle.tp_model.proofs.Histories.{status_of-snoc, born-snoc, new_found, unborn_waits, unborn_after}
 use Rattle.tp_model.proofs.Bridges.{element_of-id, in_one}
@@ -106,10 +106,10 @@ module _ (s : State) (looks : List Look) (c stage : ℕ) (body : List ℕ) (reac
   Left x drawn =
       let t = left_state x drawn in
       IsReachable t × (looks ++ fresh_look (new_request x) ∷ [] ≡ map (look_at s.limits.attempts t.history) (born t.history))
-      × Submits s c stage body x.next t
+      × PlainSubmits s c stage body x.next t
       × (submit_of s c stage body ≡ (Ok x.next, t))
 
-  left_by : HasRoom s c 1 → Left (ready s c 1) (with_draw s c 1).drawn
+  left_by : HasPlainRoom s c 1 → Left (ready s c 1) (with_draw s c 1).drawn
   left_by room =
       let x = ready s c 1 in
       let step = may_submit s c stage body reached is_pass good whole room in

@@ -15,7 +15,7 @@ use Rattle.tp_model.specs.declared.event.Event.{Event}
 use Rattle.tp_model.specs.declared.event.Event.TheVariants.{Claim, Abort, Kill, Requeue}
 use Rattle.tp_model.specs.Families.{IsRequest, IsSettledFamily, WorksOn}
 use Rattle.tp_model.specs.Steps.{Step, IsLegal}
-use Rattle.tp_plain.specs.OneThread.{State, start, Call, CallSubmit, CallClaim, CallClaimId, CallClaimNext, CallCommit, CallAbort, CallKill, CallCancel, CallRelease, CallCollect, CallRequeue, CallRead, extended, Kills, KillsEach, Answers, AnswersCommit, GivesUp, Claims, ClaimsNext, Run, RunsAreLegal, RunsGrow}
+use Rattle.tp_plain.specs.OneThread.{State, start, Call, CallSubmit, CallClaim, CallClaimId, CallClaimNext, CallCommit, CallAbort, CallKill, CallCancel, CallRelease, CallCollect, CallRequeue, CallRead, extended, PlainKills, KillsEach, Answers, AnswersCommit, GivesUp, PlainClaims, PlainClaimsNext, Run, RunsAreLegal, RunsGrow}
 use Rattle.tp_plain.specs.Cancelled.{CancelledForGood}
 use Rattle.tp_model.proofs.Bridges.{found_later}
 use Rattle.tp_model.proofs.Families.{settled_family_stays, never_worked_on}
@@ -51,12 +51,12 @@ passes_alone s t drawn c used same =
       legal = λ legal. subst (IsLegal s.limits) (sym (ap (λ (x : State). x.history) same)) legal;
     }
 
-goes_claim : (s : State) (c stage : ℕ) (a : Claimed) (t : State) → Claims s c stage a t → Goes s t
+goes_claim : (s : State) (c stage : ℕ) (a : Claimed) (t : State) → PlainClaims s c stage a t → Goes s t
 goes_claim s c stage (claimed.Work w) t is = moves s t _ (Claim c w.unit w.element.id w.attempt) c _ is.step is.after
 goes_claim s c stage claimed.Idle t is = stays s t is.0
 goes_claim s c stage claimed.NoUnit t is = stays s t is.0
 
-goes_claim_next : (s : State) (c stage : ℕ) (a : Claimed) (t : State) → ClaimsNext s c stage a t → Goes s t
+goes_claim_next : (s : State) (c stage : ℕ) (a : Claimed) (t : State) → PlainClaimsNext s c stage a t → Goes s t
 goes_claim_next s c stage (claimed.Work w) t is = moves s t _ (Claim c w.unit w.element.id w.attempt) c _ is.step is.after
 goes_claim_next s c stage claimed.Idle t is = stays s t is.0
 goes_claim_next s c stage claimed.NoUnit t is = stays s t is.0
@@ -86,7 +86,7 @@ goes_on s m t one rest =
       legal = λ legal. subst (λ l. IsLegal l t.history) one.limits (rest.legal (subst (λ l. IsLegal l m.history) (sym one.limits) (one.legal legal)));
     }
 
-goes_kill : (s : State) (c i k : ℕ) (t : State) → Kills s c i k t → Goes s t
+goes_kill : (s : State) (c i k : ℕ) (t : State) → PlainKills s c i k t → Goes s t
 goes_kill s c i zero t is = extends s t (Kill c i) is.0 is.1
 goes_kill s c i (suc zero) t is =
     goes_on s (extended s (Abort c is.0)) t (extends s (extended s (Abort c is.0)) (Abort c is.0) is.3 refl) (extends (extended s (Abort c is.0)) t (Kill c i) is.4 is.5)

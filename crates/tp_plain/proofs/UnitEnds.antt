@@ -21,7 +21,7 @@ use Rattle.tp_model.proofs.Areas.{area_inside}
 use Rattle.tp_plain.specs.Computed.{abort_of}
 use Rattle.tp_model.specs.declared.types.Ended.TheVariants as ended
 use Rattle.tp_plain.proofs.Computations.{abort_goes}
-use Rattle.tp_plain.specs.OneThread.{State, no_pass, pass_at, moved, with_pass, ready, with_draw, HasRoom, IsFull, freed, spent}
+use Rattle.tp_plain.specs.OneThread.{State, no_pass, pass_at, moved, with_pass, ready, with_draw, HasPlainRoom, IsFull, freed, spent}
 use Rattle.tp_plain.specs.Reached.{PassFits, IsReachable, RunFits}
 use Rattle.tp_plain.specs.Looks.{look_at, look_after, is_held_by}
 use Rattle.tp_model.proofs.Lists.{first-snoc, option_or-some, some_if, none_if}
@@ -212,12 +212,12 @@ module _ (s : State) (looks : List Look) (c k : ℕ) (reached : IsReachable s) (
   -- what is lost
   pub lost_leaves : (u : ℕ) (used : PassState) (drawn : ℕ) → used ≡ ready s c k → drawn ≡ (with_draw s c k).drawn → used.holding ≡ Some u → k ≤ used.left → find (λ (l : Look). is_held_by u l.status) looks ≡ None
       → let t : State = record { limits = s.limits; history = s.history; passes = slice_set s.passes c (spent used k); drawn = drawn } in
-      IsReachable t × ((pass_at s c).holding ≡ Some u) × HasRoom s c k × (end_of s.history u ≡ Some Aborted) × (t ≡ with_pass (with_draw s c k) c (spent (ready s c k) k))
+      IsReachable t × ((pass_at s c).holding ≡ Some u) × HasPlainRoom s c k × (end_of s.history u ≡ Some Aborted) × (t ≡ with_pass (with_draw s c k) c (spent (ready s c k) k))
   lost_leaves u used drawn at count hand room none =
       let same : record { limits = s.limits; history = s.history; passes = slice_set s.passes c (spent used k); drawn = drawn } ≡ with_pass (with_draw s c k) c (spent (ready s c k) k) =
       λ i. record { limits = s.limits; history = s.history; passes = slice_set s.passes c (spent (at i) k); drawn = count i } in
       let hand' : (pass_at s c).holding ≡ Some u = ap (λ (x : PassState). x.holding) (sym at) ∙ hand in
-      let room' : HasRoom s c k = subst (λ (x : PassState). k ≤ x.left) at room in
+      let room' : HasPlainRoom s c k = subst (λ (x : PassState). k ≤ x.left) at room in
       let gone = aborted_of s looks reached agree c u is_pass hand' none in
       let own = fits_spent s.limits s.history (with_draw s c k).drawn c u k (ready s c k) room' (fits_ready s c k reached is_pass) hand' gone in
       let left = reached_with_pass (after_draw s c k) c (spent (ready s c k) k) (reached_ready s c k reached is_pass) is_pass own (let ends = ap end_at (ready_at s c k reached is_pass) in omega arith) in (
@@ -230,7 +230,7 @@ module _ (s : State) (looks : List Look) (c k : ℕ) (reached : IsReachable s) (
 
   -- a unit that is neither aborted nor ended otherwise, where the rows suffice
   pub undecided_leaves : (u : ℕ) (used : PassState) → used ≡ ready s c k → used.holding ≡ Some u → k ≤ used.left → (look : Look) → find (λ (l : Look). is_held_by u l.status) looks ≡ Some look
-      → ((pass_at s c).holding ≡ Some u) × HasRoom s c k × (end_of s.history u ≢ Some Aborted)
+      → ((pass_at s c).holding ≡ Some u) × HasPlainRoom s c k × (end_of s.history u ≢ Some Aborted)
   undecided_leaves u used at hand room look is =
       let hand' : (pass_at s c).holding ≡ Some u = ap (λ (x : PassState). x.holding) (sym at) ∙ hand in
       let o = open_of s looks reached agree c u is_pass hand' look is in

@@ -146,8 +146,8 @@ with_draw s c k = record {
 }
 
 -- pass c has k rows to use
-abbrev pub HasRoom : State → ℕ → ℕ → Type 0
-HasRoom s c k = k ≤ (ready s c k).left
+abbrev pub HasPlainRoom : State → ℕ → ℕ → Type 0
+HasPlainRoom s c k = k ≤ (ready s c k).left
 
 -- its run has fewer than k rows, and all spare blocks are drawn
 abbrev pub IsFull : State → ℕ → ℕ → Type 0
@@ -158,15 +158,15 @@ abbrev pub used_up : PassState → ℕ → PassState
 used_up used k = record used { next = used.next + k; left = used.left - k }
 
 -- a submit went through: the pass's next row is a new request
-pub record Submits (s : State) (c stage : ℕ) (body : List ℕ) (id : ℕ) (t : State) : Type 0 where
-  pub room : HasRoom s c 1
+pub record PlainSubmits (s : State) (c stage : ℕ) (body : List ℕ) (id : ℕ) (t : State) : Type 0 where
+  pub room : HasPlainRoom s c 1
   pub next : id ≡ next_row s c 1
   pub step : Step s.limits s.history (Enqueue c (request id stage body))
   pub after : t ≡ moved (with_draw s c 1) (Enqueue c (request id stage body)) c (used_up (ready s c 1) 1)
 
 -- a submit is refused for its stage, then for the lack of a row, then as out of memory
 abbrev pub RefusesSubmit : State → ℕ → ℕ → Refusal → Type 0
-RefusesSubmit s c stage refusal.NoMemory = IsServerStage stage × HasRoom s c 1
+RefusesSubmit s c stage refusal.NoMemory = IsServerStage stage × HasPlainRoom s c 1
 RefusesSubmit s c stage refusal.BadStage = ¬ IsServerStage stage
 RefusesSubmit s c stage refusal.Full = IsServerStage stage × IsFull s c 1
 RefusesSubmit s c stage other = ⊥
@@ -186,7 +186,7 @@ taken s c w turns = record (pass_at s c) {
 }
 
 -- a claim took work: of the waiting elements of the stage the one with the least id, by the pass's next unit
-pub record Takes (s : State) (c stage : ℕ) (w : Work) (t : State) : Type 0 where
+pub record PlainTakes (s : State) (c stage : ℕ) (w : Work) (t : State) : Type 0 where
   pub room : (pass_at s c).claimed < s.limits.units
   pub next : w.unit ≡ next_unit s c
   pub waiting : Waits s stage w.element (w.attempt - 1)
@@ -195,34 +195,34 @@ pub record Takes (s : State) (c stage : ℕ) (w : Work) (t : State) : Type 0 whe
   pub after : t ≡ moved s (Claim c w.unit w.element.id w.attempt) c (taken s c w (pass_at s c).turns)
 
 -- where the ids are a circle, which begins at `from`, i comes before this id
-abbrev pub IsBefore : ℕ → ℕ → ℕ → Type 0
-IsBefore from id i = ((from ≤ i) × (i < id)) ⊎ ((id < from) × ((from ≤ i) ⊎ (i < id)))
+abbrev pub IsPlainBefore : ℕ → ℕ → ℕ → Type 0
+IsPlainBefore from id i = ((from ≤ i) × (i < id)) ⊎ ((id < from) × ((from ≤ i) ⊎ (i < id)))
 
 -- a claim in turn took work: of the waiting elements of the stage the first after the one that the pass took
 -- last by such a claim, where after the last id comes the first; and the next one begins after it
-pub record TakesNext (s : State) (c stage : ℕ) (w : Work) (t : State) : Type 0 where
+pub record PlainTakesNext (s : State) (c stage : ℕ) (w : Work) (t : State) : Type 0 where
   pub room : (pass_at s c).claimed < s.limits.units
   pub next : w.unit ≡ next_unit s c
   pub waiting : Waits s stage w.element (w.attempt - 1)
-  pub first : (e : Element) (n : ℕ) → Waits s stage e n → ¬ IsBefore (turn_of s c stage) w.element.id e.id
+  pub first : (e : Element) (n : ℕ) → Waits s stage e n → ¬ IsPlainBefore (turn_of s c stage) w.element.id e.id
   pub step : Step s.limits s.history (Claim c w.unit w.element.id w.attempt)
   pub after : t ≡ moved s (Claim c w.unit w.element.id w.attempt) c (taken s c w (slice_set (pass_at s c).turns stage (w.element.id + 1)))
 
 -- a claim takes work, or is idle where nothing waits, or finds the pass's units used up
-abbrev pub Claims : State → ℕ → ℕ → Claimed → State → Type 0
-Claims s c stage (claimed.Work w) t = Takes s c stage w t
-Claims s c stage claimed.Idle t = (t ≡ s) × ((pass_at s c).claimed < s.limits.units) × ((e : Element) (n : ℕ)
+abbrev pub PlainClaims : State → ℕ → ℕ → Claimed → State → Type 0
+PlainClaims s c stage (claimed.Work w) t = PlainTakes s c stage w t
+PlainClaims s c stage claimed.Idle t = (t ≡ s) × ((pass_at s c).claimed < s.limits.units) × ((e : Element) (n : ℕ)
     → ¬ Waits s stage e n)
-Claims s c stage claimed.NoUnit t = (t ≡ s) × (s.limits.units ≤ (pass_at s c).claimed)
+PlainClaims s c stage claimed.NoUnit t = (t ≡ s) × (s.limits.units ≤ (pass_at s c).claimed)
 
 -- a claim in turn does so too
-abbrev pub ClaimsNext : State → ℕ → ℕ → Claimed → State → Type 0
-ClaimsNext s c stage (claimed.Work w) t = TakesNext s c stage w t
-ClaimsNext s c stage claimed.Idle t = Claims s c stage claimed.Idle t
-ClaimsNext s c stage claimed.NoUnit t = Claims s c stage claimed.NoUnit t
+abbrev pub PlainClaimsNext : State → ℕ → ℕ → Claimed → State → Type 0
+PlainClaimsNext s c stage (claimed.Work w) t = PlainTakesNext s c stage w t
+PlainClaimsNext s c stage claimed.Idle t = PlainClaims s c stage claimed.Idle t
+PlainClaimsNext s c stage claimed.NoUnit t = PlainClaims s c stage claimed.NoUnit t
 
 -- a claim of a given element took it, by the pass's next unit
-pub record TakesId (s : State) (c i : ℕ) (w : Work) (t : State) : Type 0 where
+pub record PlainTakesId (s : State) (c i : ℕ) (w : Work) (t : State) : Type 0 where
   pub room : (pass_at s c).claimed < s.limits.units
   pub next : w.unit ≡ next_unit s c
   pub id_is : w.element.id ≡ i
@@ -265,7 +265,7 @@ made_of s c u drafts = outputs u (root_of s.history u) (next_row s c (length dra
 -- unit claimed
 pub record Commits (s : State) (c u : ℕ) (drafts : List DraftView) (first count : ℕ)
     (t : State) : Type 0 where
-  pub room : HasRoom s c (length drafts)
+  pub room : HasPlainRoom s c (length drafts)
   pub count_is : count ≡ length drafts
   pub first_is : first ≡ (if length drafts == 0 then 0 else next_row s c (length drafts))
   pub step : Step s.limits s.history (Commit c u (made_of s c u drafts))
@@ -283,14 +283,14 @@ EndsByAbort s c u t =
 abbrev pub AnswersCommit : State → ℕ → ℕ → List DraftView → Outcome → State → Type 0
 AnswersCommit s c u drafts (outcome.Committed first count) t = Commits s c u drafts first count t
 AnswersCommit s c u drafts outcome.Lost t =
-    HasRoom s c (length drafts) × (end_of s.history u ≡ Some Aborted)
+    HasPlainRoom s c (length drafts) × (end_of s.history u ≡ Some Aborted)
     × (t ≡ with_pass (with_draw s c (length drafts)) c (spent (ready s c (length drafts))
     (length drafts)))
 AnswersCommit s c u drafts outcome.Full t = IsFull s c (length drafts) × EndsByAbort s c u t
 
 -- a commit that is neither full nor lost is refused only as out of memory
 abbrev pub RefusesCommit : State → ℕ → ℕ → List DraftView → Refusal → Type 0
-RefusesCommit s c u drafts refusal.NoMemory = HasRoom s c (length drafts)
+RefusesCommit s c u drafts refusal.NoMemory = HasPlainRoom s c (length drafts)
     × (end_of s.history u ≢ Some Aborted)
 RefusesCommit s c u drafts other = ⊥
 
@@ -317,14 +317,14 @@ extended s e = record { limits = s.limits; history = s.history ++ e ∷ []; pass
 
 -- a kill by pass c went through, after this many Aborts of its own: none where nobody held the element, and
 -- else one, of the unit that held it
-abbrev pub Kills : State → ℕ → ℕ → ℕ → State → Type 0
-Kills s c i zero t = Step s.limits s.history (Kill c i) × (t ≡ extended s (Kill c i))
-Kills s c i (suc zero) t =
+abbrev pub PlainKills : State → ℕ → ℕ → ℕ → State → Type 0
+PlainKills s c i zero t = Step s.limits s.history (Kill c i) × (t ≡ extended s (Kill c i))
+PlainKills s c i (suc zero) t =
     (u : ℕ) × (n : ℕ) × (status_of s.limits.attempts s.history i ≡ Held u n)
     × Step s.limits s.history (Abort c u)
     × Step s.limits (s.history ++ Abort c u ∷ []) (Kill c i) × (t ≡ extended (extended s (Abort c u))
     (Kill c i))
-Kills s c i (suc (suc k)) t = ⊥
+PlainKills s c i (suc (suc k)) t = ⊥
 
 -- a kill is refused where no such element is born, or it is consumed or killed
 abbrev pub RefusesKill : State → ℕ → Refusal → Type 0
@@ -346,11 +346,11 @@ pub record IsUnsettled (s : State) (root i : ℕ) : Type 0 where
 -- kills by pass c of these elements went through, one after another
 abbrev pub KillsEach : State → ℕ → List ℕ → State → Type 0
 KillsEach s c [] t = t ≡ s
-KillsEach s c (i ∷ ids) t = (aborts : ℕ) × (mid : State) × Kills s c i aborts mid × KillsEach mid c ids t
+KillsEach s c (i ∷ ids) t = (aborts : ℕ) × (mid : State) × PlainKills s c i aborts mid × KillsEach mid c ids t
 
 -- a cancel by pass c went through: root is a client's element; what was unsettled of its family, and no
 -- reply, is killed, in the order of a walk through the family; and so the family is settled
-pub record Cancels (s : State) (c root killed : ℕ) (t : State) : Type 0 where
+pub record PlainCancels (s : State) (c root killed : ℕ) (t : State) : Type 0 where
   pub request : IsRequest s.history root
   pub ids : List ℕ
   pub walk : List ℕ
@@ -367,8 +367,8 @@ RefusesCancel s root refusal.NotThere = ¬ IsRequest s.history root
 RefusesCancel s root other = ⊥
 
 -- a release by pass c went through: the unit that held the element in this attempt is aborted
-abbrev pub Releases : State → ℕ → ℕ → ℕ → ℕ → State → Type 0
-Releases s c i u n t = (status_of s.limits.attempts s.history i ≡ Held u n)
+abbrev pub PlainReleases : State → ℕ → ℕ → ℕ → ℕ → State → Type 0
+PlainReleases s c i u n t = (status_of s.limits.attempts s.history i ≡ Held u n)
     × Step s.limits s.history (Abort c u) × (t ≡ extended s (Abort c u))
 
 -- a release is refused where no such element is born, or no unit holds it
@@ -379,8 +379,8 @@ RefusesRelease s i refusal.NotHeld = (e : Element) × (element_of s.history i �
 RefusesRelease s i other = ⊥
 
 -- a collect by pass c went through: the reply is killed
-abbrev pub Collects : State → ℕ → ℕ → Element → State → Type 0
-Collects s c i e t = (element_of s.history i ≡ Some e) × (e.stage ≡ REPLY_STAGE)
+abbrev pub PlainCollects : State → ℕ → ℕ → Element → State → Type 0
+PlainCollects s c i e t = (element_of s.history i ≡ Some e) × (e.stage ≡ REPLY_STAGE)
     × Step s.limits s.history (Kill c i) × (t ≡ extended s (Kill c i))
 
 -- a collect is refused where no such element is born, or it is no reply, or is and was killed
@@ -393,8 +393,8 @@ RefusesCollect s i refusal.AlreadyKilled = (e : Element) × (element_of s.histor
 RefusesCollect s i other = ⊥
 
 -- a requeue by pass c went through: the element is given its next round
-abbrev pub Requeues : State → ℕ → ℕ → ℕ → State → Type 0
-Requeues s c i r t = Step s.limits s.history (Requeue c i r) × (t ≡ extended s (Requeue c i r))
+abbrev pub PlainRequeues : State → ℕ → ℕ → ℕ → State → Type 0
+PlainRequeues s c i r t = Step s.limits s.history (Requeue c i r) × (t ≡ extended s (Requeue c i r))
 
 -- a requeue is refused where no such element is born, or it isn't parked, or is and has had all its rounds
 abbrev pub RefusesRequeue : State → ℕ → Refusal → Type 0
@@ -407,24 +407,24 @@ RefusesRequeue s i other = ⊥
 
 -- the call, asked of a manager in state s, may have this answer and leave it in state t
 abbrev pub Answers : State → Call → State → Type 0
-Answers s (CallSubmit c stage body r) t = MatchResult r (λ id. Submits s c stage body id t)
+Answers s (CallSubmit c stage body r) t = MatchResult r (λ id. PlainSubmits s c stage body id t)
     (λ why. RefusesSubmit s c stage why × (t ≡ s))
-Answers s (CallClaim c stage r) t = MatchResult r (λ a. Claims s c stage a t) (λ why. ⊥)
-Answers s (CallClaimId c i r) t = MatchResult r (λ w. TakesId s c i w t) (λ why. RefusesClaimId s c i why
+Answers s (CallClaim c stage r) t = MatchResult r (λ a. PlainClaims s c stage a t) (λ why. ⊥)
+Answers s (CallClaimId c i r) t = MatchResult r (λ w. PlainTakesId s c i w t) (λ why. RefusesClaimId s c i why
     × (t ≡ s))
-Answers s (CallClaimNext c stage r) t = MatchResult r (λ a. ClaimsNext s c stage a t) (λ why. ⊥)
+Answers s (CallClaimNext c stage r) t = MatchResult r (λ a. PlainClaimsNext s c stage a t) (λ why. ⊥)
 Answers s (CallCommit c drafts r) t = (u : ℕ) × ((pass_at s c).holding ≡ Some u)
     × MatchResult r (λ a. AnswersCommit s c u drafts a t) (λ why. RefusesCommit s c u drafts why × (t ≡ s))
 Answers s (CallAbort c a) t = (u : ℕ) × ((pass_at s c).holding ≡ Some u) × GivesUp s c u a t
-Answers s (CallKill c i r) t = MatchResult r (λ k. Kills s c i k.units_aborted t) (λ why. RefusesKill s i why
+Answers s (CallKill c i r) t = MatchResult r (λ k. PlainKills s c i k.units_aborted t) (λ why. RefusesKill s i why
     × (t ≡ s))
-Answers s (CallCancel c root r) t = MatchResult r (λ k. Cancels s c root k.killed t)
+Answers s (CallCancel c root r) t = MatchResult r (λ k. PlainCancels s c root k.killed t)
     (λ why. RefusesCancel s root why × (t ≡ s))
-Answers s (CallRelease c i r) t = MatchResult r (λ a. Releases s c i a.unit a.attempt t)
+Answers s (CallRelease c i r) t = MatchResult r (λ a. PlainReleases s c i a.unit a.attempt t)
     (λ why. RefusesRelease s i why × (t ≡ s))
-Answers s (CallCollect c i r) t = MatchResult r (λ e. Collects s c i e t) (λ why. RefusesCollect s i why
+Answers s (CallCollect c i r) t = MatchResult r (λ e. PlainCollects s c i e t) (λ why. RefusesCollect s i why
     × (t ≡ s))
-Answers s (CallRequeue c i r) t = MatchResult r (λ round. Requeues s c i round t)
+Answers s (CallRequeue c i r) t = MatchResult r (λ round. PlainRequeues s c i round t)
     (λ why. RefusesRequeue s i why × (t ≡ s))
 Answers s (CallRead id r) t = MatchResult r (Shows s id) (RefusesRead s id) × (t ≡ s)
 

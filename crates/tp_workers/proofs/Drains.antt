@@ -7,7 +7,7 @@ use Rattle.tp_server.specs.Behaviour.{Behaviour}
 use Rattle.tp_server.specs.Pending.{Pending}
 use Rattle.tp_manager.specs.Calls.{claims_in}
 use Rattle.tp_manager.specs.Shown.{ManagerShown, PassShown}
-use Rattle.tp_desk.specs.Serving.{AreEnded, Leaves, Serves, gained}
+use Rattle.tp_desk.specs.Serving.{AreUnitsEnded, Leaves, Serves, gained}
 use Rattle.tp_desk.proofs.Serves.{ended_none, leaves_then, serves_none}
 use Rattle.tp_desk.specs.declared.order.Order.{Order}
 use Rattle.tp_workers.specs.declared.plan.Plan.{Plan}
@@ -73,7 +73,7 @@ module _ {B : Type 0} (behaviour : B → Behaviour) (registers : B → List ℕ)
     pub calls : MadeCalls (TakesTurn order m.limits) turn_count taken (at old) counts (at new)
     pub few : counts.done ≤ 1024
     pub serves : Serves (behaviour old.1) (registers old.1) (registers new.1) old.0 new.0
-    pub ended : AreEnded None (gained old.0.mine new.0.mine) new.0.seen
+    pub ended : AreUnitsEnded None (gained old.0.mine new.0.mine) new.0.seen
     pub behaviour_is : behaviour new.1 ≡ behaviour old.1
     pub ready : IsDeskOf behaviour registers pending m new
 
