@@ -53,8 +53,8 @@ abbrev pub IsLeanAmong : Limits → ℕ → ℕ → List ℕ → ℕ → ℕ →
 IsLeanAmong l stage k lows n from to v w =
     IsLean l (λ a h. k + sum_left l (within from to (try_steps_at stage a h)) lows n) v w
 
--- what a look for work makes at those of all rows
-abbrev pub span_steps : Limits → ℕ → List ℕ → ℕ → ℕ → List Event → List Event → ℕ
-span_steps l stage lows from to a h = let f = within from to (try_steps_at stage a h) in
-    sum_left l f lows l.parts + sum_rows f (part_rows l) (BLOCK_ROWS * l.spare) + 3 * l.parts
+-- what a look for work makes at those of all rows, where so many spare blocks are found drawn
+abbrev pub span_steps : Limits → ℕ → List ℕ → ℕ → ℕ → ℕ → List Event → List Event → ℕ
+span_steps l stage lows drawn from to a h = let f = within from to (try_steps_at stage a h) in
+    sum_left l f lows l.parts + sum_rows f (part_rows l) (BLOCK_ROWS * drawn) + 3 * l.parts
     + drawn_steps l.spare

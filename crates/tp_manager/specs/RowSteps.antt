@@ -10,7 +10,7 @@ use Rattle.tp_model.specs.declared.types.TheConstants.{BLOCK_ROWS}
 use Rattle.tp_model.specs.declared.event.Event.{Event}
 use Rattle.tp_model.specs.declared.event.Event.TheVariants.{Claim, Kill, Requeue}
 use Rattle.tp_model.specs.History.{element_of}
-use Rattle.tp_model.specs.Steps.{part_rows, rows_of}
+use Rattle.tp_model.specs.Steps.{block_first, part_rows}
 use Rattle.tp_manager.specs.Bounds.{birth_steps, body_steps, drawn_steps}
 
 -- whether an event changes the claim of element i: a unit takes it, it is killed, or it is given another
@@ -71,18 +71,21 @@ lean_scan_steps l stage lows end a h = let f = until end (try_steps_at stage a h
     sum_left l f lows l.parts + sum_spare l f lows + 3 * (parts_left l lows l.parts + 1)
     + 3 * drawn_steps l.spare
 
--- and a claim of the stage that came to this: it looks at no row behind that of the element that it takes
-abbrev pub lean_claim_steps : Limits → ℕ → List ℕ → Claimed → List Event → List Event → ℕ
-lean_claim_steps l stage lows NoUnit a h = 0
-lean_claim_steps l stage lows Idle a h = 1 + lean_scan_steps l stage lows (rows_of l) a h
-lean_claim_steps l stage lows (Work work) a h = 1 + lean_scan_steps l stage lows (work.element.id + 1) a h
+-- and a claim of the stage that came to this, where so many spare blocks were found drawn: it looks at no row
+-- behind those, nor behind that of the element that it takes
+abbrev pub lean_claim_steps : Limits → ℕ → List ℕ → ℕ → Claimed → List Event → List Event → ℕ
+lean_claim_steps l stage lows drawn NoUnit a h = 0
+lean_claim_steps l stage lows drawn Idle a h = 1 + lean_scan_steps l stage lows (block_first l drawn) a h
+lean_claim_steps l stage lows drawn (Work work) a h =
+    1 + lean_scan_steps l stage lows (work.element.id + 1) a h
 
--- a look for work in turn comes to each of those rows once, and to all spare rows, but to each part twice
-abbrev pub lean_turn_steps : Limits → ℕ → List ℕ → List Event → List Event → ℕ
-lean_turn_steps l stage lows a h = let f = try_steps_at stage a h in
-    sum_left l f lows l.parts + sum_rows f (part_rows l) (BLOCK_ROWS * l.spare) + 6 * l.parts
+-- a look for work in turn, where so many spare blocks were found drawn: it comes to each of those rows once,
+-- and to all rows of these blocks, but to each part twice
+abbrev pub lean_turn_steps : Limits → ℕ → List ℕ → ℕ → List Event → List Event → ℕ
+lean_turn_steps l stage lows drawn a h = let f = try_steps_at stage a h in
+    sum_left l f lows l.parts + sum_rows f (part_rows l) (BLOCK_ROWS * drawn) + 6 * l.parts
     + 2 * drawn_steps l.spare
 
 -- and a claim in turn
-abbrev pub lean_claim_next_steps : Limits → ℕ → List ℕ → List Event → List Event → ℕ
-lean_claim_next_steps l stage lows a h = 1 + lean_turn_steps l stage lows a h
+abbrev pub lean_claim_next_steps : Limits → ℕ → List ℕ → ℕ → List Event → List Event → ℕ
+lean_claim_next_steps l stage lows drawn a h = 1 + lean_turn_steps l stage lows drawn a h

@@ -27,8 +27,8 @@ impl Manager {
         ensures answer { Claims self.now.limits stage pass.old pass.new result }
         ensures few { Follows (claim_steps_left self.now.limits (marks_of pass.old.lows stage)) pass.old pass.new }
         ensures lean { let lows = marks_of pass.old.lows stage in
-            let n = lean_claim_steps self.now.limits stage lows result pass.old.seen pass.new.seen in
-            Follows n pass.old pass.new }
+            let n = lean_claim_steps self.now.limits stage lows pass.new.seen_blocks result in
+            Follows (n pass.old.seen pass.new.seen) pass.old pass.new }
         ensures raises { RaisesMarks self.now.limits stage pass.old pass.new result }
     {
         let seat = &mut pass.seat;

@@ -10,7 +10,7 @@ ghost use Rattle.tp_manager.specs.Calls.{ClaimsNext, Follows};
 ghost use Rattle.tp_manager.specs.Shown.{marks_of, IsOf, NoneFalls};
 ghost use Rattle.tp_manager.specs.CallSteps.{IsSteady, StepsTo};
 ghost use Rattle.tp_manager.specs.RowSteps.{lean_claim_next_steps, lean_turn_steps};
-ghost use Rattle.tp_manager.specs.Leans.{span_steps, IsLean, IsLeanAmong, IsLeanAt, IsLeanWithin};
+ghost use Rattle.tp_manager.specs.Leans.{span_steps, IsLean, IsLeanAmong, IsLeanWithin};
 ghost use Rattle.tp_manager.specs.Marks.{Remembers};
 ghost use Rattle.tp_manager.specs.Scans.{Begun, EachRow, IsSpare, PassedBy};
 ghost use Rattle.tp_manager.specs.BetweenCalls.{RemembersDone};
@@ -91,7 +91,8 @@ impl Shared {
         ensures few { let l = table_limits self.now.words in
             StepsTo (2 + (l.rows - slice_index lows.old part) * try_steps) (view_of seat.old) (view_of seat.new) }
         ensures lean { let l = table_limits self.now.words in let n = slice_index lows.old part in
-            IsLeanWithin l stage 2 (part * l.rows + n) (l.rows - n) from to (view_of seat.old) (view_of seat.new) }
+            IsLeanWithin l stage 2 (part * l.rows + n) (l.rows - n) from to
+            (view_of seat.old) (view_of seat.new) }
         ensures told { let l = table_limits self.now.words in let n = 2 + (to - from) * try_steps in
             MatchOption result
             (Sought l n (EachRow (PassedBy l stage) from to) (view_of seat.old) (view_of seat.new))
@@ -143,7 +144,8 @@ impl Shared {
         ensures few { let l = table_limits self.now.words in
             StepsTo (3 + (l.rows - slice_index lows.old part) * try_steps) (view_of seat.old) (view_of seat.new) }
         ensures lean { let l = table_limits self.now.words in let n = slice_index lows.old part in
-            IsLeanWithin l stage 3 (part * l.rows + n) (l.rows - n) from to (view_of seat.old) (view_of seat.new) }
+            IsLeanWithin l stage 3 (part * l.rows + n) (l.rows - n) from to
+            (view_of seat.old) (view_of seat.new) }
         ensures told { let l = table_limits self.now.words in let n = 3 + (to - from) * try_steps in
             MatchOption result
             (Sought l n (EachRow (PassedBy l stage) from to) (view_of seat.old) (view_of seat.new))
@@ -222,7 +224,8 @@ impl Shared {
         ensures drawn { RemembersDrawn (view_of seat.new) drawn.new }
         ensures risen { drawn.old ≤ drawn.new }
         ensures lean { let l = table_limits self.now.words in
-            IsLeanAt l stage (drawn_steps l.spare) from (to - from) (view_of seat.old) (view_of seat.new) }
+            IsLeanWithin l stage (drawn_steps l.spare) (part_rows l) (BLOCK_ROWS * drawn.new) from to
+            (view_of seat.old) (view_of seat.new) }
         ensures told { let l = table_limits self.now.words in
             let n = drawn_steps l.spare + (to - from) * try_steps in MatchOption result
             (Begun l (PassedBy l stage) n from to (view_of seat.old) (view_of seat.new))
@@ -272,7 +275,7 @@ impl Shared {
             let n = drawn_steps l.spare + (to - p - (from - p)) * try_steps in
             StepsTo (scan_steps l try_steps 3 lows.old l.parts + n) (view_of seat.old) (view_of seat.new) }
         ensures lean { let l = table_limits self.now.words in
-            IsLean l (span_steps l stage lows.old from to) (view_of seat.old) (view_of seat.new) }
+            IsLean l (span_steps l stage lows.old drawn.new from to) (view_of seat.old) (view_of seat.new) }
         ensures told { let l = table_limits self.now.words in let n = circle_steps l (to - from) in
             MatchOption result
             (Begun l (PassedBy l stage) n from to (view_of seat.old) (view_of seat.new))
@@ -319,7 +322,7 @@ impl Shared {
             let n = 2 * drawn_steps l.spare + BLOCK_ROWS * l.spare * try_steps in
             StepsTo (2 * scan_steps l try_steps 3 lows.old l.parts + n) (view_of seat.old) (view_of seat.new) }
         ensures lean { let l = table_limits self.now.words in
-            IsLean l (lean_turn_steps l stage lows.old) (view_of seat.old) (view_of seat.new) }
+            IsLean l (lean_turn_steps l stage lows.old drawn.new) (view_of seat.old) (view_of seat.new) }
         ensures told { let l = table_limits self.now.words in
             let n = 6 * l.parts + 2 * drawn_steps l.spare + rows_of l * try_steps in MatchOption result
             (Sought l n (EachRow (PassedBy l stage) 0 (rows_of l)) (view_of seat.old) (view_of seat.new))
@@ -348,8 +351,8 @@ impl Manager {
         ensures few { let n = claim_next_steps_left self.now.limits (marks_of pass.old.lows stage) in
             Follows n pass.old pass.new }
         ensures lean { let lows = marks_of pass.old.lows stage in
-            let n = lean_claim_next_steps self.now.limits stage lows pass.old.seen pass.new.seen in
-            Follows n pass.old pass.new }
+            let n = lean_claim_next_steps self.now.limits stage lows pass.new.seen_blocks in
+            Follows (n pass.old.seen pass.new.seen) pass.old pass.new }
         ensures answer { ClaimsNext self.now.limits stage pass.old pass.new result }
     {
         let seat = &mut pass.seat;

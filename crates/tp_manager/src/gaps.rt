@@ -213,7 +213,8 @@ impl Shared {
             RestsAt l stage part (slice_index lows.new part) (view_of seat.old) (view_of seat.new) }
         ensures inside { let l = table_limits self.now.words in
             IfSome result (λ t. t.element.id < part * l.rows + l.rows) }
-        ensures lean { let l = table_limits self.now.words in let end = scan_end (part * l.rows + l.rows) result in
+        ensures lean { let l = table_limits self.now.words in
+            let end = scan_end (part * l.rows + l.rows) result in
             let n = part * l.rows + slice_index lows.old part in
             IsLeanAt l stage 2 n (end - n) (view_of seat.old) (view_of seat.new) }
         ensures told { let l = table_limits self.now.words in

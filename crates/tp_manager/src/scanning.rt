@@ -242,7 +242,8 @@ impl Shared {
             RestsAt l stage part (slice_index lows.new part) (view_of seat.old) (view_of seat.new) }
         ensures inside { let l = table_limits self.now.words in
             IfSome result (λ t. t.element.id < part * l.rows + l.rows) }
-        ensures lean { let l = table_limits self.now.words in let end = scan_end (part * l.rows + l.rows) result in
+        ensures lean { let l = table_limits self.now.words in
+            let end = scan_end (part * l.rows + l.rows) result in
             let n = part * l.rows + slice_index lows.old part in
             IsLeanAt l stage 3 n (end - n) (view_of seat.old) (view_of seat.new) }
         ensures told { let l = table_limits self.now.words in
@@ -353,9 +354,10 @@ impl Shared {
         ensures lows { RisesAt (table_limits self.now.words).parts lows.old lows.new }
         ensures rests { let l = table_limits self.now.words in let end = block_first l drawn.new in
             SpareRests l stage end (slice_index lows.new l.parts) (view_of seat.old) (view_of seat.new) }
-        ensures lean { let l = table_limits self.now.words in let k = 3 * drawn_steps l.spare in
-            let n = part_rows l + slice_index lows.old l.parts in let end = scan_end (rows_of l) result in
-            IsLeanAt l stage k n (end - n) (view_of seat.old) (view_of seat.new) }
+        ensures lean { let l = table_limits self.now.words in
+            let end = scan_end (block_first l drawn.new) result in
+            let n = part_rows l + slice_index lows.old l.parts in
+            IsLeanAt l stage (3 * drawn_steps l.spare) n (end - n) (view_of seat.old) (view_of seat.new) }
         ensures told { let l = table_limits self.now.words in
             let n = spare_left l try_steps (slice_index lows.old l.parts) in MatchOption result
             (Begun l (PassedBy l stage) n (part_rows l) (rows_of l) (view_of seat.old) (view_of seat.new))
@@ -398,7 +400,7 @@ impl Shared {
             → SpareRests l stage
             (block_first l drawn.new) (slice_index lows.new l.parts) (view_of seat.old) (view_of seat.new) }
         ensures lean { let l = table_limits self.now.words in
-            let n = lean_scan_steps l stage lows.old (scan_end (rows_of l) result) in
+            let n = lean_scan_steps l stage lows.old (scan_end (block_first l drawn.new) result) in
             IsLean l n (view_of seat.old) (view_of seat.new) }
         ensures told { let l = table_limits self.now.words in let t = try_steps in
             let n = marked_steps l t lows.old in MatchOption result

@@ -46,8 +46,8 @@ impl Shared {
         ensures rests { let l = table_limits self.now.words in
             SpareRests l stage end (slice_index lows.new l.parts) (view_of seat.old) (view_of seat.new) }
         ensures lean { let l = table_limits self.now.words in
-            let n = part_rows l + slice_index lows.old l.parts in let end = scan_end (rows_of l) result in
-            IsLeanAt l stage 2 n (end - n) (view_of seat.old) (view_of seat.new) }
+            let n = part_rows l + slice_index lows.old l.parts in
+            IsLeanAt l stage 2 n (scan_end end result - n) (view_of seat.old) (view_of seat.new) }
         ensures told { let l = table_limits self.now.words in
             let n = 2 + (BLOCK_ROWS * l.spare - slice_index lows.old l.parts) * try_steps in MatchOption result
             (Passed l n (PassedBy l stage) (part_rows l) (rows_of l) (view_of seat.old) (view_of seat.new))

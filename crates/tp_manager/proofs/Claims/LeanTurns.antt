@@ -1,21 +1,19 @@
 -- How many steps a look for work in turn makes by what is born in each row.
-use Rattle.std.proofs.Common.{◌≡◌, ◌⊎◌, ℕ, zero, suc, ◌+◌, ◌-◌, ◌*◌, ◌<◌, ◌≤◌, Bool, true, false, cond, nat_lt, List, slice_index, refl, sym, ◌∙◌, ap, subst, inl, inr, ⊎_elim, arith}
+use Rattle.std.proofs.Common.{◌≡◌, ◌⊎◌, ℕ, zero, suc, ◌+◌, ◌-◌, ◌*◌, ◌<◌, ◌≤◌, Bool, true, false, cond, nat_lt, List, slice_index, refl, ap, subst, inl, inr, ⊎_elim, arith}
 use Rattle.std.proofs.lemmas.Bool.Decides.{nat_tests}
-use mathlib.Core.List.{IsPrefix}
 use mathlib.Core.Logic.{dite}
 use native.Mathlib.Decide.{dec_le}
 use Rattle.tp_model.specs.declared.types.Limits.{Limits}
 use Rattle.tp_model.specs.declared.types.TheConstants.{BLOCK_ROWS}
-use Rattle.tp_model.specs.declared.event.Event.{Event}
 use Rattle.tp_model.specs.declared.trace.TraceEntry.{TraceEntry}
-use Rattle.tp_model.specs.Steps.{part_rows, rows_of}
+use Rattle.tp_model.specs.Steps.{part_rows}
 use Rattle.tp_rule.specs.declared.view.View.{View}
 use Rattle.tp_manager.specs.Bounds.{drawn_steps}
 use Rattle.tp_manager.specs.RowSteps.{lean_claim_next_steps, lean_turn_steps, sum_left, sum_rows, try_steps_at, until}
 use Rattle.tp_manager.specs.CallSteps.{Steady, Stepped, StepsTo}
 use Rattle.tp_manager.specs.Leans.{IsLean, IsLeanAmong, IsLeanAt, IsLeanWithin, span_steps, within}
 use Rattle.tp_manager.specs.Shown.{NoneFalls}
-use Rattle.tp_manager.proofs.Claims.Leans.{after_self, lean_few, lean_made, lean_none, lean_then, left_near, left_next, left_rises, steps_less, sum_apart, sum_most, sum_near, until_is, until_less, until_most}
+use Rattle.tp_manager.proofs.Claims.Leans.{after_self, lean_few, lean_made, lean_none, lean_then, left_near, left_next, left_rises, steps_less, sum_apart, sum_less, sum_most, sum_near, until_is, until_less, until_most}
 
 -- rows of a window
 
@@ -89,6 +87,10 @@ module _ (l : Limits) where
         let own = sum_near f (within from to f) j m (λ i under over. in_window from to f i (omega arith) (⊎_elim (λ t. omega arith) (λ none. absurd (omega arith)) top)) in
         let all = sum_apart (within from to f) j m (j + m) 0 first rows low (omega arith) (omega arith) in omega arith) a
 
+    -- or at none
+    pub lean_nowhere : (k j m most first rows from to : ℕ) (v w : View) → k ≤ most → m ≡ 0 → IsLeanAt l stage k j m v w → IsLeanWithin l stage most first rows from to v w
+    lean_nowhere k j m most first rows from to v w le none a = lean_few l _ _ v w (λ p h. omega arith) (subst (λ z. IsLeanAt l stage k j z v w) none a)
+
     -- none, at no row
     pub within_none : (i m from to : ℕ) (v : View) → IsLeanWithin l stage 0 i m from to v v
     within_none i m from to v = lean_few l (λ p h. 0) _ v v (λ p h. omega arith) (lean_none l v)
@@ -116,48 +118,42 @@ module _ (l : Limits) where
         a (subst (λ z. IsLeanWithin l stage k' (n * l.rows + z) (l.rows - z) row end w x) same b)
 
     -- rows of the spare blocks alone
-    pub span_spare : (lows : List ℕ) (from to : ℕ) (v w : View) → part_rows l ≤ from → from ≤ to → to ≤ rows_of l → IsLeanAt l stage (drawn_steps l.spare) from (to - from) v w → IsLean l (span_steps l stage lows from to) v w
-    span_spare lows from to v w low le high a = lean_few l _ _ v w
-        (λ p h. let own = spare_window (try_steps_at stage p h) from to from low (omega arith) le high in omega arith) a
-      where
-        spare_window : (f : ℕ → ℕ) (from to i : ℕ) → part_rows l ≤ i → from ≤ i → i ≤ to → to ≤ rows_of l → sum_rows f i (to - i) ≤ sum_rows (within from to f) (part_rows l) (BLOCK_ROWS * l.spare)
-        spare_window f from to i low from_on le high =
-            let own = sum_near f (within from to f) i (to - i) (λ j under over. in_window from to f j (omega arith) (omega arith)) in
-            let all = sum_apart (within from to f) i (to - i) to 0 (part_rows l) (BLOCK_ROWS * l.spare) low (omega arith) (omega arith) in omega arith
+    pub span_spare : (lows : List ℕ) (drawn from to : ℕ) (v w : View) → IsLeanWithin l stage (drawn_steps l.spare) (part_rows l) (BLOCK_ROWS * drawn) from to v w → IsLean l (span_steps l stage lows drawn from to) v w
+    span_spare lows drawn from to v w a = lean_few l _ _ v w (λ p h. omega arith) a
 
     -- rows of the parts alone, in a window that is no wider
-    pub span_parts : (lows : List ℕ) (from mid to : ℕ) (v w : View) → mid ≤ to → IsLeanAmong l stage (3 * l.parts) lows l.parts from mid v w → IsLean l (span_steps l stage lows from to) v w
-    span_parts lows from mid to v w le a = lean_few l _ _ v w
+    pub span_parts : (lows : List ℕ) (drawn from mid to : ℕ) (v w : View) → mid ≤ to → IsLeanAmong l stage (3 * l.parts) lows l.parts from mid v w → IsLean l (span_steps l stage lows drawn from to) v w
+    span_parts lows drawn from mid to v w le a = lean_few l _ _ v w
         (λ p h. let f = try_steps_at stage p h in let wide = left_near l lows (within from mid f) (within from to f) l.parts (λ j _. window_wider from mid from to f (omega arith) le j) in omega arith) a
 
     -- and of both
-    pub span_both : (lows : List ℕ) (from mid to : ℕ) (v w x : View) → part_rows l ≤ mid → from ≤ mid → mid ≤ to → to ≤ rows_of l → IsLeanAmong l stage (3 * l.parts) lows l.parts from mid v w → IsLeanAt l stage (drawn_steps l.spare) mid (to - mid) w x → IsLean l (span_steps l stage lows from to) v x
-    span_both lows from mid to v w x low up le high a b = lean_then l _ _ _ v w x
-        (λ p q h begins after. let f = try_steps_at stage p h in let wide = left_near l lows (within from mid f) (within from to f) l.parts (λ j _. window_wider from mid from to f (omega arith) le j) in
-        let less = sum_most (try_steps_at stage q h) f (λ r. steps_less stage p q h r begins after) mid (to - mid) in
-        let own = sum_near f (within from to f) mid (to - mid) (λ j under over. in_window from to f j (omega arith) (omega arith)) in
-        let all = sum_apart (within from to f) mid (to - mid) to 0 (part_rows l) (BLOCK_ROWS * l.spare) low (omega arith) (omega arith) in omega arith) a b
+    pub span_both : (lows : List ℕ) (drawn from mid to : ℕ) (v w x : View) → from ≤ mid → mid ≤ to → IsLeanAmong l stage (3 * l.parts) lows l.parts from mid v w → IsLeanWithin l stage (drawn_steps l.spare) (part_rows l) (BLOCK_ROWS * drawn) mid to w x → IsLean l (span_steps l stage lows drawn from to) v x
+    span_both lows drawn from mid to v w x up le a b = lean_then l _ _ _ v w x
+        (λ p q h begins after. let f = try_steps_at stage p h in let g = try_steps_at stage q h in let wide = left_near l lows (within from mid f) (within from to f) l.parts (λ j _. window_wider from mid from to f (omega arith) le j) in
+        let less = sum_most (within mid to g) (within mid to f) (window_less mid to g f (λ r. steps_less stage p q h r begins after)) (part_rows l) (BLOCK_ROWS * drawn) in
+        let own = sum_most (within mid to f) (within from to f) (window_wider mid to from to f up (omega arith)) (part_rows l) (BLOCK_ROWS * drawn) in omega arith) a b
 
     -- the rows from one on, and then those before it
-    pub turn_lean : (lows lows' : List ℕ) (from to : ℕ) (v w x : View) → NoneFalls lows lows' → IsLean l (span_steps l stage lows from to) v w → IsLean l (span_steps l stage lows' 0 from) w x → IsLean l (lean_turn_steps l stage lows) v x
-    turn_lean lows lows' from to v w x up a b = lean_then l _ _ _ v w x
+    pub turn_lean : (lows lows' : List ℕ) (drawn drawn' from to : ℕ) (v w x : View) → NoneFalls lows lows' → drawn ≤ drawn' → IsLean l (span_steps l stage lows drawn from to) v w → IsLean l (span_steps l stage lows' drawn' 0 from) w x → IsLean l (lean_turn_steps l stage lows drawn') v x
+    turn_lean lows lows' drawn drawn' from to v w x up more a b = lean_then l _ _ _ v w x
         (λ p q h begins after. let f = try_steps_at stage p h in let g = try_steps_at stage q h in let less : (r : ℕ) → g r ≤ f r = λ r. steps_less stage p q h r begins after in
         let old = left_near l lows' (within 0 from g) (within 0 from f) l.parts (λ j _. window_less 0 from g f less j) in let fall = left_fall (within 0 from f) lows lows' up l.parts in
         let parts = left_both (within from to f) (within 0 from f) f lows (window_both from to f) l.parts in
-        let rest = sum_most (within 0 from g) (within 0 from f) (window_less 0 from g f less) (part_rows l) (BLOCK_ROWS * l.spare) in
-        let spare = rows_both (within from to f) (within 0 from f) f (window_both from to f) (part_rows l) (BLOCK_ROWS * l.spare) in omega arith) a b
+        let first = sum_less (within from to f) (part_rows l) (BLOCK_ROWS * drawn) (BLOCK_ROWS * drawn') (omega arith) in
+        let rest = sum_most (within 0 from g) (within 0 from f) (window_less 0 from g f less) (part_rows l) (BLOCK_ROWS * drawn') in
+        let spare = rows_both (within from to f) (within 0 from f) f (window_both from to f) (part_rows l) (BLOCK_ROWS * drawn') in omega arith) a b
 
     -- or those alone
-    pub turn_early : (lows : List ℕ) (from to : ℕ) (v w : View) → IsLean l (span_steps l stage lows from to) v w → IsLean l (lean_turn_steps l stage lows) v w
-    turn_early lows from to v w a = lean_few l _ _ v w
+    pub turn_early : (lows : List ℕ) (drawn from to : ℕ) (v w : View) → IsLean l (span_steps l stage lows drawn from to) v w → IsLean l (lean_turn_steps l stage lows drawn) v w
+    turn_early lows drawn from to v w a = lean_few l _ _ v w
         (λ p h. let f = try_steps_at stage p h in let parts = left_near l lows (within from to f) f l.parts (λ j _. window_most from to f j) in
-        let spare = sum_most (within from to f) f (window_most from to f) (part_rows l) (BLOCK_ROWS * l.spare) in omega arith) a
+        let spare = sum_most (within from to f) f (window_most from to f) (part_rows l) (BLOCK_ROWS * drawn) in omega arith) a
 
 -- a claim in turn: the choice of a unit, and the look
-pub next_lean : (l k : Limits) (stage : ℕ) (lows lows' : List ℕ) (ms : List TraceEntry) (v w y : View) → l ≡ k → lows ≡ lows' → Stepped l 1 ms v w → IsLean l (lean_turn_steps l stage lows) w y → Steady l y
-    → StepsTo (lean_claim_next_steps k stage lows' v.seen y.seen) v y
-next_lean l k stage lows lows' ms v w y same shown first scan steady = subst (λ (z : Limits × List ℕ). StepsTo (lean_claim_next_steps z.0 stage z.1 v.seen y.seen) v y) (λ i. (same i, shown i))
-    ((lean_then l (λ a h. 1) (lean_turn_steps l stage lows) (lean_claim_next_steps l stage lows) v w y
+pub next_lean : (l k : Limits) (stage drawn : ℕ) (lows lows' : List ℕ) (ms : List TraceEntry) (v w y : View) → l ≡ k → lows ≡ lows' → Stepped l 1 ms v w → IsLean l (lean_turn_steps l stage lows drawn) w y → Steady l y
+    → StepsTo (lean_claim_next_steps k stage lows' drawn v.seen y.seen) v y
+next_lean l k stage drawn lows lows' ms v w y same shown first scan steady = subst (λ (z : Limits × List ℕ). StepsTo (lean_claim_next_steps z.0 stage z.1 drawn v.seen y.seen) v y) (λ i. (same i, shown i))
+    ((lean_then l (λ a h. 1) (lean_turn_steps l stage lows drawn) (lean_claim_next_steps l stage lows drawn) v w y
     (λ p q h begins after. let f = try_steps_at stage q h in let g = try_steps_at stage p h in let less : (r : ℕ) → f r ≤ g r = λ r. steps_less stage p q h r begins after in
-    let parts = left_near l lows f g l.parts (λ r _. less r) in let spare = sum_most f g less (part_rows l) (BLOCK_ROWS * l.spare) in omega arith)
+    let parts = left_near l lows f g l.parts (λ r _. less r) in let spare = sum_most f g less (part_rows l) (BLOCK_ROWS * drawn) in omega arith)
     (lean_made l 1 ms v w first) scan).few y.seen (after_self l y steady))

@@ -217,9 +217,9 @@ pub ends_far : (l : Limits) (N : Type 0) (n from to stage u : ℕ) (v w : View) 
 ends_far l N n from to stage u v w None le found = le
 ends_far l N n from to stage u v w (Some t) le found = let reach = found.0.reach in omega arith
 
-pub ends_inside : (l : Limits) (N : Type 0) (n from stage u : ℕ) (v w : View) (o : Option Taken) → MatchOption o N (λ (t : Taken). Took l n from stage u v w t.element t.attempt × (t.element.root ≡ t.root)) → scan_end (rows_of l) o ≤ rows_of l
-ends_inside l N n from stage u v w None found = omega arith
-ends_inside l N n from stage u v w (Some t) found = let k = found.0 in let inside = births_inside l w.seen k.walk.steady.shows.legal t.element k.born in omega arith
+pub ends_inside : (l : Limits) (N : Type 0) (n from to stage u : ℕ) (v w : View) (o : Option Taken) → to ≤ rows_of l → MatchOption o N (λ (t : Taken). Took l n from stage u v w t.element t.attempt × (t.element.root ≡ t.root)) → scan_end to o ≤ rows_of l
+ends_inside l N n from to stage u v w None le found = le
+ends_inside l N n from to stage u v w (Some t) le found = let k = found.0 in let inside = births_inside l w.seen k.walk.steady.shows.legal t.element k.born in omega arith
 
 -- bounds of steps
 
@@ -271,6 +271,10 @@ module _ (l : Limits) where
     pub lean_less : (k i m most first rows : ℕ) (v w : View) → k ≤ most → first ≤ i → i + m ≤ first + rows → IsLeanAt l stage k i m v w → IsLeanAt l stage most first rows v w
     lean_less k i m most first rows v w le low high a = lean_few _ _ v w
         (λ p h. let all = sum_apart (try_steps_at stage p h) i m (i + m) 0 first rows low (omega arith) (omega arith) in omega arith) a
+
+    -- at no row, whichever that would be
+    pub lean_zero : (k i j m : ℕ) (v w : View) → m ≡ 0 → IsLeanAt l stage k i m v w → IsLeanAt l stage k j 0 v w
+    lean_zero k i j m v w none a = lean_few _ _ v w (λ p h. omega arith) (subst (λ z. IsLeanAt l stage k i z v w) none a)
 
     -- steps at some rows, with others before and after them
     pub lean_between : (k i m k' most first rows : ℕ) (ms ns : List TraceEntry) (v w x y : View) → k + k' ≤ most → first ≤ i → i + m ≤ first + rows

@@ -16,7 +16,7 @@ use Rattle.tp_manager.proofs.Marks.Lows.{claim_few, claim_shown, marked_most, re
 use Rattle.tp_manager.proofs.Calls.Passes.{done_walked, drawn_walked, rests_drawn, steady_at}
 use Rattle.tp_manager.proofs.Claims.UnitsChosen.{chose_steady, chose_walked, chose_rests, idle_walked, idle_answer, took_walked, took_answer, took_first, took_rests}
 use Rattle.tp_rule.specs.declared.view.View.{View}
-use Rattle.tp_model.specs.Steps.{rows_of}
+use Rattle.tp_model.specs.Steps.{block_first}
 use Rattle.tp_manager.specs.Leans.{IsLean}
 use Rattle.tp_manager.proofs.Calls.Makes.{walked_made}
 use Rattle.tp_manager.proofs.Claims.Leans.{lean_claim}
@@ -94,7 +94,7 @@ pub returns-in_default-clause-lean : goal.returns-in_default-clause-lean
 returns-in_default-clause-lean c = let at = (goal.at.returns-in_default-clause-lean c).After-choose_unit in let l : Limits = table_limits c.self.inside.shared.words in let told = c.in_default.ensures.told in
     let v = view_of c.pass.inside.seat in let y = view_of c.scan.new.seat in let walk = idle_walked l _ _ (view_of c.choose_unit.new.seat) (steady at) c.choose_unit.ensures.chooses _ c.args.stage _ told in
     follows (spot c.pass.inside.seat.table c.pass.inside.lows c.pass.inside.run.drawn c.pass.inside.from) (spot c.scan.new.seat.table (set c.pass.inside.lows c.args.stage c.scan.new.lows) c.scan.new.drawn c.pass.inside.from) (rises_in c.pass.inside.lows c.scan.new.lows c.args.stage (kinds at) c.scan.ensures.lows, c.scan.ensures.risen) v y c.args.pass.now c.pass.view_is l _ _
-    (walked_made l _ _ v y walk _ (subst (λ (z : Limits). StepsTo (1 + lean_scan_steps c.args.self.now.limits c.args.stage (marks_of c.args.pass.now.lows c.args.stage) (rows_of z) c.args.pass.now.seen y.seen) v y) (limits at) (lean at (rows_of l) y c.in_default.ensures.lean walk.steady))) _ (omega arith)
+    (walked_made l _ _ v y walk _ (subst (λ (z : Limits). StepsTo (1 + lean_scan_steps c.args.self.now.limits c.args.stage (marks_of c.args.pass.now.lows c.args.stage) (block_first z c.scan.new.drawn) c.args.pass.now.seen y.seen) v y) (limits at) (lean at (block_first l c.scan.new.drawn) y c.in_default.ensures.lean walk.steady))) _ (omega arith)
 
 pub returns-clause-lean : goal.returns-clause-lean
 returns-clause-lean c = let at = (goal.at.returns-clause-lean c).After-choose_unit in let l : Limits = table_limits c.self.inside.shared.words in let told = c.in-Some.ensures.told in

@@ -135,21 +135,21 @@ returns-clause-few c = let at = (goal.at.returns-clause-few c).After-choose_unit
     (walked_made l _ _ v y (took_walked l _ v w (steady at) c.choose_unit.ensures.chooses _ c.in-Some.taken.element.id c.args.stage _ y _ told.0.took) (1 + scans at) (made_then 1 (scans at) v w y (made l 1 _ v w a) c.scan_turn.ensures.few)) _ (left at)
 
 -- so by what is born in each row
-lean : (c : After-choose_unit) (y : View) → IsLean (table_limits c.self.inside.shared.words) (lean_turn_steps (table_limits c.self.inside.shared.words) c.args.stage (marks_of c.pass.inside.lows c.args.stage)) (view_of c.choose_unit.new.seat) y → Steady (table_limits c.self.inside.shared.words) y
-    → StepsTo (lean_claim_next_steps c.args.self.now.limits c.args.stage (marks_of c.args.pass.now.lows c.args.stage) c.args.pass.now.seen y.seen) (view_of c.pass.inside.seat) y
-lean c y scan steady_then = let l : Limits = table_limits c.self.inside.shared.words in let v = view_of c.pass.inside.seat in
-    subst (λ h. StepsTo (lean_claim_next_steps c.args.self.now.limits c.args.stage (marks_of c.args.pass.now.lows c.args.stage) h y.seen) v y) (ap (λ (p : PassShown). p.seen) c.pass.view_is)
-    (next_lean l c.args.self.now.limits c.args.stage (marks_of c.pass.inside.lows c.args.stage) (marks_of c.args.pass.now.lows c.args.stage) _ v (view_of c.choose_unit.new.seat) y (limits c) (ap (λ (p : PassShown). marks_of p.lows c.args.stage) c.pass.view_is)
+lean : (c : After-choose_unit) (drawn : ℕ) (y : View) → IsLean (table_limits c.self.inside.shared.words) (lean_turn_steps (table_limits c.self.inside.shared.words) c.args.stage (marks_of c.pass.inside.lows c.args.stage) drawn) (view_of c.choose_unit.new.seat) y → Steady (table_limits c.self.inside.shared.words) y
+    → StepsTo (lean_claim_next_steps c.args.self.now.limits c.args.stage (marks_of c.args.pass.now.lows c.args.stage) drawn c.args.pass.now.seen y.seen) (view_of c.pass.inside.seat) y
+lean c drawn y scan steady_then = let l : Limits = table_limits c.self.inside.shared.words in let v = view_of c.pass.inside.seat in
+    subst (λ h. StepsTo (lean_claim_next_steps c.args.self.now.limits c.args.stage (marks_of c.args.pass.now.lows c.args.stage) drawn h y.seen) v y) (ap (λ (p : PassShown). p.seen) c.pass.view_is)
+    (next_lean l c.args.self.now.limits c.args.stage drawn (marks_of c.pass.inside.lows c.args.stage) (marks_of c.args.pass.now.lows c.args.stage) _ v (view_of c.choose_unit.new.seat) y (limits c) (ap (λ (p : PassShown). marks_of p.lows c.args.stage) c.pass.view_is)
     (chose_walked l _ v (view_of c.choose_unit.new.seat) (steady c) c.choose_unit.ensures.chooses) scan steady_then)
 
 pub returns-in_default-clause-lean : goal.returns-in_default-clause-lean
 returns-in_default-clause-lean c = let at = (goal.at.returns-in_default-clause-lean c).After-choose_unit in let l : Limits = table_limits c.self.inside.shared.words in let told = c.in_default.ensures.told in
     let v = view_of c.pass.inside.seat in let w = view_of c.choose_unit.new.seat in let y = view_of c.scan_turn.new.seat in let walk = idle_walked l _ v w (steady at) c.choose_unit.ensures.chooses _ c.args.stage y told in
     follows (spot c.pass.inside.seat.table c.pass.inside.lows c.pass.inside.run.drawn c.pass.inside.from) (spot c.scan_turn.new.seat.table (set c.pass.inside.lows c.args.stage c.scan_turn.new.lows) c.scan_turn.new.drawn c.pass.inside.from) (rises_in c.pass.inside.lows c.scan_turn.new.lows c.args.stage (kinds at) c.scan_turn.ensures.lows, c.scan_turn.ensures.risen) v y c.args.pass.now c.pass.view_is l _ _
-    (walked_made l _ _ v y walk _ (lean at y c.scan_turn.ensures.lean walk.steady)) _ (omega arith)
+    (walked_made l _ _ v y walk _ (lean at c.scan_turn.new.drawn y c.scan_turn.ensures.lean walk.steady)) _ (omega arith)
 
 pub returns-clause-lean : goal.returns-clause-lean
 returns-clause-lean c = let at = (goal.at.returns-clause-lean c).After-choose_unit in let l : Limits = table_limits c.self.inside.shared.words in let told = c.in-Some.ensures.told in
     let v = view_of c.pass.inside.seat in let w = view_of c.choose_unit.new.seat in let y = view_of c.scan_turn.new.seat in let walk = took_walked l _ v w (steady at) c.choose_unit.ensures.chooses _ c.in-Some.taken.element.id c.args.stage _ y _ told.0.took in
     follows (spot c.pass.inside.seat.table c.pass.inside.lows c.pass.inside.run.drawn c.pass.inside.from) (spot c.scan_turn.new.seat.table (set c.pass.inside.lows c.args.stage c.scan_turn.new.lows) c.scan_turn.new.drawn c.go_on_behind.new.turns) (rises_in c.pass.inside.lows c.scan_turn.new.lows c.args.stage (kinds at) c.scan_turn.ensures.lows, c.scan_turn.ensures.risen) v y c.args.pass.now c.pass.view_is l _ _
-    (walked_made l _ _ v y walk _ (lean at y c.scan_turn.ensures.lean walk.steady)) _ (omega arith)
+    (walked_made l _ _ v y walk _ (lean at c.scan_turn.new.drawn y c.scan_turn.ensures.lean walk.steady)) _ (omega arith)

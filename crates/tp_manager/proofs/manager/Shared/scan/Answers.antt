@@ -1,6 +1,6 @@
-use Rattle.std.proofs.Common.{◌+◌, List, slice_index, arith, subst, sym}
+use Rattle.std.proofs.Common.{◌≤◌, ◌+◌, List, slice_index, arith, subst, sym}
 use Rattle.tp_model.specs.declared.types.Limits.{Limits}
-use Rattle.tp_model.specs.Steps.{part_rows, rows_of}
+use Rattle.tp_model.specs.Steps.{block_first, part_rows, rows_of}
 use Rattle.tp_rule.specs.Tables.{table_limits}
 use Rattle.tp_rule.specs.Views.{view_of}
 use Rattle.tp_manager.specs.Bounds.{scan_steps, spare_left, try_steps}
@@ -26,16 +26,17 @@ returns-clause-told c = let l : Limits = table_limits c.args.self.now.words in l
 pub returns-in-Some-clause-lean : goal.returns-in-Some-clause-lean
 returns-in-Some-clause-lean c = lean_early (table_limits c.args.self.now.words) c.args.stage (c.in-Some.taken.element.id + 1) c.args.lows.now _ _ c.in-Some.ensures.lean
 
-pub returns-clause-lean : goal.returns-clause-lean
-returns-clause-lean c = let l : Limits = table_limits c.args.self.now.words in let o = c.scan_blocks.result in
-    lean_marked l c.args.stage (part_rows l) (scan_end (rows_of l) o) c.args.lows.now c.scan_parts.new.lows _ _ _ (c.scan_parts.ensures.lows l.parts)
-    (ends_far l _ _ (part_rows l) (rows_of l) c.args.stage c.args.unit _ _ o (omega arith) c.scan_blocks.ensures.told) (ends_inside l _ _ (part_rows l) c.args.stage c.args.unit _ _ o c.scan_blocks.ensures.told)
-    c.in_default.ensures.lean c.scan_blocks.ensures.lean
-
 -- the steps in the parts, and then in the spare blocks
 blocks : (c : After-scan_blocks) → (ms : List TraceEntry) × Stepped (table_limits c.args.self.now.words) (spare_left (table_limits c.args.self.now.words) try_steps (slice_index c.scan_parts.new.lows (table_limits c.args.self.now.words).parts)) ms (view_of c.scan_parts.new.seat) (view_of c.scan_blocks.new.seat)
 blocks c = let l : Limits = table_limits c.args.self.now.words in
     begun_walked l c.args.stage c.args.unit (spare_left l try_steps (slice_index c.scan_parts.new.lows l.parts)) (part_rows l) (rows_of l) (view_of c.scan_parts.new.seat) (view_of c.scan_blocks.new.seat) c.scan_blocks.result c.in_default.ensures.told.walk.steady c.scan_blocks.ensures.told
+
+pub returns-clause-lean : goal.returns-clause-lean
+returns-clause-lean c = let l : Limits = table_limits c.args.self.now.words in let o = c.scan_blocks.result in let drawn = c.scan_blocks.new.drawn in let walk = (blocks (goal.at.returns-clause-lean c).After-scan_blocks).1 in
+    let most : drawn ≤ l.spare = subst (λ (z : Limits). drawn ≤ z.spare) walk.steady.pass.1 c.scan_blocks.ensures.drawn.0 in
+    lean_marked l c.args.stage (part_rows l) (scan_end (block_first l drawn) o) c.args.lows.now c.scan_parts.new.lows _ _ _ (c.scan_parts.ensures.lows l.parts)
+    (ends_far l _ _ (part_rows l) (block_first l drawn) c.args.stage c.args.unit _ _ o (omega arith) c.scan_blocks.ensures.told) (ends_inside l _ _ (part_rows l) (block_first l drawn) c.args.stage c.args.unit _ _ o (omega arith) c.scan_blocks.ensures.told)
+    c.in_default.ensures.lean c.scan_blocks.ensures.lean
 
 pub returns-clause-rests : goal.returns-clause-rests
 returns-clause-rests c = λ p inside came. let l : Limits = table_limits c.args.self.now.words in let w = blocks (goal.at.returns-clause-rests c).After-scan_blocks in let a = c.in_default.ensures.told in

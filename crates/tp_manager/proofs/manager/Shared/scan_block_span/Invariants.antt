@@ -13,7 +13,7 @@ invariant-loop-row l = record {
   from : l.from ≤ l.row;
   inside : l.row ≤ rows_of (table_limits l.self.words);
   low : l.low ≤ l.row;
-  lean : (k : ℕ) × (k ≤ l.row - l.from) × (k ≤ l.to - l.from) × IsLeanAt (table_limits l.self.words) l.stage 0 l.from k (view_of l.initial.seat) (view_of l.seat);
+  lean : (k : ℕ) × (k ≤ l.row - l.from) × (k ≤ l.end - l.from) × IsLeanAt (table_limits l.self.words) l.stage 0 l.from k (view_of l.initial.seat) (view_of l.seat);
   begun : (k : ℕ) × (k ≤ l.row - l.from) × (k ≤ l.to - l.from) × Begun (table_limits l.self.words) (PassedBy (table_limits l.self.words) l.stage) (k * try_steps) l.from l.row (view_of l.initial.seat) (view_of l.seat);
 }
 

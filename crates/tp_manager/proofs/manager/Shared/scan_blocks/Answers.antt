@@ -13,7 +13,7 @@ use Rattle.tp_manager.proofs.Claims.Spares.{scan_drawn}
 use Rattle.tp_rule.specs.Views.{SeatShown}
 use Rattle.tp_manager.proofs.Calls.CallSteps.{gaps_kind, remembers_kind}
 use Rattle.tp_manager.proofs.Claims.Leans.{lean_behind, lean_free}
-use Rattle.tp_manager.specs.Leans.{scan_end}
+use Rattle.tp_manager.specs.Leans.{IsLeanAt, scan_end}
 use Rattle.tp_manager.proofs.manager.Shared.scan_blocks.Goals as goal
 
 pub returns-clause-told : goal.returns-clause-told
@@ -28,8 +28,9 @@ returns-clause-rests c = let l : Limits = table_limits c.args.self.now.words in 
     (spare_before l 1 _ _ w.0 (view_of c.args.seat.now) (view_of c.blocks_end.new.seat) (view_of c.scan_spare.new.seat) load.walk w.1 c.args.stage _ _ c.scan_spare.ensures.rests)
 
 pub returns-clause-lean : goal.returns-clause-lean
-returns-clause-lean c = let l : Limits = table_limits c.args.self.now.words in let load = c.in-Some.ensures.told in let one = drawn_one l.spare load.0 in let N : ℕ = part_rows l + slice_index c.args.lows.now l.parts in
-    lean_behind l c.args.stage 1 N (scan_end (rows_of l) c.scan_spare.result - N) 2 (3 * drawn_steps l.spare) _ _ _ _ (omega arith) load.1.walk c.scan_spare.ensures.lean
+returns-clause-lean c = let l : Limits = table_limits c.args.self.now.words in let load = c.in-Some.ensures.told in let one = drawn_one l.spare load.0 in let N : ℕ = part_rows l + slice_index c.args.lows.now l.parts in let o = c.scan_spare.result in
+    subst (λ e. IsLeanAt l c.args.stage (3 * drawn_steps l.spare) N (scan_end e o - N) (view_of c.args.seat.now) (view_of c.scan_spare.new.seat)) c.in-Some.ensures.end
+    (lean_behind l c.args.stage 1 N (scan_end c.in-Some.end o - N) 2 (3 * drawn_steps l.spare) _ _ _ _ (omega arith) load.1.walk c.scan_spare.ensures.lean)
 
 pub returns-in_default-clause-lean : goal.returns-in_default-clause-lean
 returns-in_default-clause-lean c = lean_free (table_limits c.args.self.now.words) c.args.stage _ _ _ (view_of c.args.seat.now) (view_of c.blocks_end.new.seat) (ap view_of c.in_default.ensures.told.1)

@@ -61,16 +61,15 @@ returns-clause-few c = let l : Limits = table_limits c.args.self.now.words in le
     made_few (k + n) _ v y (omega (arith, ap (λ z. z * try_steps) e)) (made_then k n v x y c.scan_spans-2.ensures.few (made l n w.0 x y w.1))
 
 pub returns-then-from-parts-clause-lean : goal.returns-then-from-parts-clause-lean
-returns-then-from-parts-clause-lean c = let l : Limits = table_limits c.args.self.now.words in let p = mid (goal.at.returns-then-from-parts-clause-lean c).After-part_rows-parts in let past = c.if-from-parts.true in let span = c.requires.span in let up = span.0 in
-    span_spare l c.args.stage c.args.lows.now c.args.from c.args.to _ _ (omega arith) up span.1 c.scan_block_span.ensures.lean
+returns-then-from-parts-clause-lean c = span_spare (table_limits c.args.self.now.words) c.args.stage c.args.lows.now c.scan_block_span.new.drawn c.args.from c.args.to _ _ c.scan_block_span.ensures.lean
 
 pub returns-then-to-parts-clause-lean : goal.returns-then-to-parts-clause-lean
-returns-then-to-parts-clause-lean c = span_parts (table_limits c.args.self.now.words) c.args.stage c.args.lows.now c.args.from c.args.to c.args.to _ _ (omega arith) c.scan_spans.ensures.lean
+returns-then-to-parts-clause-lean c = span_parts (table_limits c.args.self.now.words) c.args.stage c.args.lows.now _ c.args.from c.args.to c.args.to _ _ (omega arith) c.scan_spans.ensures.lean
 
 pub returns-in-Some-clause-lean : goal.returns-in-Some-clause-lean
 returns-in-Some-clause-lean c = let past = c.if-to-parts.false in
-    span_parts (table_limits c.args.self.now.words) c.args.stage c.args.lows.now c.args.from c.part_rows-parts.result c.args.to _ _ (omega arith) c.scan_spans-2.ensures.lean
+    span_parts (table_limits c.args.self.now.words) c.args.stage c.args.lows.now _ c.args.from c.part_rows-parts.result c.args.to _ _ (omega arith) c.scan_spans-2.ensures.lean
 
 pub returns-clause-lean : goal.returns-clause-lean
-returns-clause-lean c = let l : Limits = table_limits c.args.self.now.words in let p = mid (goal.at.returns-clause-lean c).After-part_rows-parts in let before = c.if-from-parts.false in let past = c.if-to-parts.false in
-    span_both l c.args.stage c.args.lows.now c.args.from c.part_rows-parts.result c.args.to _ _ _ (omega arith) (omega arith) (omega arith) c.requires.span.1 c.scan_spans-2.ensures.lean c.scan_block_span-2.ensures.lean
+returns-clause-lean c = let before = c.if-from-parts.false in let past = c.if-to-parts.false in
+    span_both (table_limits c.args.self.now.words) c.args.stage c.args.lows.now c.scan_block_span-2.new.drawn c.args.from c.part_rows-parts.result c.args.to _ _ _ (omega arith) (omega arith) c.scan_spans-2.ensures.lean c.scan_block_span-2.ensures.lean

@@ -25,7 +25,7 @@ use Rattle.tp_manager.proofs.Claims.Spares.{sought_passed}
 use Rattle.tp_manager.proofs.Calls.CallSteps.{gaps_kind, looked_begins, looked_none, remembers_kind, sought_few, walked_begins, walked_then}
 use Rattle.tp_rule.specs.declared.view.Known.TheVariants.{PartMark}
 use Rattle.tp_manager.specs.Leans.{IsLeanAt, scan_end}
-use Rattle.tp_manager.proofs.Claims.Leans.{ends_far, ends_most, lean_apart, lean_between, lean_less, lean_row, lean_start}
+use Rattle.tp_manager.proofs.Claims.Leans.{ends_far, lean_apart, lean_between, lean_row, lean_start, lean_zero}
 use Rattle.tp_manager.proofs.manager.Shared.scan_spare.Goals as goal
 use Rattle.tp_manager.proofs.manager.Shared.scan_spare.Goals.{After-loop-row, After-low_at-mark, After-part_rows, After-try_row}
 
@@ -111,8 +111,8 @@ raise_low-requires-2-clause-remembers c = subst (Remembers c.args.stage (view_of
 
 -- what is made from the mark up to the row, and there
 lean : (c : After-try_row) → IsLeanAt (table_limits c.args.self.now.words) c.args.stage 0 (c.part_rows.result + slice_index c.low_at-mark.new.lows c.args.self.now.places.limits.parts) (c.loop-row.row + 1 - (c.part_rows.result + slice_index c.low_at-mark.new.lows c.args.self.now.places.limits.parts)) (view_of c.low_at-mark.new.seat) (view_of c.try_row.new.seat)
-lean c = let i = c.loop-row.invariant in let F : ℕ = c.part_rows.result + slice_index c.low_at-mark.new.lows c.args.self.now.places.limits.parts in
-    lean_row (table_limits c.args.self.now.words) c.args.stage F (c.loop-row.row - F) c.loop-row.row _ _ _ i.from (omega arith) i.lean c.try_row.ensures.lean
+lean c = let t = c.loop-row.invariant.lean in let F : ℕ = c.part_rows.result + slice_index c.low_at-mark.new.lows c.args.self.now.places.limits.parts in
+    lean_row (table_limits c.args.self.now.words) c.args.stage F t.0 c.loop-row.row _ _ _ c.loop-row.invariant.from t.1 t.3 c.try_row.ensures.lean
 
 pub returns-in-Some-clause-lean : goal.returns-in-Some-clause-lean
 returns-in-Some-clause-lean c = let l : Limits = table_limits c.args.self.now.words in let at = goal.at.returns-in-Some-clause-lean c in let F : ℕ = c.part_rows.result + slice_index c.low_at-mark.new.lows c.args.self.now.places.limits.parts in let N : ℕ = part_rows l + slice_index c.args.lows.now l.parts in
@@ -121,16 +121,17 @@ returns-in-Some-clause-lean c = let l : Limits = table_limits c.args.self.now.wo
 
 pub returns-then-row-end-clause-lean : goal.returns-then-row-end-clause-lean
 returns-then-row-end-clause-lean c = let l : Limits = table_limits c.args.self.now.words in let at = goal.at.returns-then-row-end-clause-lean c in let F : ℕ = c.part_rows.result + slice_index c.low_at-mark.new.lows c.args.self.now.places.limits.parts in let N : ℕ = part_rows l + slice_index c.args.lows.now l.parts in
-    let start = c.loop-row.invariant.from in let top = c.requires.end.1 in let low = above at.After-low_at-mark in let behind = front at.After-part_rows in let less = c.if-row-end.true in
+    let start = c.loop-row.invariant.from in let low = above at.After-low_at-mark in let behind = front at.After-part_rows in let less = c.if-row-end.true in
     let on = c.try_row.ensures.on.on in let next : ℕ = c.try_row.new.row in let o = c.scan_behind-found.result in
-    let far = ends_far l _ _ next c.args.end c.args.stage c.args.unit _ _ o (omega arith) c.scan_behind-found.ensures.told in let most : scan_end c.args.end o ≤ scan_end (rows_of l) o = ends_most c.args.end (rows_of l) o top in
-    lean_apart l c.args.stage 2 F (c.loop-row.row + 1 - F) 0 next (scan_end c.args.end o - next) 2 N (scan_end (rows_of l) o - N) _ _ _ (omega arith) (omega arith) (omega arith) (omega arith)
+    let far = ends_far l _ _ next c.args.end c.args.stage c.args.unit _ _ o (omega arith) c.scan_behind-found.ensures.told in
+    lean_apart l c.args.stage 2 F (c.loop-row.row + 1 - F) 0 next (scan_end c.args.end o - next) 2 N (scan_end c.args.end o - N) _ _ _ (omega arith) (omega arith) (omega arith) (omega arith)
     (lean_between l c.args.stage 1 F (c.loop-row.row + 1 - F) 1 2 F (c.loop-row.row + 1 - F) _ _ _ _ _ _ (omega arith) (omega arith) (omega arith) c.low_at-mark.ensures.acted.walk (lean at.After-try_row) c.raise_low-then-row-end.ensures.looked.walk) c.scan_behind-found.ensures.lean
 
 pub returns-clause-lean : goal.returns-clause-lean
-returns-clause-lean c = let l : Limits = table_limits c.args.self.now.words in let at = goal.at.returns-clause-lean c in let F : ℕ = c.part_rows.result + slice_index c.low_at-mark.new.lows c.args.self.now.places.limits.parts in let N : ℕ = part_rows l + slice_index c.args.lows.now l.parts in let i = c.loop-row.invariant in
-    let start = i.from in let high = i.inside in let low = above at.After-low_at-mark in let behind = front at.After-part_rows in
-    lean_between l c.args.stage 1 F (c.loop-row.row - F) 1 2 N (rows_of l - N) _ _ _ _ _ _ (omega arith) (omega arith) (omega arith) c.low_at-mark.ensures.acted.walk i.lean c.raise_low-2.ensures.looked.walk
+returns-clause-lean c = let l : Limits = table_limits c.args.self.now.words in let at = goal.at.returns-clause-lean c in let F : ℕ = c.part_rows.result + slice_index c.low_at-mark.new.lows c.args.self.now.places.limits.parts in let N : ℕ = part_rows l + slice_index c.args.lows.now l.parts in let t = c.loop-row.invariant.lean in let k : ℕ = t.0 in let most = t.2 in
+    let low = above at.After-low_at-mark in let behind = front at.After-part_rows in dite (dec_le F c.args.end)
+    (λ inside. lean_between l c.args.stage 1 F k 1 2 N (c.args.end - N) _ _ _ _ _ _ (omega arith) (omega arith) (omega arith) c.low_at-mark.ensures.acted.walk t.3 c.raise_low-2.ensures.looked.walk)
+    (λ out. lean_between l c.args.stage 1 N 0 1 2 N (c.args.end - N) _ _ _ _ _ _ (omega arith) (omega arith) (omega arith) c.low_at-mark.ensures.acted.walk (lean_zero l c.args.stage 0 F N k _ _ (omega arith) t.3) c.raise_low-2.ensures.looked.walk)
 
 pub loop-row-init : goal.loop-row-init
 loop-row-init c = let l : Limits = table_limits c.args.self.now.words in let at = goal.at.loop-row-init c in let top = inside at.After-low_at-mark in let f = front at.After-part_rows in record {
@@ -143,7 +144,7 @@ loop-row-init c = let l : Limits = table_limits c.args.self.now.words in let at 
   low = omega arith;
   rose = let e = start at.After-part_rows in subst (λ (z : ℕ × ℕ). Rose c.args.stage (view_of c.low_at-mark.new.seat) (z.0 + c.low_at-mark.result) (z.1 + slice_index c.low_at-mark.new.lows c.args.self.now.places.limits.parts)) (λ i. ((e ∙ sym f) i, e i)) c.low_at-mark.ensures.rose;
   stuck = λ less. absurd (omega arith);
-  lean = let F : ℕ = c.part_rows.result + slice_index c.low_at-mark.new.lows c.args.self.now.places.limits.parts in lean_less l c.args.stage 0 F 0 0 F _ _ _ (omega arith) (omega arith) (omega arith) (lean_start l c.args.stage F (view_of c.low_at-mark.new.seat));
+  lean = (0, omega arith, omega arith, lean_start l c.args.stage (c.part_rows.result + slice_index c.low_at-mark.new.lows c.args.self.now.places.limits.parts) (view_of c.low_at-mark.new.seat));
   begun = inl (refl, refl);
 }
 
@@ -184,7 +185,7 @@ loop-row-preserved c = let l : Limits = table_limits c.args.self.now.words in le
       low = c.try_row.ensures.low.0;
       rose = rose at.After-try_row _ _ t.walk;
       stuck = stuck at.After-try_row _ _ t.walk;
-      lean = lean_less l c.args.stage 0 F (c.loop-row.row + 1 - F) 0 F (c.try_row.new.row - F) _ _ (omega arith) (omega arith) (omega arith) (lean at.After-try_row);
+      lean = (c.loop-row.row + 1 - F, omega arith, (let less = c.loop-row-test.true in omega arith), lean at.After-try_row);
       begun = begun_few l P (passed_widens l c.args.stage) (d * s + s) F _ c.try_row.new.row _ _ (rows_more d (c.try_row.new.row - F) s (omega arith)) (begun_on l P (passed_widens l c.args.stage) (d * s) F s c.loop-row.row _ _ _ i.begun c.try_row.new.row from t);
     }
 

@@ -1,4 +1,4 @@
-use Rattle.std.proofs.Common.{◌<◌, ◌≡◌, ◌+◌, ◌-◌, ◌*◌, ◌≤◌}
+use Rattle.std.proofs.Common.{ℕ, ◌<◌, ◌≡◌, ◌+◌, ◌-◌, ◌*◌, ◌≤◌}
 use Rattle.tp_model.specs.Steps.{part_rows, rows_of}
 use Rattle.tp_rule.specs.Tables.{table_limits}
 use Rattle.tp_rule.specs.Views.{IsSameSeat, seen_by, view_of}
@@ -19,7 +19,7 @@ invariant-loop-row l = record {
   low : l.low ≤ l.row;
   rose : Rose l.stage (view_of l.seat) (part_rows (table_limits l.self.words) + l.mark) l.low;
   stuck : l.low < l.row → WasOfUse (table_limits l.self.words) l.stage l.low (seen_by l.initial.seat) (seen_by l.seat);
-  lean : IsLeanAt (table_limits l.self.words) l.stage 0 l.begin (l.row - l.begin) (view_of l.initial.seat) (view_of l.seat);
+  lean : (k : ℕ) × (k ≤ l.row - l.begin) × (k ≤ l.end - l.begin) × IsLeanAt (table_limits l.self.words) l.stage 0 l.begin k (view_of l.initial.seat) (view_of l.seat);
   begun : Begun (table_limits l.self.words) (PassedBy (table_limits l.self.words) l.stage) ((l.row - l.begin) * try_steps) l.begin l.row (view_of l.initial.seat) (view_of l.seat);
 }
 

@@ -60,7 +60,8 @@ returns-clause-few c = let at = (goal.at.returns-clause-few c).After-earlier-fro
     made_few (a + b) _ v y (omega arith) (made_then a b v w y (one l c.rows-rows.result from k v w e c.scan_rows.ensures.few) c.scan_rows-2.ensures.few)
 
 pub returns-in-Some-clause-lean : goal.returns-in-Some-clause-lean
-returns-in-Some-clause-lean c = turn_early (table_limits c.args.self.now.words) c.args.stage c.args.lows.now c.earlier-from.result c.rows-rows.result _ _ c.scan_rows.ensures.lean
+returns-in-Some-clause-lean c = turn_early (table_limits c.args.self.now.words) c.args.stage c.args.lows.now c.scan_rows.new.drawn c.earlier-from.result c.rows-rows.result _ _ c.scan_rows.ensures.lean
 
 pub returns-clause-lean : goal.returns-clause-lean
-returns-clause-lean c = turn_lean (table_limits c.args.self.now.words) c.args.stage c.args.lows.now c.scan_rows.new.lows c.earlier-from.result c.rows-rows.result _ _ _ c.scan_rows.ensures.lows c.scan_rows.ensures.lean c.scan_rows-2.ensures.lean
+returns-clause-lean c = turn_lean (table_limits c.args.self.now.words) c.args.stage c.args.lows.now c.scan_rows.new.lows c.scan_rows.new.drawn c.scan_rows-2.new.drawn c.earlier-from.result c.rows-rows.result _ _ _
+    c.scan_rows.ensures.lows c.scan_rows-2.ensures.risen c.scan_rows.ensures.lean c.scan_rows-2.ensures.lean

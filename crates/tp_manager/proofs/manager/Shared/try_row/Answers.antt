@@ -172,10 +172,6 @@ returns-in-Err-clause-low c = still_low (goal.at.returns-in-Err-clause-low c).Af
 pub returns-in-Ok-clause-low : goal.returns-in-Ok-clause-low
 returns-in-Ok-clause-low c = still_low (goal.at.returns-in-Ok-clause-low c).After-head_on-head (view_of c.claim_exchange.new.seat)
 
--- the call goes on from its beginning
-on : (c : After-head_on-head) (m : ℕ) (y : View) → Looked (table_limits c.args.self.now.words) m (view_of c.head_on-head.new.seat) y → IsPrefix (seen_by c.args.seat.now) (seen_by c.head_on-head.new.seat) × IsPrefix (seen_by c.head_on-head.new.seat) y.seen
-on c m y rest = let l : Limits = table_limits c.args.self.now.words in (looked_begins l 1 _ _ (looked l 1 _ _ c.head_on-head.ensures.acted), looked_begins l m _ _ rest)
-
 -- what is made at the row, by what is born in it
 lean_to : (c : After-head_on-head) (m : ℕ) (y : View) → Looked (table_limits c.args.self.now.words) m (view_of c.head_on-head.new.seat) y → (ms : List TraceEntry) × Stepped (table_limits c.args.self.now.words) (1 + m) ms (view_of c.args.seat.now) y
 lean_to c m y rest = (_, walked_then (table_limits c.args.self.now.words) 1 m _ _ _ _ y c.head_on-head.ensures.acted.walk rest.walk)
@@ -208,7 +204,7 @@ pub returns-in-Err-clause-lean : goal.returns-in-Err-clause-lean
 returns-in-Err-clause-lean c = let l : Limits = table_limits c.args.self.now.words in let at = goal.at.returns-in-Err-clause-lean c in let first = claimed at.After-load_claim-claim in let e = c.element_at-element.ensures in let miss = c.in-Err.ensures.miss in
     let since = looked_then l 1 body_steps _ _ _ c.stand_of.ensures.looked e.looked in let b = looked l 1 _ _ (acted_by l kinds.ClaimExchange _ _ e.looked.walk.steady refl miss.0) in let i = c.args.row.now in
     let w = lean_to at.After-head_on-head _ (view_of c.claim_exchange.new.seat) (looked_then l _ 1 _ _ _ (looked_then l 2 (1 + body_steps) _ _ _ first since) b) in
-    let low = changes_later (seen_by c.args.seat.now) (seen_by c.load_claim-claim.new.seat) i (begins_trans _ _ _ (on at.After-head_on-head 0 (view_of c.head_on-head.new.seat) (looked_none l _ c.head_on-head.ensures.acted.walk.steady)).0 (looked_begins l _ _ _ first)) in
+    let low = changes_later (seen_by c.args.seat.now) (seen_by c.load_claim-claim.new.seat) i (begins_trans _ _ _ (looked_begins l 1 _ _ (looked l 1 _ _ c.head_on-head.ensures.acted)) (looked_begins l _ _ _ first)) in
     let more = changes_more (seen_by c.load_claim-claim.new.seat) (seen_by c.claim_exchange.new.seat) i (begins_trans _ _ _ (looked_begins l _ _ _ since) (looked_begins l 1 _ _ b)) (λ same. miss.1 (miss.2 ∙ (same ∙ sym c.load_claim-claim.ensures.claim))) in
     lean_changed l c.args.stage i w.0 _ _ c.element_at-element.result (found_later _ _ (looked_begins l 1 _ _ b) i _ e.born) (e.head.0 ∙ of_stage at.After-load_claim-claim) (omega arith) w.1
 
@@ -223,6 +219,10 @@ returns-in-Ok-clause-lean c = let l : Limits = table_limits c.args.self.now.word
 -- two rows that are one are found so
 nat_eq_of : (m n : ℕ) → m ≡ n → nat_eq m n ≡ true
 nat_eq_of m n same = ⊎_elim (λ t. t.0) (λ t. absurd (t.1 same)) (eqb_tells m n)
+
+-- the call goes on from its beginning
+on : (c : After-head_on-head) (m : ℕ) (y : View) → Looked (table_limits c.args.self.now.words) m (view_of c.head_on-head.new.seat) y → IsPrefix (seen_by c.args.seat.now) (seen_by c.head_on-head.new.seat) × IsPrefix (seen_by c.head_on-head.new.seat) y.seen
+on c m y rest = let l : Limits = table_limits c.args.self.now.words in (looked_begins l 1 _ _ (looked l 1 _ _ c.head_on-head.ensures.acted), looked_begins l m _ _ rest)
 
 -- nothing is born between the row and the next
 gap : (c : After-head_on-head) (m : ℕ) (y : View) → Looked (table_limits c.args.self.now.words) m (view_of c.head_on-head.new.seat) y → (now : ℕ) → c.args.row.now < now → now < c.head_on-head.new.row
