@@ -2,7 +2,8 @@ use Rattle.std.proofs.Common.{◌∙◌, ◌+◌, ap, drop, length, sym}
 use Rattle.std.specs.Option.{option_and_then}
 use Rattle.tp_rollover.specs.Anew.{all_held}
 use Rattle.tp_rollover.specs.Lone.{lone}
-use Rattle.tp_rollover.proofs.Holding.{holds_then, holds_within, next_held, same_held}
+use Rattle.tp_rollover.proofs.BirthsGroups.{blank}
+use Rattle.tp_rollover.proofs.Holding.{holds_short, holds_then, holds_within, next_held, same_held}
 use Rattle.tp_rollover.proofs.holds.hold_all.Goals as goal
 
 pub returns-then-place-moved-clause-steps : goal.returns-then-place-moved-clause-steps
@@ -27,3 +28,8 @@ loop-place-preserved c =
           ∙ (next_held p c.args.survivors.now c.args.moved.now c.loop-place.place _ _ (lone c.args.manager.now c.loop-place.keeper c.loop-place.passes) c.loop-place-test.true c.if-place-moved.false
           ∙ ap (option_and_then (all_held p (drop (c.loop-place.place + 1) c.args.survivors.now) (drop (c.loop-place.place + 1) c.args.moved.now))) (same_held p (length c.loop-place.passes) _ _ _ (sym c.loop-place.auto.passes) ∙ c.in_ok-hold_one.ensures.gives));
     }
+
+pub returns-then-place-moved-clause-gives : goal.returns-then-place-moved-clause-gives
+returns-then-place-moved-clause-gives c =
+    c.loop-place.invariant.goes_on
+    ∙ holds_short (length c.args.passes.now) c.args.survivors.now c.args.moved.now c.loop-place.place blank (lone c.args.manager.now c.loop-place.keeper c.loop-place.passes) c.loop-place-test.true c.if-place-moved.true
