@@ -14,6 +14,7 @@ use Rattle.tp_rollover.specs.Survivors.{Restores}
 use Rattle.tp_rollover.specs.Carries.{AreFresh, Carries, DiffersAnew, IsAsComputed, WouldDiffer, WouldNotFit}
 use Rattle.tp_rollover.specs.Faults.{AreFree, IsDue, IsLate, IsRestoreDue, MayBegin}
 use Rattle.tp_rollover.specs.Lone.{lone}
+use Rattle.tp_rollover.specs.Survivors.{AreUnheld}
 use Rattle.tp_rollover.specs.Managed.{IsManaged, IsNewPass, IsRefusedFor, IsUnrestored}
 use Rattle.tp_rollover.specs.declared.managed.Managed.{Managed}
 use Rattle.tp_rollover.specs.declared.moved.Moved.{Moved}
@@ -66,13 +67,23 @@ pub differ_anew : (l k : Limits) (p q : ℕ) (survivors : List Survivor) → k �
 differ_anew l k p q survivors same long differs = subst (λ n. DiffersAnew l n survivors (start l)) long (subst (λ z. DiffersAnew z q survivors (start z)) same differs)
 
 -- a fault that comes after the first calls is due
-pub late_due : (l k : Limits) (olds news news' : List PassShown) (Is : Type 0) (fault : RollFault) → MayBegin l k olds news → (Is → ¬ AreFree olds) → IsLate k news' Is fault → IsDue l k olds news news' fault
-late_due l k olds news news' Is NoMemory may held late = (may, tt)
-late_due l k olds news news' Is BadLimits may held late = absurd late
-late_due l k olds news news' Is NoPass may held late = absurd late
-late_due l k olds news news' Is Busy may held late = absurd late
-late_due l k olds news news' Is Full may held late = (may, ⊎_elim (λ short. inl short) (λ low. inr (held low.0, low.1)) late)
-late_due l k olds news news' Is Unequal may held late = (may, tt)
+pub late_due : (l k : Limits) (olds news news' : List PassShown) (Is : Type 0) (fault : RollFault) → MayBegin l k olds news → (Is → ¬ AreFree olds)
+    → (fault ≡ Unequal → AreLimits l → AreFresh k news → WouldDiffer l olds (length news) (start k)) → IsLate k news' Is fault → IsDue l k olds news news' fault
+late_due l k olds news news' Is NoMemory may held differs late = (may, tt)
+late_due l k olds news news' Is BadLimits may held differs late = absurd late
+late_due l k olds news news' Is NoPass may held differs late = absurd late
+late_due l k olds news news' Is Busy may held differs late = absurd late
+late_due l k olds news news' Is Full may held differs late = (may, ⊎_elim (λ short. inl short) (λ low. inr (held low.0, low.1)) late)
+late_due l k olds news news' Is Unequal may held differs late = (may, differs refl)
+
+pub restore_due : (k : Limits) (survivors : List Survivor) (news news' : List PassShown) (Is : Type 0) (fault : RollFault) → (Is → ¬ AreUnheld survivors)
+    → (fault ≡ Unequal → AreFresh k news → DiffersAnew k (length news) survivors (start k)) → IsLate k news' Is fault → IsRestoreDue k survivors news news' fault
+restore_due k survivors news news' Is NoMemory held differs late = tt
+restore_due k survivors news news' Is BadLimits held differs late = absurd late
+restore_due k survivors news news' Is NoPass held differs late = absurd late
+restore_due k survivors news news' Is Busy held differs late = absurd late
+restore_due k survivors news news' Is Full held differs late = ⊎_elim (λ short. inl short) (λ low. inr (held low.0, low.1)) late
+restore_due k survivors news news' Is Unequal held differs late = differs refl
 
 -- passes that are new are fresh
 fresh_new : (m : ManagerShown) (p : PassShown) → IsNewPass p → IsOf m p → IsFresh m.limits p

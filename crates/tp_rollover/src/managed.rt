@@ -213,7 +213,7 @@ impl Managed {
         ensures computed { IsAsComputed result
             (λ next. (next.moved.items, thread_of limits next.managed.passes.items next.managed.keeper.seen))
             (made_anew limits limits.parts survivors.now (start limits)) }
-        ensures unequal { result ≡ Err refusals.Unequal
+        ensures unlike { result ≡ Err refusals.Unequal
             → DiffersAnew limits limits.parts survivors.now (start limits) }
         ensures fault { IfErr result (IsUnrestored limits) }
         ensures bad { (result ≡ Err refusals.BadLimits) ↔ (¬ AreLimits limits) }

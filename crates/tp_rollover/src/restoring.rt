@@ -195,8 +195,6 @@ pub fn restore(
     ensures computed { AreFresh manager.now.limits passes.old → IsAsComputed result
         (λ moved. (moved.items, lone manager.now keeper.new passes.new))
         (made_anew manager.now.limits (length passes.old) survivors.now (start manager.now.limits)) }
-    ensures unequal { AreFresh manager.now.limits passes.old → result ≡ Err faults.Unequal
-        → DiffersAnew manager.now.limits (length passes.old) survivors.now (start manager.now.limits) }
     ensures due { IfErr result
         (IsRestoreDue manager.now.limits survivors.now passes.old passes.new) }
     ensures no_pass { (result ≡ Err faults.NoPass) ↔ (passes.old ≡ []) }

@@ -113,9 +113,6 @@ pub fn roll_over(
         (lone new.now new_keeper.new new_passes.new)) }
     ensures would_not_fit { AreFresh new.now.limits new_passes.old → result ≡ Err faults.Full
         → WouldNotFit old.now.limits old_passes.old (length new_passes.old) (start new.now.limits) }
-    ensures would_differ { AreLimits old.now.limits → AreFresh new.now.limits new_passes.old
-        → result ≡ Err faults.Unequal
-        → WouldDiffer old.now.limits old_passes.old (length new_passes.old) (start new.now.limits) }
     ensures refused { IfErr result (λ fault. AllZip Stays old_passes.old old_passes.new) }
     ensures due { IfErr result (λ fault. IsDue old.now.limits new.now.limits old_passes.old new_passes.old
         new_passes.new fault) }

@@ -54,4 +54,5 @@ returns-clause-steps c =
 
 pub returns-in-Err-clause-due : goal.returns-in-Err-clause-due
 returns-in-Err-clause-due c =
-    late_due c.args.old.now.limits c.args.new.now.limits c.args.old_passes.now c.args.new_passes.now c.prepare.new.new_passes (c.has_open-is_held.result ≡ true) c.fault_after.result (c.if-not-are_alike.ensures.alike refl, c.if-lacks_pass.ensures.has refl) c.has_open-is_held.ensures.busy c.fault_after.ensures.late
+    late_due c.args.old.now.limits c.args.new.now.limits c.args.old_passes.now c.args.new_passes.now c.prepare.new.new_passes (c.has_open-is_held.result ≡ true) c.fault_after.result (c.if-not-are_alike.ensures.alike refl, c.if-lacks_pass.ensures.has refl) c.has_open-is_held.ensures.busy
+    (λ unequal limits fresh. c.in-Err.ensures.would_differ limits fresh (c.fault_after.ensures.unequal unequal)) c.fault_after.ensures.late
