@@ -26,6 +26,7 @@ pub mod Restored
 pub mod Freed
 pub mod Calling
 pub mod Inside
+pub mod Idling
 pub mod BirthsPlaces
 pub mod BirthsGroups
 pub mod ReplaysAll

@@ -80,9 +80,6 @@ module _ (l : Limits) (p : ℕ) (survivors : List Survivor) (s : State) where
     pub differs_one : ¬ StandAlike s.limits.attempts unheld.history survivors moved → DiffersAnew l p survivors s
     differs_one not fit alike = not (subst (λ (x : List Moved × State). StandAlike s.limits.attempts x.1.history survivors x.0) (is_made alike) alike.alike)
 
-    pub differs_busy : ¬ ((c : ℕ) → c < p → (pass_at unheld c).holding ≡ None) → DiffersAnew l p survivors s
-    differs_busy not fit alike = not (subst (λ (x : List Moved × State). (c : ℕ) → c < p → (pass_at x.1 c).holding ≡ None) (is_made alike) alike.free)
-
     -- why the looks stopped
     pub stops_alike : {A : Type 0} (stop : Stop) (value : A → List Moved × State) (ps qs : List PassShown) → StopsFirst ps qs (λ h. StandAlike s.limits.attempts h survivors moved) stop
         → (ToldFirst ps qs (λ h. ¬ StandAlike s.limits.attempts h survivors moved) → ¬ StandAlike s.limits.attempts unheld.history survivors moved) → AgreesUnless {A = A} (DiffersAnew l p survivors s) (Err stop) value (made_unheld l p survivors s)

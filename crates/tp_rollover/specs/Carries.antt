@@ -1,10 +1,10 @@
 -- What a rollover carries over, and what a restoration makes, computed: the new ids, and the new manager.
-use Rattle.std.specs.Prelude.{◌≡◌, ℕ, ◌<◌, List, Option, Some, None, Result, Ok, Err, length}
+use Rattle.std.specs.Prelude.{◌≡◌, ℕ, List, Option, Some, None, Result, Ok, Err, length}
 use Rattle.std.specs.List.{AllZip}
 use Rattle.tp_model.specs.declared.types.Limits.{Limits}
 use Rattle.tp_model.specs.History.{In}
 use Rattle.tp_model.specs.Counts.{counts}
-use Rattle.tp_plain.specs.OneThread.{State, pass_at}
+use Rattle.tp_plain.specs.OneThread.{State}
 use Rattle.tp_manager.specs.Shown.{KeeperShown, PassShown}
 use Rattle.tp_alone.specs.Thread.{AreTogether, IsFresh, Stays}
 use Rattle.tp_rollover.specs.Alike.{StandAlike}
@@ -28,15 +28,13 @@ IsAsComputed (Err Full) value computed = computed ≡ None
 IsAsComputed (Err other) value computed = Unit {0}
 
 -- What is computed of descriptions, which are made alive by p passes in a manager that was this before: all
--- that was described stands as it was, and nothing else is alive, while no pass has anything in hand; then
--- each that was held can be claimed.
+-- that was described stands as it was, and nothing else is alive; then each that was held can be claimed.
 pub record IsMadeAlike (l : Limits) (p : ℕ) (survivors : List Survivor) (before : State) : Type 0 where
   pub moved : List Moved
   pub unheld : State
   pub made : made_unheld l p survivors before ≡ Some (moved, unheld)
   pub alike : StandAlike before.limits.attempts unheld.history survivors moved
   pub only : CountsOnly (length moved) (counts before.limits.attempts unheld.history)
-  pub free : (c : ℕ) → c < p → (pass_at unheld c).holding ≡ None
   pub after : State
   pub held : all_held p survivors moved unheld ≡ Some after
 

@@ -1,11 +1,12 @@
-use Rattle.std.proofs.Common.{◌≡◌, ◌∙◌, ◌<◌, ◌≤◌, List, None, Option, Some, ap, arith, length, refl, subst, sym}
+use Rattle.std.proofs.Common.{◌≡◌, ◌∙◌, ◌<◌, ◌≤◌, List, None, Option, Some, ap, length, refl, subst, sym}
 use Rattle.std.specs.Option.{option_and_then}
 use Rattle.tp_plain.specs.OneThread.{State, start}
 use Rattle.tp_rollover.specs.Anew.{all_held, made_anew, made_unheld}
 use Rattle.tp_rollover.specs.Carries.{DiffersAnew}
 use Rattle.tp_rollover.specs.Lone.{lone}
 use Rattle.tp_rollover.specs.declared.moved.Moved.{Moved}
-use Rattle.tp_rollover.proofs.MadeAlike.{all_free, differs_busy, none_anew, none_first, unless_first}
+use Rattle.tp_rollover.proofs.Idling.{unheld_idle}
+use Rattle.tp_rollover.proofs.MadeAlike.{all_free, none_anew, none_first, unless_first}
 use Rattle.tp_rollover.proofs.Carrying.{are_holders}
 use Rattle.tp_rollover.proofs.Holding.{held_again, stands_free}
 use Rattle.tp_rollover.proofs.MadeAnew.{made_held, made_so_far}
@@ -42,12 +43,11 @@ returns-in_err-hold_all-clause-computed c fresh =
     none_first _ _ (all_held q ss moved t) (made_anew l p ss s) (DiffersAnew l p ss s) none c.from_residual-in_err-hold_all.result c.in_err-hold_all.field-0.0 c.from_residual-in_err-hold_all.ensures.1 (none_anew l p ss s) c.in_err-hold_all.ensures.gives
 
 pub returns-then-has_open-clause-computed : goal.returns-then-has_open-clause-computed
-returns-then-has_open-clause-computed c fresh =
-    let m = c.args.manager.now in
-    let p = length c.args.passes.now in
-    let long = c.stand_unheld.ensures.all.0 ∙ (c.stand_unheld.ensures.keeper.1 ∙ sym c.requires.all.0) in
-    differs_busy c.args.of.now.limits p c.args.survivors.now (start m.limits) c.in_ok-moved.moved.items (lone m c.stand_unheld.new.keeper c.stand_unheld.new.passes) (c.in_ok-moved.ensures.computed fresh)
-    (λ free. c.if-has_open.ensures.busy refl (all_free m.limits c.stand_unheld.new.passes c.stand_unheld.new.keeper.seen (λ i less. free i (omega (arith, less, long)))))
+returns-then-has_open-clause-computed c fresh fit alike =
+    let k = c.args.manager.now.limits in
+    let t = lone c.args.manager.now c.stand_unheld.new.keeper c.stand_unheld.new.passes in
+    c.if-has_open.ensures.busy refl (all_free k c.stand_unheld.new.passes c.stand_unheld.new.keeper.seen
+    (λ i less. unheld_idle c.args.of.now.limits k (length c.args.passes.now) c.args.survivors.now c.in_ok-moved.moved.items t (c.in_ok-moved.ensures.computed fresh) i))
 
 pub returns-clause-computed : goal.returns-clause-computed
 returns-clause-computed c fresh =
