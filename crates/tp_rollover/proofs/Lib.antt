@@ -21,6 +21,7 @@ pub mod Sums
 pub mod Replaying
 mod Worked
 mod WorkedHeld
+mod WorkedAlike
 pub mod Carrying
 pub mod Restored
 pub mod Freed
