@@ -31,7 +31,7 @@ use Rattle.tp_rollover.specs.declared.moved.Moved.{Moved}
 use Rattle.tp_rollover.specs.declared.survivors.Survivor.{Survivor}
 use Rattle.tp_manager.specs.Shown.{KeeperShown, PassShown}
 use Rattle.tp_rollover.specs.Bounds.{AllMake, hold_of, holds_for}
-use Rattle.std.proofs.lemmas.List.{drop_all, take-append-drop}
+use Rattle.std.proofs.lemmas.List.{take-append-drop}
 use Rattle.tp_rollover.proofs.Lists.{drop_here, take_more}
 
 -- the next of all
@@ -229,9 +229,3 @@ holds_within l q survivors i k k1 ps qs made =
 -- of as many passes
 pub same_held : (p q : ℕ) (holder : Option ℕ) (i : ℕ) (x : State) → p ≡ q → held_by p holder i x ≡ held_by q holder i x
 same_held p q holder i x same = ap (λ n. held_by n holder i x) same
-
--- where fewer are named than there are
-pub holds_short : (p : ℕ) (survivors : List Survivor) (moved : List Moved) (i : ℕ) (d : Survivor) (x : State) → i < length survivors → length moved ≤ i → all_held p (drop i survivors) (drop i moved) x ≡ None
-holds_short p survivors moved i d x less past =
-    ap (λ ss. all_held p ss (drop i moved) x) (drop_here survivors i d less)
-    ∙ ap (λ ms. all_held p (get_or survivors i d ∷ drop (i + 1) survivors) ms x) (drop_all i moved past)

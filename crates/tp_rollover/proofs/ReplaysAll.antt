@@ -1,6 +1,5 @@
 -- What is computed of replays, attempt by attempt.
-use Rattle.std.proofs.Common.{◌≡◌, ℕ, suc, ◌+◌, ◌-◌, ◌<◌, ◌≤◌, Bool, Option, None, Some, List, ◌∷◌, length, drop, get_or, sym, ◌∙◌, ap, arith}
-use Rattle.std.proofs.lemmas.List.{drop_all}
+use Rattle.std.proofs.Common.{◌≡◌, ℕ, suc, ◌+◌, ◌-◌, ◌<◌, Bool, Option, None, Some, List, ◌∷◌, length, drop, get_or, sym, ◌∙◌, ap, arith}
 use Rattle.std.specs.Option.{option_and_then}
 use Rattle.tp_plain.specs.OneThread.{State}
 use Rattle.tp_rollover.specs.Anew.{all_replayed, attempted, first_from, has_left, renewed, replayed, requeued, attempts_made}
@@ -39,9 +38,3 @@ module _ (p q : ℕ) (kept : List Bool) (limit : ℕ) (survivors : List Survivor
       ap (λ ss. all_replayed p kept limit ss (drop i moved) x) (drop_here survivors i d less)
       ∙ (ap (λ ms. all_replayed p kept limit (get_or survivors i d ∷ drop (i + 1) survivors) ms x) (drop_here moved i e less')
       ∙ ap (λ n. option_and_then (all_replayed p kept limit (drop (i + 1) survivors) (drop (i + 1) moved)) (replayed n kept limit (get_or survivors i d) (get_or moved i e).new x)) (sym long))
-
--- where fewer are named than there are
-pub replays_short : (p : ℕ) (kept : List Bool) (limit : ℕ) (survivors : List Survivor) (moved : List Moved) (i : ℕ) (d : Survivor) (x : ℕ × State) → i < length survivors → length moved ≤ i → all_replayed p kept limit (drop i survivors) (drop i moved) x ≡ None
-replays_short p kept limit survivors moved i d x less past =
-    ap (λ ss. all_replayed p kept limit ss (drop i moved) x) (drop_here survivors i d less)
-    ∙ ap (λ ms. all_replayed p kept limit (get_or survivors i d ∷ drop (i + 1) survivors) ms x) (drop_all i moved past)

@@ -400,7 +400,7 @@ pub(crate) fn bear_all(
 ) -> Result<Vec<Moved>, Stop>
     requires lone { AreLone manager.now keeper.old passes.old }
     ensures lone { AreLone manager.now keeper.new passes.new × (keeper.new.given ≡ keeper.old.given) }
-    ensures few { IfOk result (λ moved. length moved.items ≤ length survivors.now) }
+    ensures many { IfOk result (λ moved. length moved.items ≡ length survivors.now) }
     ensures fit { OnOk result (All (IsFit of.now.limits manager.now.limits) survivors.now) }
     ensures steps { let n = length survivors.now in
         AllMake (n * bear_steps manager.now.limits keeper.old.given 1)

@@ -133,6 +133,7 @@ pub(crate) fn replay_all(
     requires some { 1 ≤ length passes.old }
     requires alive { All (λ s. IsKillable s.status) survivors.now }
     requires within { All (IsWithinLimits manager.now.limits) survivors.now }
+    requires many { length moved.now ≡ length survivors.now }
     ensures lone { AreLone manager.now keeper.new passes.new × (keeper.new.given ≡ keeper.old.given) }
     ensures steps { let n = length survivors.now in
         AllMake (n * most_replay_steps manager.now.limits keeper.old.given)
@@ -146,9 +147,6 @@ pub(crate) fn replay_all(
     let kept = kept_for(survivors);
     let mut from = 0;
     for place in 0..survivors.len() {
-        if place >= moved.len() {
-            return Err(Stop::Unequal);
-        }
         replay(
             manager,
             keeper,

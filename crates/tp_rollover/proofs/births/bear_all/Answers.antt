@@ -87,6 +87,15 @@ returns-clause-gives c =
           all_there l p c.args.survivors.now w.len-from.result c.loop-turn.moved.items b _ i.so_far (w.len-from.ensures ∙ c.loop-turn.moved.ok.0) w.if-from-survivors.true
     ]
 
+pub returns-clause-many : goal.returns-clause-many
+returns-clause-many c =
+    let i = c.loop-turn.invariant in
+    let few = i.few in
+    elim c.loop-turn-test.branch [
+      | else-loop-turn-test w ↦ let past = w.loop-turn-test.false in let e = i.turns in omega (arith, past, e, few)
+      | then-loop-turn-test+then-from-survivors w ↦ let past = w.if-from-survivors.true in let long = w.len-from.ensures in let len = c.loop-turn.moved.ok.0 in omega (arith, past, long, len, few)
+    ]
+
 pub returns-in_err-families-clause-gives : goal.returns-in_err-families-clause-gives
 returns-in_err-families-clause-gives c =
     stops_unfit c.args.of.now.limits c.args.manager.now.limits c.args.survivors.now c.from_residual.result c.in_err-families.field-0.0 _ _ c.from_residual.ensures.1

@@ -6,6 +6,8 @@ use Rattle.tp_rollover.specs.Carries.{DiffersAnew}
 use Rattle.tp_rollover.specs.Lone.{lone}
 use Rattle.tp_rollover.specs.declared.moved.Moved.{Moved}
 use Rattle.tp_rollover.proofs.Idling.{unheld_idle}
+use Rattle.tp_rollover.specs.Alike.{StandsUnheld}
+use Rattle.tp_rollover.proofs.Lists.{zip_as_many}
 use Rattle.tp_rollover.proofs.MadeAlike.{all_free, none_anew, none_first, unless_first}
 use Rattle.tp_rollover.proofs.Carrying.{are_holders}
 use Rattle.tp_rollover.proofs.Holding.{held_again, stands_free}
@@ -15,7 +17,7 @@ use Rattle.tp_rollover.proofs.Sums.{held_by, held_within}
 use Rattle.tp_rollover.proofs.restoring.stand_again.Goals as goal
 
 pub hold_all-requires : goal.hold_all-requires
-hold_all-requires c = record { lone = record { kept = c.stand_unheld.ensures.keeper.0; own = c.stand_unheld.ensures.own; together = c.in_ok-moved.ensures.together } }
+hold_all-requires c = record { lone = record { kept = c.stand_unheld.ensures.keeper.0; own = c.stand_unheld.ensures.own; together = c.in_ok-moved.ensures.together }; many = ap length c.deref.ensures.value ∙ zip_as_many (StandsUnheld c.args.manager.now.limits.attempts c.stand_unheld.new.keeper.seen) c.args.survivors.now c.in_ok-moved.moved.items c.in_ok-moved.ensures.restored.each }
 
 pub returns-in_err-moved-clause-computed : goal.returns-in_err-moved-clause-computed
 returns-in_err-moved-clause-computed c fresh =

@@ -202,3 +202,6 @@ returns-in-Err-clause-computed c fresh =
 
 pub hold-held-requires-clause-some : goal.hold-held-requires-clause-some
 hold-held-requires-clause-some c = omega (arith, c.account-account.ensures.all.0, c.account-account.ensures.keeper.1, c.replay_all.ensures.lone.1, c.bear_all.ensures.lone.1, c.gather.ensures.keeper.1, c.requires.all.0, c.requires.some)
+
+pub replay_all-requires-clause-many : goal.replay_all-requires-clause-many
+replay_all-requires-clause-many c = ap length c.deref.ensures.value ∙ c.in_ok-moved.ensures.many
