@@ -17,4 +17,4 @@ uncarried l k olds news news' rolls.BadLimits full due = due
 uncarried l k olds news news' rolls.NoPass full due = due.1
 uncarried l k olds news news' rolls.Busy full due = absurd due
 uncarried l k olds news news' rolls.Full full due = full refl
-uncarried l k olds news news' rolls.Unequal full due = tt
+uncarried l k olds news news' rolls.Unequal full due = due.1

@@ -14,7 +14,7 @@ use Rattle.tp_manager.specs.Shown.{KeeperShown, PassShown}
 use Rattle.tp_plain.specs.OneThread.{start}
 use Rattle.tp_alone.specs.Thread.{Stays, thread_of}
 use Rattle.tp_rollover.specs.Answers.{Rolls}
-use Rattle.tp_rollover.specs.Carries.{AreFresh, Carries, WouldNotFit}
+use Rattle.tp_rollover.specs.Carries.{AreFresh, Carries, WouldDiffer, WouldNotFit}
 use Rattle.tp_rollover.specs.Faults.{LacksPass}
 use Rattle.tp_rollover.specs.Managed.{IsNewPass}
 use Rattle.tp_rollover.specs.declared.moved.Moved.{Moved}
@@ -116,7 +116,8 @@ IsUncarried l k olds news (faults.Refused refusals.Full) =
     AreFresh k news → WouldNotFit l olds (length news) (start k)
 IsUncarried l k olds news (faults.Refused other) = ⊥
 IsUncarried l k olds news faults.Nothing = LacksPass olds news
-IsUncarried l k olds news faults.Unequal = Unit {0}
+IsUncarried l k olds news faults.Unequal =
+    AreLimits l → AreFresh k news → WouldDiffer l olds (length news) (start k)
 IsUncarried l k olds news other = ⊥
 
 -- It has gone on in a new manager with these limits, all of whose passes are at home: what a pass held, the
@@ -157,7 +158,8 @@ IsUnrolled h l (faults.Refused refusals.Full) = WouldNotFit (home_limits h) h.pa
 IsUnrolled h l (faults.Refused other) = ⊥
 IsUnrolled h l faults.NotAll = ¬ AreAll h.keeper h.passes.items
 IsUnrolled h l faults.Nothing = h.passes.items ≡ []
-IsUnrolled h l faults.Unequal = Unit {0}
+IsUnrolled h l faults.Unequal = AreLimits (home_limits h)
+    → WouldDiffer (home_limits h) h.passes.items l.parts (start l)
 IsUnrolled h l other = ⊥
 
 -- a rollover's fault

@@ -10,7 +10,7 @@ use Rattle.tp_plain.specs.OneThread.{start}
 use Rattle.tp_alone.specs.Thread.{Stays, thread_of}
 use Rattle.tp_rollover.specs.Answers.{Rolls}
 use Rattle.tp_rollover.specs.Bounds.{AllMake, alive_after, survey_steps}
-use Rattle.tp_rollover.specs.Carries.{Carries, WouldNotFit}
+use Rattle.tp_rollover.specs.Carries.{Carries, WouldDiffer, WouldNotFit}
 use Rattle.tp_rollover.specs.declared.moved.Moved.{Moved}
 use Rattle.tp_rollover.specs.declared.moved.RollFault.{RollFault}
 use Rattle.tp_rollover.specs.declared.moved.RollFault.TheVariants.{Full, NoMemory, Unequal}
@@ -54,9 +54,10 @@ module _ {X : Type 0} {F : X → Type 0} where
     pub steps : RefusedSteps old.manager.limits point old.keeper old.passes.items new.keeper new.passes.items
 
 -- The faults that a steady crew, whose manager has these limits, can meet: its new manager has the same attempt
--- limit, it has passes, and none of them has a unit open. Full only where what is alive finds no room.
+-- limit, it has passes, and none of them has a unit open. Full only where what is alive finds no room,
+-- Unequal only where what is computed differs from it.
 abbrev pub IsCrewFault : Limits → List PassShown → RollFault → Type 0
 IsCrewFault l passes NoMemory = Unit {0}
 IsCrewFault l passes Full = WouldNotFit l passes l.parts (start l)
-IsCrewFault l passes Unequal = Unit {0}
+IsCrewFault l passes Unequal = WouldDiffer l passes l.parts (start l)
 IsCrewFault l passes other = ⊥

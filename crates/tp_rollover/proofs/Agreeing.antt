@@ -18,7 +18,7 @@ as_long m keeper keeper' olds news was is given = is.together.all.0 ∙ (given �
 pub none_too : {A B C D : Type 0} (why : Stop) (value : A → B) (value' : C → D) (computed : Option B) (computed' : Option D) → (computed ≡ None → computed' ≡ None) → Agrees (Err why) value computed → Agrees (Err why) value' computed'
 none_too stops.NoMemory value value' computed computed' none e = tt
 none_too stops.Full value value' computed computed' none e = none e
-none_too stops.Unequal value value' computed computed' none e = tt
+none_too stops.Unequal value value' computed computed' none e = none e
 
 module _ {A B C D : Type 0} (r : Result C Stop) (why : Stop) (value : A → B) (value' : C → D) (computed : Option B) (is : IsErrAnd r (λ e. e ≡ why)) where
   -- the error of a call, where all that follows is computed of what it is
@@ -45,7 +45,7 @@ pub by_next : (r : Result ℕ Stop) (call : ℕ → State → Option (ℕ × Sta
 by_next (Ok id) call s s' next at cursor is made = ap (option_and_then (λ n. option_and_then (λ made. Some (placed_by n.1 made)) (call n.0 s))) is ∙ ap (option_and_then (λ made. Some (placed_by cursor made))) made
 by_next (Err stops.NoMemory) call s s' next at cursor is made = tt
 by_next (Err stops.Full) call s s' next at cursor is made = ap (option_and_then (λ n. option_and_then (λ made. Some (placed_by n.1 made)) (call n.0 s))) is ∙ ap (option_and_then (λ made. Some (placed_by cursor made))) made
-by_next (Err stops.Unequal) call s s' next at cursor is made = tt
+by_next (Err stops.Unequal) call s s' next at cursor is made = ap (option_and_then (λ n. option_and_then (λ made. Some (placed_by n.1 made)) (call n.0 s))) is ∙ ap (option_and_then (λ made. Some (placed_by cursor made))) made
 
 -- what isn't full says nothing
 pub never_full : {A A' B D : Type 0} (r : Result A' Stop) (why : Stop) (value : A → B) (x : B) (value' : A' → D) (o : Option D) → IsErrAnd r (λ e. e ≡ why) → Agrees (Err why) value (Some x) → Agrees r value' o
@@ -55,4 +55,4 @@ never_full (Err e) why value x value' o is none = subst (λ z. Agrees (Err z) va
     one : (why : Stop) → Agrees (Err why) value (Some x) → Agrees (Err why) value' o
     one stops.NoMemory none = tt
     one stops.Full none = absurd cc
-    one stops.Unequal none = tt
+    one stops.Unequal none = absurd cc

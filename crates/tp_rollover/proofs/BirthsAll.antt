@@ -6,7 +6,8 @@ use Rattle.std.specs.Result.{IsErrAnd}
 use Rattle.tp_model.specs.declared.types.Limits.{Limits}
 use Rattle.tp_plain.specs.OneThread.{State}
 use Rattle.tp_rollover.specs.Anew.{Bearing, Placing, all_born, born_from, families_of, kept_for, named_in, next_born}
-use Rattle.tp_rollover.specs.Lone.{Agrees}
+use Rattle.tp_rollover.specs.Fits.{AreFit, StopsUnfit}
+use Rattle.tp_rollover.specs.Lone.{AgreesUnless}
 use Rattle.tp_rollover.specs.Runs.{BearsOn, ComesShort, GoesFurther}
 use Rattle.tp_rollover.specs.declared.births.Family.{Family}
 use Rattle.tp_rollover.specs.declared.births.Group.{Group}
@@ -115,11 +116,23 @@ module _ (l : Limits) (p : ℕ) where
       comes_short : ComesShort l p rest moved b → all ≡ None
       comes_short short = sym (turned short.turns short.few) ∙ short.none (so_far.turns - short.turns)
 
-      stops_short : (A C : Type 0) (value : A → List Moved × State) (why : Stop) (moved' : List Moved) (b' : Bearing) → BearsOn {A = C} l p rest moved moved' b b' (Err why) → Agrees (Err why) value all
-      stops_short A C value stops.NoMemory moved' b' on = tt
-      stops_short A C value stops.Full moved' b' on = comes_short on
-      stops_short A C value stops.Unequal moved' b' on = tt
+      stops_short : (A C Fit : Type 0) (value : A → List Moved × State) (why : Stop) (moved' : List Moved) (b' : Bearing) → BearsOn {A = C} l p rest moved moved' b b' (Err why) → AgreesUnless (Fit → all ≡ None) (Err why) value all
+      stops_short A C Fit value stops.NoMemory moved' b' on = tt
+      stops_short A C Fit value stops.Full moved' b' on = comes_short on
+      stops_short A C Fit value stops.Unequal moved' b' on = λ fit. comes_short on
 
-      pub stops_here : {A : Type 0} (C : Type 0) (r : Result A Stop) (why : Stop) (value : A → List Moved × State) (moved' : List Moved) (b' : Bearing) → IsErrAnd r (λ e. e ≡ why) → BearsOn {A = C} l p rest moved moved' b b' (Err why) → Agrees r value all
-      stops_here C (Ok x) why value moved' b' stops on = absurd stops
-      stops_here {A = A} C (Err e) why value moved' b' stops on = stops_short A C value e moved' b' (subst (λ z. BearsOn {A = C} l p rest moved moved' b b' (Err z)) (sym stops) on)
+      pub stops_fit : {A : Type 0} (C Fit : Type 0) (r : Result A Stop) (why : Stop) (value : A → List Moved × State) (moved' : List Moved) (b' : Bearing) → IsErrAnd r (λ e. e ≡ why) → BearsOn {A = C} l p rest moved moved' b b' (Err why)
+          → AgreesUnless (Fit → all ≡ None) r value all
+      stops_fit C Fit (Ok x) why value moved' b' stops on = absurd stops
+      stops_fit {A = A} C Fit (Err e) why value moved' b' stops on = stops_short A C Fit value e moved' b' (subst (λ z. BearsOn {A = C} l p rest moved moved' b b' (Err z)) (sym stops) on)
+
+-- where descriptions aren't fit, or memory is lacking
+pub stops_unfit : {A B : Type 0} (l k : Limits) (survivors : List Survivor) (r : Result A Stop) (why : Stop) (value : A → B) (computed : Option B) → IsErrAnd r (λ e. e ≡ why) → StopsUnfit l k survivors why
+    → AgreesUnless (AreFit l k survivors → computed ≡ None) r value computed
+stops_unfit l k survivors (Ok x) why value computed is unfit = absurd is
+stops_unfit {A = A} l k survivors (Err e) why value computed is unfit = go e (subst (StopsUnfit l k survivors) (sym is) unfit)
+  where
+    go : (e : Stop) → StopsUnfit l k survivors e → AgreesUnless {A = A} (AreFit l k survivors → computed ≡ None) (Err e) value computed
+    go stops.NoMemory unfit = tt
+    go stops.Full unfit = absurd unfit
+    go stops.Unequal unfit = λ fit. absurd (unfit fit)

@@ -150,7 +150,11 @@ module _ (l : Limits) (p : ℕ) (cursor : Cursor) (families : List Family) (insi
       few = within;
       none = λ n. born_run count n rest moved s within left on ∙ ap (option_and_then (behind n (drop count rest))) e;
     }
-    run_bears (Err stops.Unequal) e = tt
+    run_bears (Err stops.Unequal) e = record {
+      turns = count;
+      few = within;
+      none = λ n. born_run count n rest moved s within left on ∙ ap (option_and_then (behind n (drop count rest))) e;
+    }
 
 -- ---- a turn
 
@@ -165,7 +169,13 @@ short_bears A l p (s ∷ rest) moved moved' b b' stops.Full value some none = re
   none = λ n. ap (λ m. born_from l p m (s ∷ rest) moved b) (let e : 1 + n ≡ suc n = omega arith in e)
       ∙ ap (option_and_then (λ (born : Group × Bearing). born_from l p n (drop born.0.count (s ∷ rest)) (moved ++ named_in born.0 (s ∷ rest)) born.1)) none;
 }
-short_bears A l p rest moved moved' b b' stops.Unequal value some none = tt
+short_bears A l p [] moved moved' b b' stops.Unequal value some none = absurd (omega (arith, some))
+short_bears A l p (s ∷ rest) moved moved' b b' stops.Unequal value some none = record {
+  turns = 1;
+  few = some;
+  none = λ n. ap (λ m. born_from l p m (s ∷ rest) moved b) (let e : 1 + n ≡ suc n = omega arith in e)
+      ∙ ap (option_and_then (λ (born : Group × Bearing). born_from l p n (drop born.0.count (s ∷ rest)) (moved ++ named_in born.0 (s ∷ rest)) born.1)) none;
+}
 
 pub group_short : (A : Type 0) {X : Type 0} (l : Limits) (p : ℕ) (rest : List Survivor) (moved moved' : List Moved) (b b' : Bearing) (r : Result A Stop) (why : Stop) (value : X → Group × Bearing) → 1 ≤ length rest → IsErrAnd r (λ e. e ≡ why)
     → Agrees (Err why) value (next_born l p rest b) → BearsOn l p rest moved moved' b b' r
@@ -189,7 +199,7 @@ group_bears l p rest moved moved' b b' (Ok x) g born left some inside named many
     names ms ns e = cc
 group_bears l p rest moved moved' b b' (Err stops.NoMemory) g born left some inside named many = tt
 group_bears l p rest moved moved' b b' (Err stops.Full) g born left some inside named many = absurd cc
-group_bears l p rest moved moved' b b' (Err stops.Unequal) g born left some inside named many = tt
+group_bears l p rest moved moved' b b' (Err stops.Unequal) g born left some inside named many = absurd cc
 
 -- ---- steps
 

@@ -38,7 +38,7 @@ before_place (x ∷ xs) (suc i) less = ap suc (before_place xs i (omega (arith, 
 pub agrees_none : {A B : Type 0} (why : Stop) (value : A → B) (computed : Option B) → computed ≡ None → Agrees (Err why) value computed
 agrees_none stops.NoMemory value computed none = tt
 agrees_none stops.Full value computed none = none
-agrees_none stops.Unequal value computed none = tt
+agrees_none stops.Unequal value computed none = none
 
 -- after a call by one of them all can gather
 pub may_gather : (keeper : KeeperShown) (ps : List PassShown) (i : ℕ) (d p : PassShown) → i < length ps → p.number ≡ (get_or ps i d).number → AreAll keeper ps → AreAll keeper (slice_set ps i p)

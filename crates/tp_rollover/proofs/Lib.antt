@@ -2,11 +2,13 @@ pub mod PairLaws
 pub mod Seen
 pub mod Lists
 pub mod Checked
+pub mod Differing
+pub mod Kinships
 pub mod Heads
 pub mod Holding
 pub mod GivingUp
 pub mod Standing
-mod Stopping
+pub mod Stopping
 pub mod Burying
 pub mod KillRuns
 pub mod Others
@@ -19,16 +21,21 @@ pub mod Sums
 pub mod Replaying
 mod Worked
 mod WorkedHeld
+mod WorkedAlike
 pub mod Carrying
 pub mod Restored
 pub mod Freed
 pub mod Calling
+pub mod Inside
+pub mod Idling
 pub mod BirthsPlaces
 pub mod BirthsGroups
 pub mod ReplaysAll
 pub mod BirthsSteps
 pub mod Agreeing
 pub mod MadeAnew
+pub mod MadeAlike
+pub mod FoundFit
 pub mod BirthsAll
 pub mod Running
 pub mod BirthsRuns

@@ -1,7 +1,7 @@
 -- Lists of passes and of elements.
 use Rattle.std.proofs.Common.{◌≡◌, ◌⊎◌, ℕ, zero, suc, ◌+◌, ◌<◌, ◌≤◌, List, [], ◌∷◌, ◌++◌, length, map, slice_set, get_or, take, drop, refl, sym, ◌∙◌, ap, subst, inl, inr, ⊎_elim, arith}
 use Rattle.std.proofs.Math.Seq.{take-length, take-suc}
-use Rattle.std.specs.List.{AllZip}
+use Rattle.std.specs.List.{All, AllZip}
 use Rattle.tp_model.specs.History.{In, here, there}
 use Rattle.tp_model.proofs.Bridges.{in_either, in_one}
 use Rattle.tp_rollover.specs.Survivors.{Ascending}
@@ -94,3 +94,13 @@ zip_as_many R (a ∷ xs) (b ∷ ys) zip = let e = zip_as_many R xs ys zip.1 in o
 pub ascending_more : (low : ℕ) (ns : List ℕ) (n : ℕ) → low ≤ n → Ascending low ns → ((i : ℕ) → In i ns → i < n) → Ascending low (ns ++ n ∷ [])
 ascending_more low [] n within up below = (within, tt)
 ascending_more low (i ∷ ns) n within up below = (up.0, ascending_more (i + 1) ns n (let less = below i here in omega arith) up.1 (λ j p. below j (there p)))
+
+-- what holds of those that were taken holds of all, where none are left
+pub all_taken : {A : Type 0} (P : A → Type 0) (xs : List A) (i : ℕ) → length xs ≤ i → All P (take i xs) → All P xs
+all_taken P xs i low all = subst (All P) (take_past xs i low) all
+  where
+    take_past : {A : Type 0} (xs : List A) (i : ℕ) → length xs ≤ i → take i xs ≡ xs
+    take_past [] zero low = refl
+    take_past [] (suc i) low = refl
+    take_past (x ∷ xs) zero low = absurd (omega (arith, low))
+    take_past (x ∷ xs) (suc i) low = ap (λ ys. x ∷ ys) (take_past xs i (omega (arith, low)))

@@ -1,5 +1,5 @@
 -- All passes of a manager.
-use Rattle.std.proofs.Common.{◌≡◌, ℕ, ◌+◌, ◌*◌, ◌≤◌, All, Option, Some, Err, List, [], ◌∷◌, ◌++◌, sym, ◌∙◌, ap, subst, arith, length, refl, ⊎_elim}
+use Rattle.std.proofs.Common.{◌≡◌, ℕ, ◌+◌, ◌*◌, ◌≤◌, All, Option, Some, Err, List, [], ◌∷◌, ◌++◌, sym, ◌∙◌, ap, subst, arith, length, refl, inl, inr, ⊎_elim}
 use Rattle.std.proofs.lemmas.List.{length-append, with_items_is}
 use Rattle.std.specs.Vec.{with_items}
 use Rattle.tp_model.specs.declared.types.Limits.{Limits}
@@ -11,9 +11,10 @@ use Rattle.tp_alone.specs.Thread.{IsFresh, thread_of}
 use Rattle.tp_rollover.specs.Anew.{made_anew}
 use Rattle.tp_rollover.specs.Answers.{Rolls}
 use Rattle.tp_rollover.specs.Survivors.{Restores}
-use Rattle.tp_rollover.specs.Carries.{AreFresh, Carries, IsAsComputed, WouldNotFit}
-use Rattle.tp_rollover.specs.Faults.{IsDue, IsRestoreDue}
+use Rattle.tp_rollover.specs.Carries.{AreFresh, Carries, DiffersAnew, IsAsComputed, WouldDiffer, WouldNotFit}
+use Rattle.tp_rollover.specs.Faults.{AreFree, IsDue, IsLate, IsRestoreDue, MayBegin}
 use Rattle.tp_rollover.specs.Lone.{lone}
+use Rattle.tp_rollover.specs.Survivors.{AreUnheld}
 use Rattle.tp_rollover.specs.Managed.{IsManaged, IsNewPass, IsRefusedFor, IsUnrestored}
 use Rattle.tp_rollover.specs.declared.managed.Managed.{Managed}
 use Rattle.tp_rollover.specs.declared.moved.Moved.{Moved}
@@ -37,13 +38,13 @@ not_empty : (ps : List PassShown) → 1 ≤ length ps → ps ≡ [] → ⊥
 not_empty ps some none = let e = ap length none in omega (arith, some, e)
 
 pub refused_for : (l k : Limits) (olds news news' : List PassShown) (fault : RollFault) → k.attempts ≡ l.attempts → 1 ≤ length olds → 1 ≤ length news
-    → (fault ≡ Full → WouldNotFit l olds l.parts (start l)) → IsDue l k olds news news' fault → IsRefusedFor l olds fault
-refused_for l k olds news news' NoMemory same some some' short due = tt
-refused_for l k olds news news' BadLimits same some some' short due = due same
-refused_for l k olds news news' NoPass same some some' short due = ⊎_elim (λ none. not_empty olds some none) (λ none. not_empty news some' none) due.1
-refused_for l k olds news news' Busy same some some' short due = due
-refused_for l k olds news news' Full same some some' short due = short refl
-refused_for l k olds news news' Unequal same some some' short due = tt
+    → (fault ≡ Full → WouldNotFit l olds l.parts (start l)) → (fault ≡ Unequal → WouldDiffer l olds l.parts (start l)) → IsDue l k olds news news' fault → IsRefusedFor l olds fault
+refused_for l k olds news news' NoMemory same some some' short differs due = tt
+refused_for l k olds news news' BadLimits same some some' short differs due = due same
+refused_for l k olds news news' NoPass same some some' short differs due = ⊎_elim (λ none. not_empty olds some none) (λ none. not_empty news some' none) due.1
+refused_for l k olds news news' Busy same some some' short differs due = due
+refused_for l k olds news news' Full same some some' short differs due = short refl
+refused_for l k olds news news' Unequal same some some' short differs due = differs refl
 
 -- and those that none of descriptions can be made for
 pub unrestored_for : (l k : Limits) (survivors : List Survivor) (news news' : List PassShown) (fault : RollFault) → AreLimits l → 1 ≤ length news → IsRestoreDue k survivors news news' fault → IsUnrestored l fault
@@ -57,6 +58,32 @@ unrestored_for l k survivors news news' Unequal limits some due = limits
 -- what doesn't fit into a manager with the same limits, by as many passes
 pub unfit_same : (l k : Limits) (p q : ℕ) (olds : List PassShown) → k ≡ l → q ≡ p → WouldNotFit l olds q (start k) → WouldNotFit l olds p (start l)
 unfit_same l k p q olds same long unfit = subst (λ n. WouldNotFit l olds n (start l)) long (subst (λ z. WouldNotFit l olds q (start z)) same unfit)
+
+-- nor does what differs there
+pub differ_same : (l k : Limits) (p q : ℕ) (olds : List PassShown) → k ≡ l → q ≡ p → WouldDiffer l olds q (start k) → WouldDiffer l olds p (start l)
+differ_same l k p q olds same long differs = subst (λ n. WouldDiffer l olds n (start l)) long (subst (λ z. WouldDiffer l olds q (start z)) same differs)
+
+pub differ_anew : (l k : Limits) (p q : ℕ) (survivors : List Survivor) → k ≡ l → q ≡ p → DiffersAnew k q survivors (start k) → DiffersAnew l p survivors (start l)
+differ_anew l k p q survivors same long differs = subst (λ n. DiffersAnew l n survivors (start l)) long (subst (λ z. DiffersAnew z q survivors (start z)) same differs)
+
+-- a fault that comes after the first calls is due
+pub late_due : (l k : Limits) (olds news news' : List PassShown) (Is : Type 0) (fault : RollFault) → MayBegin l k olds news → (Is → ¬ AreFree olds)
+    → (fault ≡ Unequal → AreLimits l → AreFresh k news → WouldDiffer l olds (length news) (start k)) → IsLate k news' Is fault → IsDue l k olds news news' fault
+late_due l k olds news news' Is NoMemory may held differs late = (may, tt)
+late_due l k olds news news' Is BadLimits may held differs late = absurd late
+late_due l k olds news news' Is NoPass may held differs late = absurd late
+late_due l k olds news news' Is Busy may held differs late = absurd late
+late_due l k olds news news' Is Full may held differs late = (may, ⊎_elim (λ short. inl short) (λ low. inr (held low.0, low.1)) late)
+late_due l k olds news news' Is Unequal may held differs late = (may, differs refl)
+
+pub restore_due : (k : Limits) (survivors : List Survivor) (news news' : List PassShown) (Is : Type 0) (fault : RollFault) → (Is → ¬ AreUnheld survivors)
+    → (fault ≡ Unequal → AreFresh k news → DiffersAnew k (length news) survivors (start k)) → IsLate k news' Is fault → IsRestoreDue k survivors news news' fault
+restore_due k survivors news news' Is NoMemory held differs late = tt
+restore_due k survivors news news' Is BadLimits held differs late = absurd late
+restore_due k survivors news news' Is NoPass held differs late = absurd late
+restore_due k survivors news news' Is Busy held differs late = absurd late
+restore_due k survivors news news' Is Full held differs late = ⊎_elim (λ short. inl short) (λ low. inr (held low.0, low.1)) late
+restore_due k survivors news news' Is Unequal held differs late = differs refl
 
 -- passes that are new are fresh
 fresh_new : (m : ManagerShown) (p : PassShown) → IsNewPass p → IsOf m p → IsFresh m.limits p

@@ -72,7 +72,7 @@ all_within l q (s ∷ ss) all =
     omega (arith, one, rest, e)
 
 -- what stands again has had what was described, and the attempt in hand
-had_so : (l : Limits) (is status : Status) (holder : Option ℕ) → IsStanding l is status holder → attempts_had is ≡ attempts_had status + (if is_some holder then 1 else 0)
+pub had_so : (l : Limits) (is status : Status) (holder : Option ℕ) → IsStanding l is status holder → attempts_had is ≡ attempts_had status + (if is_some holder then 1 else 0)
 had_so l is status None a = ap attempts_had a.0 ∙ (let e : attempts_had status ≡ attempts_had status + 0 = omega arith in e)
 had_so l is status (Some c) a = ap attempts_had a.2 ∙ ap (λ z. attempts_had z + 1) (sym a.3)
 

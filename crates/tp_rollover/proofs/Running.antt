@@ -56,7 +56,7 @@ runs_on l roots roots' moved moved' moved'' s id old middle new more pushed ran 
 pub refused_as : (A : Type 0) (l : Limits) (roots : List Survivor) (moved moved' : List Moved) (old new : PassShown) (why : Stop) → RunsShort l roots old new → SubmitsRun {A = A} l roots moved moved' old new (Err why)
 refused_as A l roots moved moved' old new stops.NoMemory short = tt
 refused_as A l roots moved moved' old new stops.Full short = short
-refused_as A l roots moved moved' old new stops.Unequal short = tt
+refused_as A l roots moved moved' old new stops.Unequal short = short
 
 -- its steps
 pub makes_more : (i k n : ℕ) (old middle new : PassShown) → i < k → PassMakes (i * n) old middle → Follows n middle new → PassMakes (k * n) old new
@@ -263,4 +263,4 @@ module _ (m : ManagerShown) (keeper keeper' : KeeperShown) (olds news : List Pas
   run_computed roots moved moved' (Ok x) ran = goes_through roots moved moved' ran
   run_computed roots moved moved' (Err stops.NoMemory) ran = tt
   run_computed roots moved moved' (Err stops.Full) ran = comes_short roots moved ran
-  run_computed roots moved moved' (Err stops.Unequal) ran = tt
+  run_computed roots moved moved' (Err stops.Unequal) ran = comes_short roots moved ran

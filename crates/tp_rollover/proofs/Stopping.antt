@@ -1,18 +1,16 @@
 -- Looks at what is alive stop for want of memory alone: what was alive is found there, with its root and its
 -- rounds, and what holds it.
-use Rattle.std.proofs.Common.{◌≡◌, ℕ, ◌+◌, ◌<◌, ◌≤◌, IfErr, IfOk, IfSome, Option, Some, None, Result, Ok, Err, List, [], ◌∷◌, ◌++◌, length, map, get_or, refl, sym, ◌∙◌, ap, subst, inl, inr, ⊎_elim, arith}
-use Rattle.std.specs.List.{All}
+use Rattle.std.proofs.Common.{◌≡◌, ℕ, ◌+◌, ◌<◌, ◌≤◌, IfErr, IfSome, Option, Some, None, Result, Ok, Err, List, [], ◌∷◌, ◌++◌, length, get_or, refl, sym, ◌∙◌, ap, subst, inl, inr, ⊎_elim, arith}
 use Rattle.std.specs.Result.{IsErrAnd}
 use Rattle.std.proofs.lemmas.Bool.Decides.{eqb_tells, leb_tells}
 use Rattle.std.proofs.lemmas.List.Elements.{All-cons, All-nil}
-use Rattle.tp_model.specs.declared.types.Element.{Element}
 use Rattle.tp_model.specs.declared.types.Limits.{Limits}
 use Rattle.tp_model.specs.declared.types.Look.{Look}
 use Rattle.tp_model.specs.declared.types.Status.{Status}
 use Rattle.tp_model.specs.declared.types.Status.TheVariants.{Waiting, Held, Consumed, Parked, Killed}
 use Rattle.tp_model.specs.declared.event.Event.{Event}
 use Rattle.tp_model.specs.declared.event.Event.TheVariants.{Claim}
-use Rattle.tp_model.specs.History.{In, IsUnborn, UnitClaim, claim_of, element_of, end_of, events_by, here, status_of, there}
+use Rattle.tp_model.specs.History.{In, IsUnborn, UnitClaim, claim_of, end_of, events_by, here, status_of, there}
 use Rattle.tp_model.specs.Steps.{IsLegal, IsOpen, Step}
 use Rattle.tp_model.proofs.Bridges.{begins_trans, claim_either, is_born}
 use Rattle.tp_model.proofs.Descents.{root_born}

@@ -19,7 +19,7 @@ use Rattle.tp_rollover.specs.Worked.{HeldPair, both_in_hand, described_in_hand, 
 use Rattle.tp_rollover.specs.declared.survivors.Survivor.{Survivor}
 use Rattle.tp_rollover.specs.declared.moved.Moved.{Moved}
 use Rattle.tp_rollover.proofs.Assembly.{rolled}
-use Rattle.tp_rollover.proofs.Worked.{Each, from_each}
+use Rattle.tp_rollover.proofs.Worked.{from_each}
 
 -- pass c has no unit open
 abbrev NoneOf : ℕ → List Event → Type 0

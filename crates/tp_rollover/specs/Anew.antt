@@ -39,14 +39,19 @@ first_given (other, s) = None
 abbrev pub submitted : ℕ → ℕ → List ℕ → State → Option (ℕ × State)
 submitted c stage body s = given (submit_of s c stage body)
 
+-- where pass c has nothing in hand
+abbrev pub if_free : {A : Type 0} → ℕ → State → Option A → Option A
+if_free c s made = if is_none (pass_at s c).holding then made else None
+
 -- pass c claims the carrier and commits it with these drafts
 abbrev pub born_by : ℕ → ℕ → List DraftView → State → Option (ℕ × State)
-born_by c carrier drafts s = option_and_then (λ claimed. first_given (commit_of claimed.1 c drafts))
-    (given (claim_id_of s c carrier))
+born_by c carrier drafts s = if_free c s (option_and_then (λ claimed. first_given (commit_of claimed.1 c drafts))
+    (given (claim_id_of s c carrier)))
 
 -- pass c claims the element and gives it up
 abbrev pub attempted : ℕ → ℕ → State → Option State
-attempted c id s = option_and_then (λ claimed. Some (abort_of claimed.1 c).1) (given (claim_id_of s c id))
+attempted c id s = if_free c s (option_and_then (λ claimed. Some (abort_of claimed.1 c).1)
+    (given (claim_id_of s c id)))
 
 -- pass c gives the element another round
 abbrev pub requeued : ℕ → ℕ → State → Option State

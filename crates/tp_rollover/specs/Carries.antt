@@ -1,12 +1,16 @@
 -- What a rollover carries over, and what a restoration makes, computed: the new ids, and the new manager.
-use Rattle.std.specs.Prelude.{◌≡◌, ℕ, List, Option, Some, None, Result, Ok, Err}
+use Rattle.std.specs.Prelude.{◌≡◌, ℕ, List, Option, Some, None, Result, Ok, Err, length}
 use Rattle.std.specs.List.{AllZip}
 use Rattle.tp_model.specs.declared.types.Limits.{Limits}
 use Rattle.tp_model.specs.History.{In}
+use Rattle.tp_model.specs.Counts.{counts}
 use Rattle.tp_plain.specs.OneThread.{State}
 use Rattle.tp_manager.specs.Shown.{KeeperShown, PassShown}
 use Rattle.tp_alone.specs.Thread.{AreTogether, IsFresh, Stays}
-use Rattle.tp_rollover.specs.Anew.{made_anew}
+use Rattle.tp_rollover.specs.Alike.{StandAlike}
+use Rattle.tp_rollover.specs.Anew.{all_held, made_anew, made_unheld}
+use Rattle.tp_rollover.specs.Checks.{CountsOnly}
+use Rattle.tp_rollover.specs.Fits.{AreFit}
 use Rattle.tp_rollover.specs.Survivors.{AreInHand, AreSurvivors}
 use Rattle.tp_rollover.specs.declared.moved.Moved.{Moved}
 use Rattle.tp_rollover.specs.declared.moved.RollFault.{RollFault}
@@ -23,6 +27,21 @@ IsAsComputed (Ok x) value computed = computed ≡ Some (value x)
 IsAsComputed (Err Full) value computed = computed ≡ None
 IsAsComputed (Err other) value computed = Unit {0}
 
+-- What is computed of descriptions, which are made alive by p passes in a manager that was this before: all
+-- that was described stands as it was, and nothing else is alive; then each that was held can be claimed.
+pub record IsMadeAlike (l : Limits) (p : ℕ) (survivors : List Survivor) (before : State) : Type 0 where
+  pub moved : List Moved
+  pub unheld : State
+  pub made : made_unheld l p survivors before ≡ Some (moved, unheld)
+  pub alike : StandAlike before.limits.attempts unheld.history survivors moved
+  pub only : CountsOnly (length moved) (counts before.limits.attempts unheld.history)
+  pub after : State
+  pub held : all_held p survivors moved unheld ≡ Some after
+
+-- descriptions that aren't fit, or of which no such thing is computed
+abbrev pub DiffersAnew : Limits → ℕ → List Survivor → State → Type 0
+DiffersAnew l p survivors before = AreFit l before.limits survivors → ¬ IsMadeAlike l p survivors before
+
 -- The passes of a manager with limits l did nothing but look, and looked together. What was alive then finds
 -- no room in a manager that was this before, by p passes.
 pub record WouldNotFit (l : Limits) (olds : List PassShown) (p : ℕ) (before : State) : Type 0 where
@@ -34,6 +53,18 @@ pub record WouldNotFit (l : Limits) (olds : List PassShown) (p : ℕ) (before : 
   pub found : AreSurvivors l keeper.seen survivors
   pub in_hand : AreInHand olds survivors
   pub full : made_anew l p survivors before ≡ None
+
+-- The passes of a manager with limits l did nothing but look, and looked together. What is computed of what was
+-- alive then isn't as it was, in a manager that was this before, by p passes.
+pub record WouldDiffer (l : Limits) (olds : List PassShown) (p : ℕ) (before : State) : Type 0 where
+  pub keeper : KeeperShown
+  pub looked : List PassShown
+  pub together : AreTogether l keeper looked keeper.seen
+  pub stay : AllZip Stays olds looked
+  pub survivors : List Survivor
+  pub found : AreSurvivors l keeper.seen survivors
+  pub in_hand : AreInHand olds survivors
+  pub differs : ¬ IsMadeAlike l p survivors before
 
 -- The passes of a manager with limits l did nothing but look, and looked together. What was alive then was
 -- made anew in a manager that was this before and is that then, by p passes.

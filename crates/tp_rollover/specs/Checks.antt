@@ -1,5 +1,5 @@
 -- What the checks of a rollover find. g is the new manager's history.
-use Rattle.std.specs.Prelude.{◌≡◌, ◌⊎◌, ◌↔◌, ℕ, ◌+◌, ◌<◌, ◌≤◌, true, Option, None, Some, List, []}
+use Rattle.std.specs.Prelude.{◌≡◌, ◌≢◌, ◌⊎◌, ◌↔◌, ℕ, ◌+◌, ◌<◌, ◌≤◌, true, Option, None, Some, List, []}
 use Rattle.std.specs.Prelude.{◌∷◌, slice_index_or}
 use Rattle.tp_model.specs.declared.types.Counts.{Counts}
 use Rattle.tp_model.specs.declared.types.Element.{Element}
@@ -39,12 +39,25 @@ abbrev pub AreFamilies : List Moved → Type 0
 AreFamilies moved = (m n : Moved) → In m moved → In n moved
     → (m.old_root ≡ n.old_root) ↔ (m.new_root ≡ n.new_root)
 
--- the place has this value, and those that had one have it still
+-- the place has this value, those that had one have it still, and no other one has any
 pub record HasPut (at value : ℕ) (old new : List (Option ℕ)) : Type 0 where
   pub there : slice_index_or new at None ≡ Some value
   pub kept : (j v : ℕ) → slice_index_or old j None ≡ Some v → slice_index_or new j None ≡ Some v
+  pub only : (j v : ℕ) → slice_index_or new j None ≡ Some v
+      → (slice_index_or old j None ≡ Some v) ⊎ ((j ≡ at) × (v ≡ value))
+
+-- the place has another value
+abbrev pub HasOther : ℕ → ℕ → List (Option ℕ) → Type 0
+HasOther at value old = (v : ℕ) × (slice_index_or old at None ≡ Some v) × (v ≢ value)
 
 -- each of these has a place in both tables: its new root by its old one, and its old root by its new one
 pub record AreInTables (new_roots old_roots : List (Option ℕ)) (moved : List Moved) : Type 0 where
   pub forth : (m : Moved) → In m moved → slice_index_or new_roots m.old_root None ≡ Some m.new_root
   pub back : (m : Moved) → In m moved → slice_index_or old_roots m.new_root None ≡ Some m.old_root
+
+-- and nothing else stands in them
+pub record AreFrom (new_roots old_roots : List (Option ℕ)) (moved : List Moved) : Type 0 where
+  pub forth : (root new_root : ℕ) → slice_index_or new_roots root None ≡ Some new_root
+      → (m : Moved) × In m moved × (m.old_root ≡ root) × (m.new_root ≡ new_root)
+  pub back : (root old_root : ℕ) → slice_index_or old_roots root None ≡ Some old_root
+      → (m : Moved) × In m moved × (m.new_root ≡ root) × (m.old_root ≡ old_root)

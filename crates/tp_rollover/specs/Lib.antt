@@ -17,5 +17,6 @@ pub mod Hands
 pub mod Survivors
 pub mod Lone
 pub mod Anew
+pub mod Fits
 pub mod Carries
 pub mod Runs

@@ -8,7 +8,7 @@ use Rattle.tp_rollover.specs.Anew.{Bearing, Placing}
 use Rattle.tp_rollover.specs.declared.births.Family.{Family}
 use Rattle.tp_rollover.specs.declared.places.Cursor.{Cursor}
 use Rattle.tp_rollover.specs.declared.stops.Stop.{Stop}
-use Rattle.tp_rollover.specs.declared.stops.Stop.TheVariants.{Full}
+use Rattle.tp_rollover.specs.declared.stops.Stop.TheVariants.{Full, NoMemory, Unequal}
 
 -- the keeper and the passes are this manager's, these are all that were given out, and they are together
 pub record AreLone (m : ManagerShown) (keeper : KeeperShown) (passes : List PassShown) : Type 0 where
@@ -28,9 +28,15 @@ abbrev pub bearing : ManagerShown → KeeperShown → List PassShown → Cursor 
 bearing m keeper passes cursor families =
     record { placing = placing m keeper passes cursor; families = families }
 
--- What was done is what is computed. It was full only where that is. It may have stopped for another reason,
--- of which nothing is said.
+-- What was done is what is computed. Where it stopped nothing is computed, unless it was for want of memory.
 abbrev pub Agrees : {A B : Type 0} → Result A Stop → (A → B) → Option B → Type 0
 Agrees (Ok x) value computed = computed ≡ Some (value x)
-Agrees (Err Full) value computed = computed ≡ None
-Agrees (Err other) value computed = Unit {0}
+Agrees (Err NoMemory) value computed = Unit {0}
+Agrees (Err other) value computed = computed ≡ None
+
+-- the same, but that it may have stopped as unequal where that is so
+abbrev pub AgreesUnless : {A B : Type 0} → Type 0 → Result A Stop → (A → B) → Option B → Type 0
+AgreesUnless Wrong (Ok x) value computed = computed ≡ Some (value x)
+AgreesUnless Wrong (Err NoMemory) value computed = Unit {0}
+AgreesUnless Wrong (Err Full) value computed = computed ≡ None
+AgreesUnless Wrong (Err Unequal) value computed = Wrong

@@ -9,7 +9,7 @@ use Rattle.tp_manager.specs.Shown.{IsKeptBy, IsOf, KeeperShown, PassShown, low_o
 use Rattle.tp_plain.specs.OneThread.{start}
 use Rattle.tp_alone.specs.Thread.{Stays, thread_of}
 use Rattle.tp_rollover.specs.Answers.{Rolls}
-use Rattle.tp_rollover.specs.Carries.{Carries, WouldNotFit}
+use Rattle.tp_rollover.specs.Carries.{Carries, WouldDiffer, WouldNotFit}
 use Rattle.tp_rollover.specs.declared.managed.Managed.{Managed}
 use Rattle.tp_rollover.specs.declared.moved.Moved.{Moved}
 use Rattle.tp_rollover.specs.declared.moved.RollFault.{RollFault}
@@ -57,11 +57,11 @@ pub record StaysManaged (old new : Managed) : Type 0 where
   pub passes : AllZip Stays old.passes.items new.passes.items
 
 -- Which fault a manager with these limits and passes is refused with: one of these three, Full only where
--- what is alive finds no room in a new manager.
+-- what is alive finds no room in a new manager, Unequal only where what is computed differs from it.
 abbrev pub IsRefusedFor : Limits → List PassShown → RollFault → Type 0
 IsRefusedFor l passes NoMemory = Unit {0}
 IsRefusedFor l passes Full = WouldNotFit l passes l.parts (start l)
-IsRefusedFor l passes Unequal = Unit {0}
+IsRefusedFor l passes Unequal = WouldDiffer l passes l.parts (start l)
 IsRefusedFor l passes other = ⊥
 
 -- why it isn't surveyed: for want of memory alone

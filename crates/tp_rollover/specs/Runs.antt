@@ -13,7 +13,7 @@ use Rattle.tp_rollover.specs.Anew.{Bearing, born_from, family_at, home_of, start
 use Rattle.tp_rollover.specs.declared.births.Family.{Family}
 use Rattle.tp_rollover.specs.declared.moved.Moved.{Moved}
 use Rattle.tp_rollover.specs.declared.stops.Stop.{Stop}
-use Rattle.tp_rollover.specs.declared.stops.Stop.TheVariants.{Full}
+use Rattle.tp_rollover.specs.declared.stops.Stop.TheVariants.{NoMemory}
 use Rattle.tp_rollover.specs.declared.survivors.Survivor.{Survivor}
 
 -- what a request is called that was submitted
@@ -66,8 +66,8 @@ pub record RunsShort (l : Limits) (roots : List Survivor) (old new : PassShown) 
 abbrev pub SubmitsRun : {A : Type 0} → Limits → List Survivor → List Moved → List Moved → PassShown → PassShown
     → Result A Stop → Type 0
 SubmitsRun l roots moved moved' old new (Ok x) = RunsThrough l roots moved moved' old new
-SubmitsRun l roots moved moved' old new (Err Full) = RunsShort l roots old new
-SubmitsRun l roots moved moved' old new (Err other) = Unit {0}
+SubmitsRun l roots moved moved' old new (Err NoMemory) = Unit {0}
+SubmitsRun l roots moved moved' old new (Err other) = RunsShort l roots old new
 
 -- this is a request of a family of which nothing is there, and it goes on in the part of pass `at`
 pub record StaysInPart (l : Limits) (p at : ℕ) (families : List Family) (s : Survivor) : Type 0 where
@@ -97,8 +97,8 @@ pub record ComesShort (l : Limits) (p : ℕ) (rest : List Survivor) (moved : Lis
 abbrev pub BearsOn : {A : Type 0} → Limits → ℕ → List Survivor → List Moved → List Moved → Bearing → Bearing
     → Result A Stop → Type 0
 BearsOn l p rest moved moved' b b' (Ok x) = GoesFurther l p rest moved moved' b b'
-BearsOn l p rest moved moved' b b' (Err Full) = ComesShort l p rest moved b
-BearsOn l p rest moved moved' b b' (Err other) = Unit {0}
+BearsOn l p rest moved moved' b b' (Err NoMemory) = Unit {0}
+BearsOn l p rest moved moved' b b' (Err other) = ComesShort l p rest moved b
 
 -- how many of those that are left were born, or all of them where the births stopped
 abbrev pub newly : {A : Type 0} → List Survivor → List Moved → List Moved → Result A Stop → ℕ

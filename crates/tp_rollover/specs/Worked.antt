@@ -10,6 +10,8 @@ use Rattle.tp_model.specs.declared.event.Event.TheVariants.{Enqueue, Claim, Comm
 use Rattle.tp_model.specs.Births.{request}
 use Rattle.tp_model.specs.Counts.{counts}
 use Rattle.tp_model.specs.History.{status_of}
+use Rattle.tp_plain.specs.OneThread.{start}
+use Rattle.tp_rollover.specs.Carries.{IsMadeAlike}
 use Rattle.tp_rollover.specs.Rolls.{IsSame, RollsOver}
 use Rattle.tp_rollover.specs.Survivors.{AreSurvivors, StandAgain}
 use Rattle.tp_rollover.specs.declared.moved.Moved.{Moved}
@@ -131,3 +133,9 @@ pub record HeldPair : Type 0 where
   pub attempt : ¬ IsSame twice twice (status_of 2 in_hand 1) (Held 8 1)
   pub waits : ¬ IsSame twice twice (status_of 2 in_hand 1) (Waiting 1)
   pub other : ¬ IsSame twice twice (status_of 2 in_hand 1) (Held 1 2)
+
+-- What is computed of both descriptions stands as it was: by contract these rollovers, and restorations of
+-- them, are never Unequal.
+pub record WorkedAlike : Type 0 where
+  pub waits : IsMadeAlike small 1 described (start small)
+  pub held : IsMadeAlike twice 2 described_in_hand (start twice)

@@ -1,35 +1,38 @@
 //! What was described is born in a manager, in whose passes' order, by groups.
-ghost use Rattle.std.specs.Prelude.{◌≡◌, ◌+◌, ◌-◌, ◌*◌, ◌<◌, ◌≤◌, ◌++◌, All, IfOk, IfSome, OnOk, length, map};
-ghost use Rattle.std.specs.Prelude.{List, Some, nat_lt, replicate, take, true};
+ghost use Rattle.std.specs.Prelude.{◌≡◌, ◌+◌, ◌-◌, ◌*◌, ◌<◌, ◌≤◌, ◌++◌, All, IfOk, OnOk, length, map};
+ghost use Rattle.std.specs.Prelude.{List, None, Some, nat_lt, replicate, take, true};
 ghost use Rattle.tp_model.specs.declared.event.Event.{Event};
+ghost use Rattle.tp_model.specs.Steps.{IsStage, rows_of};
 ghost use Rattle.tp_plain.specs.OneThread.{pass_at};
 ghost use Rattle.tp_manager.specs.Bounds.{submit_steps};
 ghost use Rattle.tp_manager.specs.Shown.{IsOf};
 ghost use Rattle.tp_alone.specs.Thread.{thread_of};
-ghost use Rattle.tp_rollover.specs.Anew.{all_born, born_next, carrier_by, survivor_draft, drafts_of, families_of};
-ghost use Rattle.tp_rollover.specs.Anew.{filler, group_size, highest_root, home_of, named_in, neighbours_in};
+ghost use Rattle.tp_rollover.specs.Anew.{all_born, born_next, carrier_by, survivor_draft, drafts_of};
+ghost use Rattle.tp_rollover.specs.Anew.{filler, group_size, home_of, named_in, neighbours_in};
 ghost use Rattle.tp_rollover.specs.Anew.{next_born, submitted_next};
 ghost use Rattle.tp_rollover.specs.Bounds.{AllMake, bear_steps, commit_on_steps, gathered};
 ghost use Rattle.tp_rollover.specs.Births.{born_of};
-ghost use Rattle.tp_rollover.specs.Lone.{Agrees, AreLone, bearing, lone, placing};
+ghost use Rattle.tp_rollover.specs.Fits.{AreFit, IsFit, MayBeBorn};
+ghost use Rattle.tp_rollover.specs.Lone.{Agrees, AgreesUnless, AreLone, bearing, lone, placing};
 ghost use Rattle.tp_rollover.specs.Runs.{BearsOn, StaysInPart, newly};
 
 use crate::calls::{bear_by, submit_by, submit_run};
+use crate::fitting::families_for;
 use crate::moved::Moved;
 use crate::places::{Cursor, begin, kept_for};
 use crate::stops::Stop;
 use crate::survivors::Survivor;
 use std::alloc::Global;
 use tp_manager::{Keeper, Manager, Pass};
-use tp_model::types::{Draft, Limits};
+use tp_model::types::{Body, Draft, Limits};
 
 /// What stands of a family in the new manager.
 #[derive(Clone, Copy, Debug, PartialEq, Eq)]
-struct Family {
+pub(crate) struct Family {
     /// Its root there, and the element of which its next ones are born, once there is one.
-    carrier: Option<(u32, u32)>,
+    pub carrier: Option<(u32, u32)>,
     /// How many of its elements are to be born.
-    left: usize,
+    pub left: usize,
 }
 
 /// Elements that were born together: their root, the id of the first, and how many they are.
@@ -63,64 +66,6 @@ fn home_of(limits: Limits, id: u32) -> usize
 {
     let home = id / u32::from(limits.rows).max(1);
     home.min(u32::from(limits.parts)) as usize
-}
-
-/// The highest root of these.
-fn highest_root(survivors: &[Survivor]) -> u32
-    ensures { result ≡ highest_root survivors.now }
-{
-    let mut highest: u32 = 0;
-    for place in 0..survivors.len() {
-        highest = highest.max(survivors[place].root);
-    }
-    highest
-}
-
-/// A place for the family of each root up to the highest of these, with how many of its elements are alive.
-/// The manager in which they are says how many there can be: `Unequal` where an id or a root is past that.
-fn count_families(alloc: Global, of: &Manager, survivors: &[Survivor]) -> Result<Vec<Family>, Stop>
-    ensures counted { Agrees result (λ families. families.items)
-        (Some (families_of of.now.limits survivors.now)) }
-{
-    let capacity = of.capacity();
-    let places = highest_root(survivors).saturating_add(1).min(capacity);
-    let none = Family {
-        carrier: None,
-        left: 0,
-    };
-    let Ok(mut families) = Vec::from_elem(alloc, none, places as usize) else {
-        return Err(Stop::NoMemory);
-    };
-    for place in 0..survivors.len() {
-        let one = survivors[place];
-        let root = one.root as usize;
-        if root >= families.len() {
-            return Err(Stop::Unequal);
-        }
-        if one.id >= capacity {
-            return Err(Stop::Unequal);
-        }
-        let Some(left) = families[root].left.checked_add(1) else {
-            return Err(Stop::Unequal);
-        };
-        families[root] = Family {
-            carrier: None,
-            left,
-        };
-    }
-    Ok(families)
-}
-
-/// Whether no element of a family is the root of another one.
-fn are_apart(survivors: &[Survivor], families: &[Family]) -> bool {
-    for place in 0..survivors.len() {
-        let one = survivors[place];
-        let id = one.id as usize;
-        if one.id != one.root && id < families.len() && families[id].left > 0 {
-            return false;
-        }
-    }
-    true
 }
 
 /// How many of these, at most four, are neighbours of one pass and one family.
@@ -177,6 +122,7 @@ fn submit_root(
     ensures lone { AreLone manager.now keeper.new passes.new × (keeper.new.given ≡ keeper.old.given) }
     ensures steps { let l = manager.now.limits in
         AllMake (gathered l keeper.old.given (submit_steps l)) keeper.old passes.old keeper.new passes.new }
+    ensures rows { IfOk result (λ id. id < rows_of manager.now.limits) }
     ensures gives { Agrees result (λ id. (id, placing manager.now keeper.new passes.new cursor.new))
         (submitted_next (length passes.old) one.root_stage one.root_body home
         (placing manager.now keeper.old passes.old cursor.old)) }
@@ -213,19 +159,29 @@ fn carrier_of(
     }
 }
 
-/// Drafts of these, and for what is left of four fillers, of which one is a carrier: it waits until its
-/// family's next turn. `None` where a stage isn't one of those that outputs have.
-fn drafts_of(group: &[Survivor]) -> Option<[Draft; 4]>
-    requires few { length group.now ≤ 4 }
-    ensures drafts { IfSome result (λ drafts.
-        drafts ≡ map survivor_draft group.now ++ replicate (4 - length group.now) filler) }
+/// A draft for a stage that outputs have.
+fn draft(stage: u8, body: Body) -> Draft
+    requires stage { IsStage stage }
+    ensures { result ≡ record { stage = stage; body = body } }
 {
-    let filler = Draft::new(1, [0; 4])?;
-    let mut drafts = [filler; 4];
+    let Some(draft) = Draft::new(stage, body) else {
+        unreachable!();
+    };
+    draft
+}
+
+/// Drafts of these, and for what is left of four fillers, of which one is a carrier: it waits until its
+/// family's next turn.
+fn drafts_of(group: &[Survivor]) -> [Draft; 4]
+    requires few { length group.now ≤ 4 }
+    requires stages { All (λ s. IsStage s.stage) group.now }
+    ensures drafts { result ≡ map survivor_draft group.now ++ replicate (4 - length group.now) filler }
+{
+    let mut drafts = [draft(1, [0; 4]); 4];
     for place in 0..group.len() {
-        drafts[place] = Draft::new(group[place].stage, group[place].body)?;
+        drafts[place] = draft(group[place].stage, group[place].body);
     }
-    Some(drafts)
+    drafts
 }
 
 /// These are born. The id of the first.
@@ -240,17 +196,18 @@ fn bear_group(
     requires some { 1 ≤ length birth.now.group.now }
     requires few { length birth.now.group.now ≤ 4 }
     requires room { birth.now.more ≡ true → length birth.now.group.now ≤ 3 }
+    requires stages { All (λ s. IsStage s.stage) birth.now.group.now }
     ensures lone { AreLone manager.now keeper.new passes.new × (keeper.new.given ≡ keeper.old.given) }
     ensures steps { let n = length birth.now.group.now in
         AllMake (commit_on_steps manager.now.limits keeper.old.given (n + 1))
         keeper.old passes.old keeper.new passes.new }
+    ensures rows { let n = length birth.now.group.now in
+        IfOk result (λ first. first + n ≤ rows_of manager.now.limits) }
     ensures gives { Agrees result (λ first. (first, placing manager.now keeper.new passes.new cursor.new))
         (born_next (length passes.old) (drafts_of birth.now.group.now birth.now.more) birth.now.carrier birth.now.home
         (placing manager.now keeper.old passes.old cursor.old)) }
 {
-    let Some(drafts) = drafts_of(birth.group) else {
-        return Err(Stop::Unequal);
-    };
+    let drafts = drafts_of(birth.group);
     let alone = birth.group.len();
     let count = if birth.more { alone + 1 } else { alone };
     let at = cursor.next(manager, passes, birth.home, count as u16, 1)?;
@@ -268,8 +225,13 @@ fn bear_next(
 ) -> Result<Group, Stop>
     requires lone { AreLone manager.now keeper.old passes.old }
     requires some { 1 ≤ length unborn.now.rest.now }
+    requires may { All (MayBeBorn families.old) unborn.now.rest.now }
     ensures lone { AreLone manager.now keeper.new passes.new × (keeper.new.given ≡ keeper.old.given) }
+    ensures long { length families.new ≡ length families.old }
     ensures inside { IfOk result (λ group. (1 ≤ group.count) × (group.count ≤ length unborn.now.rest.now)) }
+    ensures few { IfOk result (λ group. group.count ≤ 4) }
+    ensures rows { IfOk result (λ group.
+        2 ≤ group.count → group.first + group.count ≤ rows_of manager.now.limits) }
     ensures steps { let n = born_of unborn.now.rest.now result in
         AllMake (n * bear_steps manager.now.limits keeper.old.given 1)
         keeper.old passes.old keeper.new passes.new }
@@ -278,13 +240,8 @@ fn bear_next(
         (next_born unborn.now.limits (length passes.old) unborn.now.rest.now
         (bearing manager.now keeper.old passes.old cursor.old families.old)) }
 {
-    let Some((&next, _others)) = unborn.rest.split_first() else {
-        return Err(Stop::Unequal);
-    };
+    let next = unborn.rest[0];
     let place = next.root as usize;
-    if place >= families.len() {
-        return Err(Stop::Unequal);
-    }
     let family = families[place];
     let home = home_of(unborn.limits, next.id);
     let (root, carrier) = carrier_of(next, family.carrier, manager, keeper, passes, cursor, home)?;
@@ -303,32 +260,43 @@ fn bear_next(
         home,
     };
     let first = bear_group(&birth, manager, keeper, passes, cursor)?;
-    let Some(next_carrier) = first.checked_add(count as u32) else {
-        return Err(Stop::Unequal);
-    };
     families[place] = Family {
-        carrier: Some((root, next_carrier)),
+        carrier: Some((root, after(manager, first, count))),
         left: family.left.saturating_sub(count),
     };
     Ok(Group { root, first, count })
 }
 
-/// Names the elements of a group that was born.
-fn name(moved: &mut Vec<Moved>, rest: &[Survivor], group: Group) -> Result<(), Stop>
+/// The id behind so many elements of a manager, of which the first has this one.
+fn after(manager: &Manager, first: u32, count: usize) -> u32
+    requires few { count ≤ 4 }
+    requires rows { 1 ≤ count → first + count ≤ rows_of manager.now.limits }
+    ensures { result ≡ first + count }
+{
+    if count == 0 {
+        return first;
+    }
+    let rows = manager.capacity();
+    rows.min(first + count as u32)
+}
+
+/// Names the elements of a group that was born in this manager.
+fn name(
+    manager: &Manager,
+    moved: &mut Vec<Moved>,
+    rest: &[Survivor],
+    group: Group,
+) -> Result<(), Stop>
     requires inside { group.count ≤ length rest.now }
+    requires few { group.count ≤ 4 }
+    requires rows { 2 ≤ group.count → group.first + group.count ≤ rows_of manager.now.limits }
     ensures named { Agrees result (λ _. moved.new.items) (Some (moved.old.items ++ named_in group rest.now)) }
     ensures many { OnOk result (length moved.new.items ≡ length moved.old.items + group.count) }
 {
     for place in 0..group.count {
-        let Ok(step) = u32::try_from(place) else {
-            return Err(Stop::Unequal);
-        };
-        let Some(new) = group.first.checked_add(step) else {
-            return Err(Stop::Unequal);
-        };
         let one = Moved {
             old: rest[place].id,
-            new,
+            new: after(manager, group.first, place),
             old_root: rest[place].root,
             new_root: group.root,
             holder: rest[place].holder,
@@ -399,7 +367,9 @@ fn bear_turn(
 ) -> Result<(), Stop>
     requires lone { AreLone manager.now keeper.old passes.old }
     requires some { 1 ≤ length unborn.now.rest.now }
+    requires may { All (MayBeBorn families.old) unborn.now.rest.now }
     ensures lone { AreLone manager.now keeper.new passes.new × (keeper.new.given ≡ keeper.old.given) }
+    ensures long { length families.new ≡ length families.old }
     ensures steps { let n = newly unborn.now.rest.now moved.old.items moved.new.items result in
         AllMake (n * bear_steps manager.now.limits keeper.old.given 1)
         keeper.old passes.old keeper.new passes.new }
@@ -415,7 +385,7 @@ fn bear_turn(
         }
     }
     let group = bear_next(unborn, manager, keeper, passes, families, cursor)?;
-    name(moved, unborn.rest, group)
+    name(manager, moved, unborn.rest, group)
 }
 
 /// All these are born in a manager, in their order. What they are there. `of` is the manager in which they
@@ -430,12 +400,15 @@ pub(crate) fn bear_all(
 ) -> Result<Vec<Moved>, Stop>
     requires lone { AreLone manager.now keeper.old passes.old }
     ensures lone { AreLone manager.now keeper.new passes.new × (keeper.new.given ≡ keeper.old.given) }
-    ensures few { IfOk result (λ moved. length moved.items ≤ length survivors.now) }
+    ensures many { IfOk result (λ moved. length moved.items ≡ length survivors.now) }
+    ensures fit { OnOk result (All (IsFit of.now.limits manager.now.limits) survivors.now) }
     ensures steps { let n = length survivors.now in
         AllMake (n * bear_steps manager.now.limits keeper.old.given 1)
         keeper.old passes.old keeper.new passes.new }
-    ensures gives { Agrees result (λ moved. (moved.items, lone manager.now keeper.new passes.new))
-        (all_born of.now.limits (length passes.old) survivors.now (lone manager.now keeper.old passes.old)) }
+    ensures gives { let l = of.now.limits in
+        let computed = all_born l (length passes.old) survivors.now (lone manager.now keeper.old passes.old) in
+        AgreesUnless (AreFit l manager.now.limits survivors.now → computed ≡ None) result
+        (λ moved. (moved.items, lone manager.now keeper.new passes.new)) computed }
 {
     if survivors.is_empty() {
         return Ok(Vec::new(alloc));
@@ -443,10 +416,7 @@ pub(crate) fn bear_all(
     let Ok(mut moved) = Vec::with_capacity(alloc, survivors.len()) else {
         return Err(Stop::NoMemory);
     };
-    let mut families = count_families(alloc, of, survivors)?;
-    if !are_apart(survivors, &families) {
-        return Err(Stop::Unequal);
-    }
+    let mut families = families_for(alloc, of, manager, survivors)?;
     let mut cursor = Cursor::start(kept_for(survivors));
     for _turn in 0..survivors.len() {
         let from = moved.len();

@@ -1,7 +1,8 @@
 //! The calls on the new manager, each by the pass with an index. After each of them, or each run of requests
 //! by one pass, all passes look together, so that what it answers and leaves is what the manager of one
 //! thread answers and is then.
-ghost use Rattle.std.specs.Prelude.{◌≡◌, ◌*◌, ◌<◌, ◌≤◌, None, Some, length};
+ghost use Rattle.std.specs.Prelude.{◌≡◌, ◌+◌, ◌*◌, ◌<◌, ◌≤◌, IfOk, IsSome, None, OnOk, Some, length};
+ghost use Rattle.tp_model.specs.Steps.{rows_of};
 ghost use Rattle.tp_plain.specs.Computed.{abort_of, claim_id_of, commit_of};
 ghost use Rattle.tp_plain.specs.OneThread.{pass_at};
 ghost use Rattle.tp_manager.specs.Bounds.{abort_steps, claim_id_steps, commit_steps, requeue_steps};
@@ -45,6 +46,7 @@ pub(crate) fn submit_by(
     ensures steps { let l = manager.now.limits in
         AllMake (gathered l keeper.old.given (submit_steps l))
         keeper.old passes.old keeper.new passes.new }
+    ensures rows { IfOk result (λ id. id < rows_of manager.now.limits) }
     ensures gives { Agrees result (λ id. (id, lone manager.now keeper.new passes.new))
         (submitted at stage body (lone manager.now keeper.old passes.old)) }
 {
@@ -124,16 +126,15 @@ fn claim_by(
 ) -> Result<Work, Stop>
     requires lone { AreLone manager.now keeper.old passes.old }
     requires at { at < length passes.old }
+    requires free { (pass_at (lone manager.now keeper.old passes.old) at).holding ≡ None }
     ensures lone { AreLone manager.now keeper.new passes.new × (keeper.new.given ≡ keeper.old.given) }
+    ensures busy { OnOk result (IsSome (pass_at (lone manager.now keeper.new passes.new) at).holding) }
     ensures steps { let l = manager.now.limits in
         AllMake (gathered l keeper.old.given claim_id_steps)
         keeper.old passes.old keeper.new passes.new }
     ensures gives { Agrees result (λ work. (work, lone manager.now keeper.new passes.new))
         (given (claim_id_of (lone manager.now keeper.old passes.old) at id)) }
 {
-    if passes[at].has_open() {
-        return Err(Stop::Unequal);
-    }
     let answer = manager.claim_id(&mut passes[at], id);
     keeper.gather(manager, passes);
     match answer {
@@ -152,17 +153,17 @@ fn commit_by(
 ) -> Result<u32, Stop>
     requires lone { AreLone manager.now keeper.old passes.old }
     requires at { at < length passes.old }
+    requires busy { IsSome (pass_at (lone manager.now keeper.old passes.old) at).holding }
     requires few { length drafts.now ≤ 4 }
+    requires some { 1 ≤ length drafts.now }
     ensures lone { AreLone manager.now keeper.new passes.new × (keeper.new.given ≡ keeper.old.given) }
     ensures steps { let l = manager.now.limits in
         AllMake (gathered l keeper.old.given (commit_steps l (length drafts.now)))
         keeper.old passes.old keeper.new passes.new }
+    ensures rows { let n = length drafts.now in IfOk result (λ first. first + n ≤ rows_of manager.now.limits) }
     ensures gives { Agrees result (λ first. (first, lone manager.now keeper.new passes.new))
         (first_given (commit_of (lone manager.now keeper.old passes.old) at drafts.now)) }
 {
-    if !passes[at].has_open() {
-        return Err(Stop::Unequal);
-    }
     let outcome = manager.commit(&mut passes[at], drafts);
     keeper.gather(manager, passes);
     match outcome {
@@ -181,6 +182,7 @@ fn abort_by(
 ) -> Result<(), Stop>
     requires lone { AreLone manager.now keeper.old passes.old }
     requires at { at < length passes.old }
+    requires busy { IsSome (pass_at (lone manager.now keeper.old passes.old) at).holding }
     ensures lone { AreLone manager.now keeper.new passes.new × (keeper.new.given ≡ keeper.old.given) }
     ensures steps { let l = manager.now.limits in
         AllMake (gathered l keeper.old.given abort_steps)
@@ -188,9 +190,6 @@ fn abort_by(
     ensures gives { Agrees result (λ _. lone manager.now keeper.new passes.new)
         (Some (abort_of (lone manager.now keeper.old passes.old) at).1) }
 {
-    if !passes[at].has_open() {
-        return Err(Stop::Unequal);
-    }
     let _ = manager.abort(&mut passes[at]);
     keeper.gather(manager, passes);
     Ok(())
@@ -233,12 +232,17 @@ pub(crate) fn bear_by(
     requires lone { AreLone manager.now keeper.old passes.old }
     requires at { at < length passes.old }
     requires few { length drafts.now ≤ 4 }
+    requires some { 1 ≤ length drafts.now }
     ensures lone { AreLone manager.now keeper.new passes.new × (keeper.new.given ≡ keeper.old.given) }
+    ensures rows { let n = length drafts.now in IfOk result (λ first. first + n ≤ rows_of manager.now.limits) }
     ensures steps { AllMake (commit_on_steps manager.now.limits keeper.old.given (length drafts.now))
         keeper.old passes.old keeper.new passes.new }
     ensures gives { Agrees result (λ first. (first, lone manager.now keeper.new passes.new))
         (born_by at carrier drafts.now (lone manager.now keeper.old passes.old)) }
 {
+    if passes[at].has_open() {
+        return Err(Stop::Unequal);
+    }
     claim_by(manager, keeper, passes, at, carrier)?;
     commit_by(manager, keeper, passes, at, drafts)
 }
@@ -259,6 +263,9 @@ pub(crate) fn attempt_by(
     ensures gives { Agrees result (λ _. lone manager.now keeper.new passes.new)
         (attempted at id (lone manager.now keeper.old passes.old)) }
 {
+    if passes[at].has_open() {
+        return Err(Stop::Unequal);
+    }
     claim_by(manager, keeper, passes, at, id)?;
     abort_by(manager, keeper, passes, at)
 }

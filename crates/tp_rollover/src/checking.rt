@@ -1,5 +1,5 @@
 //! What was born is held against what was described.
-ghost use Rattle.std.specs.Prelude.{◌≡◌, ◌*◌, true, length};
+ghost use Rattle.std.specs.Prelude.{◌≡◌, ◌*◌, false, true, length};
 ghost use Rattle.tp_manager.specs.Shown.{IsOf};
 ghost use Rattle.tp_alone.specs.Thread.{Stays};
 ghost use Rattle.tp_rollover.specs.Bounds.{PassMakes, compare_steps};
@@ -15,22 +15,34 @@ use tp_model::types::{Account, Look};
 
 /// Whether the element that a look shows is as it was described, under these ids.
 fn is_alike(one: Survivor, named: Moved, is: &Look) -> bool
-    ensures { result ≡ true → IsAlike one named is.now }
+    ensures alike { result ≡ true → IsAlike one named is.now }
+    ensures other { result ≡ false → ¬ IsAlike one named is.now }
 {
-    is_alive(one.status)
-        && named.old == one.id
-        && named.old_root == one.root
-        && named.holder == one.holder
-        && is.status == one.status
-        && is.element.stage == one.stage
-        && is.element.body == one.body
-        && is.element.root == named.new_root
-        && (one.id != one.root || named.new == named.new_root)
+    if !is_alive(one.status) {
+        return false;
+    }
+    if named.old != one.id || named.old_root != one.root {
+        return false;
+    }
+    if named.holder != one.holder {
+        return false;
+    }
+    if is.status != one.status {
+        return false;
+    }
+    if is.element.stage != one.stage || is.element.body != one.body {
+        return false;
+    }
+    if is.element.root != named.new_root {
+        return false;
+    }
+    one.id != one.root || named.new == named.new_root
 }
 
 /// Whether the element that a look shows is a client's, and like the root that was described.
 fn is_root_alike(one: Survivor, root: &Look) -> bool
-    ensures { result ≡ true → IsRootAlike one root.now }
+    ensures alike { result ≡ true → IsRootAlike one root.now }
+    ensures other { result ≡ false → ¬ IsRootAlike one root.now }
 {
     root.element.by.is_none()
         && root.element.stage == one.root_stage
@@ -45,6 +57,8 @@ fn stands_again(manager: &Manager, pass: &mut Pass, one: Survivor, named: Moved)
     ensures steps { PassMakes (compare_steps manager.now.limits) pass.old pass.new }
     ensures told { result ≡ true → HoldsAsSeen pass.old pass.new
         (λ g. StandsUnheld manager.now.limits.attempts g one named) }
+    ensures other { result ≡ false → HoldsAsSeen pass.old pass.new
+        (λ g. ¬ StandsUnheld manager.now.limits.attempts g one named) }
 {
     let Some(stands) = look(manager, pass, named.new) else {
         return false;
@@ -77,6 +91,8 @@ pub(crate) fn all_stand_again(
     ensures steps { PassMakes (length survivors.now * compare_steps manager.now.limits) pass.old pass.new }
     ensures told { result ≡ true → HoldsAsSeen pass.old pass.new
         (λ g. AllStandUnheld manager.now.limits.attempts g survivors.now moved.now) }
+    ensures other { result ≡ false → HoldsAsSeen pass.old pass.new
+        (λ g. ¬ AllStandUnheld manager.now.limits.attempts g survivors.now moved.now) }
 {
     if moved.len() != survivors.len() {
         return false;
@@ -92,37 +108,32 @@ pub(crate) fn all_stand_again(
 /// Whether an account counts as many elements alive as these are, none held or killed, and so all others as
 /// consumed.
 pub(crate) fn counts_only(account: &Account, moved: &[Moved]) -> bool
-    ensures { result ≡ true → CountsOnly (length moved.now) account.now.total }
+    ensures only { result ≡ true → CountsOnly (length moved.now) account.now.total }
+    ensures other { result ≡ false → ¬ CountsOnly (length moved.now) account.now.total }
 {
     let total = account.total;
-    let Some(alive) = total.waiting.checked_add(total.parked) else {
-        return false;
-    };
-    alive as usize == moved.len() && total.held == 0 && total.killed == 0
+    let alive = total.waiting as usize + total.parked as usize;
+    alive == moved.len() && total.held == 0 && total.killed == 0
 }
 
 /// Whether the ids ascend in both managers.
 pub(crate) fn ascend(moved: &[Moved]) -> bool
-    ensures { result ≡ true → MovedAscend moved.now }
+    ensures ascend { result ≡ true → MovedAscend moved.now }
+    ensures other { result ≡ false → ¬ MovedAscend moved.now }
 {
-    let mut old = 0;
-    let mut new = 0;
+    let mut old: u64 = 0;
+    let mut new: u64 = 0;
     for place in 0..moved.len() {
-        let one = moved[place];
-        if one.old < old {
+        let next_old = u64::from(moved[place].old);
+        if next_old < old {
             return false;
         }
-        if one.new < new {
+        old = next_old + 1;
+        let next_new = u64::from(moved[place].new);
+        if next_new < new {
             return false;
         }
-        let Some(next_old) = one.old.checked_add(1) else {
-            return false;
-        };
-        let Some(next_new) = one.new.checked_add(1) else {
-            return false;
-        };
-        old = next_old;
-        new = next_new;
+        new = next_new + 1;
     }
     true
 }

@@ -1,18 +1,18 @@
 //! Whether families stay families.
-ghost use Rattle.std.specs.Prelude.{◌≡◌, IfOk, true};
-ghost use Rattle.tp_rollover.specs.Checks.{AreFamilies, HasPut};
+ghost use Rattle.std.specs.Prelude.{◌≡◌, ◌<◌, ◌≤◌, All, IfOk, None, false, length, true};
+ghost use Rattle.tp_rollover.specs.Checks.{AreFamilies, HasOther, HasPut};
 
 use crate::moved::Moved;
 use std::alloc::{AllocError, Global};
 
 /// Whether the place is free or has this value, which it has then. The others stay.
 fn takes(places: &mut [Option<u32>], at: u32, value: u32) -> bool
-    ensures { result ≡ true → HasPut at value places.old places.new }
+    requires inside { at < length places.old }
+    ensures long { length places.new ≡ length places.old }
+    ensures put { result ≡ true → HasPut at value places.old places.new }
+    ensures other { result ≡ false → HasOther at value places.old }
 {
     let at = at as usize;
-    if at >= places.len() {
-        return false;
-    }
     match places[at] {
         Some(other) => other == value,
         None => {
@@ -25,7 +25,11 @@ fn takes(places: &mut [Option<u32>], at: u32, value: u32) -> bool
 /// Whether two of these are of one family in the new manager exactly where they were in the old one: the new
 /// root of each old one, and the old root of each new one, are put into these tables.
 fn put_all(moved: &[Moved], new_roots: &mut [Option<u32>], old_roots: &mut [Option<u32>]) -> bool
-    ensures { result ≡ true → AreFamilies moved.now }
+    requires inside { All (λ m. (m.old_root < length new_roots.old) × (m.new_root < length old_roots.old))
+        moved.now }
+    requires none { All (λ o. o ≡ None) new_roots.old × All (λ o. o ≡ None) old_roots.old }
+    ensures families { result ≡ true → AreFamilies moved.now }
+    ensures other { result ≡ false → ¬ AreFamilies moved.now }
 {
     for place in 0..moved.len() {
         let one = moved[place];
@@ -40,31 +44,28 @@ fn put_all(moved: &[Moved], new_roots: &mut [Option<u32>], old_roots: &mut [Opti
 }
 
 /// The highest root of these in the old manager, and the highest in the new one.
-fn highest_roots(moved: &[Moved]) -> (u32, u32) {
-    let mut highest = (0, 0);
-    for one in moved {
-        highest = (highest.0.max(one.old_root), highest.1.max(one.new_root));
+fn highest_roots(moved: &[Moved]) -> (u32, u32)
+    ensures { All (λ m. (m.old_root ≤ result.0) × (m.new_root ≤ result.1)) moved.now }
+{
+    let mut old_root = 0;
+    let mut new_root = 0;
+    for place in 0..moved.len() {
+        old_root = moved[place].old_root.max(old_root);
+        new_root = moved[place].new_root.max(new_root);
     }
-    highest
+    (old_root, new_root)
 }
 
-/// Whether two of these are of one family in the new manager exactly where they were in the old one. So many
-/// elements the managers have room for.
-pub(crate) fn are_families(
-    alloc: Global,
-    moved: &[Moved],
-    old_rows: u32,
-    new_rows: u32,
-) -> Result<bool, AllocError>
-    ensures { IfOk result (λ yes. yes ≡ true → AreFamilies moved.now) }
+/// Whether two of these are of one family in the new manager exactly where they were in the old one.
+pub(crate) fn are_families(alloc: Global, moved: &[Moved]) -> Result<bool, AllocError>
+    ensures families { IfOk result (λ yes. yes ≡ true → AreFamilies moved.now) }
+    ensures other { IfOk result (λ yes. yes ≡ false → ¬ AreFamilies moved.now) }
 {
     if moved.is_empty() {
         return Ok(true);
     }
     let (old_root, new_root) = highest_roots(moved);
-    let old_places = old_root.saturating_add(1).min(old_rows);
-    let new_places = new_root.saturating_add(1).min(new_rows);
-    let mut new_roots = Vec::from_elem(alloc, None, old_places as usize)?;
-    let mut old_roots = Vec::from_elem(alloc, None, new_places as usize)?;
+    let mut new_roots = Vec::from_elem(alloc, None, old_root as usize + 1)?;
+    let mut old_roots = Vec::from_elem(alloc, None, new_root as usize + 1)?;
     Ok(put_all(moved, &mut new_roots, &mut old_roots))
 }

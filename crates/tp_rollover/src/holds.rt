@@ -44,6 +44,7 @@ pub(crate) fn hold_all(
     moved: &[Moved],
 ) -> Result<(), Stop>
     requires lone { AreLone manager.now keeper.old passes.old }
+    requires many { length moved.now ≡ length survivors.now }
     ensures lone { AreLone manager.now keeper.new passes.new × (keeper.new.given ≡ keeper.old.given) }
     ensures steps { let l = manager.now.limits in
         AllMake (holds_for l keeper.old.given survivors.now) keeper.old passes.old keeper.new passes.new }
@@ -51,9 +52,6 @@ pub(crate) fn hold_all(
         (all_held (length passes.old) survivors.now moved.now (lone manager.now keeper.old passes.old)) }
 {
     for place in 0..survivors.len() {
-        if place >= moved.len() {
-            return Err(Stop::Unequal);
-        }
         hold_one(manager, keeper, passes, survivors[place], moved[place].new)?;
     }
     Ok(())

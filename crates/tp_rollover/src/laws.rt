@@ -5,7 +5,7 @@ ghost use Rattle.tp_model.specs.declared.types.Limits.{Limits};
 ghost use Rattle.tp_rollover.specs.Bounds.{PerElement};
 ghost use Rattle.tp_rollover.specs.Laws.{CancelledStays, ConsumedInOne, FreeIsPlain, OldIsOver};
 ghost use Rattle.tp_rollover.specs.Laws.{RestoredIsRolledOver, RolloverAddsUp, SettledNotCarried};
-ghost use Rattle.tp_rollover.specs.Worked.{HeldPair, WorkedPair};
+ghost use Rattle.tp_rollover.specs.Worked.{HeldPair, WorkedAlike, WorkedPair};
 
 /// A family that was cancelled in the old manager is settled in the new one.
 pub fn cancelled_stays()
@@ -36,10 +36,11 @@ pub fn restored_is_rolled_over()
 
 /// A worked rollover, of a family of which one element waits and one is parked, with what is counted in both
 /// managers, and how it is described in between. The laws are of such pairs. Where one that was alive is left
-/// out, it is none. And one of two requests that passes have in hand.
+/// out, it is none. And one of two requests that passes have in hand. What is computed of either is as described.
 pub fn worked_pair()
     ensures worked { WorkedPair }
     ensures held { HeldPair }
+    ensures alike { WorkedAlike }
 {}
 
 /// How many steps a rollover makes for each element, in round numbers.

@@ -7,6 +7,7 @@ mod calls;
 mod checking;
 mod closing;
 mod families;
+mod fitting;
 mod holds;
 pub mod laws;
 mod looks;

@@ -1,6 +1,6 @@
 //! Looks at one element, by one pass. What a look finds holds of the history that the pass had seen, if it
 //! has seen nothing new by the end.
-ghost use Rattle.std.specs.Prelude.{◌≡◌, MatchOption, true};
+ghost use Rattle.std.specs.Prelude.{◌≡◌, MatchOption, false, true};
 ghost use Rattle.tp_model.specs.History.{IsUnborn};
 ghost use Rattle.tp_model.specs.Steps.{IsKillable};
 ghost use Rattle.tp_manager.specs.Bounds.{read_steps, rounds_steps};
@@ -46,7 +46,8 @@ pub(crate) fn rounds_had(manager: &Manager, pass: &mut Pass, id: u32) -> Option<
 
 /// Whether an element with this status is alive.
 pub(crate) fn is_alive(status: Status) -> bool
-    ensures { result ≡ true → IsKillable status }
+    ensures alive { result ≡ true → IsKillable status }
+    ensures over { result ≡ false → ¬ IsKillable status }
 {
     match status {
         Status::Waiting { attempts: _ } => true,

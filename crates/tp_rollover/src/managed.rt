@@ -12,7 +12,7 @@ ghost use Rattle.tp_rollover.specs.Anew.{made_anew};
 ghost use Rattle.tp_rollover.specs.Answers.{IsHistoryOf, Rolls};
 ghost use Rattle.tp_rollover.specs.Bounds.{AllMake, alive_after, give_up_steps, made_by_all};
 ghost use Rattle.tp_rollover.specs.Bounds.{most_successor_steps, old_steps, survey_steps, successor_steps};
-ghost use Rattle.tp_rollover.specs.Carries.{Carries, IsAsComputed};
+ghost use Rattle.tp_rollover.specs.Carries.{Carries, DiffersAnew, IsAsComputed};
 ghost use Rattle.tp_rollover.specs.Faults.{AreFree};
 ghost use Rattle.tp_rollover.specs.Managed.{GoesOnAnew, IsManaged, IsNewPass, IsRefusedFor, IsUnrestored};
 ghost use Rattle.tp_rollover.specs.Managed.{IsUnsurveyed, StaysManaged};
@@ -200,7 +200,7 @@ impl Managed {
     /// A manager with these limits, its keeper and all its passes, in which what was described (`survey`) is
     /// alive, each element once, and nothing else is; and what each is there, in their order (`restore`).
     /// `BadLimits` exactly where a limit is outside its range; `Full` where these limits have not the rows or
-    /// the units; `Unequal` where the descriptions contradict each other or the limits; `NoMemory`.
+    /// the units; `Unequal` where the descriptions contradict each other or the limits (`restore`); `NoMemory`.
     pub fn restored(
         alloc: Global,
         limits: Limits,
@@ -213,6 +213,8 @@ impl Managed {
         ensures computed { IsAsComputed result
             (λ next. (next.moved.items, thread_of limits next.managed.passes.items next.managed.keeper.seen))
             (made_anew limits limits.parts survivors.now (start limits)) }
+        ensures unlike { result ≡ Err refusals.Unequal
+            → DiffersAnew limits limits.parts survivors.now (start limits) }
         ensures fault { IfErr result (IsUnrestored limits) }
         ensures bad { (result ≡ Err refusals.BadLimits) ↔ (¬ AreLimits limits) }
         ensures steps { IfOk result (λ next. made_by_all next.managed.keeper next.managed.passes.items

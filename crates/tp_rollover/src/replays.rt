@@ -1,5 +1,6 @@
 //! Elements that are born anew are given the attempts and rounds that were described.
-ghost use Rattle.std.specs.Prelude.{◌≡◌, ◌*◌, All, IfSome, OnOk, length, true};
+ghost use Rattle.std.specs.Prelude.{◌≡◌, ◌*◌, ◌≤◌, All, OnOk, length};
+ghost use Rattle.tp_model.specs.Steps.{IsKillable};
 ghost use Rattle.tp_rollover.specs.Anew.{all_replayed, kept_for, renewed, replayed, attempts_made};
 ghost use Rattle.tp_rollover.specs.Bounds.{AllMake, attempt_steps, attempts_had, most_replay_steps};
 ghost use Rattle.tp_rollover.specs.Bounds.{IsWithinLimits, replay_of, replay_steps, replays_for};
@@ -11,7 +12,7 @@ use crate::places::{Kept, first_with, kept_for};
 use crate::stops::Stop;
 use crate::survivors::Survivor;
 use tp_manager::{Keeper, Manager, Pass};
-use tp_model::types::{Limits, MAX_ROUNDS, Status};
+use tp_model::types::Status;
 
 /// The element is claimed and given up so many times, by the passes from `from` on, which goes on.
 fn attempts(
@@ -51,6 +52,7 @@ fn rounds(
     times: u8,
 ) -> Result<(), Stop>
     requires lone { AreLone manager.now keeper.old passes.old }
+    requires some { 1 ≤ length passes.old }
     ensures lone { AreLone manager.now keeper.new passes.new × (keeper.new.given ≡ keeper.old.given) }
     ensures steps { let l = manager.now.limits in
         AllMake (replay_steps l keeper.old.given (times * l.attempts) times)
@@ -69,45 +71,29 @@ fn rounds(
             id,
             manager.limits().attempts,
         )?;
-        if passes.len() == 0 {
-            return Err(Stop::Unequal);
-        }
         requeue_by(manager, keeper, passes, 0, id)?;
     }
     Ok(())
 }
 
-/// How many attempts an element that is alive has had in its round, or `None` where it isn't alive.
-fn attempts_of(status: Status) -> Option<u8>
-    ensures { IfSome result (λ times. times ≡ attempts_had status) }
+/// How many attempts an element that waits or is parked has had in its round.
+fn attempts_of(status: Status) -> u8
+    requires alive { IsKillable status }
+    ensures { result ≡ attempts_had status }
 {
     match status {
-        Status::Waiting { attempts } => Some(attempts),
+        Status::Waiting { attempts } => attempts,
         Status::Held {
             unit: _,
             attempt: _,
-        } => None,
-        Status::Consumed { unit: _ } => None,
-        Status::Parked { attempts } => Some(attempts),
-        Status::Killed => None,
+        } => unreachable!(),
+        Status::Consumed { unit: _ } => unreachable!(),
+        Status::Parked { attempts } => attempts,
+        Status::Killed => unreachable!(),
     }
 }
 
-/// Whether an element can have had so many attempts in its round, with the one in hand, and its rounds.
-fn is_within(limits: Limits, one: Survivor, times: u8) -> bool
-    requires times { times ≡ attempts_had one.status }
-    ensures { result ≡ true → IsWithinLimits limits one }
-{
-    if one.rounds > MAX_ROUNDS {
-        return false;
-    }
-    if one.holder.is_some() {
-        return times < limits.attempts;
-    }
-    times <= limits.attempts
-}
-
-/// The new element is given what was described. `Unequal` where that is more than an element can have had.
+/// The new element is given what was described, which an element can have had.
 fn replay(
     manager: &Manager,
     keeper: &mut Keeper,
@@ -118,6 +104,9 @@ fn replay(
     id: u32,
 ) -> Result<(), Stop>
     requires lone { AreLone manager.now keeper.old passes.old }
+    requires some { 1 ≤ length passes.old }
+    requires alive { IsKillable one.status }
+    requires within { IsWithinLimits manager.now.limits one }
     ensures lone { AreLone manager.now keeper.new passes.new × (keeper.new.given ≡ keeper.old.given) }
     ensures steps { AllMake (most_replay_steps manager.now.limits keeper.old.given)
         keeper.old passes.old keeper.new passes.new }
@@ -126,15 +115,9 @@ fn replay(
     ensures gives { Agrees result (λ _. (from.new, lone manager.now keeper.new passes.new))
         (replayed (length passes.old) kept.now manager.now.limits.attempts one id
         (from.old, lone manager.now keeper.old passes.old)) }
-    ensures within { OnOk result (IsWithinLimits manager.now.limits one) }
 {
-    let Some(times) = attempts_of(one.status) else {
-        return Err(Stop::Unequal);
-    };
-    if !is_within(manager.limits(), one, times) {
-        return Err(Stop::Unequal);
-    }
     rounds(manager, keeper, passes, kept, from, id, one.rounds)?;
+    let times = attempts_of(one.status);
     attempts(manager, keeper, passes, kept, from, id, times)
 }
 
@@ -147,6 +130,10 @@ pub(crate) fn replay_all(
     moved: &[Moved],
 ) -> Result<(), Stop>
     requires lone { AreLone manager.now keeper.old passes.old }
+    requires some { 1 ≤ length passes.old }
+    requires alive { All (λ s. IsKillable s.status) survivors.now }
+    requires within { All (IsWithinLimits manager.now.limits) survivors.now }
+    requires many { length moved.now ≡ length survivors.now }
     ensures lone { AreLone manager.now keeper.new passes.new × (keeper.new.given ≡ keeper.old.given) }
     ensures steps { let n = length survivors.now in
         AllMake (n * most_replay_steps manager.now.limits keeper.old.given)
@@ -156,14 +143,10 @@ pub(crate) fn replay_all(
     ensures gives { Agrees result (λ _. lone manager.now keeper.new passes.new)
         (all_replayed (length passes.old) (kept_for survivors.now) manager.now.limits.attempts survivors.now
         moved.now (0, lone manager.now keeper.old passes.old)) }
-    ensures within { OnOk result (All (IsWithinLimits manager.now.limits) survivors.now) }
 {
     let kept = kept_for(survivors);
     let mut from = 0;
     for place in 0..survivors.len() {
-        if place >= moved.len() {
-            return Err(Stop::Unequal);
-        }
         replay(
             manager,
             keeper,

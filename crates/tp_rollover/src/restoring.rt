@@ -7,15 +7,15 @@ ghost use Rattle.tp_plain.specs.OneThread.{start};
 ghost use Rattle.tp_alone.specs.Thread.{AreTogether, Stays};
 ghost use Rattle.tp_rollover.specs.Alike.{StandAlike, StandUnheld};
 ghost use Rattle.tp_rollover.specs.Anew.{made_anew, made_unheld};
+ghost use Rattle.tp_rollover.specs.Finding.{StopsFirst, StopsLooking};
 ghost use Rattle.tp_rollover.specs.Bounds.{AllMake, PassMakes, PassesMake, compare_steps, most_new_steps};
 ghost use Rattle.tp_rollover.specs.Bounds.{IsWithinLimits, new_steps, unheld_steps};
-ghost use Rattle.tp_rollover.specs.Carries.{AreFresh, IsAsComputed};
+ghost use Rattle.tp_rollover.specs.Carries.{AreFresh, DiffersAnew, IsAsComputed};
 ghost use Rattle.tp_rollover.specs.Faults.{IsRestoreDue};
-ghost use Rattle.tp_rollover.specs.Lone.{Agrees, lone};
+ghost use Rattle.tp_rollover.specs.Lone.{AgreesUnless, lone};
 ghost use Rattle.tp_rollover.specs.Survivors.{Restores};
 ghost use Rattle.tp_rollover.specs.Told.{HoldsAsSeen, ToldFirst};
 ghost use Rattle.tp_rollover.specs.declared.moved.RollFault.TheVariants as faults;
-ghost use Rattle.tp_rollover.specs.declared.stops.Stop.TheVariants as stops;
 
 use crate::births::bear_all;
 use crate::checking::{all_stand_again, ascend, counts_only};
@@ -29,10 +29,9 @@ use crate::survivors::{Survivor, are_held};
 use std::alloc::Global;
 use tp_manager::{Keeper, Manager, Pass};
 
-/// Whether all stand as they were described. `Unequal` where not. `of` is the manager in which they are.
+/// Whether all stand as they were described. `Unequal` where not.
 fn hold_by(
     alloc: Global,
-    of: &Manager,
     survivors: &[Survivor],
     manager: &Manager,
     pass: &mut Pass,
@@ -44,12 +43,13 @@ fn hold_by(
     ensures steps { PassMakes (length survivors.now * compare_steps manager.now.limits) pass.old pass.new }
     ensures told { OnOk result (HoldsAsSeen pass.old pass.new
         (λ g. StandAlike manager.now.limits.attempts g survivors.now moved.now)) }
-    ensures full { ¬ (result ≡ Err stops.Full) }
+    ensures stops { IfErr result (StopsLooking pass.old pass.new
+        (λ g. StandAlike manager.now.limits.attempts g survivors.now moved.now)) }
 {
     if !ascend(moved) {
         return Err(Stop::Unequal);
     }
-    let Ok(families) = are_families(alloc, moved, of.capacity(), manager.capacity()) else {
+    let Ok(families) = are_families(alloc, moved) else {
         return Err(Stop::NoMemory);
     };
     if !families {
@@ -64,26 +64,26 @@ fn hold_by(
 /// The same, by the first of the passes.
 fn hold(
     alloc: Global,
-    of: &Manager,
     survivors: &[Survivor],
     manager: &Manager,
     passes: &mut [Pass],
     moved: &[Moved],
 ) -> Result<(), Stop>
     requires own { All (IsOf manager.now) passes.old }
+    requires some { 1 ≤ length passes.old }
     ensures own { All (IsOf manager.now) passes.new }
     ensures stays { AllZip Stays passes.old passes.new }
     ensures steps { let n = length survivors.now in
         PassesMake (n * compare_steps manager.now.limits) passes.old passes.new }
     ensures told { OnOk result (ToldFirst passes.old passes.new
         (λ g. StandAlike manager.now.limits.attempts g survivors.now moved.now)) }
-    ensures some { OnOk result (1 ≤ length passes.old) }
-    ensures full { ¬ (result ≡ Err stops.Full) }
+    ensures stops { IfErr result (StopsFirst passes.old passes.new
+        (λ g. StandAlike manager.now.limits.attempts g survivors.now moved.now)) }
 {
     let Some((first, _rest)) = passes.split_first_mut() else {
-        return Err(Stop::Unequal);
+        unreachable!();
     };
-    hold_by(alloc, of, survivors, manager, first, moved)
+    hold_by(alloc, survivors, manager, first, moved)
 }
 
 /// All that was described, each element once, stands in this manager as it did in `of`, but that what was
@@ -99,14 +99,16 @@ fn stand_unheld(
     requires keeper { IsKeptBy manager.now keeper.old }
     requires own { All (IsOf manager.now) passes.old }
     requires all { AreAll keeper.old passes.old }
+    requires some { 1 ≤ length passes.old }
     ensures keeper { IsKeptBy manager.now keeper.new × (keeper.new.given ≡ keeper.old.given) }
     ensures own { All (IsOf manager.now) passes.new }
     ensures all { AreAll keeper.new passes.new }
     ensures together { OnOk result (AreTogether manager.now.limits keeper.new passes.new keeper.new.seen) }
     ensures restored { IfOk result (λ moved.
         StandUnheld manager.now.limits keeper.new.seen survivors.now moved.items) }
-    ensures computed { AreFresh manager.now.limits passes.old
-        → Agrees result (λ moved. (moved.items, lone manager.now keeper.new passes.new))
+    ensures computed { AreFresh manager.now.limits passes.old → AgreesUnless
+        (DiffersAnew of.now.limits (length passes.old) survivors.now (start manager.now.limits)) result
+        (λ moved. (moved.items, lone manager.now keeper.new passes.new))
         (made_unheld of.now.limits (length passes.old) survivors.now (start manager.now.limits)) }
     ensures within { OnOk result (All (IsWithinLimits manager.now.limits) survivors.now) }
     ensures steps { AllMake (most_new_steps manager.now.limits keeper.old.given (length survivors.now))
@@ -122,9 +124,12 @@ fn stand_unheld(
     if !counts_only(&account, &moved) {
         return Err(Stop::Unequal);
     }
-    hold(alloc, of, survivors, manager, passes, &moved)?;
+    let held = hold(alloc, survivors, manager, passes, &moved);
     keeper.gather(manager, passes);
-    Ok(moved)
+    match held {
+        Ok(()) => Ok(moved),
+        Err(stop) => Err(stop),
+    }
 }
 
 /// All that was described, each element once, stands in this manager as it did in `of`, each that was held in
@@ -140,13 +145,15 @@ pub(crate) fn stand_again(
     requires keeper { IsKeptBy manager.now keeper.old }
     requires own { All (IsOf manager.now) passes.old }
     requires all { AreAll keeper.old passes.old }
+    requires some { 1 ≤ length passes.old }
     ensures keeper { IsKeptBy manager.now keeper.new × (keeper.new.given ≡ keeper.old.given) }
     ensures own { All (IsOf manager.now) passes.new }
     ensures all { AreAll keeper.new passes.new }
     ensures restored { IfOk result (λ moved.
         Restores manager.now.limits keeper.new passes.new survivors.now moved.items) }
-    ensures computed { AreFresh manager.now.limits passes.old
-        → Agrees result (λ moved. (moved.items, lone manager.now keeper.new passes.new))
+    ensures computed { AreFresh manager.now.limits passes.old → AgreesUnless
+        (DiffersAnew of.now.limits (length passes.old) survivors.now (start manager.now.limits)) result
+        (λ moved. (moved.items, lone manager.now keeper.new passes.new))
         (made_anew of.now.limits (length passes.old) survivors.now (start manager.now.limits)) }
     ensures steps { AllMake (most_new_steps manager.now.limits keeper.old.given (length survivors.now))
         keeper.old passes.old keeper.new passes.new }
@@ -168,7 +175,8 @@ pub(crate) fn stand_again(
 /// pass has a unit open. The slice holds every pass of the manager that was given out, in order of number,
 /// and in it nothing has happened. Where it fails the manager is to be given up: `NoPass` exactly where no
 /// pass was given out, `Full` where it has not the rows or the units, `Unequal` where the descriptions
-/// contradict each other or these limits, `NoMemory`.
+/// contradict each other or these limits: they aren't fit, or what is computed of them isn't as they say;
+/// `NoMemory`.
 pub fn restore(
     alloc: Global,
     manager: &Manager,

@@ -1,6 +1,7 @@
 //! The rollover.
 ghost use Rattle.std.specs.Prelude.{◌≤◌, ◌≡◌, ◌≢◌, ◌+◌, All, Err, IfErr, IfOk, OnOk, length, true, false};
 ghost use Rattle.std.specs.List.{AllZip};
+ghost use Rattle.tp_model.specs.Steps.{AreLimits};
 ghost use Rattle.tp_manager.specs.Accounts.{AreAll};
 ghost use Rattle.tp_manager.specs.Shown.{IsKeptBy, IsOf};
 ghost use Rattle.tp_plain.specs.OneThread.{start};
@@ -8,7 +9,7 @@ ghost use Rattle.tp_alone.specs.Thread.{Stays};
 ghost use Rattle.tp_rollover.specs.Answers.{IsReadyToKill, Rolls};
 ghost use Rattle.tp_rollover.specs.Bounds.{AllMake, alive_after, give_up_steps, most_new_steps};
 ghost use Rattle.tp_rollover.specs.Bounds.{new_steps, old_steps, survey_steps};
-ghost use Rattle.tp_rollover.specs.Carries.{AreFresh, Carries, WouldNotFit};
+ghost use Rattle.tp_rollover.specs.Carries.{AreFresh, Carries, WouldDiffer, WouldNotFit};
 ghost use Rattle.tp_rollover.specs.declared.stops.Stop.TheVariants as stops;
 ghost use Rattle.tp_rollover.specs.Lone.{AreLone, lone};
 ghost use Rattle.tp_rollover.specs.declared.moved.RollFault.TheVariants as faults;
@@ -46,7 +47,8 @@ fn prepare(
     requires new_keeper { IsKeptBy new.now new_keeper.old }
     requires own { All (IsOf old.now) old_passes.old × All (IsOf new.now) new_passes.old }
     requires all { AreAll old_keeper.old old_passes.old × AreAll new_keeper.old new_passes.old }
-    requires some { 1 ≤ length old_passes.old }
+    requires some { (1 ≤ length old_passes.old) × (1 ≤ length new_passes.old) }
+    requires alike { new.now.limits.attempts ≡ old.now.limits.attempts }
     ensures old_keeper { IsKeptBy old.now old_keeper.new × (old_keeper.new.given ≡ old_keeper.old.given) }
     ensures new_keeper { IsKeptBy new.now new_keeper.new × (new_keeper.new.given ≡ new_keeper.old.given) }
     ensures own { All (IsOf old.now) old_passes.new }
@@ -68,6 +70,9 @@ fn prepare(
         (lone new.now new_keeper.new new_passes.new)) }
     ensures would_not_fit { AreFresh new.now.limits new_passes.old → result ≡ Err stops.Full
         → WouldNotFit old.now.limits old_passes.old (length new_passes.old) (start new.now.limits) }
+    ensures would_differ { AreLimits old.now.limits → AreFresh new.now.limits new_passes.old
+        → IfErr result (λ stop. stop ≢ stops.NoMemory
+        → WouldDiffer old.now.limits old_passes.old (length new_passes.old) (start new.now.limits)) }
     ensures ready { IfOk result (λ moved.
         IsReadyToKill old.now.limits new.now.limits old_keeper.new new_keeper.new
         old_passes.old old_passes.new new_passes.new moved.items) }

@@ -1,5 +1,5 @@
 //! Why a rollover stops once it has begun, and the fault that is told then.
-ghost use Rattle.std.specs.Prelude.{◌≡◌, All, true};
+ghost use Rattle.std.specs.Prelude.{◌≡◌, ◌≢◌, All, true};
 ghost use Rattle.tp_manager.specs.Shown.{IsOf};
 ghost use Rattle.tp_rollover.specs.Faults.{HasLow, HasShort, IsLate, HasLastUnit, IsShort};
 ghost use Rattle.tp_rollover.specs.declared.moved.RollFault.TheVariants as faults;
@@ -74,6 +74,7 @@ pub(crate) fn fault_after(
     requires own { All (IsOf manager.now) passes.now }
     ensures late { IsLate manager.now.limits passes.now (is_held ≡ true) result }
     ensures full { result ≡ faults.Full → stop ≡ stops.Full }
+    ensures unequal { result ≡ faults.Unequal → stop ≢ stops.NoMemory }
 {
     match stop {
         Stop::NoMemory => RollFault::NoMemory,

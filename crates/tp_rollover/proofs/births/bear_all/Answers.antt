@@ -1,10 +1,13 @@
-use Rattle.std.proofs.Common.{◌≡◌, ◌-◌, ◌*◌, ◌≤◌, ◌++◌, ◌∙◌, Ok, Err, Result, drop, length, refl, subst, sym, take, arith}
+use Rattle.std.proofs.Common.{All, ◌≡◌, ◌-◌, ◌*◌, ◌≤◌, ◌++◌, ◌∙◌, Ok, Err, Result, ap, drop, length, refl, subst, sym, take, arith}
+use Rattle.std.proofs.lemmas.List.Elements.{All-drop, All-take}
 use Rattle.tp_rollover.specs.Bounds.{AllMake, bear_steps}
+use Rattle.tp_rollover.specs.Fits.{AreFit, MayBeBorn}
 use Rattle.tp_rollover.specs.Lone.{bearing, placing}
 use Rattle.tp_rollover.specs.Runs.{GoesFurther}
 use Rattle.tp_rollover.specs.declared.stops.Stop.{Stop}
-use Rattle.tp_rollover.proofs.BirthsAll.{all_there, left_of, not_past, one_on, put_back, same_turn, stops_here}
+use Rattle.tp_rollover.proofs.BirthsAll.{all_there, left_of, not_past, one_on, put_back, same_turn, stops_fit, stops_unfit}
 use Rattle.tp_rollover.proofs.BirthsSteps.{born_of_all, born_on}
+use Rattle.tp_rollover.proofs.Kinships.{may_still}
 use Rattle.tp_rollover.proofs.births.bear_all.Goals.{else-loop-turn-test, then-loop-turn-test+then-from-survivors}
 use Rattle.tp_rollover.proofs.births.bear_all.Goals as goal
 
@@ -32,7 +35,7 @@ returns-in_err-bear_turn-clause-gives c =
     let moved' = c.bear_turn.new.moved.items in
     let why : Result (Unit {0}) Stop = Err c.in_err-bear_turn.field-0.0 in
     let on = same_turn c.limits.result l (length c.loop-turn.passes) p rest moved moved' at at' c.deref_mut.result.now fs c.bear_turn.new.families c.bear_turn.new.families why c.limits.ensures c.loop-turn.auto.passes c.deref_mut.ensures.value refl c.in_err-bear_turn.ensures.on in
-    stops_here l p c.args.survivors.now c.len-from.result moved (record { placing = at; families = fs }) _ i.so_far (c.len-from.ensures ∙ c.loop-turn.moved.ok.0) c.if-from-survivors.false (Unit {0}) c.from_residual-in_err-bear_turn.result c.in_err-bear_turn.field-0.0 _ moved'
+    stops_fit l p c.args.survivors.now c.len-from.result moved (record { placing = at; families = fs }) _ i.so_far (c.len-from.ensures ∙ c.loop-turn.moved.ok.0) c.if-from-survivors.false (Unit {0}) (AreFit l c.args.manager.now.limits c.args.survivors.now) c.from_residual-in_err-bear_turn.result c.in_err-bear_turn.field-0.0 _ moved'
     (record { placing = at'; families = c.bear_turn.new.families }) c.from_residual-in_err-bear_turn.ensures.1 on
 
 pub loop-turn-preserved : goal.loop-turn-preserved
@@ -65,6 +68,7 @@ loop-turn-preserved c =
       few = subst (λ z. z ≤ length c.args.survivors.now) (sym many) few;
       turns = (let e = i.turns in omega (arith, e, many, some));
       made = subst (λ z. AllMake (z * bear_steps l q 1) c.args.keeper.now c.args.passes.now c.bear_turn.new.keeper c.bear_turn.new.passes) (sym many) made;
+      may = may_still c.args.survivors.now fs all i.may (ap length back ∙ (c.bear_turn.ensures.long ∙ ap length c.deref_mut.ensures.value));
       so_far = one_on of p c.args.survivors.now c.len-from.result moved (record { placing = at; families = fs }) _ i.so_far (c.len-from.ensures ∙ c.loop-turn.moved.ok.0) c.if-from-survivors.false moved' (record { placing = at'; families = all }) on;
     }
 
@@ -82,3 +86,24 @@ returns-clause-gives c =
       | then-loop-turn-test+then-from-survivors w ↦
           all_there l p c.args.survivors.now w.len-from.result c.loop-turn.moved.items b _ i.so_far (w.len-from.ensures ∙ c.loop-turn.moved.ok.0) w.if-from-survivors.true
     ]
+
+pub returns-clause-many : goal.returns-clause-many
+returns-clause-many c =
+    let i = c.loop-turn.invariant in
+    let few = i.few in
+    elim c.loop-turn-test.branch [
+      | else-loop-turn-test w ↦ let past = w.loop-turn-test.false in let e = i.turns in omega (arith, past, e, few)
+      | then-loop-turn-test+then-from-survivors w ↦ let past = w.if-from-survivors.true in let long = w.len-from.ensures in let len = c.loop-turn.moved.ok.0 in omega (arith, past, long, len, few)
+    ]
+
+pub returns-in_err-families-clause-gives : goal.returns-in_err-families-clause-gives
+returns-in_err-families-clause-gives c =
+    stops_unfit c.args.of.now.limits c.args.manager.now.limits c.args.survivors.now c.from_residual.result c.in_err-families.field-0.0 _ _ c.from_residual.ensures.1
+    c.in_err-families.ensures.stops
+
+pub bear_turn-requires-clause-may : goal.bear_turn-requires-clause-may
+bear_turn-requires-clause-may c =
+    let from = c.len-from.result in
+    let survivors = c.args.survivors.now in
+    All-take (MayBeBorn c.deref_mut.result.now) (length survivors - from) (drop from survivors) (All-drop (MayBeBorn c.deref_mut.result.now) from survivors
+    (subst (λ fs. All (MayBeBorn fs) survivors) (sym c.deref_mut.ensures.value) c.loop-turn.invariant.may))

@@ -25,7 +25,7 @@ returns-clause-gives c =
       | else-birth w ↦ inr (w.if-birth.false, w.count-is)
     ] in
     let many = drafts_many c.args.birth.now.group.now c.args.birth.now.more c.if-birth.count count in
-    let taken = drafts_taken c.args.birth.now.group.now c.args.birth.now.more c.if-birth.count c.in-Some.drafts count c.requires.room c.in-Some.ensures.drafts in
+    let taken = drafts_taken c.args.birth.now.group.now c.args.birth.now.more c.if-birth.count c.drafts_of-drafts.result count c.requires.room c.drafts_of-drafts.ensures.drafts in
     let was : State = lone c.args.manager.now c.args.keeper.now c.args.passes.now in
     let is : State = lone c.args.manager.now c.bear_by.new.keeper c.bear_by.new.passes in
     by_next c.bear_by.result (λ n. born_by n c.args.birth.now.carrier (drafts_of c.args.birth.now.group.now c.args.birth.now.more)) was is _ c.in_ok-at.at c.next.new.self

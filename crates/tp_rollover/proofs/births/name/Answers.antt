@@ -11,10 +11,9 @@ loop-place-preserved c =
     let i = c.loop-place.place in
     let before = c.args.moved.now.items in
     let one : ℕ → Moved = λ n. record { old = (get_or c.args.rest.now i blank).id; new = n; old_root = (get_or c.args.rest.now i blank).root; new_root = g.root; holder = (get_or c.args.rest.now i blank).holder } in
-    let new : c.in-Some.new ≡ g.first + i = c.in-Some.ensures.1 ∙ ap (λ n. g.first + n) c.in-Ok.ensures.1 in
-    let pushed : c.push.new.self.items ≡ c.loop-place.moved.items ++ one c.in-Some.new ∷ [] = search rules in
+    let pushed : c.push.new.self.items ≡ c.loop-place.moved.items ++ one c.after.result ∷ [] = search rules in
     pushed
-    ∙ (ap (λ n. c.loop-place.moved.items ++ one n ∷ []) new
+    ∙ (ap (λ n. c.loop-place.moved.items ++ one n ∷ []) c.after.ensures
     ∙ (ap (λ ms. ms ++ one (g.first + i) ∷ []) c.loop-place.invariant
     ∙ (append_assoc before (named g.root g.first (take i c.args.rest.now)) (one (g.first + i) ∷ [])
     ∙ ap (λ ms. before ++ ms) (sym (named_more g.root g.first c.args.rest.now i blank (omega arith))))))

@@ -3,7 +3,9 @@ use Rattle.tp_plain.specs.Computed.{submit_of}
 use Rattle.tp_alone.specs.Laws.{SubmitAnswers}
 use Rattle.tp_alone.proofs.Submits.{alone_submit}
 use Rattle.tp_rollover.specs.Anew.{given}
+use Rattle.tp_rollover.specs.Lone.{lone}
 use Rattle.tp_rollover.proofs.Calling.{agrees_none, computed, lone_again, made, may_gather}
+use Rattle.tp_rollover.proofs.Inside.{submitted_below}
 use Rattle.tp_rollover.proofs.calls.submit_by.Goals as goal
 
 pub gather-requires-clause-all : goal.gather-requires-clause-all
@@ -26,3 +28,9 @@ returns-in-Err-clause-steps c = made c.args.manager.now c.args.keeper.now c.gath
 
 pub returns-in-Err-clause-gives : goal.returns-in-Err-clause-gives
 returns-in-Err-clause-gives c = agrees_none c.stop_for.result _ _ (ap given (sym (computed c.args.manager.now c.args.keeper.now c.gather.new.self c.args.passes.now c.gather.new.passes c.args.at c.index-passes-at.result c.submit-answer.new.pass _ _ c.requires.lone c.requires.at c.submit-answer.ensures.own c.submit-answer.ensures.follows c.gather.ensures.gathers c.gather.ensures.keeper c.gather.ensures.own c.gather.ensures.all (λ l. SubmitAnswers c.args.stage c.args.body) (λ s i. submit_of s i c.args.stage c.args.body) (alone_submit c.args.stage c.args.body) (Err c.in-Err.refusal) c.submit-answer.ensures.turn c.in-Err.ensures.answer)))
+
+pub returns-in-Ok-clause-rows : goal.returns-in-Ok-clause-rows
+returns-in-Ok-clause-rows c =
+    submitted_below c.args.manager.now.limits (lone c.args.manager.now c.args.keeper.now c.args.passes.now) (lone c.args.manager.now c.gather.new.self c.gather.new.passes) c.args.at c.args.stage c.args.body c.in-Ok.id
+    (lone_again c.args.manager.now c.args.keeper.now c.gather.new.self c.args.passes.now c.gather.new.passes c.args.at c.index-passes-at.result c.submit-answer.new.pass _ _ c.requires.lone c.requires.at c.submit-answer.ensures.own c.submit-answer.ensures.follows c.gather.ensures.gathers c.gather.ensures.keeper c.gather.ensures.own c.gather.ensures.all).0.together.legal
+    (ap given (sym (computed c.args.manager.now c.args.keeper.now c.gather.new.self c.args.passes.now c.gather.new.passes c.args.at c.index-passes-at.result c.submit-answer.new.pass _ _ c.requires.lone c.requires.at c.submit-answer.ensures.own c.submit-answer.ensures.follows c.gather.ensures.gathers c.gather.ensures.keeper c.gather.ensures.own c.gather.ensures.all (λ l. SubmitAnswers c.args.stage c.args.body) (λ s i. submit_of s i c.args.stage c.args.body) (alone_submit c.args.stage c.args.body) (Ok c.in-Ok.id) c.submit-answer.ensures.turn c.in-Ok.ensures.answer)))

@@ -1,6 +1,7 @@
 use Rattle.std.proofs.Common.{arith, length, refl}
 use Rattle.tp_rollover.proofs.Checked.{stand_then}
-use Rattle.tp_rollover.proofs.Lists.{zip_all}
+use Rattle.tp_rollover.proofs.Differing.{differ_then}
+use Rattle.tp_rollover.proofs.Lists.{zip_all, zip_as_many}
 use Rattle.tp_rollover.proofs.Seen.{stays_trans}
 use Rattle.tp_rollover.proofs.Steps.{next_of, no_more, once_more}
 use Rattle.tp_rollover.specs.Bounds.{compare_steps}
@@ -33,3 +34,12 @@ returns-clause-steps c =
 pub returns-clause-told : goal.returns-clause-told
 returns-clause-told c told same =
     zip_all (StandsUnheld c.args.manager.now.limits.attempts c.args.pass.now.seen) c.args.survivors.now c.args.moved.now c.loop-place.place c.loop-place-test.false c.loop-place.auto.place-end (omega (arith, c.if-moved-survivors.false)) (c.loop-place.invariant.told same)
+
+pub returns-then-moved-survivors-clause-other : goal.returns-then-moved-survivors-clause-other
+returns-then-moved-survivors-clause-other c by same all =
+    c.if-moved-survivors.true (zip_as_many (StandsUnheld c.args.manager.now.limits.attempts c.args.pass.now.seen) c.args.survivors.now c.args.moved.now all)
+
+pub returns-then-not-stands_again-clause-other : goal.returns-then-not-stands_again-clause-other
+returns-then-not-stands_again-clause-other c by =
+    differ_then c.args.manager.now.limits.attempts c.args.survivors.now c.args.moved.now c.loop-place.place _ _ c.args.pass.now c.loop-place.pass c.stands_again.new.pass c.loop-place-test.true c.loop-place.invariant.stays c.stands_again.ensures.stays
+    (c.if-not-stands_again.ensures.other refl)

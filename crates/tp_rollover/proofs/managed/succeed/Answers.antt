@@ -1,7 +1,8 @@
-use Rattle.std.proofs.Common.{◌∙◌, Err, ap, arith, length}
+use Rattle.std.proofs.Common.{◌∙◌, Err, ap, arith, length, subst}
 use Rattle.tp_model.specs.declared.types.Limits.{Limits}
+use Rattle.tp_rollover.specs.Faults.{IsDue}
 use Rattle.tp_rollover.proofs.Heads.{stay_same}
-use Rattle.tp_rollover.proofs.Managing.{all_fresh, carries_again, managed_again, refused_for, unfit_same}
+use Rattle.tp_rollover.proofs.Managing.{all_fresh, carries_again, differ_same, managed_again, refused_for, unfit_same}
 use Rattle.tp_rollover.proofs.managed.succeed.Goals as goal
 
 pub returns-in_default-clause-stays : goal.returns-in_default-clause-stays
@@ -22,6 +23,7 @@ returns-in-Err-clause-fault c =
     refused_for c.args.old.now.limits new.manager.limits c.args.old_passes.now news c.roll_over.new.new_passes c.in-Err.fault (ap (λ (l : Limits). l.attempts) same)
     (omega (arith, c.requires.parts, c.requires.limits.parts.0)) (omega (arith, long, c.requires.limits.parts.0))
     (λ full. unfit_same c.args.old.now.limits new.manager.limits c.args.old.now.limits.parts (length news) c.args.old_passes.now same long (c.in-Err.ensures.would_not_fit fresh (ap Err full)))
+    (λ unequal. differ_same c.args.old.now.limits new.manager.limits c.args.old.now.limits.parts (length news) c.args.old_passes.now same long ((subst (IsDue c.args.old.now.limits new.manager.limits c.args.old_passes.now news c.roll_over.new.new_passes) unequal c.in-Err.ensures.due).1 c.requires.limits fresh))
     c.in-Err.ensures.due
 
 pub returns-in-Ok-roll_over-clause-carries : goal.returns-in-Ok-roll_over-clause-carries

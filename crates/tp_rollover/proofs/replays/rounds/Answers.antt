@@ -28,12 +28,6 @@ returns-in_err-attempts-clause-steps c =
     tried_within c.args.manager.now.limits c.args.keeper.now.given c.loop-round._round c.args.times c.limits.result.attempts c.args.keeper.now c.loop-round.keeper c.attempts.new.keeper c.attempts.new.keeper c.args.passes.now c.loop-round.passes c.attempts.new.passes c.attempts.new.passes
     c.loop-round-test.true (ap (λ (l : Limits). l.attempts) c.limits.ensures) i.given i.made c.attempts.ensures.steps
 
-pub returns-then-passes-eq0-clause-steps : goal.returns-then-passes-eq0-clause-steps
-returns-then-passes-eq0-clause-steps c =
-    let i = c.loop-round.invariant in
-    tried_within c.args.manager.now.limits c.args.keeper.now.given c.loop-round._round c.args.times c.limits.result.attempts c.args.keeper.now c.loop-round.keeper c.attempts.new.keeper c.attempts.new.keeper c.args.passes.now c.loop-round.passes c.attempts.new.passes c.attempts.new.passes
-    c.loop-round-test.true (ap (λ (l : Limits). l.attempts) c.limits.ensures) i.given i.made c.attempts.ensures.steps
-
 pub returns-in_err-requeue_by-clause-steps : goal.returns-in_err-requeue_by-clause-steps
 returns-in_err-requeue_by-clause-steps c =
     let i = c.loop-round.invariant in

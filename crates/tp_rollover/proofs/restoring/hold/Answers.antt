@@ -1,5 +1,6 @@
 use Rattle.tp_manager.specs.Shown.{IsOf}
 use Rattle.tp_rollover.specs.Alike.{StandAlike}
+use Rattle.tp_rollover.proofs.Stopping.{first_stops}
 use Rattle.tp_rollover.proofs.Heads.{all_again, first_done, stays_again}
 use Rattle.tp_rollover.proofs.restoring.hold.Goals as goal
 
@@ -12,3 +13,7 @@ returns-clause-stays c = stays_again c.args.passes.now c.in-Some._rest.now c.in-
 pub returns-clause-told : goal.returns-clause-told
 returns-clause-told c =
     first_done c.hold_by.result (λ g. StandAlike c.args.manager.now.limits.attempts g c.args.survivors.now c.args.moved.now) c.args.passes.now c.in-Some._rest.now c.in-Some.first.now c.hold_by.new.pass c.in-Some.ensures.cases.0 c.hold_by.ensures.told
+
+pub returns-clause-stops : goal.returns-clause-stops
+returns-clause-stops c =
+    first_stops c.hold_by.result (λ g. StandAlike c.args.manager.now.limits.attempts g c.args.survivors.now c.args.moved.now) c.args.passes.now c.in-Some._rest.now c.in-Some.first.now c.hold_by.new.pass c.in-Some.ensures.cases.0 c.hold_by.ensures.stops

@@ -1,10 +1,14 @@
-use Rattle.std.proofs.Common.{◌≡◌, ◌∙◌, ◌<◌, ◌≤◌, List, Some, length, refl, subst, sym}
+use Rattle.std.proofs.Common.{◌≡◌, ◌∙◌, ◌<◌, ◌≤◌, List, None, Option, Some, ap, length, refl, subst, sym}
 use Rattle.std.specs.Option.{option_and_then}
-use Rattle.tp_plain.specs.OneThread.{start}
-use Rattle.tp_rollover.specs.Anew.{all_held, made_unheld}
+use Rattle.tp_plain.specs.OneThread.{State, start}
+use Rattle.tp_rollover.specs.Anew.{all_held, made_anew, made_unheld}
+use Rattle.tp_rollover.specs.Carries.{DiffersAnew}
 use Rattle.tp_rollover.specs.Lone.{lone}
 use Rattle.tp_rollover.specs.declared.moved.Moved.{Moved}
-use Rattle.tp_rollover.proofs.Agreeing.{stops_first}
+use Rattle.tp_rollover.proofs.Idling.{unheld_idle}
+use Rattle.tp_rollover.specs.Alike.{StandsUnheld}
+use Rattle.tp_rollover.proofs.Lists.{zip_as_many}
+use Rattle.tp_rollover.proofs.MadeAlike.{all_free, none_anew, none_first, unless_first}
 use Rattle.tp_rollover.proofs.Carrying.{are_holders}
 use Rattle.tp_rollover.proofs.Holding.{held_again, stands_free}
 use Rattle.tp_rollover.proofs.MadeAnew.{made_held, made_so_far}
@@ -13,23 +17,39 @@ use Rattle.tp_rollover.proofs.Sums.{held_by, held_within}
 use Rattle.tp_rollover.proofs.restoring.stand_again.Goals as goal
 
 pub hold_all-requires : goal.hold_all-requires
-hold_all-requires c = record { lone = record { kept = c.stand_unheld.ensures.keeper.0; own = c.stand_unheld.ensures.own; together = c.in_ok-moved.ensures.together } }
+hold_all-requires c = record { lone = record { kept = c.stand_unheld.ensures.keeper.0; own = c.stand_unheld.ensures.own; together = c.in_ok-moved.ensures.together }; many = ap length c.deref.ensures.value ∙ zip_as_many (StandsUnheld c.args.manager.now.limits.attempts c.stand_unheld.new.keeper.seen) c.args.survivors.now c.in_ok-moved.moved.items c.in_ok-moved.ensures.restored.each }
 
 pub returns-in_err-moved-clause-computed : goal.returns-in_err-moved-clause-computed
 returns-in_err-moved-clause-computed c fresh =
-    stops_first c.from_residual.result c.in_err-moved.field-0.0 _ _ _ c.from_residual.ensures.1
-    (λ x. option_and_then (λ done. Some (x.0, done)) (all_held (length c.args.passes.now) c.args.survivors.now x.0 x.1)) _ refl
-    (c.in_err-moved.ensures.computed fresh)
+    let l = c.args.of.now.limits in
+    let p = length c.args.passes.now in
+    let ss = c.args.survivors.now in
+    let s = start c.args.manager.now.limits in
+    let rest : List Moved × State → Option (List Moved × State) = λ x. option_and_then (λ done. Some (x.0, done)) (all_held p ss x.0 x.1) in
+    unless_first _ _ (made_unheld l p ss s) (made_anew l p ss s) (DiffersAnew l p ss s) (λ none. ap (option_and_then rest) none) (DiffersAnew l p ss s) c.from_residual.result c.in_err-moved.field-0.0 c.from_residual.ensures.1
+    (λ w. w) (c.in_err-moved.ensures.computed fresh)
 
 pub returns-in_err-hold_all-clause-computed : goal.returns-in_err-hold_all-clause-computed
 returns-in_err-hold_all-clause-computed c fresh =
     let m = c.args.manager.now in
+    let l = c.args.of.now.limits in
     let p = length c.args.passes.now in
+    let ss = c.args.survivors.now in
+    let s = start m.limits in
     let t = lone m c.stand_unheld.new.keeper c.stand_unheld.new.passes in
+    let q = length c.stand_unheld.new.passes in
+    let moved = c.deref.result.now in
     let long = c.stand_unheld.ensures.all.0 ∙ (c.stand_unheld.ensures.keeper.1 ∙ sym c.requires.all.0) in
-    let made = subst (λ ms. made_unheld c.args.of.now.limits p c.args.survivors.now (start m.limits) ≡ Some (ms, t)) (sym c.deref.ensures.value) (c.in_ok-moved.ensures.computed fresh) in
-    stops_first c.from_residual-in_err-hold_all.result c.in_err-hold_all.field-0.0 _ _ _ c.from_residual-in_err-hold_all.ensures.1 (λ done. Some (c.deref.result.now, done)) _
-    (made_held c.args.of.now.limits p (length c.stand_unheld.new.passes) c.args.survivors.now (start m.limits) t c.deref.result.now long made) c.in_err-hold_all.ensures.gives
+    let made = subst (λ ms. made_unheld l p ss s ≡ Some (ms, t)) (sym c.deref.ensures.value) (c.in_ok-moved.ensures.computed fresh) in
+    let none : all_held q ss moved t ≡ None → made_anew l p ss s ≡ None = λ x. made_held l p q ss s t moved long made ∙ ap (option_and_then (λ done. Some (moved, done))) x in
+    none_first _ _ (all_held q ss moved t) (made_anew l p ss s) (DiffersAnew l p ss s) none c.from_residual-in_err-hold_all.result c.in_err-hold_all.field-0.0 c.from_residual-in_err-hold_all.ensures.1 (none_anew l p ss s) c.in_err-hold_all.ensures.gives
+
+pub returns-then-has_open-clause-computed : goal.returns-then-has_open-clause-computed
+returns-then-has_open-clause-computed c fresh fit alike =
+    let k = c.args.manager.now.limits in
+    let t = lone c.args.manager.now c.stand_unheld.new.keeper c.stand_unheld.new.passes in
+    c.if-has_open.ensures.busy refl (all_free k c.stand_unheld.new.passes c.stand_unheld.new.keeper.seen
+    (λ i less. unheld_idle c.args.of.now.limits k (length c.args.passes.now) c.args.survivors.now c.in_ok-moved.moved.items t (c.in_ok-moved.ensures.computed fresh) i))
 
 pub returns-clause-computed : goal.returns-clause-computed
 returns-clause-computed c fresh =

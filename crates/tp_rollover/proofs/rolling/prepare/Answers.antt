@@ -1,8 +1,11 @@
 use Rattle.std.proofs.Common.{ap, arith, length, subst, sym}
+use Rattle.tp_plain.specs.OneThread.{start}
 use Rattle.tp_rollover.specs.Bounds.{alive_after}
 use Rattle.tp_rollover.specs.Survivors.{AreInHand, AreSurvivors}
 use Rattle.tp_rollover.proofs.Assembly.{if_ok}
-use Rattle.tp_rollover.proofs.MadeAnew.{made_so, none_so, on_ok}
+use Rattle.tp_rollover.proofs.FoundFit.{found_fit}
+use Rattle.tp_rollover.proofs.MadeAlike.{differs_so, unless_none, unless_so}
+use Rattle.tp_rollover.proofs.MadeAnew.{on_ok}
 use Rattle.tp_rollover.proofs.Sums.{most_for}
 use Rattle.tp_rollover.proofs.rolling.prepare.Goals as goal
 
@@ -36,7 +39,7 @@ returns-clause-ready c =
 pub returns-clause-computed : goal.returns-clause-computed
 returns-clause-computed c fresh =
     let e = c.in_ok-alive.ensures in
-    made_so c.stand_again.result _ _ _ (c.stand_again.ensures.computed fresh) (λ moved made. record {
+    unless_so c.stand_again.result _ _ _ _ (c.stand_again.ensures.computed fresh) (λ moved made. record {
       keeper = c.find_all.new.keeper;
       looked = c.find_all.new.passes;
       together = c.find_all.ensures.together;
@@ -58,5 +61,19 @@ returns-clause-would_not_fit c fresh full =
       survivors = c.deref.result.now;
       found = subst (AreSurvivors c.args.old.now.limits c.find_all.new.keeper.seen) (sym c.deref.ensures.value) e.found;
       in_hand = subst (AreInHand c.args.old_passes.now) (sym c.deref.ensures.value) e.in_hand;
-      full = none_so c.stand_again.result _ _ full (c.stand_again.ensures.computed fresh);
+      full = unless_none c.stand_again.result _ _ _ full (c.stand_again.ensures.computed fresh);
     }
+
+pub returns-clause-would_differ : goal.returns-clause-would_differ
+returns-clause-would_differ c limits fresh =
+    let e = c.in_ok-alive.ensures in
+    differs_so c.args.old.now.limits (length c.args.new_passes.now) c.deref.result.now (start c.args.new.now.limits) c.stand_again.result _ _ (c.stand_again.ensures.computed fresh) (λ stop differs not. record {
+      keeper = c.find_all.new.keeper;
+      looked = c.find_all.new.passes;
+      together = c.find_all.ensures.together;
+      stay = e.stays;
+      survivors = c.deref.result.now;
+      found = subst (AreSurvivors c.args.old.now.limits c.find_all.new.keeper.seen) (sym c.deref.ensures.value) e.found;
+      in_hand = subst (AreInHand c.args.old_passes.now) (sym c.deref.ensures.value) e.in_hand;
+      differs = differs not (found_fit c.args.old.now.limits c.args.new.now.limits c.find_all.new.keeper.seen limits c.requires.alike c.find_all.ensures.together.legal c.deref.result.now (subst (AreSurvivors c.args.old.now.limits c.find_all.new.keeper.seen) (sym c.deref.ensures.value) e.found));
+    })

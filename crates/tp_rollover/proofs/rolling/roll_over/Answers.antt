@@ -1,9 +1,10 @@
-use Rattle.std.proofs.Common.{◌*◌, ◌+◌, length, refl, subst, sym}
+use Rattle.std.proofs.Common.{◌≡◌, ◌*◌, ◌+◌, length, refl, subst, sym, true}
 use Rattle.tp_manager.specs.Bounds.{kill_steps}
 use Rattle.tp_rollover.specs.Bounds.{AllMake, gathered, give_up_steps, most_new_steps, old_steps, survey_steps}
 use Rattle.tp_rollover.specs.Closing.{AreLiving, Buries}
 use Rattle.tp_rollover.proofs.Assembly.{all_living, rolled, rolls}
 use Rattle.tp_rollover.proofs.Heads.{stay_same}
+use Rattle.tp_rollover.proofs.Managing.{late_due}
 use Rattle.tp_rollover.proofs.Sums.{gives_up_as, old_buried}
 use Rattle.tp_rollover.proofs.Tallies.{rollover_adds_up}
 use Rattle.tp_rollover.proofs.rolling.roll_over.Goals as goal
@@ -50,3 +51,8 @@ returns-clause-steps c =
           (old_buried l p k2.given n c.args.old_keeper.now k2 k3 c.args.old_passes.now c.prepare.new.old_passes c.bury.new.passes so_far.0 c.prepare.ensures.old_keeper.1 killed),
       so_far.1,
     )
+
+pub returns-in-Err-clause-due : goal.returns-in-Err-clause-due
+returns-in-Err-clause-due c =
+    late_due c.args.old.now.limits c.args.new.now.limits c.args.old_passes.now c.args.new_passes.now c.prepare.new.new_passes (c.has_open-is_held.result ≡ true) c.fault_after.result (c.if-not-are_alike.ensures.alike refl, c.if-lacks_pass.ensures.has refl) c.has_open-is_held.ensures.busy
+    (λ unequal limits fresh. c.in-Err.ensures.would_differ limits fresh (c.fault_after.ensures.unequal unequal)) c.fault_after.ensures.late

@@ -8,7 +8,6 @@ use Rattle.tp_rollover.specs.Answers.{IsHistoryOf}
 use Rattle.tp_rollover.specs.Finding.{CountsAlive}
 use Rattle.tp_rollover.specs.Bounds.{AllMake, alive_after, survey_steps}
 use Rattle.tp_rollover.specs.Told.{seen_first}
-use Rattle.tp_rollover.specs.Survivors.{AreInHand, AreSurvivors}
 use Rattle.tp_rollover.proofs.Assembly.{all_numbers, gathered, if_ok, looked_between, stay_trans, stays_numbers, surveyed}
 use Rattle.tp_rollover.proofs.Standing.{in_hand_stays}
 use Rattle.tp_rollover.proofs.Stopping.{found_in_hand, memory_alone}

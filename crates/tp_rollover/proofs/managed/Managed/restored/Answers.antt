@@ -1,7 +1,9 @@
-use Rattle.std.proofs.Common.{◌∙◌, ap, arith, length, subst}
+use Rattle.std.proofs.Common.{◌≡◌, ◌∙◌, ap, arith, length, subst}
 use Rattle.tp_model.specs.declared.types.Limits.{Limits}
 use Rattle.tp_model.specs.Steps.{AreLimits}
-use Rattle.tp_rollover.proofs.Managing.{all_fresh, fault_same, made_again, made_same, managed_again, unrestored_for}
+use Rattle.tp_rollover.specs.declared.moved.RollFault.TheVariants.{Unequal}
+use Rattle.tp_rollover.specs.Faults.{IsRestoreDue}
+use Rattle.tp_rollover.proofs.Managing.{all_fresh, differ_anew, fault_same, made_again, made_same, managed_again, unrestored_for}
 use Rattle.tp_rollover.proofs.managed.Managed.restored.Goals as goal
 
 pub returns-in-Err-clause-fault : goal.returns-in-Err-clause-fault
@@ -35,3 +37,12 @@ pub returns-in-Ok-restore-clause-managed : goal.returns-in-Ok-restore-clause-man
 returns-in-Ok-restore-clause-managed c =
     let e = c.restore.ensures in
     managed_again c.in-Ok.new c.restore.new.keeper c.restore.new.passes c.in-Ok.ensures.managed e.keeper.0 e.keeper.1 e.own e.all
+
+pub returns-in-Err-clause-unlike : goal.returns-in-Err-clause-unlike
+returns-in-Err-clause-unlike c is =
+    let new = c.in-Ok.new in
+    let same = c.in-Ok.ensures.limits in
+    let long = ap length c.deref_mut.ensures.value ∙ (c.in-Ok.ensures.managed.parts ∙ ap (λ (l : Limits). l.parts) same) in
+    let fresh = all_fresh new.manager c.deref_mut.result.now new.passes.items c.deref_mut.ensures.value c.in-Ok.ensures.new c.in-Ok.ensures.managed.own in
+    let fault : c.in-Err.fault ≡ Unequal = cc in
+    differ_anew c.args.limits new.manager.limits c.args.limits.parts (length c.deref_mut.result.now) c.args.survivors.now same long (subst (IsRestoreDue new.manager.limits c.args.survivors.now c.deref_mut.result.now c.restore.new.passes) fault c.in-Err.ensures.due fresh)
