@@ -10,13 +10,13 @@ use Rattle.tp_rollover.specs.declared.moved.Moved.{Moved}
 use Rattle.covetrivet_c.specs.declared.fault.Fault.{Fault}
 use Rattle.covetrivet_c.specs.declared.fault.Fault.TheVariants as faults
 use Rattle.covetrivet_c.specs.declared.home.Home.{Home}
-use Rattle.covetrivet_c.specs.Homes.{CarriesOver, GoesOn, IsUncarried, IsUnrolled, home_limits}
+use Rattle.covetrivet_c.specs.Homes.{CarriesOver, HomeGoesOn, IsUncarried, IsHomeUnrolled, home_limits}
 
 -- what was carried over, into a new manager all of whose passes were fresh
 pub goes_on : (old new : Home) (k : Limits) (keeper : KeeperShown) (passes news : List PassShown)
     → home_limits new ≡ k → AreFresh k news → length news ≡ k.parts → length new.passes.items ≡ k.parts
     → CarriesOver (home_limits old) k old.keeper keeper new.keeper old.passes.items passes news new.passes.items new.moved.items
-    → GoesOn old new k
+    → HomeGoesOn old new k
 goes_on old new k keeper passes news limits fresh long parts over = record {
   limits = limits;
   keeper = keeper;
@@ -36,7 +36,7 @@ none_of ps l long some none = let e = ap length none in omega (arith, long, some
 -- why it has not gone on
 pub unrolled : (h : Home) (k : Limits) (news : List PassShown) (f : Fault)
     → AreFresh k news → length news ≡ k.parts → 1 ≤ k.parts
-    → IsUncarried (home_limits h) k h.passes.items news f → IsUnrolled h k f
+    → IsUncarried (home_limits h) k h.passes.items news f → IsHomeUnrolled h k f
 unrolled h k news (faults.Refused refusals.NoMemory) fresh long some why = tt
 unrolled h k news (faults.Refused refusals.BadLimits) fresh long some why = inr (inl why)
 unrolled h k news (faults.Refused refusals.BadStage) fresh long some why = absurd why

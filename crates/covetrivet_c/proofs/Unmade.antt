@@ -5,10 +5,10 @@ use Rattle.tp_model.specs.declared.types.Refusal.TheVariants as refusals
 use Rattle.covetrivet_c.specs.declared.fault.Fault.{Fault}
 use Rattle.covetrivet_c.specs.declared.fault.Fault.TheVariants as faults
 use Rattle.covetrivet_c.specs.declared.home.Home.{Home}
-use Rattle.covetrivet_c.specs.Homes.{IsUnmade, IsUnrolled}
+use Rattle.covetrivet_c.specs.Homes.{IsUnmade, IsHomeUnrolled}
 
 -- why there is no new manager
-pub unmade : (h : Home) (l : Limits) (f : Fault) → IsUnmade l f → IsUnrolled h l f
+pub unmade : (h : Home) (l : Limits) (f : Fault) → IsUnmade l f → IsHomeUnrolled h l f
 unmade h l (faults.Refused refusals.NoMemory) why = tt
 unmade h l (faults.Refused refusals.BadLimits) why = inl why
 unmade h l (faults.Refused refusals.BadStage) why = absurd why

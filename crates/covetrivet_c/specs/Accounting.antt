@@ -9,8 +9,8 @@ use Rattle.tp_rollover.specs.declared.moved.Moved.{Moved}
 use Rattle.covetrivet_c.specs.declared.fault.Fault.{Fault}
 use Rattle.covetrivet_c.specs.declared.fault.Fault.TheVariants as faults
 use Rattle.covetrivet_c.specs.declared.home.Home.{Home}
-use Rattle.covetrivet_c.specs.Homes.{GoesOn, HasGathered, IsUnrolled, StaysHome, counts_of, home_limits}
-use Rattle.covetrivet_c.specs.Told.{Tells, TellsEnd}
+use Rattle.covetrivet_c.specs.Homes.{HomeGoesOn, HasGathered, IsHomeUnrolled, StaysHome, counts_of, home_limits}
+use Rattle.covetrivet_c.specs.Told.{TellsByCode, TellsEnd}
 
 -- the handle led to a manager, and leads to one, for which this is so; or it led to nothing, the code says so,
 -- and this is so
@@ -23,7 +23,7 @@ Within None new code Did Nothing = (new ≡ None) × (code ≡ 1) × Nothing
 abbrev pub HomeAnswers : {X Y : Type 0} → (X → Y) → (Home → Home → Result X Fault → Type 0)
     → Option Home → Option Home → ℕ → Y → Y → Type 0
 HomeAnswers {X} shape Says was is code old new = Within was is code
-    (λ h h'. (r : Result X Fault) × Tells shape r code old new × Says h h' r) (new ≡ old)
+    (λ h h'. (r : Result X Fault) × TellsByCode shape r code old new × Says h h' r) (new ≡ old)
 
 -- the same where nothing is to be written
 abbrev pub HomeEnds : {X : Type 0} → (Home → Home → Result X Fault → Type 0) → Option Home → Option Home → ℕ → Type 0
@@ -65,7 +65,7 @@ IsUncounted stage h faults.NotAll = ¬ AreAll h.keeper h.passes.items
 IsUncounted stage h other = ⊥
 
 -- the counts of a stage are those of the account
-pub record HasCounted (stage : ℕ) (h h' : Home) (counts : Counts) : Type 0 where
+pub record CountsStage (stage : ℕ) (h h' : Home) (counts : Counts) : Type 0 where
   pub account : Account
   pub same : IsSameManager h h'
   pub accounts : Accounts (home_limits h) h.keeper h'.keeper h.passes.items h'.passes.items account
@@ -73,12 +73,12 @@ pub record HasCounted (stage : ℕ) (h h' : Home) (counts : Counts) : Type 0 whe
 
 -- `account`
 abbrev pub CountSays : ℕ → Home → Home → Result Counts Fault → Type 0
-CountSays stage h h' r = MatchResult r (HasCounted stage h h') (λ f. IsSameHome h h' × IsUncounted stage h f)
+CountSays stage h h' r = MatchResult r (CountsStage stage h h') (λ f. IsSameHome h h' × IsUncounted stage h f)
 
 -- `roll_over`
 abbrev pub RollSays : Limits → Home → Home → Result ℕ Fault → Type 0
-RollSays l h h' r = MatchResult r (λ n. GoesOn h h' l × (n ≡ length h'.moved.items))
-    (λ f. StaysHome h h' × IsUnrolled h l f)
+RollSays l h h' r = MatchResult r (λ n. HomeGoesOn h h' l × (n ≡ length h'.moved.items))
+    (λ f. StaysHome h h' × IsHomeUnrolled h l f)
 
 -- `moved_at`
 abbrev pub MovedSays : ℕ → Home → Home → Result Moved Fault → Type 0

@@ -9,25 +9,25 @@ use Rattle.tp_model.specs.declared.types.TheConstants.{MAX_OUTPUTS}
 use Rattle.tp_manager.specs.Shown.{PassShown}
 use Rattle.tp_manager.specs.Calls.{Follows, HasLooked, IsQuiet}
 use Rattle.covetrivet_c.specs.declared.shapes.DraftIn.{DraftIn}
-use Rattle.covetrivet_c.specs.Shapes.{IsDraft}
+use Rattle.covetrivet_c.specs.Shapes.{IsDraftIn}
 use Rattle.covetrivet_c.specs.declared.fault.Fault.{Fault}
 use Rattle.covetrivet_c.specs.declared.fault.Fault.TheVariants as faults
 
 -- the pass has made at most n steps, and goes on with claims in turn where it was
-abbrev pub Goes : ℕ → PassShown → PassShown → Type 0
-Goes n old new = Follows n old new × (new.from ≡ old.from)
+abbrev pub GoesSteps : ℕ → PassShown → PassShown → Type 0
+GoesSteps n old new = Follows n old new × (new.from ≡ old.from)
 
 -- it has looked, where the id is one of a row
-abbrev pub LooksAt : Limits → ℕ → PassShown → PassShown → Type 0
-LooksAt l id old new = id < rows_of l → HasLooked old new
+abbrev pub LooksAtId : Limits → ℕ → PassShown → PassShown → Type 0
+LooksAtId l id old new = id < rows_of l → HasLooked old new
 
 -- it has done nothing but look
 abbrev pub OnlyLooks : ℕ → Limits → ℕ → PassShown → PassShown → Type 0
-OnlyLooks n l id old new = Goes n old new × IsQuiet old new × LooksAt l id old new
+OnlyLooks n l id old new = GoesSteps n old new × IsQuiet old new × LooksAtId l id old new
 
 -- it has no unit open
 abbrev pub StaysFree : ℕ → PassShown → PassShown → Type 0
-StaysFree n old new = Goes n old new × (new.open_unit ≡ None)
+StaysFree n old new = GoesSteps n old new × (new.open_unit ≡ None)
 
 -- the manager refused it, which is so of the refusal
 abbrev pub Refuses : (Refusal → Type 0) → Fault → Type 0
@@ -48,11 +48,11 @@ Asked Call Is Why Not old new (Err (faults.Refused e)) = Call × Why e
 Asked Call Is Why Not old new (Err other) = (new ≡ old) × Not other
 
 -- the same where it may find nothing, and refuses nothing
-abbrev pub Sought : {X : Type 0} → Type 0 → (X → Type 0) → Type 0 → (Fault → Type 0)
+abbrev pub SoughtByC : {X : Type 0} → Type 0 → (X → Type 0) → Type 0 → (Fault → Type 0)
     → PassShown → PassShown → Result X Fault → Type 0
-Sought Call Is Why Not old new (Ok x) = Call × Is x
-Sought Call Is Why Not old new (Err faults.Nothing) = Call × Why
-Sought Call Is Why Not old new (Err other) = (new ≡ old) × Not other
+SoughtByC Call Is Why Not old new (Ok x) = Call × Is x
+SoughtByC Call Is Why Not old new (Err faults.Nothing) = Call × Why
+SoughtByC Call Is Why Not old new (Err other) = (new ≡ old) × Not other
 
 -- the pass has a unit open
 abbrev pub IsBusy : PassShown → Fault → Type 0
@@ -68,6 +68,6 @@ IsNoClaim stage pass other = ⊥
 -- there are too many drafts, or one is of no stage, or the pass has no unit open
 abbrev pub IsNoCommit : List DraftIn → PassShown → Fault → Type 0
 IsNoCommit drafts pass faults.TooMany = MAX_OUTPUTS < length drafts
-IsNoCommit drafts pass faults.BadDraft = ¬ All IsDraft drafts
+IsNoCommit drafts pass faults.BadDraft = ¬ All IsDraftIn drafts
 IsNoCommit drafts pass faults.NoOpen = pass.open_unit ≡ None
 IsNoCommit drafts pass other = ⊥

@@ -20,11 +20,11 @@ use Rattle.tp_manager.specs.Requeues.{HasHadRounds, Requeues, RequeueFails}
 use Rattle.tp_manager.specs.Releases.{Releases, ReleaseFails, Collects, CollectFails}
 use Rattle.tp_manager.specs.Cancels.{Cancels, CancelFails}
 use Rattle.covetrivet_c.specs.declared.fault.Fault.{Fault}
-use Rattle.covetrivet_c.specs.Asked.{Asked, Goes, IsBusy, IsNothing, LooksAt, OnlyLooks, Refuses, Sought, StaysFree}
+use Rattle.covetrivet_c.specs.Asked.{Asked, GoesSteps, IsBusy, IsNothing, LooksAtId, OnlyLooks, Refuses, SoughtByC, StaysFree}
 
 -- `submit`
 abbrev pub SubmitSays : ℕ → List ℕ → Limits → PassShown → PassShown → Result ℕ Fault → Type 0
-SubmitSays stage body l old new r = Goes (submit_steps l) old new × (new.open_unit ≡ old.open_unit)
+SubmitSays stage body l old new r = GoesSteps (submit_steps l) old new × (new.open_unit ≡ old.open_unit)
     × MatchResult r (λ id. Submits id stage body old new) (Refuses (SubmitRefused stage old new))
 
 -- `read`
@@ -58,32 +58,32 @@ FamilySays root from l old new r = OnlyLooks (family_steps l) l from old new
 
 -- `requeue`
 abbrev pub RequeueSays : ℕ → Limits → PassShown → PassShown → Result ℕ Fault → Type 0
-RequeueSays id l old new r = Goes requeue_steps old new × LooksAt l id old new × (new.open_unit ≡ old.open_unit)
+RequeueSays id l old new r = GoesSteps requeue_steps old new × LooksAtId l id old new × (new.open_unit ≡ old.open_unit)
     × MatchResult r (λ round. Requeues id round old new) (Refuses (RequeueFails l id old new))
 
 -- `kill`
 abbrev pub KillSays : ℕ → Limits → PassShown → PassShown → Result ℕ Fault → Type 0
-KillSays id l old new r = Asked (StaysFree (kill_steps l) old new × LooksAt l id old new)
+KillSays id l old new r = Asked (StaysFree (kill_steps l) old new × LooksAtId l id old new)
     (λ n. Kills l id n old new) (KillFails l id old new) (IsBusy old) old new r
 
 -- `cancel`
 abbrev pub CancelSays : ℕ → Limits → PassShown → PassShown → Result ℕ Fault → Type 0
-CancelSays root l old new r = Asked (StaysFree (cancel_steps l) old new × LooksAt l root old new
+CancelSays root l old new r = Asked (StaysFree (cancel_steps l) old new × LooksAtId l root old new
     × Follows (family_cancel_steps l (length (family new.seen root))) old new)
     (λ n. Cancels l root n old new) (CancelFails root old new) (IsBusy old) old new r
 
 -- `release`
 abbrev pub ReleaseSays : ℕ → Limits → PassShown → PassShown → Result Released Fault → Type 0
-ReleaseSays id l old new r = Asked (StaysFree release_steps old new × LooksAt l id old new)
+ReleaseSays id l old new r = Asked (StaysFree release_steps old new × LooksAtId l id old new)
     (λ it. Releases l id it.unit it.attempt old new) (ReleaseFails l id old new) (IsBusy old) old new r
 
 -- `collect`
 abbrev pub CollectSays : ℕ → Limits → PassShown → PassShown → Result Element Fault → Type 0
-CollectSays id l old new r = Asked (StaysFree collect_steps old new × LooksAt l id old new)
+CollectSays id l old new r = Asked (StaysFree collect_steps old new × LooksAtId l id old new)
     (λ x. Collects id x old new) (CollectFails l id old new) (IsBusy old) old new r
 
 -- `collect_next`, for which nothing may be found
 abbrev pub NextSays : ℕ → Limits → PassShown → PassShown → Result Element Fault → Type 0
-NextSays root l old new r = Sought (StaysFree (collect_next_steps l) old new × LooksAt l root old new
+NextSays root l old new r = SoughtByC (StaysFree (collect_next_steps l) old new × LooksAtId l root old new
     × Follows (family_collect_steps (length (family new.seen root))) old new)
     (λ x. CollectsNext l root x old new) (NoneCollected l root old new) (IsBusy old) old new r

@@ -123,7 +123,7 @@ IsUncarried l k olds news other = ⊥
 -- It has gone on in a new manager with these limits, all of whose passes are at home: what a pass held, the
 -- pass of the same number has in hand, and the others have no unit open. It keeps what was carried over, which
 -- was made anew as is computed.
-pub record GoesOn (old new : Home) (l : Limits) : Type 0 where
+pub record HomeGoesOn (old new : Home) (l : Limits) : Type 0 where
   pub limits : home_limits new ≡ l
   pub keeper : KeeperShown
   pub passes : List PassShown
@@ -151,16 +151,16 @@ AreBadFor h l = (¬ AreLimits l) ⊎ ((l.attempts ≢ (home_limits h).attempts)
     ⊎ HasOpenFrom l.parts h.passes.items)
 
 -- why it has not gone on
-abbrev pub IsUnrolled : Home → Limits → Fault → Type 0
-IsUnrolled h l (faults.Refused refusals.NoMemory) = Unit {0}
-IsUnrolled h l (faults.Refused refusals.BadLimits) = AreBadFor h l
-IsUnrolled h l (faults.Refused refusals.Full) = WouldNotFit (home_limits h) h.passes.items l.parts (start l)
-IsUnrolled h l (faults.Refused other) = ⊥
-IsUnrolled h l faults.NotAll = ¬ AreAll h.keeper h.passes.items
-IsUnrolled h l faults.Nothing = h.passes.items ≡ []
-IsUnrolled h l faults.Unequal = AreLimits (home_limits h)
+abbrev pub IsHomeUnrolled : Home → Limits → Fault → Type 0
+IsHomeUnrolled h l (faults.Refused refusals.NoMemory) = Unit {0}
+IsHomeUnrolled h l (faults.Refused refusals.BadLimits) = AreBadFor h l
+IsHomeUnrolled h l (faults.Refused refusals.Full) = WouldNotFit (home_limits h) h.passes.items l.parts (start l)
+IsHomeUnrolled h l (faults.Refused other) = ⊥
+IsHomeUnrolled h l faults.NotAll = ¬ AreAll h.keeper h.passes.items
+IsHomeUnrolled h l faults.Nothing = h.passes.items ≡ []
+IsHomeUnrolled h l faults.Unequal = AreLimits (home_limits h)
     → WouldDiffer (home_limits h) h.passes.items l.parts (start l)
-IsUnrolled h l other = ⊥
+IsHomeUnrolled h l other = ⊥
 
 -- a rollover's fault
 abbrev pub fault_of : RollFault → Fault

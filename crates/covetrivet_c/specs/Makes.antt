@@ -18,10 +18,10 @@ use Rattle.covetrivet_c.specs.Homes.{TakesHome, home_limits}
 
 -- the handle led to nothing, and leads to a new manager with these limits; or the code says why not, and it
 -- leads where it led
-abbrev pub Makes : Limits → Option Home → Option Home → ℕ → Type 0
-Makes l None (Some new) code = (code ≡ 0) × IsNewHome l new
-Makes l None None code = (f : Fault) × (code ≡ code_of f) × IsUnmade l f
-Makes l (Some old) new code = (new ≡ Some old) × (code ≡ 2)
+abbrev pub MakesHome : Limits → Option Home → Option Home → ℕ → Type 0
+MakesHome l None (Some new) code = (code ≡ 0) × IsNewHome l new
+MakesHome l None None code = (f : Fault) × (code ≡ code_of f) × IsUnmade l f
+MakesHome l (Some old) new code = (new ≡ Some old) × (code ≡ 2)
 
 -- nothing else of the manager has changed than which passes are at home
 pub record OnlyPasses (old new : Home) : Type 0 where
@@ -42,8 +42,8 @@ OpensBy Lends Unlent (Some h) (Some h') None None code = OnlyPasses h h' × (h'.
 OpensBy Lends Unlent (Some h) None None c' code = ⊥
 
 -- that is the first one
-abbrev pub Opens : Option Home → Option Home → Option Caller → Option Caller → ℕ → Type 0
-Opens home home' c c' code = OpensBy LendsFirst IsUnlent home home' c c' code
+abbrev pub OpensCaller : Option Home → Option Home → Option Caller → Option Caller → ℕ → Type 0
+OpensCaller home home' c c' code = OpensBy LendsFirst IsUnlent home home' c c' code
 
 -- that is the one of this number
 abbrev pub OpensNumber : ℕ → Option Home → Option Home → Option Caller → Option Caller → ℕ → Type 0

@@ -19,7 +19,7 @@ use Rattle.covetrivet_c.specs.declared.shapes.BornOut.{BornOut}
 use Rattle.covetrivet_c.specs.declared.shapes.DraftIn.{DraftIn}
 use Rattle.covetrivet_c.specs.declared.fault.Fault.{Fault}
 use Rattle.covetrivet_c.specs.declared.fault.Fault.TheVariants as faults
-use Rattle.covetrivet_c.specs.Asked.{Asked, Goes, IsBusy, IsNoClaim, IsNoCommit, LooksAt, StaysFree}
+use Rattle.covetrivet_c.specs.Asked.{Asked, GoesSteps, IsBusy, IsNoClaim, IsNoCommit, LooksAtId, StaysFree}
 use Rattle.covetrivet_c.specs.Codes.{code_of, refusal_code}
 use Rattle.covetrivet_c.specs.Shapes.{draft_in}
 
@@ -33,7 +33,7 @@ Claiming Is stage old new (Err other) = (new ≡ old) × IsNoClaim stage old oth
 
 -- `claim`
 abbrev pub ClaimSays : ℕ → Limits → PassShown → PassShown → Result Work Fault → Type 0
-ClaimSays stage l old new r = Claiming (λ it. Goes (claim_steps l) old new
+ClaimSays stage l old new r = Claiming (λ it. GoesSteps (claim_steps l) old new
     × Follows (claim_steps_left l (marks_of old.lows stage)) old new × RaisesMarks l stage old new it
     × Claims l stage old new it) stage old new r
 
@@ -45,8 +45,8 @@ ClaimNextSays stage l old new r = Claiming (λ it. Follows (claim_next_steps l) 
 
 -- `claim_id`
 abbrev pub ClaimIdSays : ℕ → Limits → PassShown → PassShown → Result Work Fault → Type 0
-ClaimIdSays id l old new r = Asked (Goes claim_id_steps old new
-    × (claims_in old.mine < l.units → LooksAt l id old new))
+ClaimIdSays id l old new r = Asked (GoesSteps claim_id_steps old new
+    × (claims_in old.mine < l.units → LooksAtId l id old new))
     (λ work. TakesId l id work old new) (ClaimIdFails l id old new) (IsBusy old) old new r
 
 -- the unit that was open has ended, and none is open
@@ -61,18 +61,18 @@ AbortSays l old new (Err faults.NoOpen) = (new ≡ old) × (old.open_unit ≡ No
 AbortSays l old new (Err other) = ⊥
 
 -- a commit of these drafts
-abbrev pub Commits : Limits → List DraftView → PassShown → PassShown → Outcome → Type 0
-Commits l drafts old new it = Ended (commit_steps l (length drafts)) old new × Settles drafts old new it
+abbrev pub CommitsDrafts : Limits → List DraftView → PassShown → PassShown → Outcome → Type 0
+CommitsDrafts l drafts old new it = Ended (commit_steps l (length drafts)) old new × Settles drafts old new it
 
 -- `commit`
 abbrev pub CommitSays : List DraftIn → Limits → PassShown → PassShown → Result Outcome Fault → Type 0
-CommitSays drafts l old new r = MatchResult r (Commits l (map draft_in drafts) old new)
+CommitSays drafts l old new r = MatchResult r (CommitsDrafts l (map draft_in drafts) old new)
     (λ f. (new ≡ old) × IsNoCommit drafts old f)
 
 -- how the code, and the ids that are written, tell it
-abbrev pub TellsCommit : Result Outcome Fault → ℕ → BornOut → BornOut → Type 0
-TellsCommit (Ok (outcomes.Committed first count)) code old new =
+abbrev pub TellsOutcome : Result Outcome Fault → ℕ → BornOut → BornOut → Type 0
+TellsOutcome (Ok (outcomes.Committed first count)) code old new =
     (code ≡ 0) × (new ≡ record { first = first; count = count })
-TellsCommit (Ok outcomes.Lost) code old new = (code ≡ code_of faults.Lost) × (new ≡ old)
-TellsCommit (Ok outcomes.Full) code old new = (code ≡ refusal_code refusals.Full) × (new ≡ old)
-TellsCommit (Err f) code old new = (code ≡ code_of f) × (new ≡ old)
+TellsOutcome (Ok outcomes.Lost) code old new = (code ≡ code_of faults.Lost) × (new ≡ old)
+TellsOutcome (Ok outcomes.Full) code old new = (code ≡ refusal_code refusals.Full) × (new ≡ old)
+TellsOutcome (Err f) code old new = (code ≡ code_of f) × (new ≡ old)

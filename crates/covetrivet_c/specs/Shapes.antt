@@ -49,8 +49,8 @@ abbrev pub released_shape : Released → ReleasedOut
 released_shape r = record { unit = r.unit; attempt = r.attempt }
 
 -- the stage is one of an output
-abbrev pub IsDraft : DraftIn → Type 0
-IsDraft d = (1 ≤ d.stage) × (d.stage ≤ REPLY_STAGE)
+abbrev pub IsDraftIn : DraftIn → Type 0
+IsDraftIn d = (1 ≤ d.stage) × (d.stage ≤ REPLY_STAGE)
 
 abbrev pub draft_in : DraftIn → DraftView
 draft_in d = record { stage = d.stage; body = d.body }

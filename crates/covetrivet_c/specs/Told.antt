@@ -9,9 +9,9 @@ use Rattle.covetrivet_c.specs.Codes.{code_of}
 
 -- the code is 0, and what is written is the answer in this shape; or the code says why not, and nothing is
 -- written
-abbrev pub Tells : {X Y : Type 0} → (X → Y) → Result X Fault → ℕ → Y → Y → Type 0
-Tells shape (Ok x) code old new = (code ≡ 0) × (new ≡ shape x)
-Tells shape (Err f) code old new = (code ≡ code_of f) × (new ≡ old)
+abbrev pub TellsByCode : {X Y : Type 0} → (X → Y) → Result X Fault → ℕ → Y → Y → Type 0
+TellsByCode shape (Ok x) code old new = (code ≡ 0) × (new ≡ shape x)
+TellsByCode shape (Err f) code old new = (code ≡ code_of f) × (new ≡ old)
 
 -- the same where nothing is to be written
 abbrev pub TellsEnd : {X : Type 0} → Result X Fault → ℕ → Type 0
@@ -27,10 +27,10 @@ Through None new code Did Nothing = (new ≡ None) × (code ≡ 1) × Nothing
 
 -- What a call of C answers: what these words say of the manager's limits and of the pass before and after it,
 -- told by the code and by what is written.
-abbrev pub Answers : {X Y : Type 0} → (X → Y) → (Limits → PassShown → PassShown → Result X Fault → Type 0)
+abbrev pub AnswersByCode : {X Y : Type 0} → (X → Y) → (Limits → PassShown → PassShown → Result X Fault → Type 0)
     → Option Caller → Option Caller → ℕ → Y → Y → Type 0
-Answers {X} shape Says was is code old new = Through was is code
-    (λ a b. (r : Result X Fault) × Tells shape r code old new × Says (limits_of a) a.pass b.pass r)
+AnswersByCode {X} shape Says was is code old new = Through was is code
+    (λ a b. (r : Result X Fault) × TellsByCode shape r code old new × Says (limits_of a) a.pass b.pass r)
     (new ≡ old)
 
 -- the same where nothing is to be written
@@ -40,6 +40,6 @@ Ends {X} Says was is code = Through was is code
     (λ a b. (r : Result X Fault) × TellsEnd r code × Says (limits_of a) a.pass b.pass r) (Unit {0})
 
 -- what is written is this of the caller, which stays as it is
-abbrev pub Shows : {Y : Type 0} → (Caller → Y → Type 0) → Option Caller → Option Caller → ℕ → Y → Y → Type 0
-Shows Says (Some c) is code old new = (is ≡ Some c) × (code ≡ 0) × Says c new
-Shows Says None is code old new = (is ≡ None) × (code ≡ 1) × (new ≡ old)
+abbrev pub ShowsOfCaller : {Y : Type 0} → (Caller → Y → Type 0) → Option Caller → Option Caller → ℕ → Y → Y → Type 0
+ShowsOfCaller Says (Some c) is code old new = (is ≡ Some c) × (code ≡ 0) × Says c new
+ShowsOfCaller Says None is code old new = (is ≡ None) × (code ≡ 1) × (new ≡ old)

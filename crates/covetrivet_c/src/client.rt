@@ -2,7 +2,7 @@
 ghost use Rattle.covetrivet_c.specs.Clients.{CancelSays, CollectSays, ErrorSays, FamilySays, KillSays, NextSays};
 ghost use Rattle.covetrivet_c.specs.Clients.{ReadSays, ReleaseSays, ReplySays, RequeueSays, RoundsSays, SubmitSays};
 ghost use Rattle.covetrivet_c.specs.Shapes.{element_shape, look_shape, released_shape};
-ghost use Rattle.covetrivet_c.specs.Told.{Answers};
+ghost use Rattle.covetrivet_c.specs.Told.{AnswersByCode};
 
 use crate::caller_handle::CallerHandle;
 use crate::codes::CLOSED;
@@ -20,7 +20,7 @@ pub extern "C" fn covetrivet_submit(
     body: &Body,
     id: &mut u32,
 ) -> u32
-    ensures answer { Answers (λ n. n) (SubmitSays stage body.now)
+    ensures answer { AnswersByCode (λ n. n) (SubmitSays stage body.now)
         caller.old.held caller.new.held result id.old id.new }
 {
     let Some(mut inner) = caller.lift(alloc) else {
@@ -39,7 +39,7 @@ pub extern "C" fn covetrivet_read(
     id: u32,
     look: &mut LookOut,
 ) -> u32
-    ensures answer { Answers look_shape (ReadSays id)
+    ensures answer { AnswersByCode look_shape (ReadSays id)
         caller.old.held caller.new.held result look.old look.new }
 {
     let Some(mut inner) = caller.lift(alloc) else {
@@ -58,7 +58,7 @@ pub extern "C" fn covetrivet_rounds(
     id: u32,
     rounds: &mut u8,
 ) -> u32
-    ensures answer { Answers (λ n. n) (RoundsSays id)
+    ensures answer { AnswersByCode (λ n. n) (RoundsSays id)
         caller.old.held caller.new.held result rounds.old rounds.new }
 {
     let Some(mut inner) = caller.lift(alloc) else {
@@ -78,7 +78,7 @@ pub extern "C" fn covetrivet_reply(
     from: u32,
     id: &mut u32,
 ) -> u32
-    ensures answer { Answers (λ n. n) (ReplySays root from)
+    ensures answer { AnswersByCode (λ n. n) (ReplySays root from)
         caller.old.held caller.new.held result id.old id.new }
 {
     let Some(mut inner) = caller.lift(alloc) else {
@@ -97,7 +97,7 @@ pub extern "C" fn covetrivet_next_error(
     from: u32,
     id: &mut u32,
 ) -> u32
-    ensures answer { Answers (λ n. n) (ErrorSays from)
+    ensures answer { AnswersByCode (λ n. n) (ErrorSays from)
         caller.old.held caller.new.held result id.old id.new }
 {
     let Some(mut inner) = caller.lift(alloc) else {
@@ -117,7 +117,7 @@ pub extern "C" fn covetrivet_family(
     from: u32,
     look: &mut LookOut,
 ) -> u32
-    ensures answer { Answers look_shape (FamilySays root from)
+    ensures answer { AnswersByCode look_shape (FamilySays root from)
         caller.old.held caller.new.held result look.old look.new }
 {
     let Some(mut inner) = caller.lift(alloc) else {
@@ -136,7 +136,7 @@ pub extern "C" fn covetrivet_requeue(
     id: u32,
     round: &mut u8,
 ) -> u32
-    ensures answer { Answers (λ n. n) (RequeueSays id)
+    ensures answer { AnswersByCode (λ n. n) (RequeueSays id)
         caller.old.held caller.new.held result round.old round.new }
 {
     let Some(mut inner) = caller.lift(alloc) else {
@@ -155,7 +155,7 @@ pub extern "C" fn covetrivet_kill(
     id: u32,
     aborted: &mut u8,
 ) -> u32
-    ensures answer { Answers (λ n. n) (KillSays id)
+    ensures answer { AnswersByCode (λ n. n) (KillSays id)
         caller.old.held caller.new.held result aborted.old aborted.new }
 {
     let Some(mut inner) = caller.lift(alloc) else {
@@ -174,7 +174,7 @@ pub extern "C" fn covetrivet_cancel(
     root: u32,
     killed: &mut u32,
 ) -> u32
-    ensures answer { Answers (λ n. n) (CancelSays root)
+    ensures answer { AnswersByCode (λ n. n) (CancelSays root)
         caller.old.held caller.new.held result killed.old killed.new }
 {
     let Some(mut inner) = caller.lift(alloc) else {
@@ -193,7 +193,7 @@ pub extern "C" fn covetrivet_release(
     id: u32,
     released: &mut ReleasedOut,
 ) -> u32
-    ensures answer { Answers released_shape (ReleaseSays id)
+    ensures answer { AnswersByCode released_shape (ReleaseSays id)
         caller.old.held caller.new.held result released.old released.new }
 {
     let Some(mut inner) = caller.lift(alloc) else {
@@ -212,7 +212,7 @@ pub extern "C" fn covetrivet_collect(
     id: u32,
     element: &mut ElementOut,
 ) -> u32
-    ensures answer { Answers element_shape (CollectSays id)
+    ensures answer { AnswersByCode element_shape (CollectSays id)
         caller.old.held caller.new.held result element.old element.new }
 {
     let Some(mut inner) = caller.lift(alloc) else {
@@ -231,7 +231,7 @@ pub extern "C" fn covetrivet_collect_next(
     root: u32,
     element: &mut ElementOut,
 ) -> u32
-    ensures answer { Answers element_shape (NextSays root)
+    ensures answer { AnswersByCode element_shape (NextSays root)
         caller.old.held caller.new.held result element.old element.new }
 {
     let Some(mut inner) = caller.lift(alloc) else {

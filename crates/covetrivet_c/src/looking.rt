@@ -3,7 +3,7 @@ ghost use Rattle.std.specs.Prelude.{◌≡◌};
 ghost use Rattle.tp_manager.specs.Shown.{low_of};
 ghost use Rattle.covetrivet_c.specs.Makes.{IsOneManager, IsRoom, Meeting};
 ghost use Rattle.covetrivet_c.specs.Callers.{open_code};
-ghost use Rattle.covetrivet_c.specs.Told.{Shows};
+ghost use Rattle.covetrivet_c.specs.Told.{ShowsOfCaller};
 
 use crate::caller_handle::CallerHandle;
 use crate::codes::{CLOSED, OK};
@@ -17,7 +17,7 @@ pub extern "C" fn covetrivet_room(
     caller: &mut CallerHandle,
     room: &mut RoomOut,
 ) -> u32
-    ensures answer { Shows IsRoom caller.old.held caller.new.held result room.old room.new }
+    ensures answer { ShowsOfCaller IsRoom caller.old.held caller.new.held result room.old room.new }
 {
     let Some(inner) = caller.lift(alloc) else {
         return CLOSED;
@@ -38,7 +38,7 @@ pub extern "C" fn covetrivet_number(
     caller: &mut CallerHandle,
     number: &mut u16,
 ) -> u32
-    ensures answer { Shows (λ c n. n ≡ c.pass.number)
+    ensures answer { ShowsOfCaller (λ c n. n ≡ c.pass.number)
         caller.old.held caller.new.held result number.old number.new }
 {
     let Some(inner) = caller.lift(alloc) else {
@@ -59,7 +59,7 @@ pub extern "C" fn covetrivet_low(
     part: u16,
     low: &mut u16,
 ) -> u32
-    ensures answer { Shows (λ c n. n ≡ low_of c.pass stage part)
+    ensures answer { ShowsOfCaller (λ c n. n ≡ low_of c.pass stage part)
         caller.old.held caller.new.held result low.old low.new }
 {
     let Some(inner) = caller.lift(alloc) else {
@@ -78,7 +78,7 @@ pub extern "C" fn covetrivet_seen_blocks(
     caller: &mut CallerHandle,
     blocks: &mut u16,
 ) -> u32
-    ensures answer { Shows (λ c n. n ≡ c.pass.seen_blocks)
+    ensures answer { ShowsOfCaller (λ c n. n ≡ c.pass.seen_blocks)
         caller.old.held caller.new.held result blocks.old blocks.new }
 {
     let Some(inner) = caller.lift(alloc) else {
@@ -97,7 +97,7 @@ pub extern "C" fn covetrivet_has_open(
     caller: &mut CallerHandle,
     is_open: &mut u8,
 ) -> u32
-    ensures answer { Shows (λ c n. n ≡ open_code c.pass.open_unit)
+    ensures answer { ShowsOfCaller (λ c n. n ≡ open_code c.pass.open_unit)
         caller.old.held caller.new.held result is_open.old is_open.new }
 {
     let Some(inner) = caller.lift(alloc) else {

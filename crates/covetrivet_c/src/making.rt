@@ -1,6 +1,6 @@
 //! What C calls to make, open, close and hand back.
 ghost use Rattle.std.specs.Prelude.{◌≡◌, None};
-ghost use Rattle.covetrivet_c.specs.Makes.{HandsBack, IsOfHome, Makes, Opens, OpensNumber, ShowsHome, capacity_of};
+ghost use Rattle.covetrivet_c.specs.Makes.{HandsBack, IsOfHome, MakesHome, OpensCaller, OpensNumber, ShowsHome, capacity_of};
 ghost use Rattle.covetrivet_c.specs.Homes.{home_limits};
 ghost use Rattle.covetrivet_c.specs.Shapes.{limits_in, limits_shape};
 
@@ -11,14 +11,14 @@ use crate::home_handle::HomeHandle;
 use crate::shapes::{PlainLimits, limits_in, limits_out};
 use std::alloc::Global;
 
-/// Makes a manager with these limits. The handle leads to nothing before.
+/// MakesHome a manager with these limits. The handle leads to nothing before.
 #[unsafe(no_mangle)]
 pub extern "C" fn covetrivet_make(
     alloc: Global,
     limits: &PlainLimits,
     manager: &mut HomeHandle,
 ) -> u32
-    ensures made { Makes (limits_in limits.now) manager.old.held manager.new.held result }
+    ensures made { MakesHome (limits_in limits.now) manager.old.held manager.new.held result }
 {
     if let Some(home) = manager.lift(alloc) {
         manager.set(home);
@@ -41,14 +41,14 @@ pub extern "C" fn covetrivet_give_up(alloc: Global, manager: &mut HomeHandle)
     let _ = manager.lift(alloc);
 }
 
-/// Opens a caller with the first pass that is at home. Its handle leads to nothing before.
+/// OpensCaller a caller with the first pass that is at home. Its handle leads to nothing before.
 #[unsafe(no_mangle)]
 pub extern "C" fn covetrivet_open(
     alloc: Global,
     manager: &mut HomeHandle,
     caller: &mut CallerHandle,
 ) -> u32
-    ensures opened { Opens manager.old.held manager.new.held caller.old.held caller.new.held result }
+    ensures opened { OpensCaller manager.old.held manager.new.held caller.old.held caller.new.held result }
 {
     if let Some(inner) = caller.lift(alloc) {
         caller.set(inner);
@@ -68,7 +68,7 @@ pub extern "C" fn covetrivet_open(
     }
 }
 
-/// Opens the caller of this number, if it is at home. Its handle leads to nothing before.
+/// OpensCaller the caller of this number, if it is at home. Its handle leads to nothing before.
 #[unsafe(no_mangle)]
 pub extern "C" fn covetrivet_open_number(
     alloc: Global,

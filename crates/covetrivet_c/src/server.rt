@@ -4,9 +4,9 @@ ghost use Rattle.tp_model.specs.declared.types.Outcome.{Outcome};
 ghost use Rattle.covetrivet_c.specs.declared.fault.Fault.{Fault};
 ghost use Rattle.covetrivet_c.specs.Callers.{limits_of};
 ghost use Rattle.covetrivet_c.specs.Servers.{AbortSays, ClaimIdSays, ClaimNextSays, ClaimSays, CommitSays};
-ghost use Rattle.covetrivet_c.specs.Servers.{TellsCommit};
+ghost use Rattle.covetrivet_c.specs.Servers.{TellsOutcome};
 ghost use Rattle.covetrivet_c.specs.Shapes.{work_shape};
-ghost use Rattle.covetrivet_c.specs.Told.{Answers, Ends, Through};
+ghost use Rattle.covetrivet_c.specs.Told.{AnswersByCode, Ends, Through};
 
 use crate::caller_handle::CallerHandle;
 use crate::codes::CLOSED;
@@ -22,7 +22,7 @@ pub extern "C" fn covetrivet_claim(
     stage: u8,
     work: &mut WorkOut,
 ) -> u32
-    ensures answer { Answers work_shape (ClaimSays stage)
+    ensures answer { AnswersByCode work_shape (ClaimSays stage)
         caller.old.held caller.new.held result work.old work.new }
 {
     let Some(mut inner) = caller.lift(alloc) else {
@@ -41,7 +41,7 @@ pub extern "C" fn covetrivet_claim_next(
     stage: u8,
     work: &mut WorkOut,
 ) -> u32
-    ensures answer { Answers work_shape (ClaimNextSays stage)
+    ensures answer { AnswersByCode work_shape (ClaimNextSays stage)
         caller.old.held caller.new.held result work.old work.new }
 {
     let Some(mut inner) = caller.lift(alloc) else {
@@ -60,7 +60,7 @@ pub extern "C" fn covetrivet_claim_id(
     id: u32,
     work: &mut WorkOut,
 ) -> u32
-    ensures answer { Answers work_shape (ClaimIdSays id)
+    ensures answer { AnswersByCode work_shape (ClaimIdSays id)
         caller.old.held caller.new.held result work.old work.new }
 {
     let Some(mut inner) = caller.lift(alloc) else {
@@ -93,7 +93,7 @@ pub extern "C" fn covetrivet_commit(
     born: &mut BornOut,
 ) -> u32
     ensures answer { Through caller.old.held caller.new.held result
-        (λ old new. (r : Result Outcome Fault) × TellsCommit r result born.old born.new
+        (λ old new. (r : Result Outcome Fault) × TellsOutcome r result born.old born.new
         × CommitSays drafts.now (limits_of old) old.pass new.pass r) (born.new ≡ born.old) }
 {
     let Some(mut inner) = caller.lift(alloc) else {

@@ -10,7 +10,7 @@ impl Caller {
     ghost use Rattle.covetrivet_c.specs.declared.fault.Fault.TheVariants as faults;
     ghost use Rattle.covetrivet_c.specs.Callers.{limits_of};
     ghost use Rattle.covetrivet_c.specs.Servers.{AbortSays, ClaimIdSays, ClaimNextSays, ClaimSays, CommitSays};
-    ghost use Rattle.covetrivet_c.specs.Servers.{Commits};
+    ghost use Rattle.covetrivet_c.specs.Servers.{CommitsDrafts};
 
     /// Takes the first element of a stage, 1 to 14, that waits.
     pub fn claim(&mut self, stage: u8) -> Result<Work, Fault>
@@ -76,12 +76,12 @@ impl Caller {
         }
     }
 
-    /// Commits the open unit of work with these drafts, at most four.
+    /// CommitsDrafts the open unit of work with these drafts, at most four.
     fn commit_drafts(&mut self, drafts: &[Draft]) -> Result<Outcome, Fault>
         requires few { length drafts.now ≤ MAX_OUTPUTS }
         ensures manager { self.new.manager ≡ self.old.manager }
         ensures answer { MatchResult result
-            (Commits (limits_of self.old) drafts.now self.old.pass self.new.pass)
+            (CommitsDrafts (limits_of self.old) drafts.now self.old.pass self.new.pass)
             (λ f. (self.new.pass ≡ self.old.pass) × (f ≡ faults.NoOpen) × (self.old.pass.open_unit ≡ None)) }
     {
         if !self.pass.has_open() {
@@ -90,7 +90,7 @@ impl Caller {
         Ok(self.manager.commit(&mut self.pass, drafts))
     }
 
-    /// Commits the open unit of work with these drafts.
+    /// CommitsDrafts the open unit of work with these drafts.
     pub fn commit(&mut self, drafts: &[DraftIn]) -> Result<Outcome, Fault>
         ensures manager { self.new.manager ≡ self.old.manager }
         ensures answer { CommitSays drafts.now (limits_of self.old) self.old.pass self.new.pass result }

@@ -1,9 +1,9 @@
 //! Answers as C gets them: a code, and what is written where it is 0.
 ghost use Rattle.std.specs.Prelude.{◌≡◌};
-ghost use Rattle.covetrivet_c.specs.Servers.{TellsCommit};
+ghost use Rattle.covetrivet_c.specs.Servers.{TellsOutcome};
 ghost use Rattle.covetrivet_c.specs.Shapes.{counts_shape, element_shape, look_shape, moved_shape};
 ghost use Rattle.covetrivet_c.specs.Shapes.{released_shape, work_shape};
-ghost use Rattle.covetrivet_c.specs.Told.{Tells, TellsEnd};
+ghost use Rattle.covetrivet_c.specs.Told.{TellsByCode, TellsEnd};
 
 use crate::codes::{FULL, LOST, OK};
 use crate::fault::Fault;
@@ -16,7 +16,7 @@ use tp_rollover::Moved;
 
 /// Writes an answer that crosses as it is.
 pub(crate) fn tell<T: Copy>(answer: Result<T, Fault>, out: &mut T) -> u32
-    ensures { Tells (λ x. x) answer result out.old out.new }
+    ensures { TellsByCode (λ x. x) answer result out.old out.new }
 {
     match answer {
         Ok(it) => {
@@ -29,7 +29,7 @@ pub(crate) fn tell<T: Copy>(answer: Result<T, Fault>, out: &mut T) -> u32
 
 /// Writes an element with its status.
 pub(crate) fn tell_look(answer: Result<Look, Fault>, out: &mut LookOut) -> u32
-    ensures { Tells look_shape answer result out.old out.new }
+    ensures { TellsByCode look_shape answer result out.old out.new }
 {
     match answer {
         Ok(look) => {
@@ -42,7 +42,7 @@ pub(crate) fn tell_look(answer: Result<Look, Fault>, out: &mut LookOut) -> u32
 
 /// Writes an element.
 pub(crate) fn tell_element(answer: Result<Element, Fault>, out: &mut ElementOut) -> u32
-    ensures { Tells element_shape answer result out.old out.new }
+    ensures { TellsByCode element_shape answer result out.old out.new }
 {
     match answer {
         Ok(element) => {
@@ -55,7 +55,7 @@ pub(crate) fn tell_element(answer: Result<Element, Fault>, out: &mut ElementOut)
 
 /// Writes the unit of work that was released.
 pub(crate) fn tell_released(answer: Result<Released, Fault>, out: &mut ReleasedOut) -> u32
-    ensures { Tells released_shape answer result out.old out.new }
+    ensures { TellsByCode released_shape answer result out.old out.new }
 {
     match answer {
         Ok(released) => {
@@ -68,7 +68,7 @@ pub(crate) fn tell_released(answer: Result<Released, Fault>, out: &mut ReleasedO
 
 /// Writes what was claimed.
 pub(crate) fn tell_work(answer: Result<Work, Fault>, out: &mut WorkOut) -> u32
-    ensures { Tells work_shape answer result out.old out.new }
+    ensures { TellsByCode work_shape answer result out.old out.new }
 {
     match answer {
         Ok(work) => {
@@ -81,7 +81,7 @@ pub(crate) fn tell_work(answer: Result<Work, Fault>, out: &mut WorkOut) -> u32
 
 /// Writes which outputs are born.
 pub(crate) fn tell_commit(answer: Result<Outcome, Fault>, born: &mut BornOut) -> u32
-    ensures { TellsCommit answer result born.old born.new }
+    ensures { TellsOutcome answer result born.old born.new }
 {
     match answer {
         Ok(Outcome::Committed { first, count }) => {
@@ -96,7 +96,7 @@ pub(crate) fn tell_commit(answer: Result<Outcome, Fault>, born: &mut BornOut) ->
 
 /// Writes how many elements there are.
 pub(crate) fn tell_counts(answer: Result<Counts, Fault>, out: &mut CountsOut) -> u32
-    ensures { Tells counts_shape answer result out.old out.new }
+    ensures { TellsByCode counts_shape answer result out.old out.new }
 {
     match answer {
         Ok(counts) => {
@@ -109,7 +109,7 @@ pub(crate) fn tell_counts(answer: Result<Counts, Fault>, out: &mut CountsOut) ->
 
 /// Writes what was carried over.
 pub(crate) fn tell_moved(answer: Result<Moved, Fault>, out: &mut MovedOut) -> u32
-    ensures { Tells moved_shape answer result out.old out.new }
+    ensures { TellsByCode moved_shape answer result out.old out.new }
 {
     match answer {
         Ok(moved) => {

@@ -1,6 +1,6 @@
 //! A server's look for work.
-ghost use Rattle.std.specs.Prelude.{◌≡◌, ◌≢◌, ◌⊎◌, ℕ, ◌+◌, ◌-◌, ◌*◌, ◌<◌, ◌≤◌};
-ghost use Rattle.std.specs.Prelude.{slice_index, IfSome, MatchOption, Option, true, false};
+ghost use Rattle.std.specs.Prelude.{◌≡◌, ◌≢◌, ◌⊎◌, ℕ, ◌+◌, ◌-◌, ◌*◌, ◌<◌, ◌≤◌, slice_index, IfSome};
+ghost use Rattle.std.specs.Prelude.{MatchOption, Option, true, false};
 ghost use Rattle.tp_model.specs.declared.types.Element.{Element as element};
 ghost use Rattle.tp_model.specs.Steps.{block_first, part_rows, rows_of, IsServerStage};
 ghost use Rattle.tp_words.specs.Words.{claim_value, head_of, IsFitClaim};
@@ -11,23 +11,18 @@ ghost use Rattle.tp_rule.specs.Views.{seen_by, view_of, IsSameSeat};
 ghost use Rattle.tp_rule.specs.Steps.{Knows};
 ghost use Rattle.tp_rule.specs.declared.view.Known.TheVariants.{PartMark};
 ghost use Rattle.tp_rule.specs.Tables.{table_limits};
-ghost use Rattle.tp_manager.specs.Bounds.{marked_steps, scan_steps, spare_left, try_steps};
-ghost use Rattle.tp_manager.specs.Bounds.{drawn_steps};
+ghost use Rattle.tp_manager.specs.Bounds.{marked_steps, scan_steps, spare_left, try_steps, drawn_steps};
 ghost use Rattle.tp_manager.specs.RowSteps.{lean_scan_steps, parts_left};
 ghost use Rattle.tp_manager.specs.Shown.{NoneFalls};
 ghost use Rattle.tp_manager.specs.declared.scanning.Stand.TheVariants as stands;
 ghost use Rattle.tp_manager.specs.Looks.{GoesOn, HasStand};
 ghost use Rattle.tp_manager.specs.Leans.{scan_end, IsLean, IsLeanAt, IsLeanIn};
 ghost use Rattle.tp_manager.specs.Spares.{SpareRests};
-ghost use Rattle.tp_manager.specs.Marks.{AreFinished, CameTo, RestInParts, RestsAt, WasOfUse};
-ghost use Rattle.tp_manager.specs.Scans.{Begun};
-ghost use Rattle.tp_manager.specs.Marks.{WasUnsettled};
+ghost use Rattle.tp_manager.specs.Marks.{AreFinished, CameTo, RestInParts, RestsAt, WasOfUse, WasUnsettled};
+ghost use Rattle.tp_manager.specs.Marks.{Remembers, RemembersGaps, RisesAt, Rose};
+ghost use Rattle.tp_manager.specs.Scans.{Begun, Sought, EachRow, OfPart, PassedBy, IsSpare, Took};
 ghost use Rattle.tp_manager.specs.CallSteps.{IsSteady, Looked};
 ghost use Rattle.tp_manager.specs.BetweenCalls.{RemembersDone, RemembersDrawn};
-ghost use Rattle.tp_manager.specs.Scans.{Sought, EachRow};
-ghost use Rattle.tp_manager.specs.Scans.{OfPart};
-ghost use Rattle.tp_manager.specs.Marks.{Remembers, RemembersGaps, RisesAt, Rose};
-ghost use Rattle.tp_manager.specs.Scans.{PassedBy, IsSpare, Took};
 
 use crate::gaps::Gaps;
 use crate::manager::Shared;
