@@ -100,6 +100,10 @@ class Worker:
     def is_free(self):
         return self.unit is None and self.lost is None
 
+    def is_place(self):
+        """Whether it is a place that no worker has."""
+        return self.name.startswith("-")
+
 
 @dataclass
 class Run:
@@ -286,6 +290,20 @@ class Run:
         answer = self.ended_at(worker, by, verb, words)
         self.notes.heard(worker.name, answer, was_before)
         return answer
+
+    def join(self, name, stage):
+        """A worker comes: it takes the first free place, if there is one."""
+        at = next(at for at, it in enumerate(self.workers) if it.is_place())
+        self.workers[at].name, self.workers[at].stage = name, stage
+        return f"joined {name}"
+
+    def leave(self, name):
+        """A worker gives up what it has in hand, and goes. Nothing is known any more of its last unit."""
+        at = next(at for at, it in enumerate(self.workers) if it.name == name)
+        answer = self.at_worker("abort", at)
+        self.notes.ends.pop(name, None)
+        self.workers[at].name, self.workers[at].stage = f"-{at}", 1
+        return f"left {name} {answer}"
 
     def ended_at(self, worker, by, verb, words):
         """What a worker's commit or abort is answered."""

@@ -41,8 +41,9 @@ from covetrivet.batch import Batch, Later
 from covetrivet.client import Client
 from covetrivet.commands import (
     Command, abort, account, balance, cancel, claim, claim_next, collect, commit, count, depth,
-    drain, drain_next, drop, dump, errors, family, forget, holds, kill, last, last_work, prepare, read,
-    receive, register, release, reply, requeue, rollover, room, send, submit, take, total, turn, waiting,
+    drain, drain_next, drop, dump, errors, family, forget, holds, join, kill, last, last_work, leave,
+    prepare, read, receive, register, release, reply, requeue, rollover, room, send, submit, take, total,
+    turn, waiting,
 )  # fmt: skip
 from covetrivet.faults import (
     Disconnected, JournalFault, LogFault, NoProgram, SessionBroken, SessionClosed, SessionEnded,
@@ -59,9 +60,9 @@ __all__ = [
     "RolledOver", "Room", "Sent", "Session", "SessionBroken", "SessionClosed", "SessionEnded",
     "SessionFault", "Submitted", "UnitEnd", "Unknown", "Work", "abort", "account", "balance", "cancel",
     "claim", "claim_next", "collect", "commit", "connect", "count", "depth", "drain", "drain_next", "drop",
-    "dump", "errors", "family", "forget", "holds", "kill", "last", "last_work", "prepare", "read",
-    "receive", "refusals", "register", "release", "reply", "requeue", "rollover", "room", "send", "submit",
-    "take", "total", "turn", "waiting",
+    "dump", "errors", "family", "forget", "holds", "join", "kill", "last", "last_work", "leave", "prepare",
+    "read", "receive", "refusals", "register", "release", "reply", "requeue", "rollover", "room", "send",
+    "submit", "take", "total", "turn", "waiting",
 ]  # fmt: skip
 
 __version__ = version()

@@ -14,7 +14,7 @@ covetrivet [SESSION]    answers a session line by line, of a file or its input
 covetrivet serve, node, call, top   one session for many processes (--help)
 covetrivet --help, --version    COVETRIVET_PROGRAM names the program of sessions
 Head     rows N  units N  limit N  spare N   (to 256, 1024, 7, 256; these first)
-         worker NAME STAGE       NAME is 1 to 8 letters, STAGE 1 to 14
+         worker NAME STAGE  workers N    1 to 8 letters, 1 to 14; N places
          server NAME eager|lazy STAGE REGISTERS add|take|pass OUT ..
          start NAME REGISTER N   OUT is STAGE:W0:W1[:W2[:W3]]; 15 replies
 Client   submit STAGE W0 W1 [W2 [W3]]                   submitted ID
@@ -26,7 +26,7 @@ Client   submit STAGE W0 W1 [W2 [W3]]                   submitted ID
 Worker   claim NAME         NAME work ID unit U attempt N root R body W0:..:W3
          next NAME, take NAME ID    the same, in turn; of this element
          commit NAME OUT .. NAME done ID unit U outputs FIRST COUNT (4 OUT)
-         abort NAME         NAME aborted ID
+         abort NAME         NAME aborted ID; worker NAME STAGE  leave NAME
 Server   turn NAME   claim, next, take, prepare, commit, abort, drop NAME
          balance NAME REGISTER    sum REGISTER    drain    drain next
 All      rollover           rolled over N OLD:NEW ..  used rows are free again

@@ -104,6 +104,25 @@ def abort(name: str) -> Command[int]:
     return Command("abort", name, read=lambda it: it.said_of(name).numbers("aborted E")[0])
 
 
+def join(name: str, stage: int) -> Command[None]:
+    """A worker of this stage comes (`worker`, behind the head): it takes the first free place. BadLimits
+    where there is none, and BadName where a worker, a server or a client has the name.
+    """
+    return Command("worker", name, number(stage), read=lambda it: nothing(f"joined {name}")(it))
+
+
+def leave(name: str) -> Command[int | None]:
+    """The worker gives up what it has in hand, and leaves: its place is free. The element that it had in hand
+    is returned, if there was one, also where another caller had aborted its unit.
+    """
+
+    def read(heard: Heard) -> int | None:
+        found = heard.formed(rf"left {name} (?:none|(?:aborted|already) (\d+))")
+        return heard.elements([found[1]])[0] if found[1] else None
+
+    return Command("leave", name, read=read)
+
+
 def turn(name: str) -> Command[answers.Done | None]:
     """The server takes a turn: it claims an element, and commits its work on it. None where nothing waits."""
 
@@ -317,7 +336,7 @@ def room() -> Command[answers.Room]:
     """
 
     def read(heard: Heard) -> answers.Room:
-        found = heard.formed(r"room client (\d+:\d+)((?: [a-z]+ \d+:\d+)*) spare (\d+)")
+        found = heard.formed(r"room client (\d+:\d+)((?: [-a-z\d]+ \d+:\d+)*) spare (\d+)")
         words = found[2].split()
         others = {name: left(told) for name, told in zip(words[::2], words[1::2])}
         return answers.Room(left(found[1]), others, int(found[3]))

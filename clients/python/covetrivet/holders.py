@@ -10,7 +10,7 @@ from covetrivet.lines import UNKNOWN
 from covetrivet.relay import Asked, Caller
 
 BEGINS = ("claim", "take", "next")
-ABOUT_UNITS = frozenset([*BEGINS, "commit", "abort", "drop", "prepare"])
+ABOUT_UNITS = frozenset([*BEGINS, "commit", "abort", "drop", "prepare", "leave"])
 REFUSED = re.compile(r"refused (?:line \d+: )?\d+ (\w+)")
 
 
@@ -39,7 +39,7 @@ class Holders:
         name = asked.name
         if asked.verb not in ABOUT_UNITS:
             return None
-        said, _, rest = answer.partition(" ")
+        said, _, rest = (answer.removeprefix("left ") if asked.verb == "leave" else answer).partition(" ")
         if said != name or REFUSED.match(answer):
             return None
         if asked.verb in BEGINS and rest.startswith("work "):
@@ -72,7 +72,7 @@ class Holders:
 
 def ends(verb: str, said: str) -> bool:
     """Whether a unit is over with this answer, behind the name. Work that a server declined is aborted."""
-    return verb in ("commit", "abort", "drop") or verb == "prepare" and said.startswith("refused ")
+    return verb in ("commit", "abort", "drop", "leave") or verb == "prepare" and said.startswith("refused ")
 
 
 class Orphans:

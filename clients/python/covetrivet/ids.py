@@ -64,8 +64,9 @@ class Ids:
         """Returns what tells the ids in the answer to a line. A worker that hears of what it lost before a
         rollover is told the id that it knew.
         """
-        name, _, said = answer.partition(" ")
-        ends = line.split(maxsplit=1)[:1] in (["commit"], ["abort"])
+        verb = line.split(maxsplit=1)[:1]
+        name, _, said = (answer.removeprefix("left ") if verb == ["leave"] else answer).partition(" ")
+        ends = verb in (["commit"], ["abort"], ["leave"])
         if ends and name in self.lost and said.startswith(("lost ", "already ")):
             last = self.lost.pop(name)
             return lambda _element: last

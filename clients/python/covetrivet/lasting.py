@@ -38,6 +38,7 @@ OF_LAST = re.compile(
 # Where the ids are in the answers to each command, but for lists.
 FORMS = {
     **dict.fromkeys(("claim", "next", "take", "commit", "abort", "turn", "prepare", "drop"), OF_NAME),
+    "leave": re.compile(r"left \w+ (?:aborted|already) (\d+)"),
     "submit": re.compile(r"submitted (\d+)"),
     "kill": re.compile(r"killed (\d+)"),
     "cancel": re.compile(r"cancelled (\d+)"),

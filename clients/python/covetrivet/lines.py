@@ -8,7 +8,8 @@ from itertools import takewhile
 
 TO_RESTORE = ("alive", "held", "lost", "request", "ended")
 OF_HEAD = (
-    "rows", "units", "limit", "spare", "server", "start", "worker", "register", "client", *TO_RESTORE
+    "rows", "units", "limit", "spare", "server", "start", "worker", "workers", "register", "client",
+    *TO_RESTORE,
 )  # fmt: skip
 # What changes nothing. A log needs none of it.
 QUIET = (
@@ -120,6 +121,14 @@ def beginning(lines: Sequence[str]) -> tuple[list[str], list[str]]:
     others = list(lines[len(head) :])
     restores = any(map(is_to_restore, head)) or others[:1] and others[0].split() == ["restore"]
     return [*head, others.pop(0) if restores else "count"], others
+
+
+def with_end(lines: Sequence[str]) -> list[str]:
+    """Returns the lines, and behind a head that has free places a command that changes nothing: else the next
+    line may be of a worker that comes, and would be one of the head.
+    """
+    is_open = is_only_head(lines) and any(re.match(" *(workers|worker +-)", it) for it in lines)
+    return [*lines, "count"] if is_open else list(lines)
 
 
 def pieces_of(lines: Sequence[str]) -> Iterator[list[str]]:

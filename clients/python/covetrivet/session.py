@@ -18,7 +18,7 @@ from covetrivet.faults import LogFault, SessionBroken, SessionClosed
 from covetrivet.ids import Ids, rolled_over
 from covetrivet.lines import (
     NOBODY, beginning, checked, head_of, is_answered, is_empty, is_for_logs, is_only_head, is_rollover,
-    is_to_restore, pieces_of,
+    is_to_restore, pieces_of, with_end,
 )  # fmt: skip
 from covetrivet.log import Log
 from covetrivet.pipe import Pipe
@@ -171,7 +171,7 @@ class Session:
         """Sends the lines. A log begins once they are answered."""
         self._send_beginning(lines, 0)
         if self._log_path and not self._log:
-            self._log = Log.begun(self._log_path, lines)
+            self._log = Log.begun(self._log_path, with_end(lines))
 
     def _send_beginning(self, lines: list[str], known: int) -> None:
         """Sends the lines but for so many that are known. One of the head has no answer unless it is refused,
@@ -315,6 +315,8 @@ class Session:
     take = asked(commands.take)
     commit = asked(commands.commit)
     abort = asked(commands.abort)
+    join = asked(commands.join)
+    leave = asked(commands.leave)
     turn = asked(commands.turn)
     prepare = asked(commands.prepare)
     drop = asked(commands.drop)

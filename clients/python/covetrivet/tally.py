@@ -13,7 +13,7 @@ from covetrivet.relay import Asked
 VERBS = frozenset(
     "submit claim take next commit abort turn prepare drop kill cancel requeue release read reply collect"
     " family errors count depth list room holds balance sum account drain rollover dump restore register send"
-    " receive last forget".split()
+    " receive last forget worker leave".split()
 )
 
 

@@ -95,6 +95,31 @@ class Calls(unittest.TestCase):
         with self.assertRaises(refusals.BadName):
             session.claim_next("nobody")
 
+    def test_workers_that_come_and_go(self) -> None:
+        with Session([*HEAD, "workers 2"], on_full="rollover") as session:
+            with self.assertRaises(refusals.BadName):
+                session.join("till", 1)
+            session.join("left", 1)
+            with self.assertRaises(refusals.BadLimits):
+                session.join("more", 1)
+            element = session.submit(1, 5, 6).element
+            self.assertEqual(session.claim("left"), Work(element, 24, 1, 0, (5, 6, 0, 0)))
+            self.assertEqual(session.leave("left"), element)
+            self.assertEqual(session.room().others["-1"], Left(8, 7))
+            session.join("left", 1)
+            self.assertEqual(session.claim("left"), Work(element, 25, 2, 0, (5, 6, 0, 0)))
+            session.kill(element)
+            session.rollover()
+            # (what it lost before is told by the id that it knew)
+            other = session.submit(1, 7).element
+            self.assertEqual(session.leave("left"), element)
+            self.assertNotEqual(element, other)
+            with self.assertRaises(refusals.BadName):
+                session.leave("left")
+            session.join("more", 1)
+            self.assertIsNone(session.leave("more"))
+            self.assertIn("worker -1 1", session.dump().lines)
+
     def test_stages(self) -> None:
         session = self.session
         self.assertEqual((session.depth(), session.waiting(1)), ((), ()))

@@ -33,7 +33,7 @@ use Rattle.tp_script.specs.declared.script.DeskAct.{DeskAct}
 use Rattle.tp_session.specs.Dump.{all_starts, drop_lines, drop_of, dump_text, life_text, lost_lines, server_line, server_starts, settings_lines, worker_text}
 use Rattle.tp_session.specs.declared.hand.Holding.{Holding}
 use Rattle.tp_exact.specs.PlainOverviews.{overview_line}
-use Rattle.tp_exact.specs.PlainSession.{Refusals, SessionState, session_act_step, anew_as, command_by, dump_of, first_refusal, session_desk_open, last_step, line_step, lines_step, other_refusals, rolled_over, unless_refused, worker_step, session_works_in}
+use Rattle.tp_exact.specs.PlainSession.{SessionState, session_act_step, anew_as, command_by, dump_of, leave_step, session_desk_open, last_step, rolled_over, unless_refused, worker_step, session_works_in}
 
 -- what acts go by of a server
 abbrev pub strip : ServerView → ServerView
@@ -177,9 +177,10 @@ abbrev pub IsNoRestore : Act → Type 0
 IsNoRestore acts.Restore = ⊥
 IsNoRestore other = Unit {0}
 
-abbrev pub AsksNoRestore : Result (Option Act) LineFault → Type 0
-AsksNoRestore (Ok (Some act)) = IsNoRestore act
-AsksNoRestore other = Unit {0}
+-- what is asked for isn't
+abbrev pub AsksNoRestore : Option Act → Type 0
+AsksNoRestore None = Unit {0}
+AsksNoRestore (Some act) = IsNoRestore act
 
 module _ (g h : HeadView) (same : SayTheSame g h) where
   servers_many : length g.servers ≡ length h.servers
@@ -215,7 +216,7 @@ module _ (g h : HeadView) (same : SayTheSame g h) where
   same_by true why c s = ap (λ done. unless_refused (session_desk_open s) why s done) (same_rolled s)
   same_by false why c s = ap (λ (step : List ℕ × ReportState). (step.0, record s { report = step.1 })) (same_step g.servers h.servers same.servers c s.report)
 
-  same_act : (why : Option RollFault) (act : Act) (s : SessionState) → IsNoRestore act → session_act_step g why act s ≡ session_act_step h why act s
+  pub same_act : (why : Option RollFault) (act : Act) (s : SessionState) → IsNoRestore act → session_act_step g why act s ≡ session_act_step h why act s
   same_act why (acts.Command c) s is = same_by (is_rollover c) why c s
   same_act why (acts.Worker at act) s is =
       ap (λ (ws : List WorkerView). worker_step (slice_get ws at) act at (1 + length g.servers + at) s) same.workers
@@ -227,24 +228,8 @@ module _ (g h : HeadView) (same : SayTheSame g h) where
   same_act why (acts.Overview what) s is =
       let named : names_of g ≡ names_of h = ap (λ ns. ns ++ map (λ x. x.name) g.workers) (same_names g.servers h.servers same.servers) ∙ ap (λ (ws : List WorkerView). map (λ v. v.name) h.servers ++ map (λ x. x.name) ws) same.workers in
       ap (λ names. (overview_line names what s.report.manager s.report.desks s.works, s)) named
+  same_act why (acts.Joined name) s is = refl
+  same_act why (acts.Leave at name) s is =
+      ap (λ (ws : List WorkerView). leave_step (slice_get ws at) name at (1 + length g.servers + at) s) same.workers
+      ∙ ap (λ n. leave_step (slice_get h.workers at) name at (1 + n + at) s) servers_many
   same_act why (acts.Last at) s is = ap (λ (ws : List WorkerView). (last_step (slice_get ws at) at s, s)) same.workers
-
-  -- ---- lines
-
-  same_line : (n : ℕ) (why : Option RollFault) (s : SessionState) (r : Result (Option Act) LineFault) → AsksNoRestore r → line_step g n why r s ≡ line_step h n why r s
-  same_line n why s (Ok None) is = refl
-  same_line n why s (Ok (Some act)) is = same_act why act s is
-  same_line n why s (Err fault) is = refl
-
-  -- a line behind the head says the same, and isn't `restore`
-  pub same_lines_step : ((line : List ℕ) → body_at line g ≡ body_at line h) → ((line : List ℕ) → AsksNoRestore (body_at line h)) → (past : ℕ) (refusals : Refusals) (lines : List (List ℕ)) (s : SessionState) → lines_step g past refusals lines s ≡ lines_step h past refusals lines s
-  same_lines_step said never past refusals [] s = refl
-  same_lines_step said never past refusals (line ∷ lines) s =
-      let why = first_refusal refusals in
-      let n = past + 1 in
-      let one : line_step g n why (body_at line g) s ≡ line_step h n why (body_at line h) s = ap (λ r. line_step g n why r s) (said line) ∙ same_line n why s (body_at line h) (never line) in
-      ap (λ first. and_then first (lines_step g n (other_refusals refusals) lines first.1)) one
-      ∙ (let first = line_step h n why (body_at line h) s in ap (and_then first) (same_lines_step said never n (other_refusals refusals) lines first.1))
-    where
-      and_then : List ℕ × SessionState → List ℕ × SessionState → List ℕ × SessionState
-      and_then first rest = (first.0 ++ rest.0, rest.1)

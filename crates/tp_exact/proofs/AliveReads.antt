@@ -26,7 +26,8 @@ use Rattle.tp_script.specs.declared.head.TheConstants.{MAX_ALIVE}
 use Rattle.tp_session.specs.Dump.{attempts_of, draft_text, element_text, held_text, holder_in, text_by}
 use Rattle.tp_exact.specs.AliveReads.{AliveLineReads, HeldLineReads, IsBody64, IsFit, IsFreeWorker}
 use Rattle.tp_exact.specs.Dumps.{tries_of}
-use Rattle.tp_exact.proofs.LineReads.{bind_ok, digits_allowed, digits_free, letters_of, line_ok, no_space, number_ok, some_letters, word_long}
+use Rattle.tp_exact.proofs.LineReads.{bind_ok, digits_allowed, digits_free, line_ok, no_space, number_ok, word_long}
+use Rattle.tp_exact.proofs.PlaceNames.{place_short}
 use Rattle.tp_exact.proofs.WordLines.{words_read}
 use Rattle.tp_exact.proofs.Cuts.{Bytes, Free, and_true, counted, cut, digits, free_of, le_true, uncounted, uncut, wider, with_more, words_last, words_more}
 
@@ -241,12 +242,12 @@ alive_front = record {
   no_comment = refl;
 }
 
-held_front : (name : List ℕ) → Bytes 97 122 name → 0 < length name → Front (codes "held " ++ (name ++ 32 ∷ [])) (codes "held" ∷ name ∷ [])
+held_front : (name : List ℕ) → Bytes 33 126 name → 0 < length name → Front (codes "held " ++ (name ++ 32 ∷ [])) (codes "held" ∷ name ∷ [])
 held_front name small some = record {
   words_are = λ rest.
       words_more (codes "held") ((name ++ 32 ∷ []) ++ rest) (omega arith) held_word
-      ∙ ap (λ z. codes "held" ∷ z) (ap words (append_assoc name (32 ∷ []) rest) ∙ words_more name rest some (free_of 32 97 122 name (λ c low high e. omega (arith, low, e)) small));
-  bytes = ((omega arith, omega arith), ((omega arith, omega arith), ((omega arith, omega arith), ((omega arith, omega arith), ((omega arith, omega arith), with_more 32 126 name (32 ∷ []) (wider 97 122 32 126 name (omega arith) (omega arith) small) ((omega arith, omega arith), tt))))));
+      ∙ ap (λ z. codes "held" ∷ z) (ap words (append_assoc name (32 ∷ []) rest) ∙ words_more name rest some (free_of 32 33 126 name (λ c low high e. omega (arith, low, e)) small));
+  bytes = ((omega arith, omega arith), ((omega arith, omega arith), ((omega arith, omega arith), ((omega arith, omega arith), ((omega arith, omega arith), with_more 32 126 name (32 ∷ []) (wider 33 126 32 126 name (omega arith) (omega arith) small) ((omega arith, omega arith), tt))))));
   first = 104;
   others = 101 ∷ 108 ∷ 100 ∷ 32 ∷ (name ++ 32 ∷ []);
   whole = refl;
@@ -405,7 +406,7 @@ module _ (s : Survivor) (tries : ℕ) (fit : IsFit s) (few : tries ≤ MAX_ATTEM
       ]
 
   -- a `held` line
-  module _ (name : List ℕ) (small : Bytes 97 122 name) (letters : 0 < length name) (few_letters : length name ≤ 8) (worker : ℕ) (some : 1 ≤ tries) where
+  module _ (name : List ℕ) (small : Bytes 33 126 name) (letters : 0 < length name) (few_letters : length name ≤ 8) (worker : ℕ) (some : 1 ≤ tries) where
     abbrev name_front : List ℕ
     name_front = codes "held " ++ (name ++ 32 ∷ [])
 
@@ -477,11 +478,10 @@ pub held_line_reads : HeldLineReads
 held_line_reads workers first worker w s h fit holds there free room =
     let few : attempts_of s.status + 1 ≤ MAX_ATTEMPTS = subst (λ o. tries_of s.status o ≤ MAX_ATTEMPTS) holds fit.attempts in
     let back : (first + worker) - first ≡ worker = omega arith in
-    let parts = and_parts (not (length w.name == 0) && nat_le (length w.name) 8) (list_all (λ b. nat_le 97 b && nat_le b 122) w.name) free.named in
-    let some = and_parts (not (length w.name == 0)) (nat_le (length w.name) 8) parts.0 in
+    let so = place_short w.name free.named in
     let text : text_by (holder_in workers first s.holder) s ≡ held_text w.name s =
     ap (λ o. text_by (holder_in workers first o) s) holds ∙ (ap (λ n. text_by (slice_get workers n) s) back ∙ ap (λ o. text_by o s) there) in
     ap (λ t. head_at t h) text
-    ∙ (held_reads s (attempts_of s.status + 1) fit few w.name (letters_of w.name parts.1) (some_letters w.name some.0) (leb-true (length w.name) 8 some.1) worker (omega arith) h (free_ok w.name worker h free) room
+    ∙ (held_reads s (attempts_of s.status + 1) fit few w.name so.0 so.1 so.2 worker (omega arith) h (free_ok w.name worker h free) room
     ∙ (ap (λ n. Ok (record h { alive = h.alive ++ record (line_by first s (Some (first + worker))) { holder = Some n } ∷ [] }, None)) (sym back)
     ∙ ap (λ o. Ok (record h { alive = h.alive ++ line_by first s o ∷ [] }, None)) (sym holds)))

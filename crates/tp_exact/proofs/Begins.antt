@@ -50,6 +50,8 @@ none_needed act.Restore raceless = refl
 none_needed (act.Noted name a) raceless = refl
 none_needed (act.Last at) raceless = refl
 none_needed (act.Overview what) raceless = refl
+none_needed (act.Joined name) raceless = refl
+none_needed (act.Leave at name) raceless = refl
 
 pub no_racers : (all : List Act) → has_race all ≡ false → racing all ≡ 0
 no_racers [] raceless = refl

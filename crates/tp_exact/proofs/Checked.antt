@@ -1,5 +1,5 @@
 -- Each server of a head that was read has a recipe without a fault.
-use Rattle.std.proofs.Common.{◌≡◌, ℕ, zero, suc, ◌-◌, ◌^◌, Bool, true, false, cond, not, List, [], ◌∷◌, ◌++◌, All, length, Option, Some, None, Result, Ok, Err, nat_lt, refl, ap, subst}
+use Rattle.std.proofs.Common.{◌≡◌, ℕ, zero, suc, ◌-◌, ◌^◌, ◌&&◌, Bool, true, false, cond, not, List, [], ◌∷◌, ◌++◌, All, length, Option, Some, None, Result, Ok, Err, nat_le, nat_lt, refl, ap, subst}
 use Rattle.std.specs.Prelude.{is_ok, replicate, slice_get, slice_set}
 use Rattle.std.proofs.lemmas.List.Elements.{All-append, All-cons, All-head, All-nil, All-set, All-tail}
 use Rattle.tp_server.specs.declared.recipe.BadRecipe.{BadRecipe}
@@ -21,6 +21,7 @@ use Rattle.tp_script.specs.Grammar.{account_at, act_at, alive_line, dump_at, end
 use Rattle.tp_script.specs.Clients.{ClientWords, client_line, client_words, has_request, known_client, note_of, noted_at, nothing_noted, register_line, request_line, with_client, with_registered, with_request}
 use Rattle.tp_script.specs.Ends.{EndWords, end_of, ended_line, ended_words, unended_worker, with_end}
 use Rattle.tp_script.specs.Notes.{NameView}
+use Rattle.tp_script.specs.Places.{first_places, worker_name, workers_line}
 use Rattle.tp_script.specs.declared.notes.ClientNote.{ClientNote}
 use Rattle.tp_script.specs.declared.notes.TheConstants.{MAX_CLIENTS}
 use Rattle.tp_script.specs.Hands.{free_worker, held_of, held_words}
@@ -163,22 +164,35 @@ module _ (name k v : List ℕ) (s : HeadView) where
 -- ---- workers, and what is alive
 
 module _ (name stage : List ℕ) (h : HeadView) where
-  abbrev with_worker : NameView → ℕ → HeadView
-  with_worker fresh place = record h { workers = h.workers ++ record { name = fresh.letters; stage = place } ∷ [] }
+  abbrev with_worker : List ℕ → ℕ → HeadView
+  with_worker fresh place = record h { workers = h.workers ++ record { name = fresh; stage = place } ∷ [] }
 
-  abbrev worker_room : NameView → ℕ → Result HeadView LineFault
+  abbrev worker_room : List ℕ → ℕ → Result HeadView LineFault
   worker_room fresh place = require (nat_lt (length h.workers) MAX_WORKERS) fault.BadLimits >>= λ u. Ok (with_worker fresh place)
 
-  abbrev of_stage : NameView → Result HeadView LineFault
+  abbrev of_stage : List ℕ → Result HeadView LineFault
   of_stage fresh = stage_at stage >>= λ place. worker_room fresh place
 
   worker_good : (t : HeadView) → worker_line (name, stage) h ≡ Ok t → Good h → Good t
   unfolding worker_line
   worker_good t is good =
-      let fresh = went (new_name name h) of_stage t is in
+      let fresh = went (worker_name name h) of_stage t is in
       let place = went (stage_at stage) (worker_room fresh.0) t fresh.2 in
       let room = went (require (nat_lt (length h.workers) MAX_WORKERS) fault.BadLimits) (λ u. Ok (with_worker fresh.0 place.0)) t place.2 in
       subst Good (went_to (with_worker fresh.0 place.0) t room.2) good
+
+workers_good : (w : List ℕ) (h t : HeadView) → workers_line w h ≡ Ok t → Good h → Good t
+unfolding workers_line
+workers_good w h t is good =
+    let n = went (number_at (2 ^ 64 - 1) w) of_number t is in
+    let room = went (require (nat_le (length h.workers) n.0 && nat_le n.0 MAX_WORKERS) fault.BadLimits) (λ u. Ok (with_places n.0)) t n.2 in
+    subst Good (went_to (with_places n.0) t room.2) good
+  where
+    with_places : ℕ → HeadView
+    with_places n = record h { workers = first_places h.workers n }
+
+    of_number : ℕ → Result HeadView LineFault
+    of_number n = require (nat_le (length h.workers) n && nat_le n MAX_WORKERS) fault.BadLimits >>= λ u. Ok (with_places n)
 
 with_alive_good : (line : AliveLine) (h t : HeadView) → with_alive line h ≡ Ok t → Good h → Good t
 with_alive_good line h t is good =
@@ -293,6 +307,11 @@ ends_good said h t is good =
     let a = went said (λ x. Ok (h, Some x)) t is in
     subst (λ (x : Read). Good x.0) (went_to (h, Some a.0) t a.2) good
 
+-- nothing is read of a line that is out of order
+never_so : {A B : Type 0} (r : Result A LineFault) (s : B) → (r >>= λ _. Err fault.Order) ≡ Ok s → ⊥
+never_so (Ok x) s so = absurd cc
+never_so (Err e) s so = absurd cc
+
 keyword_good : (driver : Driver) (k : Keyword) (ws : List (List ℕ)) (h : HeadView) (t : Read) → head_keyword driver k ws h ≡ Ok t → Good h → Good t.0
 unfolding head_keyword
 keyword_good driver first.Rows ws h t is good = in_good (one ws >>= λ w. rows_line w h) h t is (λ s so. let a = went (one ws) (λ w. rows_line w h) s so in rows_good a.0 h s a.2 good)
@@ -302,6 +321,8 @@ keyword_good driver first.Spare ws h t is good = in_good (one ws >>= λ w. spare
 keyword_good driver first.Server ws h t is good = in_good (server_line ws h) h t is (λ s so. server_good ws h s so good)
 keyword_good driver first.Start ws h t is good = in_good (three ws >>= λ w. start_line w h) h t is (λ s so. let a = went (three ws) (λ w. start_line w h) s so in start_good a.0.0 a.0.1 a.0.2 h s a.2 good)
 keyword_good driver first.Worker ws h t is good = in_good (two ws >>= λ w. worker_line w h) h t is (λ s so. let a = went (two ws) (λ w. worker_line w h) s so in worker_good a.0.0 a.0.1 h s a.2 good)
+keyword_good driver first.Workers ws h t is good = in_good (one ws >>= λ w. workers_line w h) h t is (λ s so. let a = went (one ws) (λ w. workers_line w h) s so in workers_good a.0 h s a.2 good)
+keyword_good driver first.Leave ws h t is good = in_good (one ws >>= λ _. Err fault.Order) h t is (λ s so. absurd (never_so (one ws) s so))
 keyword_good driver first.Alive ws h t is good = in_good (alive_line ws h) h t is (λ s so. alive_good ws h s so good)
 keyword_good driver first.Held ws h t is good = in_good (held_line ws h) h t is (λ s so. held_good ws h s so good)
 keyword_good driver first.Lost ws h t is good = in_good (two ws >>= λ w. lost_line w h) h t is (λ s so. let a = went (two ws) (λ w. lost_line w h) s so in lost_good a.0.0 a.0.1 h s a.2 good)

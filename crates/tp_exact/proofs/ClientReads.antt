@@ -24,6 +24,8 @@ use Rattle.tp_session.specs.Answers.{body_text}
 use Rattle.tp_session.specs.NoteTexts.{client_text, ended_text, id_text, request_text}
 use Rattle.tp_exact.proofs.LineReads.{bind_ok, line_ok, number_ok}
 use Rattle.tp_exact.proofs.Cuts.{Bytes, and_true, le_true}
+use Rattle.tp_exact.specs.HeadReads.{IsPlaceName}
+use Rattle.tp_exact.proofs.PlaceNames.{place_word}
 use Rattle.tp_exact.proofs.WordLines.{AreWords, Word, body_is, bytes_are, id_reads, id_word, joined, name_word, number_word, room_is, room_of, small_word, words_are}
 
 -- ---- a line of words
@@ -234,7 +236,7 @@ module _ (name : List ℕ) (worker : ℕ) (h : HeadView) (free : unended_worker 
   told_of (Lost element) fit = undone_told element fit (codes "lost") (Lost element) lost_word refl (lost_is element fit)
   told_of (Full element) fit = undone_told element fit (codes "full") (Full element) full_word refl (full_is element fit)
 
-module _ (name : List ℕ) (worker : ℕ) (how : UnitEnd) (h : HeadView) (fit : IsFitEnd how) (named : is_name name ≡ true) (at : worker_at name h ≡ Some worker) (new : has_ended worker h ≡ false) where
+module _ (name : List ℕ) (worker : ℕ) (how : UnitEnd) (h : HeadView) (fit : IsFitEnd how) (named : IsPlaceName name) (at : worker_at name h ≡ Some worker) (new : has_ended worker h ≡ false) where
   worker_ok : unended_worker name h ≡ Ok worker
   unfolding unended_worker
   worker_ok =
@@ -254,7 +256,7 @@ module _ (name : List ℕ) (worker : ℕ) (how : UnitEnd) (h : HeadView) (fit : 
   end_line : line_words (codes "ended " ++ (name ++ (32 ∷ ended_text how))) ≡ Ok (codes "ended" ∷ name ∷ told.first ∷ told.others)
   end_line =
       by_words 101 (110 ∷ 100 ∷ 101 ∷ 100 ∷ 32 ∷ (name ++ (32 ∷ ended_text how))) (codes "ended") (name ∷ told.first ∷ told.others) 8 (8 ∷ 8 ∷ told.lengths)
-      (ap (λ z. codes "ended " ++ (name ++ (32 ∷ z))) told.text) refl ended_word (name_word name named, (told.first_word, told.are_words)) (let f = told.few in omega (arith, f))
+      (ap (λ z. codes "ended " ++ (name ++ (32 ∷ z))) told.text) refl ended_word (place_word name named, (told.first_word, told.are_words)) (let f = told.few in omega (arith, f))
 
   pub end_reads : head_at (codes "ended " ++ (name ++ (32 ∷ ended_text how))) h ≡ Ok (ended, None)
   unfolding head_at

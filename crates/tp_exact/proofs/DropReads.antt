@@ -15,7 +15,7 @@ use Rattle.tp_reference.specs.PlainDesks.{does, has_open, nothing_done, with_dro
 use Rattle.tp_reference.specs.PlainReport.{desk_at, with_acted, worker}
 use Rattle.tp_reference.specs.declared.plain_desk.PlainDesk.{PlainDesk}
 use Rattle.tp_script.specs.Commands.{command_at, named, one_server}
-use Rattle.tp_script.specs.Grammar.{act_at, act_by, body_at, body_keyword, body_words, given_by, line_words}
+use Rattle.tp_script.specs.Grammar.{act_at, act_by, body_at, body_keyword, late_keyword, late_words, given_by, line_words}
 use Rattle.tp_script.specs.LineWords.{is_name, known, require}
 use Rattle.tp_script.specs.Script.{HeadView, ServerView}
 use Rattle.tp_script.specs.ServerLines.{server_at, worker_at}
@@ -27,11 +27,12 @@ use Rattle.tp_script.specs.declared.keyword.Verb.TheVariants as verb
 use Rattle.tp_script.specs.declared.script.Command.TheVariants.{Desk}
 use Rattle.tp_script.specs.declared.script.DeskAct.TheVariants as desk
 use Rattle.tp_session.specs.Dump.{drop_lines, drop_of}
-use Rattle.tp_exact.specs.PlainSession.{SessionState, line_step, lines_step}
+use Rattle.tp_exact.specs.PlainSession.{head_left, said_in, SessionState, line_step, lines_step}
 use Rattle.tp_exact.proofs.LineReads.{bind_ok}
 use Rattle.tp_exact.proofs.ClientReads.{by_words}
 use Rattle.tp_exact.proofs.LostReads.{got_some}
 use Rattle.tp_exact.proofs.Places.{passes}
+use Rattle.tp_script.specs.declared.notes.ClientNote.{ClientNote}
 use Rattle.tp_exact.proofs.WordLines.{Word, joined, name_word, small_word}
 
 -- ---- one line
@@ -55,19 +56,20 @@ module _ (name : List ℕ) (place : ℕ) (t : HeadView) (good : is_name name ≡
   act_is : act_at drivers.Session (verb.Desk desk.Drop) (name ∷ []) t ≡ Ok asked
   unfolding act_at
   act_is =
-      ap (λ o. act_by drivers.Session o (verb.Desk desk.Drop) (name ∷ []) t) no_worker
+      ap (λ b. act_by drivers.Session (if b then worker_at name t else None) (verb.Desk desk.Drop) (name ∷ []) t) good
+      ∙ ap (λ o. act_by drivers.Session o (verb.Desk desk.Drop) (name ∷ []) t) no_worker
       ∙ bind_ok (command_at (verb.Desk desk.Drop) (name ∷ []) t) (Desk place desk.Drop) (λ c. given_by drivers.Session c) command_is
 
-  words_read : body_words drivers.Session (codes "drop" ∷ name ∷ []) t ≡ Ok (Some asked)
-  unfolding body_words body_keyword
-  words_read = bind_ok (act_at drivers.Session (verb.Desk desk.Drop) (name ∷ []) t) asked (λ a. Ok (Some a)) act_is
+  words_read : (clients : List ClientNote) → late_words (codes "drop" ∷ name ∷ []) clients t ≡ Ok (t, Some asked)
+  unfolding late_words late_keyword body_keyword
+  words_read clients = bind_ok (act_at drivers.Session (verb.Desk desk.Drop) (name ∷ []) t) asked (λ a. Ok (t, Some a)) act_is
 
-  pub drop_reads : body_at (codes "drop " ++ name) t ≡ Ok (Some asked)
+  pub drop_reads : (clients : List ClientNote) → body_at (codes "drop " ++ name) clients t ≡ Ok (t, Some asked)
   unfolding body_at
-  drop_reads =
-      bind_ok (line_words (codes "drop " ++ name)) (codes "drop" ∷ name ∷ []) (λ ws. body_words drivers.Session ws t)
+  drop_reads clients =
+      bind_ok (line_words (codes "drop " ++ name)) (codes "drop" ∷ name ∷ []) (λ ws. late_words ws clients t)
       (by_words 100 (114 ∷ 111 ∷ 112 ∷ 32 ∷ joined name []) (codes "drop") (name ∷ []) 8 (8 ∷ []) refl refl drop_word (name_word name good, tt) (omega arith))
-      ∙ words_read
+      ∙ words_read clients
 
 -- ---- the desks
 
@@ -144,12 +146,24 @@ are_dropped (d ∷ ds) (false ∷ bs) (suc n) same low none = ap (λ b. b ∷ ma
 
 -- ---- lines one after another
 
-lines_two : (h : HeadView) (past : ℕ) (xs ys : List (List ℕ)) (s : SessionState) → (lines_step h past [] (xs ++ ys) s).1 ≡ (lines_step h (past + length xs) [] ys (lines_step h past [] xs s).1).1
-lines_two h past [] ys s = ap (λ n. (lines_step h n [] ys s).1) (let k : past ≡ past + length {A = List ℕ} [] = omega arith in k)
-lines_two h past (x ∷ xs) ys s =
-    let first = line_step h (past + 1) None (body_at x h) s in
+-- lines that leave this head as it is
+abbrev KeepsHead : HeadView → List (List ℕ) → Type 0
+KeepsHead h [] = Unit {0}
+KeepsHead h (x ∷ xs) = ((s : SessionState) → head_left h (said_in x h s) ≡ h) × KeepsHead h xs
+
+keeps_both : (h : HeadView) (xs ys : List (List ℕ)) → KeepsHead h xs → KeepsHead h ys → KeepsHead h (xs ++ ys)
+keeps_both h [] ys one two = two
+keeps_both h (x ∷ xs) ys one two = (one.0, keeps_both h xs ys one.1 two)
+
+lines_two : (h : HeadView) (past : ℕ) (xs ys : List (List ℕ)) (s : SessionState) → KeepsHead h xs → (lines_step h past [] (xs ++ ys) s).1 ≡ (lines_step h (past + length xs) [] ys (lines_step h past [] xs s).1).1
+lines_two h past [] ys s keeps = ap (λ n. (lines_step h n [] ys s).1) (let k : past ≡ past + length {A = List ℕ} [] = omega arith in k)
+lines_two h past (x ∷ xs) ys s keeps =
+    let first = line_step (past + 1) None (said_in x h s) s in
     let k : past + 1 + length xs ≡ past + length (x ∷ xs) = omega arith in
-    lines_two h (past + 1) xs ys first.1 ∙ ap (λ n. (lines_step h n [] ys (lines_step h (past + 1) [] xs first.1).1).1) k
+    ap (λ (g : HeadView). (lines_step g (past + 1) [] (xs ++ ys) first.1).1) (keeps.0 s)
+    ∙ (lines_two h (past + 1) xs ys first.1 keeps.1
+    ∙ (ap (λ n. (lines_step h n [] ys (lines_step h (past + 1) [] xs first.1).1).1) k
+    ∙ ap (λ (g : HeadView). (lines_step h (past + length (x ∷ xs)) [] ys (lines_step g (past + 1) [] xs first.1).1).1) (sym (keeps.0 s))))
 
 module _ (vs : List ServerView) (t : HeadView) (many : length t.servers ≡ length vs)
     (names : (place : ℕ) (v : ServerView) → slice_get vs place ≡ Some v → (is_name v.name ≡ true) × (position (λ (u : ServerView). bytes_eq u.name v.name) t.servers ≡ Some place) × (worker_at v.name t ≡ None))
@@ -174,7 +188,7 @@ module _ (vs : List ServerView) (t : HeadView) (many : length t.servers ≡ leng
       let name = names i v is in
       let u = got_some t.servers i (omega (arith, within, many)) in
       let same : length bs ≡ length ds = as_many ∙ sym each in
-      ap (λ r. (line_step t (past + 1) None r (with_desks (first_ones ds bs i))).1) (drop_reads v.name i t name.0 name.1 name.2)
+      ap (λ r. (line_step (past + 1) None r (with_desks (first_ones ds bs i))).1) (drop_reads v.name i t name.0 name.1 name.2 a.notes.clients)
       ∙ (ap (λ o. step_by o (slice_get (first_ones ds bs i) i)) u.1
       ∙ (ap (λ o. step_by (Some u.0) o) (still_there ds bs i same ∙ has)
       ∙ (ap (λ b. step_if u.0 d b) (fresh_at ds i d fresh has)
@@ -187,13 +201,24 @@ module _ (vs : List ServerView) (t : HeadView) (many : length t.servers ≡ leng
       step_if : ServerView → PlainDesk → Bool → SessionState
       step_if server e b = record a { report = with_acted (record { manager = a.report.manager; desks = first_ones ds bs i }) i (if b then nothing_done told.Ended a.report.manager e else does server.recipe desk.Drop (worker i) a.report.manager e) }
 
+  -- the lines leave the head as it is
+  one_keeps : (i : ℕ) (o : Option ServerView) (b : Option Bool) → slice_get vs i ≡ o → KeepsHead t (drop_of o b)
+  one_keeps i None b is = tt
+  one_keeps i (Some v) None is = tt
+  one_keeps i (Some v) (Some false) is = tt
+  one_keeps i (Some v) (Some true) is = let name = names i v is in ((λ s. ap (λ r. head_left t r) (drop_reads v.name i t name.0 name.1 name.2 s.notes.clients)), tt)
+
+  all_keep : (i : ℕ) → KeepsHead t (drop_lines vs bs i)
+  all_keep zero = tt
+  all_keep (suc i) = keeps_both t (drop_lines vs bs i) (drop_of (slice_get vs i) (slice_get bs i)) (all_keep i) (one_keeps i (slice_get vs i) (slice_get bs i) refl)
+
   all_lines : (past i : ℕ) → i ≤ length vs → (lines_step t past [] (drop_lines vs bs i) a).1 ≡ with_desks (first_ones ds bs i)
   all_lines past zero low = ap (λ es. with_desks es) (mine ∙ sym (none_first ds bs))
   all_lines past (suc i) low =
       let v = got_some vs i (omega (arith, low)) in
       let b = got_some bs i (omega (arith, low, as_many)) in
       let d = got_some ds i (omega (arith, low, each)) in
-      lines_two t past (drop_lines vs bs i) (drop_of (slice_get vs i) (slice_get bs i)) a
+      lines_two t past (drop_lines vs bs i) (drop_of (slice_get vs i) (slice_get bs i)) a (all_keep i)
       ∙ (ap (λ z. (lines_step t (past + length (drop_lines vs bs i)) [] (drop_of (slice_get vs i) (slice_get bs i)) z).1) (all_lines past i (omega (arith, low)))
       ∙ (ap (λ o. (lines_step t (past + length (drop_lines vs bs i)) [] (drop_of o (slice_get bs i)) (with_desks (first_ones ds bs i))).1) v.1
       ∙ (ap (λ o. (lines_step t (past + length (drop_lines vs bs i)) [] (drop_of (Some v.0) o) (with_desks (first_ones ds bs i))).1) b.1

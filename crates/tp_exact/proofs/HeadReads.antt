@@ -1,11 +1,11 @@
 -- The lines that a dump tells of settings and workers, read one after another.
-use Rattle.std.proofs.Common.{◌≡◌, ℕ, suc, ◌+◌, ◌-◌, ◌^◌, ◌<◌, ◌≤◌, ◌==◌, ◌&&◌, Bool, true, false, cond, not, None, Some, Ok, List, [], ◌∷◌, ◌++◌, length, map, nat_le, nat_lt, refl, sym, ◌∙◌, ap, subst, append_assoc, inl, inr, arith}
-use Rattle.std.specs.Prelude.{codes, count_by, decimal, is_none, position}
+use Rattle.std.proofs.Common.{◌≡◌, Result, if◌then◌else◌, ℕ, zero, suc, ◌+◌, ◌-◌, ◌^◌, ◌<◌, ◌≤◌, ◌==◌, ◌&&◌, Bool, true, false, cond, not, None, Some, Ok, List, [], ◌∷◌, ◌++◌, length, map, nat_le, nat_lt, refl, sym, ◌∙◌, ap, subst, append_assoc, inl, inr, arith}
+use Rattle.std.specs.Prelude.{codes, count_by, decimal, is_none, position, slice_get}
 use Rattle.std.specs.List.{list_any, position_or_len}
 use Rattle.std.specs.Str.{bytes_eq}
 use Rattle.std.proofs.lemmas.Bool.Decides.{leb_tells}
 use Rattle.std.proofs.lemmas.List.{length-append}
-use Rattle.tp_model.specs.History.{In, here, there}
+use Rattle.std.proofs.lemmas.Slice.Eq.{bytes_eq-Decides}
 use Rattle.tp_model.specs.declared.types.TheConstants.{MAX_ATTEMPTS, MAX_BLOCKS, MAX_PART_ROWS, MAX_STAGE, MAX_UNITS}
 use Rattle.tp_model.proofs.Bridges.{append_nil}
 use Rattle.tp_script.specs.Commands.{stage_at}
@@ -13,18 +13,21 @@ use Rattle.tp_script.specs.Grammar.{head_at, head_keyword, head_words, limit_lin
 use Rattle.tp_script.specs.LineWords.{◌>>=◌, is_name, number_at, require}
 use Rattle.tp_script.specs.Script.{HeadView, ServerView, SettingsView, WorkerView}
 use Rattle.tp_script.specs.ServerLines.{free_name, has_client, new_name, worker_at}
+use Rattle.tp_script.specs.declared.fault.LineFault.{LineFault}
 use Rattle.tp_script.specs.declared.fault.LineFault.TheVariants.{BadLimits, BadName, BadNumber, Order}
 use Rattle.tp_script.specs.declared.head.Driver.TheVariants as drivers
 use Rattle.tp_script.specs.declared.head.TheConstants.{MAX_WORKERS}
 use Rattle.tp_session.specs.Dump.{settings_lines, worker_text}
-use Rattle.tp_exact.specs.HeadReads.{AreSettings, IsWorker, SettingsLinesRead, WorkerLinesRead}
+use Rattle.tp_script.specs.Places.{place_name, worker_name}
+use Rattle.tp_exact.proofs.PlaceNames.{place_word, some_place}
+use Rattle.tp_exact.specs.HeadReads.{AreSettings, IsNameAt, IsWorker, SettingsLinesRead, WorkerLinesRead}
 use Rattle.tp_exact.proofs.LineReads.{bind_ok, number_ok}
 use Rattle.tp_exact.proofs.ClientReads.{by_words}
 use Rattle.tp_exact.proofs.Cuts.{and_true, le_true}
 use Rattle.tp_exact.proofs.LostReads.{AreTaken, taken_told}
 use Rattle.tp_exact.proofs.NoteReads.{none_before, same_bytes}
 use Rattle.tp_exact.proofs.SessionLines.{either_false}
-use Rattle.tp_exact.proofs.WordLines.{Word, joined, name_word, number_word, small_word}
+use Rattle.tp_exact.proofs.WordLines.{Word, joined, number_word, small_word}
 
 -- ---- settings
 
@@ -137,23 +140,42 @@ no_place f xs none =
     let n = not_found f xs none in
     ap (λ b. is_none (cond b (Some (position_or_len f xs)) None)) (less_false (position_or_len f xs) (length xs) (λ l. omega (arith, n, l)))
 
+same_bytes_of : (a b : List ℕ) → a ≡ b → bytes_eq a b ≡ true
+same_bytes_of a b same = (bytes_eq-Decides a b).1 same
+
+true_false : true ≡ false → ⊥
+true_false e = cc
+
 worker_word : Word 8 (codes "worker")
 worker_word = small_word (codes "worker") 8 ((omega arith, omega arith), ((omega arith, omega arith), ((omega arith, omega arith), ((omega arith, omega arith), ((omega arith, omega arith), ((omega arith, omega arith), tt)))))) (omega arith) (omega arith)
 
-module _ (w : WorkerView) (h : HeadView) (it : IsWorker h w) (new : list_any (λ (v : WorkerView). bytes_eq v.name w.name) h.workers ≡ false) (room : length h.workers < MAX_WORKERS) where
+module _ (place : ℕ) (w : WorkerView) (h : HeadView) (it : IsWorker h place w) (at : place ≡ length h.workers) (new : list_any (λ (v : WorkerView). bytes_eq v.name w.name) h.workers ≡ false) (room : length h.workers < MAX_WORKERS) where
   f_stage : w.stage < 2 ^ 64
   f_stage = let s = it.stage.1 in omega (arith, s)
 
   abbrev next : HeadView
   next = record h { workers = h.workers ++ w ∷ [] }
 
-  name_ok : new_name w.name h ≡ Ok (record { letters = w.name })
+  letters_ok : is_name w.name ≡ true → new_name w.name h ≡ Ok (record { letters = w.name })
   unfolding new_name free_name
-  name_ok =
+  letters_ok named =
       bind_ok (free_name w.name h) (record { letters = w.name }) _
-      (bind_ok (require (is_name w.name && is_none (position (λ (server : ServerView). bytes_eq server.name w.name) h.servers)) BadName) tt _ (ap (λ b. require b BadName) (and_true _ _ it.named it.no_server))
+      (bind_ok (require (is_name w.name && is_none (position (λ (server : ServerView). bytes_eq server.name w.name) h.servers)) BadName) tt _ (ap (λ b. require b BadName) (and_true _ _ named it.no_server))
       ∙ bind_ok (require (is_none (worker_at w.name h)) BadName) tt _ (ap (λ b. require b BadName) (no_place (λ (v : WorkerView). bytes_eq v.name w.name) h.workers new)))
       ∙ bind_ok (require (not (has_client w.name h)) BadName) tt _ (ap (λ b. require (not b) BadName) it.no_client)
+
+  abbrev named_by : Bool → Result (List ℕ) LineFault
+  named_by b = if b then Ok w.name else new_name w.name h >>= λ fresh. Ok fresh.letters
+
+  -- a name of letters is no place's
+  name_by : (b : Bool) → bytes_eq w.name (place_name (length h.workers)) ≡ b → IsNameAt place w.name → worker_name w.name h ≡ Ok w.name
+  unfolding worker_name
+  name_by true own named = ap (λ b. named_by b) own
+  name_by false own (inl named) = ap (λ b. named_by b) own ∙ (bind_ok (new_name w.name h) (record { letters = w.name }) (λ fresh. Ok fresh.letters) (letters_ok named))
+  name_by false own (inr same) = absurd (true_false (sym (same_bytes_of w.name (place_name (length h.workers)) (same ∙ ap place_name at)) ∙ own))
+
+  name_ok : worker_name w.name h ≡ Ok w.name
+  name_ok = name_by (bytes_eq w.name (place_name (length h.workers))) refl it.named
 
   stage_ok : stage_at (decimal w.stage) ≡ Ok w.stage
   unfolding stage_at
@@ -164,7 +186,7 @@ module _ (w : WorkerView) (h : HeadView) (it : IsWorker h w) (new : list_any (λ
   line_is : worker_line (w.name, decimal w.stage) h ≡ Ok next
   unfolding worker_line
   line_is =
-      bind_ok (new_name w.name h) (record { letters = w.name }) _ name_ok
+      bind_ok (worker_name w.name h) w.name _ name_ok
       ∙ (bind_ok (stage_at (decimal w.stage)) w.stage _ stage_ok
       ∙ bind_ok (require (nat_lt (length h.workers) MAX_WORKERS) BadLimits) tt _ (ap (λ b. require b BadLimits) (le_true (suc (length h.workers)) MAX_WORKERS (omega (arith, room)))))
 
@@ -176,33 +198,33 @@ module _ (w : WorkerView) (h : HeadView) (it : IsWorker h w) (new : list_any (λ
   unfolding head_at
   worker_reads =
       bind_ok (line_words (worker_text w)) (codes "worker" ∷ w.name ∷ decimal w.stage ∷ []) (λ ws. head_words drivers.Session ws h)
-      (by_words 119 (111 ∷ 114 ∷ 107 ∷ 101 ∷ 114 ∷ 32 ∷ joined w.name (decimal w.stage ∷ [])) (codes "worker") (w.name ∷ decimal w.stage ∷ []) 8 (8 ∷ 20 ∷ []) refl refl worker_word (name_word w.name it.named, (number_word w.stage f_stage, tt)) (omega arith))
+      (by_words 119 (111 ∷ 114 ∷ 107 ∷ 101 ∷ 114 ∷ 32 ∷ joined w.name (decimal w.stage ∷ [])) (codes "worker") (w.name ∷ decimal w.stage ∷ []) 8 (8 ∷ 20 ∷ []) refl refl worker_word (place_word w.name (some_place place w.name (omega (arith, at, room)) it.named), (number_word w.stage f_stage, tt)) (omega arith))
       ∙ words_read
 
 module _ (h : HeadView) where
   abbrev with_workers : List WorkerView → HeadView
   with_workers ws = record h { workers = ws }
 
-  workers_taken : (before ws : List WorkerView) → length (before ++ ws) ≤ MAX_WORKERS → ((w : WorkerView) → In w ws → IsWorker h w)
+  workers_taken : (before ws : List WorkerView) → length (before ++ ws) ≤ MAX_WORKERS → ((place : ℕ) (w : WorkerView) → slice_get ws place ≡ Some w → IsWorker h (length before + place) w)
       → ((k : List ℕ) → count_by (λ (v : WorkerView). bytes_eq v.name k) (before ++ ws) ≤ 1)
       → AreTaken (map worker_text ws) (with_workers before) (with_workers (before ++ ws))
   workers_taken before [] few fit once = ap with_workers (append_nil before)
   workers_taken before (w ∷ ws) few fit once =
-      let it = fit w here in
+      let it = fit zero w refl in
       let l = length-append before (w ∷ ws) in
       let k : length (w ∷ ws) ≡ 1 + length ws = omega arith in
       let new = none_before (λ (v : WorkerView). bytes_eq v.name w.name) before w ws (same_bytes w.name) (once w.name) in
-      let named : IsWorker (with_workers before) w = record { named = it.named; no_server = it.no_server; no_client = it.no_client; stage = it.stage } in
+      let named : IsWorker (with_workers before) (length before + zero) w = record { named = it.named; no_server = it.no_server; no_client = it.no_client; stage = it.stage } in
       let same : (before ++ w ∷ []) ++ ws ≡ before ++ w ∷ ws = append_assoc before (w ∷ []) ws in
       let few_so : length ((before ++ w ∷ []) ++ ws) ≤ MAX_WORKERS = subst (λ z. length z ≤ MAX_WORKERS) (sym same) few in
       let once_so : (k : List ℕ) → count_by (λ (v : WorkerView). bytes_eq v.name k) ((before ++ w ∷ []) ++ ws) ≤ 1 = λ k. subst (λ z. count_by (λ (v : WorkerView). bytes_eq v.name k) z ≤ 1) (sym same) (once k) in
-      let rest = workers_taken (before ++ w ∷ []) ws few_so (λ v at. fit v (there at)) once_so in (
+      let rest = workers_taken (before ++ w ∷ []) ws few_so (λ place v is. subst (λ n. IsWorker h n v) (omega (arith, length-append before (w ∷ []))) (fit (suc place) v is)) once_so in (
         with_workers (before ++ w ∷ []),
-        worker_reads w (with_workers before) named new (omega (arith, l, k, few)),
+        worker_reads (length before + zero) w (with_workers before) named (omega arith) new (omega (arith, l, k, few)),
         subst (λ z. AreTaken (map worker_text ws) (with_workers (before ++ w ∷ [])) (with_workers z)) same rest,
       )
 
 pub worker_lines_read : WorkerLinesRead
 worker_lines_read ws h past fit own few none =
     taken_told (map worker_text ws) past h (with_workers h ws)
-    (subst (λ z. AreTaken (map worker_text ws) (record h { workers = z }) (with_workers h ws)) (sym none) (workers_taken h [] ws few fit own))
+    (subst (λ z. AreTaken (map worker_text ws) (record h { workers = z }) (with_workers h ws)) (sym none) (workers_taken h [] ws few (λ place w is. subst (λ n. IsWorker h n w) (omega arith) (fit place w is)) own))

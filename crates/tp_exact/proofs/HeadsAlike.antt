@@ -1,19 +1,29 @@
 -- Behind the head a line says the same to heads that have the same names, and does the same.
-use Rattle.std.proofs.Common.{◌≡◌, ℕ, ◌-◌, ◌^◌, ◌&&◌, Bool, true, false, if◌then◌else◌, None, Some, Ok, Err, Option, Result, List, [], ◌∷◌, refl, ◌∙◌, ap}
-use Rattle.std.specs.Prelude.{is_none, position}
+use Rattle.std.proofs.Common.{◌≡◌, ℕ, ◌+◌, ◌-◌, ◌^◌, ◌&&◌, Bool, true, false, not, if◌then◌else◌, None, Some, Ok, Err, Option, Result, List, [], ◌∷◌, ◌++◌, refl, sym, ◌∙◌, ap, subst}
+use Rattle.std.specs.Prelude.{is_none, position, slice_set}
+use Rattle.std.specs.List.{list_any}
 use Rattle.std.specs.Str.{bytes_eq}
 use Rattle.tp_script.specs.Clients.{client_words, forget_at, last_at, last_by, noted_at, receive_at, receive_least, receive_of, register_at, send_of, send_words}
-use Rattle.tp_script.specs.Commands.{SubmitWords, balance_at, command_at, named, one_server, submit_body, take_at}
-use Rattle.tp_script.specs.Grammar.{act_at, act_by, body_at, body_keyword, body_words, given_by, is_named, line_words, out_of_order, worker_act, worker_of}
+use Rattle.tp_script.specs.Commands.{SubmitWords, balance_at, command_at, named, one_server, stage_at, submit_body, take_at}
+use Rattle.tp_script.specs.Grammar.{act_at, act_by, body_at, body_keyword, ends_head, given_by, is_named, late_keyword, late_words, line_words, out_of_order, with_head, worker_act, worker_of}
 use Rattle.tp_script.specs.Keyword.{keyword}
 use Rattle.tp_script.specs.LineWords.{◌>>=◌, is_name, known, none, number_at, one, ordinal_at, require, three, two}
 use Rattle.tp_script.specs.Script.{HeadView, ServerView, WorkerView}
 use Rattle.tp_script.specs.ServerLines.{free_name, server_at, shape_at, worker_at}
 use Rattle.tp_script.specs.declared.fault.LineFault.{LineFault}
-use Rattle.tp_script.specs.declared.fault.LineFault.TheVariants.{BadName, Syntax}
+use Rattle.tp_script.specs.declared.fault.LineFault.TheVariants.{BadLimits, BadName, Syntax}
 use Rattle.tp_script.specs.declared.head.Act.{Act}
 use Rattle.tp_script.specs.declared.head.Act.TheVariants as acts
-use Rattle.tp_exact.proofs.ActsAlike.{AsksNoRestore}
+use Rattle.tp_exact.proofs.ActsAlike.{AsksNoRestore, IsNoRestore, SayTheSame}
+use Rattle.tp_exact.proofs.ActsAlike as others
+use Rattle.tp_exact.proofs.Lates.{IsComing, OfSaid, OnlyWorkers, Said, of_line, only_workers}
+use Rattle.tp_exact.specs.PlainSession.{Refusals, SessionState, first_refusal, head_left, line_step, lines_step, other_refusals, said_in, session_act_step}
+use Rattle.tp_rollover.specs.declared.moved.RollFault.{RollFault}
+use Rattle.tp_session.specs.Answers.{refused_line}
+use Rattle.tp_script.specs.Notes.{NameView}
+use Rattle.tp_script.specs.Once.{is_note_of}
+use Rattle.tp_script.specs.Places.{free_at, free_place, join_line, leave_line, with_place}
+use Rattle.tp_script.specs.declared.notes.ClientNote.{ClientNote}
 use Rattle.tp_script.specs.Alive.{alive_words}
 use Rattle.tp_script.specs.Ends.{ended_words}
 use Rattle.tp_script.specs.Hands.{held_words}
@@ -146,7 +156,7 @@ module _ (g h : HeadView) (same : SameNames g h) where
 
   same_worker_of : (v : Verb) (ws : List (List ℕ)) → worker_of v ws g ≡ worker_of v ws h
   same_worker_of v [] = refl
-  same_worker_of v (name ∷ ws) = ap (λ o. if is_named v then o else None) (same_worker name)
+  same_worker_of v (name ∷ ws) = ap (λ o. if is_named v && is_name name then o else None) (same_worker name)
 
   same_by : (d : Driver) (o : Option ℕ) (v : Verb) (ws : List (List ℕ)) → act_by d o v ws g ≡ act_by d o v ws h
   same_by d None v ws = then_same _ (same_command v ws)
@@ -165,6 +175,8 @@ module _ (g h : HeadView) (same : SameNames g h) where
   same_keyword d first.Server ws = refl
   same_keyword d first.Start ws = refl
   same_keyword d first.Worker ws = refl
+  same_keyword d first.Workers ws = refl
+  same_keyword d first.Leave ws = refl
   same_keyword d first.Alive ws = refl
   same_keyword d first.Held ws = refl
   same_keyword d first.Lost ws = refl
@@ -179,22 +191,104 @@ module _ (g h : HeadView) (same : SameNames g h) where
   same_keyword d (first.Overview what) ws = refl
   same_keyword d (first.Do v) ws = same_act d v ws
 
-  same_known : (d : Driver) (o : Option Keyword) (ws : List (List ℕ)) → (known o Syntax >>= λ k. body_keyword d k ws g >>= λ a. Ok (Some a)) ≡ (known o Syntax >>= λ k. body_keyword d k ws h >>= λ a. Ok (Some a))
-  same_known d None ws = refl
-  same_known d (Some k) ws = ap (λ r. r >>= λ (a : Act). Ok (Some a)) (same_keyword d k ws)
+  -- ---- what a line leaves of the heads
 
-  same_words : (d : Driver) (ws : List (List ℕ)) → body_words d ws g ≡ body_words d ws h
-  unfolding body_words
-  same_words d [] = refl
-  same_words d (w ∷ ws) = same_known d (keyword w) ws
+  -- the head g with the workers that were left of h, and what was asked for
+  abbrev pub carried : Said → Said
+  carried said = said >>= λ x. Ok (record g { workers = x.0.workers }, x.1)
 
-  same_read : (r : Result (List (List ℕ)) LineFault) → (r >>= λ ws. body_words drivers.Session ws g) ≡ (r >>= λ ws. body_words drivers.Session ws h)
-  same_read (Ok ws) = same_words drivers.Session ws
-  same_read (Err why) = refl
+  -- with the workers of h it is what it was
+  own_workers : record g { workers = h.workers } ≡ g
+  own_workers = ap (λ (ws : List WorkerView). record g { workers = ws }) (sym same.workers)
 
-  pub same_body : (line : List ℕ) → body_at line g ≡ body_at line h
+  asked_so : (r : Result Act LineFault) → ends_head g r ≡ carried (ends_head h r)
+  asked_so (Ok a) = ap (λ (x : HeadView). Ok (x, Some a)) (sym own_workers)
+  asked_so (Err fault) = refl
+
+  abbrev placed_in : HeadView → ℕ → WorkerView → Act → Said
+  placed_in x place worker a = Ok (with_place place worker x, Some a)
+
+  placed_so : (place : ℕ) (worker : WorkerView) (a : Act) → placed_in g place worker a ≡ carried (placed_in h place worker a)
+  placed_so place worker a = ap (λ (ws : List WorkerView). Ok (record g { workers = slice_set ws place worker }, Some a)) same.workers
+
+  then_carried : {A : Type 0} (r : Result A LineFault) (f k : A → Result (HeadView × Act) LineFault) → ((x : A) → with_head (f x) ≡ carried (with_head (k x))) → with_head (r >>= f) ≡ carried (with_head (r >>= k))
+  then_carried (Ok x) f k so = so x
+  then_carried (Err fault) f k so = refl
+
+  same_join : (clients : List ClientNote) (w : List ℕ × List ℕ) → with_head (join_line w clients g) ≡ carried (with_head (join_line w clients h))
+  unfolding join_line
+  same_join clients (name, stage) =
+      ap (λ r. with_head (r >>= behind g)) (same_free name)
+      ∙ then_carried (free_name name h) (behind g) (behind h) (λ fresh.
+      then_carried (require (not (list_any (is_note_of name) clients)) BadName) (λ _. staged g fresh) (λ _. staged h fresh) (λ _.
+      then_carried (stage_at stage) (λ n. found g fresh n) (λ n. found h fresh n) (λ n.
+      ap (λ o. with_head (known o BadLimits >>= λ place. Ok (with_place place (record { name = name; stage = n }) g, acts.Joined fresh))) same_place
+      ∙ then_carried (known (free_at h) BadLimits) (λ place. Ok (with_place place (record { name = name; stage = n }) g, acts.Joined fresh)) (λ place. Ok (with_place place (record { name = name; stage = n }) h, acts.Joined fresh))
+      (λ place. placed_so place (record { name = name; stage = n }) (acts.Joined fresh)))))
+    where
+      same_place : free_at g ≡ free_at h
+      same_place = ap (λ (ws : List WorkerView). position (λ (w : WorkerView). not (is_name w.name)) ws) same.workers
+
+      found : HeadView → NameView → ℕ → Result (HeadView × Act) LineFault
+      found x fresh n = known (free_at x) BadLimits >>= λ place. Ok (with_place place (record { name = name; stage = n }) x, acts.Joined fresh)
+
+      staged : HeadView → NameView → Result (HeadView × Act) LineFault
+      staged x fresh = stage_at stage >>= λ n. found x fresh n
+
+      behind : HeadView → NameView → Result (HeadView × Act) LineFault
+      behind x fresh = require (not (list_any (is_note_of name) clients)) BadName >>= λ _. staged x fresh
+
+  same_leave : (name : List ℕ) → with_head (leave_line name g) ≡ carried (with_head (leave_line name h))
+  unfolding leave_line
+  same_leave name =
+      then_carried (require (is_name name) BadName) (λ _. found g) (λ _. found h) (λ _.
+      ap (λ o. with_head (known o BadName >>= λ worker. Ok (with_place worker (free_place worker) g, acts.Leave worker (record { letters = name })))) (same_worker name)
+      ∙ then_carried (known (worker_at name h) BadName) (λ worker. Ok (with_place worker (free_place worker) g, acts.Leave worker (record { letters = name }))) (λ worker. Ok (with_place worker (free_place worker) h, acts.Leave worker (record { letters = name })))
+      (λ worker. placed_so worker (free_place worker) (acts.Leave worker (record { letters = name }))))
+    where
+      found : HeadView → Result (HeadView × Act) LineFault
+      found x = known (worker_at name x) BadName >>= λ worker. Ok (with_place worker (free_place worker) x, acts.Leave worker (record { letters = name }))
+
+  same_ends : (k : Keyword) (ws : List (List ℕ)) → ends_head g (body_keyword drivers.Session k ws g) ≡ carried (ends_head h (body_keyword drivers.Session k ws h))
+  same_ends k ws = ap (λ r. ends_head g r) (same_keyword drivers.Session k ws) ∙ asked_so (body_keyword drivers.Session k ws h)
+
+  same_late : (clients : List ClientNote) (k : Keyword) (ws : List (List ℕ)) → late_keyword k ws clients g ≡ carried (late_keyword k ws clients h)
+  unfolding late_keyword
+  same_late clients first.Rows ws = same_ends first.Rows ws
+  same_late clients first.Units ws = same_ends first.Units ws
+  same_late clients first.Limit ws = same_ends first.Limit ws
+  same_late clients first.Spare ws = same_ends first.Spare ws
+  same_late clients first.Server ws = same_ends first.Server ws
+  same_late clients first.Start ws = same_ends first.Start ws
+  same_late clients first.Worker ws = then_carried (two ws) (λ w. join_line w clients g) (λ w. join_line w clients h) (same_join clients)
+  same_late clients first.Workers ws = same_ends first.Workers ws
+  same_late clients first.Leave ws = then_carried (one ws) (λ w. leave_line w g) (λ w. leave_line w h) same_leave
+  same_late clients first.Alive ws = same_ends first.Alive ws
+  same_late clients first.Held ws = same_ends first.Held ws
+  same_late clients first.Lost ws = same_ends first.Lost ws
+  same_late clients first.Client ws = same_ends first.Client ws
+  same_late clients first.Request ws = same_ends first.Request ws
+  same_late clients first.Ended ws = same_ends first.Ended ws
+  same_late clients first.Register ws = same_ends first.Register ws
+  same_late clients (first.Noted v) ws = same_ends (first.Noted v) ws
+  same_late clients first.Restore ws = same_ends first.Restore ws
+  same_late clients first.Dump ws = same_ends first.Dump ws
+  same_late clients first.Account ws = same_ends first.Account ws
+  same_late clients (first.Overview what) ws = same_ends (first.Overview what) ws
+  same_late clients (first.Do v) ws = same_ends (first.Do v) ws
+
+  carried_bound : {A : Type 0} (r : Result A LineFault) (f k : A → Said) → ((x : A) → f x ≡ carried (k x)) → (r >>= f) ≡ carried (r >>= k)
+  carried_bound (Ok x) f k so = so x
+  carried_bound (Err fault) f k so = refl
+
+  same_words : (clients : List ClientNote) (ws : List (List ℕ)) → late_words ws clients g ≡ carried (late_words ws clients h)
+  unfolding late_words
+  same_words clients [] = ap (λ (x : HeadView). Ok (x, None)) (sym own_workers)
+  same_words clients (w ∷ ws) = carried_bound (known (keyword w) Syntax) (λ k. late_keyword k ws clients g) (λ k. late_keyword k ws clients h) (λ k. same_late clients k ws)
+
+  pub same_body : (line : List ℕ) (clients : List ClientNote) → body_at line clients g ≡ carried (body_at line clients h)
   unfolding body_at
-  same_body line = same_read (line_words line)
+  same_body line clients = carried_bound (line_words line) (λ ws. late_words ws clients g) (λ ws. late_words ws clients h) (same_words clients)
 
 -- ---- no line behind the head is `restore`
 
@@ -264,6 +358,8 @@ module _ (h : HeadView) where
   never_keyword d first.Server ws = never_ordered (shape_at ws)
   never_keyword d first.Start ws = never_ordered (three ws)
   never_keyword d first.Worker ws = never_ordered (two ws)
+  never_keyword d first.Workers ws = never_ordered (one ws)
+  never_keyword d first.Leave ws = never_ordered (one ws)
   never_keyword d first.Alive ws = never_ordered (alive_words ws)
   never_keyword d first.Held ws = never_ordered (held_words ws)
   never_keyword d first.Lost ws = never_ordered (two ws)
@@ -278,30 +374,82 @@ module _ (h : HeadView) where
   never_keyword d (first.Overview what) ws = never_bound (none ws) _ (λ _. tt)
   never_keyword d (first.Do v) ws = never_act d v ws
 
-  asked : (r : Result Act LineFault) → IsOther r → AsksNoRestore (r >>= λ a. Ok (Some a))
-  asked (Ok (acts.Command c)) is = tt
-  asked (Ok (acts.Worker at act)) is = tt
-  asked (Ok acts.Account) is = tt
-  asked (Ok acts.Dump) is = tt
-  asked (Ok acts.Restore) is = is
-  asked (Ok (acts.Noted name act)) is = tt
-  asked (Ok (acts.Last at)) is = tt
-  asked (Ok (acts.Overview what)) is = tt
-  asked (Err why) is = tt
+  asks_none : (k : Keyword) (ws : List (List ℕ)) (a : Act) → body_keyword drivers.Session k ws h ≡ Ok a → IsNoRestore a
+  asks_none k ws a is = by_act a (subst IsOther is (never_keyword drivers.Session k ws))
+    where
+      by_act : (a : Act) → IsOther (Ok a) → IsNoRestore a
+      by_act (acts.Command c) other = tt
+      by_act (acts.Worker at act) other = tt
+      by_act acts.Account other = tt
+      by_act acts.Dump other = tt
+      by_act acts.Restore other = other
+      by_act (acts.Noted name act) other = tt
+      by_act (acts.Last at) other = tt
+      by_act (acts.Overview what) other = tt
+      by_act (acts.Joined name) other = tt
+      by_act (acts.Leave at name) other = tt
 
-  known_asked : (o : Option Keyword) (ws : List (List ℕ)) → AsksNoRestore (known o Syntax >>= λ k. body_keyword drivers.Session k ws h >>= λ a. Ok (Some a))
-  known_asked None ws = tt
-  known_asked (Some k) ws = asked (body_keyword drivers.Session k ws h) (never_keyword drivers.Session k ws)
+  -- a worker comes or goes: that isn't `restore`
+  coming_none : (a : Act) → IsComing a → IsNoRestore a
+  coming_none (acts.Joined name) comes = tt
+  coming_none (acts.Leave at name) comes = tt
+  coming_none acts.Restore comes = comes
+  coming_none (acts.Command c) comes = tt
+  coming_none (acts.Worker at act) comes = tt
+  coming_none acts.Account comes = tt
+  coming_none acts.Dump comes = tt
+  coming_none (acts.Noted name act) comes = tt
+  coming_none (acts.Last at) comes = tt
+  coming_none (acts.Overview what) comes = tt
 
-  words_asked : (ws : List (List ℕ)) → AsksNoRestore (body_words drivers.Session ws h)
-  unfolding body_words
-  words_asked [] = tt
-  words_asked (w ∷ ws) = known_asked (keyword w) ws
+  pub no_restore : (line : List ℕ) (clients : List ClientNote) → OfSaid (λ left asked. AsksNoRestore asked) (body_at line clients h)
+  no_restore line clients = of_line (λ left asked. AsksNoRestore asked) clients h tt (λ k ws a is. asks_none k ws a is) (λ ws a which. coming_none a which) line
 
-  read_asked : (r : Result (List (List ℕ)) LineFault) → AsksNoRestore (r >>= λ ws. body_words drivers.Session ws h)
-  read_asked (Ok ws) = words_asked ws
-  read_asked (Err why) = tt
+-- ---- lines one after another
 
-  pub no_restore : (line : List ℕ) → AsksNoRestore (body_at line h)
-  unfolding body_at
-  no_restore line = read_asked (line_words line)
+-- the heads have the same names, and say the same but for registers
+pub record Alike (g h : HeadView) : Type 0 where
+  pub names : SameNames g h
+  pub say : SayTheSame g h
+
+still_alike : (g h : HeadView) (ws : List WorkerView) → Alike g h → Alike (record g { workers = ws }) (record h { workers = ws })
+still_alike g h ws same = record {
+  names = record { servers = same.names.servers; workers = refl };
+  say = record { settings = same.say.settings; servers = same.say.servers; workers = refl };
+}
+
+-- an answer, and then others
+abbrev and_then : List ℕ × SessionState → List ℕ × SessionState → List ℕ × SessionState
+and_then first rest = (first.0 ++ rest.0, rest.1)
+
+-- where the lines behind it are answered the same, so is a line with these
+module _ (g h : HeadView) (same : Alike g h) (line : List ℕ) (n : ℕ) (why : Option RollFault) (refusals : Refusals) (lines : List (List ℕ)) (s : SessionState)
+    (rest : (x y : HeadView) → Alike x y → (z : SessionState) → lines_step x n refusals lines z ≡ lines_step y n refusals lines z) where
+  abbrev by_said : HeadView → Said → List ℕ × SessionState
+  by_said x said = let first = line_step n why said s in and_then first (lines_step (head_left x said) n refusals lines first.1)
+
+  left_so : (left : HeadView) → OnlyWorkers h left → (z : SessionState) → lines_step (record g { workers = left.workers }) n refusals lines z ≡ lines_step left n refusals lines z
+  left_so left only z =
+      rest (record g { workers = left.workers }) (record h { workers = left.workers }) (still_alike g h left.workers same) z
+      ∙ ap (λ (x : HeadView). lines_step x n refusals lines z) (sym only)
+
+  go : (said : Said) → OfSaid (λ left asked. OnlyWorkers h left) said → OfSaid (λ left asked. AsksNoRestore asked) said → by_said g (carried g h same.names said) ≡ by_said h said
+  go (Ok (left, None)) only never = ap (λ r. and_then ([], s) r) (left_so left only s)
+  go (Ok (left, Some act)) only never =
+      let g' : HeadView = record g { workers = left.workers } in
+      let h' : HeadView = record h { workers = left.workers } in
+      let one : session_act_step g' why act s ≡ session_act_step left why act s = others.same_act g' h' (still_alike g h left.workers same).say why act s never ∙ ap (λ (x : HeadView). session_act_step x why act s) (sym only) in
+      let first : List ℕ × SessionState = session_act_step left why act s in
+      ap (λ (f : List ℕ × SessionState). and_then f (lines_step g' n refusals lines f.1)) one
+      ∙ ap (λ r. and_then first r) (left_so left only first.1)
+  go (Err fault) only never = ap (λ r. and_then (refused_line n fault, s) r) (rest g h same s)
+
+  line_alike : by_said g (said_in line g s) ≡ by_said h (said_in line h s)
+  line_alike =
+      ap (λ r. by_said g r) (same_body g h same.names line s.notes.clients)
+      ∙ go (said_in line h s) (only_workers line s.notes.clients h) (no_restore h line s.notes.clients)
+
+pub same_lines_step : (g h : HeadView) → Alike g h → (past : ℕ) (refusals : Refusals) (lines : List (List ℕ)) (s : SessionState) → lines_step g past refusals lines s ≡ lines_step h past refusals lines s
+same_lines_step g h same past refusals [] s = refl
+same_lines_step g h same past refusals (line ∷ lines) s =
+    line_alike g h same line (past + 1) (first_refusal refusals) (other_refusals refusals) lines s (λ x y alike z. same_lines_step x y alike (past + 1) (other_refusals refusals) lines z)

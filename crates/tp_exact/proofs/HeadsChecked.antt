@@ -25,7 +25,7 @@ use Rattle.tp_script.specs.declared.keyword.NotedVerb.{NotedVerb}
 use Rattle.tp_script.specs.declared.keyword.NotedVerb.TheVariants as verbs
 use Rattle.tp_script.specs.declared.notes.NotedAct.{NotedAct}
 use Rattle.tp_script.specs.declared.notes.NotedAct.TheVariants as asks
-use Rattle.tp_script.specs.Grammar.{act_at, act_by, body_at, body_keyword, body_words, given_by, head_at, head_words, line_words, out_of_order, worker_act, worker_of}
+use Rattle.tp_script.specs.Grammar.{act_at, act_by, body_keyword, body_words, given_by, head_at, head_words, line_words, out_of_order, worker_act, worker_of}
 use Rattle.tp_script.specs.ServerLines.{worker_at}
 use Rattle.tp_script.specs.Keyword.{keyword}
 use Rattle.tp_script.specs.LineWords.{◌>>=◌, known, none, number_at, one, ordinal_at, require, three, two}
@@ -80,6 +80,8 @@ module _ (s : ScriptView) (good : Good s.head) where
   said_kept (Some (acts.Noted name act)) t is = act_kept (acts.Noted name act) t is
   said_kept (Some (acts.Last worker)) t is = act_kept (acts.Last worker) t is
   said_kept (Some (acts.Overview what)) t is = act_kept (acts.Overview what) t is
+  said_kept (Some (acts.Joined name)) t is = act_kept (acts.Joined name) t is
+  said_kept (Some (acts.Leave worker name)) t is = act_kept (acts.Leave worker name) t is
 
   behind_kept : (said : Result (Option Act) LineFault) (t : ScriptView) → behind_account said s ≡ Ok t → Kept t
   behind_kept (Ok None) t is = subst Kept (went_to s t is) good
@@ -243,7 +245,7 @@ noted_none verbs.Forget ws h = forget_none ws h
 
 -- ---- what any line asks for
 
-keyword_raceless : (k : Keyword) (ws : List (List ℕ)) (h : HeadView) (c : Command) → body_keyword drivers.Session k ws h ≡ Ok (acts.Command c) → is_race c ≡ false
+pub keyword_raceless : (k : Keyword) (ws : List (List ℕ)) (h : HeadView) (c : Command) → body_keyword drivers.Session k ws h ≡ Ok (acts.Command c) → is_race c ≡ false
 unfolding body_keyword
 keyword_raceless first.Rows ws h c is = absurd (never_in_order (one ws) (acts.Command c) is)
 keyword_raceless first.Units ws h c is = absurd (never_in_order (one ws) (acts.Command c) is)
@@ -252,6 +254,8 @@ keyword_raceless first.Spare ws h c is = absurd (never_in_order (one ws) (acts.C
 keyword_raceless first.Server ws h c is = absurd (never_in_order (shape_at ws) (acts.Command c) is)
 keyword_raceless first.Start ws h c is = absurd (never_in_order (three ws) (acts.Command c) is)
 keyword_raceless first.Worker ws h c is = absurd (never_in_order (two ws) (acts.Command c) is)
+keyword_raceless first.Workers ws h c is = absurd (never_in_order (one ws) (acts.Command c) is)
+keyword_raceless first.Leave ws h c is = absurd (never_in_order (one ws) (acts.Command c) is)
 keyword_raceless first.Alive ws h c is = absurd (never_in_order (alive_words ws) (acts.Command c) is)
 keyword_raceless first.Held ws h c is = absurd (never_in_order (held_words ws) (acts.Command c) is)
 keyword_raceless first.Lost ws h c is = absurd (never_in_order (two ws) (acts.Command c) is)
@@ -289,8 +293,7 @@ all_words_raceless (w ∷ ws) h c is =
     let a = went (body_keyword drivers.Session k.0 ws h) (λ a. Ok (Some a)) (Some (acts.Command c)) k.2 in
     keyword_raceless k.0 ws h c (a.1 ∙ ap (λ x. Ok x) (some_act a.0 (acts.Command c) (went_to (Some a.0) (Some (acts.Command c)) a.2)))
 
-pub line_raceless : (line : List ℕ) (h : HeadView) (c : Command) → body_at line h ≡ Ok (Some (acts.Command c)) → is_race c ≡ false
-unfolding body_at
+line_raceless : (line : List ℕ) (h : HeadView) (c : Command) → (line_words line >>= λ ws. body_words drivers.Session ws h) ≡ Ok (Some (acts.Command c)) → is_race c ≡ false
 line_raceless line h c is = let ws = went (line_words line) (λ ws. body_words drivers.Session ws h) (Some (acts.Command c)) is in all_words_raceless ws.0 h c ws.2
 
 pub command_raceless : (line : List ℕ) (h : HeadView) (c : Command) → IsCommand line (acts.Command c) h → is_race c ≡ false

@@ -16,6 +16,7 @@ pub mod Desks
 pub mod Halves
 pub mod Turns
 pub mod DeskActs
+pub mod PlaceNames
 pub mod Places
 pub mod Scenes
 pub mod Drains
@@ -42,6 +43,7 @@ pub mod Tries
 pub mod RestoredDumps
 pub mod RestoredHands
 pub mod Cuts
+pub mod Lates
 pub mod LineReads
 pub mod WordLines
 pub mod AliveReads

@@ -23,7 +23,8 @@ use Rattle.tp_session.specs.declared.hand.Holding.{Holding}
 use Rattle.tp_exact.specs.AliveReads.{IsFreeWorker, LostLinesRead}
 use Rattle.tp_exact.specs.Dumps.{all_lost, lost_in, lost_told}
 use Rattle.tp_exact.proofs.AliveReads.{free_ok}
-use Rattle.tp_exact.proofs.LineReads.{bind_ok, digits_allowed, digits_free, letters_of, line_ok, no_space, number_ok, some_letters}
+use Rattle.tp_exact.proofs.LineReads.{bind_ok, digits_allowed, digits_free, line_ok, no_space, number_ok}
+use Rattle.tp_exact.proofs.PlaceNames.{place_short}
 use Rattle.tp_exact.proofs.Cuts.{Bytes, Free, free_of, wider, with_more, words_last, words_more}
 use Rattle.tp_exact.proofs.RestoredHands.{other_is}
 use Rattle.tp_exact.proofs.SessionLines.{either_false}
@@ -48,7 +49,7 @@ taken_told (line ∷ lines) past h t (m, read, rest) =
 lost_word : Free 32 (codes "lost")
 lost_word = (λ e. omega (arith, e), (λ e. omega (arith, e), (λ e. omega (arith, e), (λ e. omega (arith, e), tt))))
 
-module _ (name : List ℕ) (small : Bytes 97 122 name) (letters : 0 < length name) (few : length name ≤ 8) (element : ℕ) (within : element < 2 ^ 32) where
+module _ (name : List ℕ) (small : Bytes 33 126 name) (letters : 0 < length name) (few : length name ≤ 8) (element : ℕ) (within : element < 2 ^ 32) where
   f_element : element < 2 ^ 64
   f_element = omega (arith, within)
 
@@ -61,11 +62,11 @@ module _ (name : List ℕ) (small : Bytes 97 122 name) (letters : 0 < length nam
   line_words_are : words line ≡ codes "lost" ∷ name ∷ decimal element ∷ []
   line_words_are =
       words_more (codes "lost") behind (omega arith) lost_word
-      ∙ ap (λ z. codes "lost" ∷ z) (words_more name (decimal element) letters (free_of 32 97 122 name (λ c low high e. omega (arith, low, e)) small)
+      ∙ ap (λ z. codes "lost" ∷ z) (words_more name (decimal element) letters (free_of 32 33 126 name (λ c low high e. omega (arith, low, e)) small)
       ∙ ap (λ z. name ∷ z) (words_last (decimal element) (decimal_nonempty element f_element) (digits_free 32 element f_element no_space)))
 
   behind_bytes : Bytes 32 126 behind
-  behind_bytes = with_more 32 126 name (32 ∷ decimal element) (wider 97 122 32 126 name (omega arith) (omega arith) small) ((omega arith, omega arith), digits_allowed element f_element)
+  behind_bytes = with_more 32 126 name (32 ∷ decimal element) (wider 33 126 32 126 name (omega arith) (omega arith) small) ((omega arith, omega arith), digits_allowed element f_element)
 
   line_bytes : Bytes 32 126 line
   line_bytes = ((omega arith, omega arith), ((omega arith, omega arith), ((omega arith, omega arith), ((omega arith, omega arith), ((omega arith, omega arith), behind_bytes)))))
@@ -151,11 +152,10 @@ module _ (workers : List WorkerView) (first : ℕ) (works : List Holding) (ss : 
 
   one_taken : (n element : ℕ) (w : WorkerView) → IsFreeWorker w.name n h → element < 2 ^ 32 → AreTaken (dumps.lost_line w (Some element)) (behind_first n) (with_more_lost n (lost_told n (Some element)))
   one_taken n element w free within =
-      let parts = and_parts (not (length w.name == 0) && nat_le (length w.name) 8) (list_all (λ b. nat_le 97 b && nat_le b 122) w.name) free.named in
-      let some = and_parts (not (length w.name == 0)) (nat_le (length w.name) 8) parts.0 in
+      let so = place_short w.name free.named in
       let now = still_free n w.name free in (
         with_more_lost n (lost_told n (Some element)),
-        reads w.name (letters_of w.name parts.1) (some_letters w.name some.0) (leb-true (length w.name) 8 some.1) element within n (behind_first n) (free_ok w.name n (behind_first n) now),
+        reads w.name so.0 so.1 so.2 element within n (behind_first n) (free_ok w.name n (behind_first n) now),
         refl,
       )
 

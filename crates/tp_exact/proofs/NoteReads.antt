@@ -19,6 +19,7 @@ use Rattle.tp_script.specs.declared.notes.EndLine.{EndLine}
 use Rattle.tp_script.specs.declared.notes.RequestNote.{RequestNote}
 use Rattle.tp_script.specs.declared.notes.TheConstants.{MAX_CLIENTS}
 use Rattle.tp_script.specs.declared.notes.UnitEnd.{UnitEnd}
+use Rattle.tp_exact.specs.HeadReads.{IsPlaceName}
 use Rattle.tp_exact.specs.NoteReads.{AreNotes, IsClientName, IsFitEnd, IsFitNote, NoteLinesRead}
 use Rattle.tp_rollover.specs.declared.survivors.Survivor.{Survivor}
 use Rattle.tp_session.specs.Notes.{NotesView, noted_end, ends_at}
@@ -173,7 +174,7 @@ module _ (h : HeadView) where
 
   ends_taken : (first : ℕ) (before : List EndLine) (workers : List WorkerView) (ends : List (Option UnitEnd)) → length ends ≡ length workers
       → ((k : ℕ) → first ≤ k → None_of k before)
-      → ((n : ℕ) (w : WorkerView) → slice_get workers n ≡ Some w → (is_name w.name ≡ true) × (worker_at w.name h ≡ Some (first + n)))
+      → ((n : ℕ) (w : WorkerView) → slice_get workers n ≡ Some w → IsPlaceName w.name × (worker_at w.name h ≡ Some (first + n)))
       → ((how : UnitEnd) → In (Some how) ends → IsFitEnd how)
       → AreTaken (ended_lines workers ends) (with_ends before) (with_ends (before ++ told_ends first ends))
   ends_taken first before [] [] same none named fit = ap with_ends (append_nil before)
@@ -241,7 +242,7 @@ named_client (c ∷ cs) name all is = by_test (is_note_of name c) refl (named_cl
     by_test false now others = others (sym (ap (λ b. b || list_any (is_note_of name) cs) now) ∙ is)
 
 module _ (h : HeadView) (n : NotesView) (survivors : List Survivor) (are : AreNotes h n)
-    (named : (i : ℕ) (w : WorkerView) → slice_get h.workers i ≡ Some w → (is_name w.name ≡ true) × (worker_at w.name h ≡ Some i)) (no_clients : h.clients ≡ []) (no_requests : h.requests ≡ []) (no_ends : h.ends ≡ []) where
+    (named : (i : ℕ) (w : WorkerView) → slice_get h.workers i ≡ Some w → IsPlaceName w.name × (worker_at w.name h ≡ Some i)) (no_clients : h.clients ≡ []) (no_requests : h.requests ≡ []) (no_ends : h.ends ≡ []) where
   abbrev kept : List RequestNote
   kept = filter (λ r. is_root survivors r.root) n.requests
 

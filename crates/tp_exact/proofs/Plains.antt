@@ -57,6 +57,8 @@ module _ (h : HeadView) (account : Bool) where
   acts_same (acts.Noted name a ∷ others) s none = absurd cc
   acts_same (acts.Last at ∷ others) s none = absurd cc
   acts_same (acts.Overview what ∷ others) s none = absurd cc
+  acts_same (acts.Joined name ∷ others) s none = absurd cc
+  acts_same (acts.Leave at name ∷ others) s none = absurd cc
 
   account_same : (asked : Bool) (s : SessionState) → plain.account_line asked (length h.servers) s.report ≡ script_account_line asked (desks_closed (length h.servers) s)
   account_same true s = refl

@@ -14,7 +14,6 @@ use Rattle.tp_rollover.specs.declared.moved.Moved.{Moved}
 use Rattle.tp_rollover.specs.declared.moved.RollFault.{RollFault}
 use Rattle.tp_reference.specs.PlainClient.{client}
 use Rattle.tp_report.specs.declared.answer.Renamed.{Renamed}
-use Rattle.tp_script.specs.Grammar.{body_at}
 use Rattle.tp_script.specs.Notes.{NameView}
 use Rattle.tp_script.specs.Passes.{is_rollover}
 use Rattle.tp_script.specs.Script.{HeadView, WorkerView}
@@ -38,8 +37,8 @@ use Rattle.tp_session.specs.declared.notes.Standing.{Standing}
 use Rattle.tp_session.specs.declared.notes.Standing.TheVariants.{Next, Again, Earlier, Later}
 use Rattle.tp_exact.specs.Alive.{alive_of}
 use Rattle.tp_exact.specs.PlainNotes.{NotedAnswered, by_note, first_below, next_receive, noted_does, of_client, receive_by, receives, register_by, send_by, sends, reply_taken}
-use Rattle.tp_exact.specs.PlainSession.{Refusals, SessionState, session_act_step, anew_as, command_by, dump_of, first_refusal, session_desk_open, session_is_open, line_step, lines_step, noted_step, other_refusals, session_restored, rolled_over, unless_refused, unrestored, worker_step}
-use Rattle.tp_exact.specs.Repeats.{DoneForGood, LeavesNote, ReceivesAgain, ReceivesOnce, SendsAgain, SendsOnce, note_of}
+use Rattle.tp_exact.specs.PlainSession.{head_left, leave_step, said_in, Refusals, SessionState, session_act_step, anew_as, command_by, dump_of, first_refusal, session_desk_open, session_is_open, line_step, lines_step, noted_step, other_refusals, session_restored, rolled_over, unless_refused, unrestored, worker_step}
+use Rattle.tp_exact.specs.Repeats.{DoneForGood, KeepNote, LeavesNote, ReceivesAgain, ReceivesOnce, SendsAgain, SendsOnce, note_of}
 use Rattle.tp_exact.proofs.NoteKeeps.{Has, filter_has, map_has, more_has, passes, placed, set_has}
 
 -- ---- how a number stands to a count
@@ -172,6 +171,10 @@ module _ (name : NameView) (sent received : ℕ) where
   worker_has h None at c act s has = has
   worker_has h (Some it) at c act s has = has
 
+  leave_has : (o : Option WorkerView) (other : NameView) (at c : ℕ) (s : SessionState) → DoneIn s → DoneIn (leave_step o other at c s).1
+  leave_has None other at c s has = has
+  leave_has (Some it) other at c s has = has
+
   unrestored_has : (s : SessionState) → DoneIn s → DoneIn (unrestored s)
   unrestored_has s has = map_has name sent received (client_in []) (λ c. refl) (λ c. omega arith) (λ c. omega arith) s.notes.clients has
 
@@ -193,16 +196,19 @@ module _ (name : NameView) (sent received : ℕ) where
   act_has h why (acts.Noted other act) s kept has = noted_has other act s.notes s.report.manager (λ e. kept other (ap (λ a. acts.Noted other a) e)) has
   act_has h why (acts.Last at) s kept has = has
   act_has h why (acts.Overview what) s kept has = has
+  act_has h why (acts.Joined other) s kept has = has
+  act_has h why (acts.Leave at other) s kept has = leave_has (slice_get h.workers at) other at (1 + length h.servers + at) s has
 
-  line_has : (h : HeadView) (n : ℕ) (why : Option RollFault) (r : Result (Option Act) LineFault) (s : SessionState) → ((other : NameView) → r ≡ Ok (Some (acts.Noted other asks.Forget)) → has_name name other ≡ false) → DoneIn s → DoneIn (line_step h n why r s).1
-  line_has h n why (Ok None) s kept has = has
-  line_has h n why (Ok (Some act)) s kept has = act_has h why act s (λ other e. kept other (ap (λ a. Ok (Some a)) e)) has
-  line_has h n why (Err fault) s kept has = has
+  line_has : (n : ℕ) (why : Option RollFault) (r : Result (HeadView × Option Act) LineFault) (s : SessionState) → LeavesNote name r → DoneIn s → DoneIn (line_step n why r s).1
+  line_has n why (Ok (left, None)) s kept has = has
+  line_has n why (Ok (left, Some act)) s kept has = act_has left why act s (λ other e. kept other left (ap (λ a. Ok (left, Some a)) e)) has
+  line_has n why (Err fault) s kept has = has
 
-  lines_has : (h : HeadView) (past : ℕ) (refusals : Refusals) (lines : List (List ℕ)) (s : SessionState) → All (LeavesNote name h) lines → DoneIn s → DoneIn (lines_step h past refusals lines s).1
+  lines_has : (h : HeadView) (past : ℕ) (refusals : Refusals) (lines : List (List ℕ)) (s : SessionState) → KeepNote name h past refusals lines s → DoneIn s → DoneIn (lines_step h past refusals lines s).1
   lines_has h past refusals [] s kept has = has
   lines_has h past refusals (line ∷ others) s kept has =
-      lines_has h (past + 1) (other_refusals refusals) others (line_step h (past + 1) (first_refusal refusals) (body_at line h) s).1 (All-tail (LeavesNote name h) line others kept) (line_has h (past + 1) (first_refusal refusals) (body_at line h) s (kept 0 line (omega arith)) has)
+      let said = said_in line h s in
+      lines_has (head_left h said) (past + 1) (other_refusals refusals) others (line_step (past + 1) (first_refusal refusals) said s).1 kept.1 (line_has (past + 1) (first_refusal refusals) said s kept.0 has)
 
 pub done_for_good : DoneForGood
 done_for_good h past refusals lines s name sent received kept done =

@@ -42,14 +42,14 @@ use Rattle.tp_exact.proofs.DumpActs.{alive_so, dropped_are, registers_are}
 use Rattle.tp_exact.proofs.RestoredDumps.{described_again, held_by_workers}
 use Rattle.tp_exact.proofs.RestoredHands.{got_in, restored_hands}
 use Rattle.tp_exact.proofs.RestoredNotes.{restored_notes}
-use Rattle.tp_exact.proofs.ActsAlike.{SayTheSame, same_finals, same_lines_step, strip}
-use Rattle.tp_exact.proofs.HeadsAlike.{SameNames, no_restore, same_body}
+use Rattle.tp_exact.proofs.ActsAlike.{SayTheSame, same_finals, strip}
+use Rattle.tp_exact.proofs.HeadsAlike.{SameNames, same_lines_step}
 use Rattle.tp_exact.proofs.DropReads.{AreFresh, Free, drops_are, drops_keep, drops_lead, first_ones, none_held}
 use Rattle.tp_exact.proofs.NoteReads.{same_bytes}
 use Rattle.tp_exact.proofs.Places.{passes}
 use Rattle.tp_exact.proofs.SessionLines.{zip_long}
 use Rattle.tp_exact.proofs.Sessions.{lines_are}
-use Rattle.tp_session.specs.Told.{BodyLines}
+use Rattle.tp_session.specs.Told.{BodyLines, Now, now}
 use Rattle.tp_manager.specs.Shown.{PassShown}
 use Rattle.tp_commands.specs.Acting.{PlaceShown}
 use Rattle.tp_plain.specs.declared.pass_state.PassState.{PassState}
@@ -402,11 +402,11 @@ module _ (source : Head) (old done : Live) (survivors : List Survivor) (s : Sess
     workers = says.workers;
   }
 
-  pub goes_on : (past n : ℕ) (first : Live) (lines : List (List ℕ)) (told : List ℕ) (end : Live) → StandsLive g first (lines_step g past [] (drop_lines h.servers bs (length h.servers)) (session_restored g b).1).1 → BodyLines head n lines first told end
+  pub goes_on : (past n : ℕ) (first : Live) (lines : List (List ℕ)) (told : List ℕ) (end : Now) → StandsLive g first (lines_step g past [] (drop_lines h.servers bs (length h.servers)) (session_restored g b).1).1 → BodyLines n lines (now head first) told end
       → (refusals : Refusals) × AreUnforeseen refusals × (told ≡ (lines_step h n refusals lines (rolled_over h s).1).0)
   goes_on past n first lines told end is answered =
-      let a = lines_are head n lines first end told (rolled_over h s).1 (rolled_stands past first is) answered in
-      (a.0, a.1, a.2.0 ∙ ap (λ z. z.0) (same_lines_step g h say_the_same (same_body g h same_names) (no_restore h) n a.0 lines (rolled_over h s).1))
+      let a = lines_are n lines (now head first) end told (rolled_over h s).1 (rolled_stands past first is) answered in
+      (a.0, a.1, a.2.0 ∙ ap (λ z. z.0) (same_lines_step g h (record { names = same_names; say = say_the_same }) n a.0 lines (rolled_over h s).1))
 
   pub final_lines : (desks : List PlainDesk) → finals_below g.servers desks (length g.servers) ≡ finals_below h.servers desks (length h.servers)
   final_lines desks = ap (λ n. finals_below g.servers desks n) servers_long ∙ same_finals g.servers h.servers say_the_same.servers desks (length h.servers)

@@ -34,7 +34,7 @@ use Rattle.tp_session.specs.Performed.{ActsTold, SessionCloses, Counts as Counts
 use Rattle.tp_exact.specs.PlainScript.{script_account_line, acts_step, closed, desks_closed, end_lines, script_report_of_read, script_of, workers_closed}
 use Rattle.tp_exact.specs.PlainSession.{Refusals, SessionState, session_act_step, session_begin, first_refusal, other_refusals}
 use Rattle.tp_exact.specs.Programs.{ExactProgram, IsChecked, IsCovered, WritesAs, exit_of}
-use Rattle.tp_exact.specs.Sessions.{AreUnforeseen, IsUnforeseen, StandsLive, asks_race}
+use Rattle.tp_exact.specs.Sessions.{AreUnforeseen, IsUnforeseen, StandsLive}
 use Rattle.tp_exact.specs.Stands.{IsServedBy, StandsAsComputed}
 use Rattle.tp_exact.proofs.Accounts.{exact_account}
 use Rattle.tp_exact.proofs.Begins.{no_racers}
@@ -43,21 +43,24 @@ use Rattle.tp_exact.proofs.DumpActs.{still}
 use Rattle.tp_exact.proofs.GivingUps.{below, with_state}
 use Rattle.tp_exact.proofs.HeadsChecked.{script_good}
 use Rattle.tp_exact.proofs.Scenes.{gathers_in, together_in}
-use Rattle.tp_exact.proofs.SessionActs.{exact_line}
+use Rattle.tp_exact.proofs.Lates.{NoRace}
+use Rattle.tp_exact.proofs.SessionActs.{exact_act}
 use Rattle.tp_exact.proofs.SessionLines.{by_worker, either_false}
 use Rattle.tp_exact.proofs.Sessions.{AreSteps, begins_live, finals_are, front_longer}
 
 -- ---- acts, one after another
 
-asked_so : (a : Act) → races a ≡ false → asks_race (Ok (Some a)) ≡ false
+asked_so : (a : Act) → races a ≡ false → NoRace (Some a)
 asked_so (acts.Command c) raceless = raceless
-asked_so (acts.Worker worker act) raceless = refl
-asked_so acts.Account raceless = refl
-asked_so acts.Dump raceless = refl
-asked_so acts.Restore raceless = refl
-asked_so (acts.Noted name a) raceless = refl
-asked_so (acts.Last at) raceless = refl
-asked_so (acts.Overview what) raceless = refl
+asked_so (acts.Worker worker act) raceless = tt
+asked_so acts.Account raceless = tt
+asked_so acts.Dump raceless = tt
+asked_so acts.Restore raceless = tt
+asked_so (acts.Noted name a) raceless = tt
+asked_so (acts.Last at) raceless = tt
+asked_so (acts.Overview what) raceless = tt
+asked_so (acts.Joined name) raceless = tt
+asked_so (acts.Leave at name) raceless = tt
 
 acts_are : (head : Head) (raced : ℕ) (all : List Act) (old last : Live) (text : List ℕ) (s : SessionState) → has_race all ≡ false → StandsLive (head_view head) old s → ActsTold head raced all old text last
     → AreSteps (head_view head) last text (λ refusals. acts_step (head_view head) refusals all s)
@@ -66,7 +69,7 @@ acts_are head raced (a ∷ others) old last text s raceless is (first, rest, bet
     let h : HeadView = head_view head in
     let parts = either_false (races a) (has_race others) raceless in
     let told : TellsAct head a old first between = subst (λ b. TellsRaced b head raced a old first between) parts.0 one in
-    let x = exact_line head 0 (Ok (Some a)) old between first s (asked_so a parts.0) is told in
+    let x = exact_act head a old between first s (asked_so a parts.0) is told in
     let step : List ℕ × SessionState = session_act_step h x.0 a s in
     let y = acts_are head (raced + racers_of a) others between last rest step.1 parts.1 x.2.1 more in
     (x.0 ∷ y.0, All-cons IsUnforeseen x.0 y.0 x.1 y.1, (whole ∙ (ap (λ t. t ++ rest) x.2.0 ∙ ap (λ t. step.0 ++ t) y.2.0), y.2.1))

@@ -15,6 +15,8 @@ use Rattle.tp_script.specs.Script.{HeadView, head_view, worker_view}
 use Rattle.tp_script.specs.declared.head.Act.TheVariants as acts
 use Rattle.tp_script.specs.declared.head.Head.{Head}
 use Rattle.tp_script.specs.declared.head.WorkerAct.{WorkerAct}
+use Rattle.tp_script.specs.declared.head.WorkerAct.TheVariants.{Abort}
+use Rattle.tp_script.specs.Notes.{NameView}
 use Rattle.tp_script.specs.declared.script.Command.{Command}
 use Rattle.tp_commands.specs.Acting.{PlaceShown}
 use Rattle.tp_perform.specs.Scenes.{Gathered, Scene, Stand, passes_in}
@@ -22,15 +24,15 @@ use Rattle.tp_reference.specs.declared.plain_desk.PlainDesk.{PlainDesk}
 use Rattle.tp_reference.specs.PlainClient.{client, counts_of}
 use Rattle.tp_reference.specs.PlainReport.{command_step}
 use Rattle.tp_alone.specs.Thread.{AreTogether, Stays, not_given, state_of, thread_of}
-use Rattle.tp_session.specs.Answers.{worker_line}
+use Rattle.tp_session.specs.Answers.{left_line, worker_line}
 use Rattle.tp_session.specs.Live as lives
 use Rattle.tp_session.specs.Hands.{Hand, has_unit}
-use Rattle.tp_session.specs.Live.{AccountTold, CommandTold, Live, TellsAccount, WorkerTold}
-use Rattle.tp_session.specs.Notes.{with_unit_end}
+use Rattle.tp_session.specs.Live.{AccountTold, CommandTold, JoinTold, LeaveTold, Live, TellsAccount, WorkerTold, with_notes}
+use Rattle.tp_session.specs.Notes.{with_unit_end, without_end}
 use Rattle.tp_session.specs.declared.hand.Holding.{Holding}
 use Rattle.tp_session.specs.declared.hand.Holding.TheVariants.{Nothing}
 use Rattle.tp_exact.specs.Acts.{Acts}
-use Rattle.tp_exact.specs.PlainSession.{SessionState, session_account_line, session_act_step, command_by, session_desk_open, session_is_open, worker_step}
+use Rattle.tp_exact.specs.PlainSession.{SessionState, leave_step, session_account_line, session_act_step, command_by, session_desk_open, session_is_open, worker_step}
 use Rattle.tp_exact.specs.PlainWorkers.{WorkerAnswered, worker_does}
 use Rattle.tp_exact.specs.Sessions.{IsStep, StandsLive}
 use Rattle.tp_exact.specs.Stands.{IsFor, IsServedBy, SceneOnlyLooks, StandsAsComputed}
@@ -190,13 +192,13 @@ module _ (head : Head) (old new : Live) (text : List ℕ) (s : SessionState) (is
     hand_is : slice_index_or s.works at Nothing ≡ before.work
     hand_is = got_or s.works at before.work Nothing (ap (λ ws. slice_get ws at) is.works ∙ t.did.work)
 
-    abbrev done : WorkerAnswered
+    abbrev pub done : WorkerAnswered
     done = worker_does act t.it.stage c s.report.manager (slice_index_or s.works at Nothing)
 
-    abbrev So : WorkerAnswered → Type 0
+    abbrev pub So : WorkerAnswered → Type 0
     So d = (t.answer ≡ d.answer) × (thread_of l (passes_in new.stand.scene) new.stand.keeper.seen ≡ d.manager) × (after.work ≡ d.work)
 
-    so : So done
+    pub so : So done
     so =
         let same : worker_does act t.it.stage c was before.work ≡ done =
         ap (λ m. worker_does act t.it.stage c m before.work) (sym is.stands.manager) ∙ ap (λ w. worker_does act t.it.stage c s.report.manager w) (sym hand_is) in
@@ -268,3 +270,46 @@ module _ (head : Head) (old new : Live) (text : List ℕ) (s : SessionState) (is
 
     pub by_account : Leads (session_act_step h None acts.Account s)
     by_account = go (session_is_open s) refl (subst (λ b. TellsAccount old.stand.manager b scene.client text t.counts.client) open_is t.counts.tells)
+
+  -- ---- workers that come and go
+
+  pub by_joined : (name : NameView) → JoinTold name old text new → Leads (session_act_step h None (acts.Joined name) s)
+  by_joined name t = (t.0, subst (λ z. StandsLive h z s) (sym t.1) is)
+
+-- it gave up what it had in hand, as by its abort
+module _ (head : Head) (old new : Live) (text : List ℕ) (s : SessionState) (is : StandsLive (head_view head) old s) (at : ℕ) (name : NameView) (t : LeaveTold head.workers.items at name old text new) where
+  abbrev left : HeadView
+  left = head_view head
+
+  abbrev place : ℕ
+  place = 1 + length left.servers + at
+
+  -- what is there, where its last unit's end is noted still
+  abbrev before_notes : Live
+  before_notes = with_notes t.done.notes new
+
+  abbrev abort_line : List ℕ
+  abort_line = worker_line (string_bytes t.it.name) t.answer
+
+  aborted : WorkerTold head.workers.items Abort at old abort_line before_notes
+  aborted = record {
+    it = t.it;
+    named = t.named;
+    answer = t.answer;
+    done = t.done;
+    did = t.did;
+    text_is = refl;
+    gathers = record { manager = t.gathers.manager; gathered = t.gathers.gathered; works = t.gathers.works; notes = refl };
+  }
+
+  pub by_leave : IsStep left new text (session_act_step left None (acts.Leave at name) s)
+  unfolding aborted
+  by_leave =
+      let named : slice_get left.workers at ≡ Some (worker_view t.it) = got_map worker_view head.workers.items at t.it t.named in
+      let one = by_worker head old before_notes abort_line s is at Abort aborted in
+      let stands = subst (λ o. StandsLive left before_notes (worker_step o Abort at place s).1) named one.1 in
+      let told = so head old before_notes abort_line s is at Abort aborted in
+      subst (λ o. IsStep left new text (leave_step o name at place s)) (sym named) (
+        t.text_is ∙ ap (λ a. left_line name a) told.0,
+        record { stands = stands.stands; works = stands.works; notes = ap (without_end at) stands.notes ∙ sym t.gathers.notes },
+      )

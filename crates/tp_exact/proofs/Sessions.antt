@@ -10,9 +10,7 @@ use Rattle.tp_model.proofs.Histories.{legal_empty}
 use Rattle.tp_plain.specs.OneThread.{start}
 use Rattle.tp_workers.specs.Free.{IsFreePass}
 use Rattle.tp_manager.specs.Shown.{PassShown, view_in}
-use Rattle.tp_script.specs.Grammar.{body_at}
 use Rattle.tp_script.specs.Script.{HeadView, head_view, no_head}
-use Rattle.tp_script.specs.Passes.{is_race}
 use Rattle.tp_script.specs.declared.fault.LineFault.{LineFault}
 use Rattle.tp_script.specs.declared.head.Act.{Act}
 use Rattle.tp_script.specs.declared.head.Act.TheVariants as acts
@@ -34,62 +32,73 @@ use Rattle.tp_session.proofs.NoteLists.{ends_alike}
 use Rattle.tp_session.specs.Notes.{NotesView}
 use Rattle.tp_session.specs.declared.hand.Holding.{Holding}
 use Rattle.tp_session.specs.declared.hand.Holding.TheVariants.{Nothing}
-use Rattle.tp_session.specs.Told.{BodyLines, HeadLines, HeadLinesTold, LinesFrom}
-use Rattle.tp_exact.specs.PlainSession.{ReadHead, Refusals, SessionState, session_act_step, session_begin, command_by, first_refusal, line_step, lines_from, lines_step, other_refusals, read_head, session_by, session_of}
+use Rattle.tp_session.specs.Told.{BodyLines, HeadLines, HeadLinesTold, LineTold, LinesFrom, Now, now, said_now}
+use Rattle.tp_exact.specs.PlainSession.{ReadHead, Refusals, SessionState, session_act_step, session_begin, command_by, first_refusal, head_left, line_step, lines_from, lines_step, other_refusals, said_in, read_head, session_by, session_of}
 use Rattle.tp_exact.specs.Programs.{IsChecked}
-use Rattle.tp_exact.specs.Sessions.{AreUnforeseen, ComputedOfBytes, ExactSession, ExactSessionFront, IsStep, IsUnforeseen, StandsLive, asks_race, asks_refusable, has_refusable_in, is_refusable}
+use Rattle.tp_exact.specs.Sessions.{AreUnforeseen, ComputedOfBytes, ExactSession, ExactSessionFront, IsStep, IsUnforeseen, StandsLive, asks_refusable, has_refusable_from, has_refusable_in, is_refusable}
 use Rattle.tp_exact.proofs.Begins.{desks_first, served_first}
 use Rattle.tp_exact.proofs.Finals.{exact_finals, registers_left}
 use Rattle.tp_exact.proofs.Scenes.{all_at}
-use Rattle.tp_exact.proofs.HeadsChecked.{command_raceless, head_good, line_raceless}
+use Rattle.tp_exact.proofs.HeadsChecked.{command_raceless, head_good}
+use Rattle.tp_exact.proofs.Lates.{NoRace, OfSaid, OnlyWorkers, Said, only_workers}
 use Rattle.tp_exact.proofs.SessionHeads.{head_alone, head_is, head_more, read_as}
-use Rattle.tp_exact.proofs.SessionActs.{exact_line}
+use Rattle.tp_exact.proofs.SessionActs.{exact_act, exact_line, stands_under}
 use Rattle.tp_exact.proofs.SessionLines.{either_false}
 
 -- ---- the lines after the head
-
--- what asks for no race
-no_race : (said : Result (Option Act) LineFault) → ((c : Command) → said ≡ Ok (Some (acts.Command c)) → is_race c ≡ false) → asks_race said ≡ false
-no_race (Ok None) raceless = refl
-no_race (Err fault) raceless = refl
-no_race (Ok (Some (acts.Worker worker act))) raceless = refl
-no_race (Ok (Some acts.Account)) raceless = refl
-no_race (Ok (Some acts.Dump)) raceless = refl
-no_race (Ok (Some acts.Restore)) raceless = refl
-no_race (Ok (Some (acts.Noted name a))) raceless = refl
-no_race (Ok (Some (acts.Last at))) raceless = refl
-no_race (Ok (Some (acts.Overview what))) raceless = refl
-no_race (Ok (Some (acts.Command c))) raceless = raceless c refl
-
-act_same : (x y : Act) → ◌≡◌ {A = Result (Option Act) LineFault} (Ok (Some x)) (Ok (Some y)) → x ≡ y
-act_same x y e = cc
 
 -- for some refusals that the lines don't tell, the text is that of these steps
 abbrev pub AreSteps : HeadView → Live → List ℕ → (Refusals → List ℕ × SessionState) → Type 0
 AreSteps h last text steps = (refusals : Refusals) × AreUnforeseen refusals × IsStep h last text (steps refusals)
 
-pub lines_are : (head : Head) (past : ℕ) (lines : List (List ℕ)) (old last : Live) (text : List ℕ) (s : SessionState) → StandsLive (head_view head) old s → BodyLines head past lines old text last
-    → AreSteps (head_view head) last text (λ refusals. lines_step (head_view head) past refusals lines s)
-lines_are head past [] old last text s is (none, same) = ([], All-nil IsUnforeseen, (none, subst (λ z. StandsLive (head_view head) z s) (sym same) is))
-lines_are head past (line ∷ others) old last text s is (first, rest, between, one, more, whole) =
-    let h : HeadView = head_view head in
-    let a = exact_line head (past + 1) (body_at line h) old between first s (no_race (body_at line h) (line_raceless line h)) is one in
-    let step : List ℕ × SessionState = line_step h (past + 1) a.0 (body_at line h) s in
-    let b = lines_are head (past + 1) others between last rest step.1 a.2.1 more in
-    (a.0 ∷ b.0, All-cons IsUnforeseen a.0 b.0 a.1 b.1, (whole ∙ (ap (λ t. t ++ rest) a.2.0 ∙ ap (λ t. step.0 ++ t) b.2.0), b.2.1))
+pub lines_are : (past : ℕ) (lines : List (List ℕ)) (old last : Now) (text : List ℕ) (s : SessionState) → StandsLive (head_view old.head) old.live s → BodyLines past lines old text last
+    → AreSteps (head_view last.head) last.live text (λ refusals. lines_step (head_view old.head) past refusals lines s)
+lines_are past [] old last text s is (none, same) = ([], All-nil IsUnforeseen, (none, subst (λ (z : Now). StandsLive (head_view z.head) z.live s) (sym same) is))
+lines_are past (line ∷ others) old last text s is (first, rest, between, one, more, whole) =
+    let h : HeadView = head_view old.head in
+    let said = said_in line h s in
+    let a = exact_line line (past + 1) old between first s is one in
+    let step : List ℕ × SessionState = line_step (past + 1) a.0 said s in
+    let b = lines_are (past + 1) others between last rest step.1 a.2.1 more in
+    let there : lines_step (head_view between.head) (past + 1) b.0 others step.1 ≡ lines_step (head_left h said) (past + 1) b.0 others step.1 = ap (λ (x : HeadView). lines_step x (past + 1) b.0 others step.1) a.3 in
+    (a.0 ∷ b.0, All-cons IsUnforeseen a.0 b.0 a.1 b.1, (whole ∙ (ap (λ t. t ++ rest) a.2.0 ∙ ap (λ t. step.0 ++ t) (b.2.0 ∙ ap (λ (r : List ℕ × SessionState). r.0) there)), subst (λ (r : List ℕ × SessionState). StandsLive (head_view last.head) last.live r.1) there b.2.1))
+
+-- the servers are what they were
+pub servers_stay : (past : ℕ) (lines : List (List ℕ)) (old last : Now) (text : List ℕ) → BodyLines past lines old text last → (head_view last.head).servers ≡ (head_view old.head).servers
+servers_stay past [] old last text (none, same) = ap (λ (z : Now). (head_view z.head).servers) same
+servers_stay past (line ∷ others) old last text (first, rest, between, one, more, whole) =
+    servers_stay (past + 1) others between last rest more ∙ by_said (said_now line old) (only_workers line old.live.notes.clients (head_view old.head)) one
+  where
+    by_said : (said : Said) → OfSaid (λ left asked. OnlyWorkers (head_view old.head) left) said → LineTold (past + 1) said old first between → (head_view between.head).servers ≡ (head_view old.head).servers
+    by_said (Ok (left, None)) only t = ap (λ (x : HeadView). x.servers) (t.0 ∙ only)
+    by_said (Ok (left, Some a)) only t = ap (λ (x : HeadView). x.servers) (t.0 ∙ only)
+    by_said (Err fault) only t = ap (λ (x : HeadView). x.servers) t.0
 
 -- the first command, and the lines after it
-from_command : (head : Head) (past : ℕ) (line : List ℕ) (act : Act) (lines : List (List ℕ)) (old last : Live) (text : List ℕ) (s : SessionState) → IsCommand line act (head_view head)
-    → StandsLive (head_view head) old s → LinesFrom (Some act) head past lines old text last → AreSteps (head_view head) last text (λ refusals. lines_from (Some act) (head_view head) past refusals lines s)
-from_command head past line act lines old last text s command is (first, rest, between, one, more, whole) =
-    let h : HeadView = head_view head in
-    let a = exact_line head (past + 1) (Ok (Some act)) old between first s (no_race (Ok (Some act)) raceless) is one in
+from_command : (past : ℕ) (line : List ℕ) (act : Act) (lines : List (List ℕ)) (old last : Now) (text : List ℕ) (s : SessionState) → IsCommand line act (head_view old.head)
+    → StandsLive (head_view old.head) old.live s → LinesFrom (Some act) past lines old text last → AreSteps (head_view last.head) last.live text (λ refusals. lines_from (Some act) (head_view old.head) past refusals lines s)
+from_command past line act lines old last text s command is (first, rest, between, one, more, whole) =
+    let h : HeadView = head_view old.head in
+    let a = exact_act old.head act old.live between first s (no_race act command) is one in
     let step : List ℕ × SessionState = session_act_step h a.0 act s in
-    let b = lines_are head (past + 1) lines between last rest step.1 a.2.1 more in
+    let b = lines_are (past + 1) lines (now old.head between) last rest step.1 a.2.1 more in
     (a.0 ∷ b.0, All-cons IsUnforeseen a.0 b.0 a.1 b.1, (whole ∙ (ap (λ t. t ++ rest) a.2.0 ∙ ap (λ t. step.0 ++ t) b.2.0), b.2.1))
   where
-    raceless : (c : Command) → ◌≡◌ {A = Result (Option Act) LineFault} (Ok (Some act)) (Ok (Some (acts.Command c))) → is_race c ≡ false
-    raceless c same = command_raceless line (head_view head) c (command ∙ ap (λ (a : Act). Ok (head_view head, Some a)) (act_same act (acts.Command c) same))
+    no_race : (x : Act) → IsCommand line x (head_view old.head) → NoRace (Some x)
+    no_race (acts.Command c) said = command_raceless line (head_view old.head) c said
+    no_race (acts.Worker worker act) said = tt
+    no_race acts.Account said = tt
+    no_race acts.Dump said = tt
+    no_race acts.Restore said = tt
+    no_race (acts.Noted name a) said = tt
+    no_race (acts.Last at) said = tt
+    no_race (acts.Overview what) said = tt
+    no_race (acts.Joined name) said = tt
+    no_race (acts.Leave worker name) said = tt
+
+-- nor do they change from the first command on
+servers_from : (past : ℕ) (act : Act) (lines : List (List ℕ)) (old last : Now) (text : List ℕ) → LinesFrom (Some act) past lines old text last → (head_view last.head).servers ≡ (head_view old.head).servers
+servers_from past act lines old last text (first, rest, between, one, more, whole) = servers_stay (past + 1) lines (now old.head between) last rest more
 
 -- ---- before the first command
 
@@ -198,22 +207,22 @@ module _ (bytes : List ℕ) (Told : List ℕ → Type 0) (t : Session bytes Told
 
   -- this was read, and the answers behind the head are the computed ones
   told_so : (refusals : Refusals) (command : Option Act) (lines : List (List ℕ)) → read_head 0 (heard bytes) no_head ≡ read_as t.head_text whole_head (length t.taken) command lines
-      → IsStep whole_head t.last t.text (lines_from command whole_head (length t.taken) refusals lines (session_begin whole_head)) → Told (session_of refusals bytes)
-  told_so refusals command lines read is =
+      → (head_view t.last.head).servers ≡ whole_head.servers → IsStep (head_view t.last.head) t.last.live t.text (lines_from command whole_head (length t.taken) refusals lines (session_begin whole_head)) → Told (session_of refusals bytes)
+  told_so refusals command lines read servers is =
       let all : List ℕ × SessionState = lines_from command whole_head (length t.taken) refusals lines (session_begin whole_head) in
-      subst Told (ap (λ x. t.head_text ++ (x ++ finals_of whole_head t.registers)) is.0 ∙ (ap (λ x. t.head_text ++ (all.0 ++ x)) (finals_are whole_head t.last t.registers all.1 is.1 t.ends) ∙ sym (ap (session_by refusals) read))) t.told
+      subst Told (ap (λ x. t.head_text ++ (x ++ finals_of whole_head t.registers)) is.0 ∙ (ap (λ x. t.head_text ++ (all.0 ++ x)) (finals_are whole_head t.last.live t.registers all.1 (stands_under (head_view t.last.head) whole_head t.last.live all.1 (sym servers) is.1) t.ends) ∙ sym (ap (session_by refusals) read))) t.told
 
   covered_so : (command : Option Act) (lines : List (List ℕ)) → read_head 0 (heard bytes) no_head ≡ read_as t.head_text whole_head (length t.taken) command lines → All IsChecked whole_head.servers
   covered_so command lines read = subst IsCoveredRead read (covers bytes)
 
-  by_body : (behind : List (List ℕ)) → heard bytes ≡ t.taken ++ behind → CommandLines t.head (length t.taken) behind t.first t.text t.last → TellsSome bytes Told
+  by_body : (behind : List (List ℕ)) → heard bytes ≡ t.taken ++ behind → CommandLines (length t.taken) behind (now t.head t.first) t.text t.last → TellsSome bytes Told
   by_body [] are (none, same) =
       let read = ap (λ lines. read_head 0 lines no_head) are ∙ head_alone t.taken no_head whole_head t.head_text t.heads in
-      ([], All-nil IsUnforeseen, told_so [] None [] read (none, subst (λ z. StandsLive whole_head z (session_begin whole_head)) (sym same) (begins_live t.head 0 refl t.first t.begins (covered_so None [] read))))
+      ([], All-nil IsUnforeseen, told_so [] None [] read (ap (λ (z : Now). (head_view z.head).servers) same) (none, subst (λ (z : Now). StandsLive (head_view z.head) z.live (session_begin whole_head)) (sym same) (begins_live t.head 0 refl t.first t.begins (covered_so None [] read))))
   by_body (line ∷ others) are (act, command, body) =
       let read = ap (λ lines. read_head 0 lines no_head) are ∙ head_is t.taken line others act no_head whole_head t.head_text t.heads command in
-      let from = from_command t.head (length t.taken) line act others t.first t.last t.text (session_begin whole_head) command (begins_live t.head 0 refl t.first t.begins (covered_so (Some act) others read)) body in
-      (from.0, from.1, told_so from.0 (Some act) others read from.2)
+      let from = from_command (length t.taken) line act others (now t.head t.first) t.last t.text (session_begin whole_head) command (begins_live t.head 0 refl t.first t.begins (covered_so (Some act) others read)) body in
+      (from.0, from.1, told_so from.0 (Some act) others read (servers_from (length t.taken) act others (now t.head t.first) t.last t.text body) from.2)
 
   pub whole_is : TellsSome bytes Told
   whole_is = by_body t.behind t.lines_are t.body
@@ -232,9 +241,10 @@ fewer : (h : HeadView) (past : ℕ) (refusals : Refusals) (lines others : List (
     → (rest : List ℕ) × ((lines_step h past refusals (lines ++ others) s).0 ≡ (lines_step h past refusals lines s).0 ++ rest)
 fewer h past refusals [] others s = ((lines_step h past refusals others s).0, refl)
 fewer h past refusals (line ∷ lines) others s =
-    let step : List ℕ × SessionState = line_step h (past + 1) (first_refusal refusals) (body_at line h) s in
-    let more = fewer h (past + 1) (other_refusals refusals) lines others step.1 in
-    (more.0, ap (λ t. step.0 ++ t) more.1 ∙ sym (append_assoc step.0 (lines_step h (past + 1) (other_refusals refusals) lines step.1).0 more.0))
+    let said = said_in line h s in
+    let step : List ℕ × SessionState = line_step (past + 1) (first_refusal refusals) said s in
+    let more = fewer (head_left h said) (past + 1) (other_refusals refusals) lines others step.1 in
+    (more.0, ap (λ t. step.0 ++ t) more.1 ∙ sym (append_assoc step.0 (lines_step (head_left h said) (past + 1) (other_refusals refusals) lines step.1).0 more.0))
 
 fewer_from : (h : HeadView) (past : ℕ) (refusals : Refusals) (act : Act) (lines others : List (List ℕ)) (s : SessionState)
     → (rest : List ℕ) × ((lines_from (Some act) h past refusals (lines ++ others) s).0 ≡ (lines_from (Some act) h past refusals lines s).0 ++ rest)
@@ -260,13 +270,13 @@ module _ (bytes : List ℕ) (before after : Option (List ℕ)) where
     abbrev part_head : HeadView
     part_head = head_view t.head
 
-    by_part : (behind : List (List ℕ)) → heard bytes ≡ t.taken ++ (behind ++ t.others) → CommandLines t.head (length t.taken) behind t.first t.text t.last → TellsSome bytes (AppendsFront before after)
+    by_part : (behind : List (List ℕ)) → heard bytes ≡ t.taken ++ (behind ++ t.others) → CommandLines (length t.taken) behind (now t.head t.first) t.text t.last → TellsSome bytes (AppendsFront before after)
     by_part [] are (none, same) =
         by_head t.taken t.others part_head t.head_text are t.heads (subst (AppendsFront before after) (ap (λ x. t.head_text ++ x) none ∙ append-nil t.head_text) t.told)
     by_part (line ∷ lines) are (act, command, body) =
         let read = ap (λ all. read_head 0 all no_head) are ∙ head_is t.taken line (lines ++ t.others) act no_head part_head t.head_text t.heads command in
         let servers : All IsChecked part_head.servers = subst IsCoveredRead read (covers bytes) in
-        let told = from_command t.head (length t.taken) line act lines t.first t.last t.text (session_begin part_head) command (begins_live t.head 0 refl t.first t.begins servers) body in
+        let told = from_command (length t.taken) line act lines (now t.head t.first) t.last t.text (session_begin part_head) command (begins_live t.head 0 refl t.first t.begins servers) body in
         let few = fewer_from part_head (length t.taken) told.0 act lines t.others (session_begin part_head) in
         let all : List ℕ × SessionState = lines_from (Some act) part_head (length t.taken) told.0 (lines ++ t.others) (session_begin part_head) in
         let finals : List ℕ = finals_below part_head.servers all.1.report.desks (length part_head.servers) in
@@ -298,35 +308,39 @@ act_unasked h why acts.Restore s none = absurd cc
 act_unasked h why (acts.Noted name a) s none = refl
 act_unasked h why (acts.Last at) s none = refl
 act_unasked h why (acts.Overview what) s none = refl
+act_unasked h why (acts.Joined name) s none = refl
+act_unasked h why (acts.Leave at name) s none = refl
 act_unasked h why (acts.Command c) s none = ap (λ b. command_by b h why c s) none ∙ sym (ap (λ b. command_by b h None c s) none)
 
-line_unasked : (h : HeadView) (n : ℕ) (why : Option RollFault) (said : Result (Option Act) LineFault) (s : SessionState) → asks_refusable said ≡ false → line_step h n why said s ≡ line_step h n None said s
-line_unasked h n why (Ok None) s none = refl
-line_unasked h n why (Err fault) s none = refl
-line_unasked h n why (Ok (Some act)) s none = act_unasked h why act s none
+line_unasked : (n : ℕ) (why : Option RollFault) (said : Said) (s : SessionState) → asks_refusable said ≡ false → line_step n why said s ≡ line_step n None said s
+line_unasked n why (Ok (left, None)) s none = refl
+line_unasked n why (Err fault) s none = refl
+line_unasked n why (Ok (left, Some act)) s none = act_unasked left why act s none
 
 -- an answer, and then others
 abbrev pub then_told : (SessionState → List ℕ × SessionState) → List ℕ × SessionState → List ℕ × SessionState
 then_told rest first = (first.0 ++ (rest first.1).0, (rest first.1).1)
 
-lines_unasked : (h : HeadView) (past : ℕ) (refusals : Refusals) (lines : List (List ℕ)) (s : SessionState) → has_refusable_in h lines ≡ false → lines_step h past refusals lines s ≡ lines_step h past [] lines s
+lines_unasked : (h : HeadView) (past : ℕ) (refusals : Refusals) (lines : List (List ℕ)) (s : SessionState) → has_refusable_in h past lines s ≡ false → lines_step h past refusals lines s ≡ lines_step h past [] lines s
 lines_unasked h past refusals [] s none = refl
 lines_unasked h past refusals (line ∷ others) s none =
-    let parts = either_false (asks_refusable (body_at line h)) (has_refusable_in h others) none in
-    let step : List ℕ × SessionState = line_step h (past + 1) None (body_at line h) s in
-    ap (then_told (λ z. lines_step h (past + 1) (other_refusals refusals) others z)) (line_unasked h (past + 1) (first_refusal refusals) (body_at line h) s parts.0)
-    ∙ ap (λ (rest : List ℕ × SessionState). (step.0 ++ rest.0, rest.1)) (lines_unasked h (past + 1) (other_refusals refusals) others step.1 parts.1)
+    let said = said_in line h s in
+    let step : List ℕ × SessionState = line_step (past + 1) None said s in
+    let parts = either_false (asks_refusable said) (has_refusable_in (head_left h said) (past + 1) others step.1) none in
+    ap (then_told (λ z. lines_step (head_left h said) (past + 1) (other_refusals refusals) others z)) (line_unasked (past + 1) (first_refusal refusals) said s parts.0)
+    ∙ ap (λ (rest : List ℕ × SessionState). (step.0 ++ rest.0, rest.1)) (lines_unasked (head_left h said) (past + 1) (other_refusals refusals) others step.1 parts.1)
 
-from_unasked : (command : Option Act) (h : HeadView) (past : ℕ) (refusals : Refusals) (lines : List (List ℕ)) (s : SessionState) → asks_refusable (Ok command) ≡ false → has_refusable_in h lines ≡ false
+from_unasked : (command : Option Act) (h : HeadView) (past : ℕ) (refusals : Refusals) (lines : List (List ℕ)) (s : SessionState) → has_refusable_from command h past lines s ≡ false
     → lines_from command h past refusals lines s ≡ lines_from command h past [] lines s
-from_unasked None h past refusals lines s first none = lines_unasked h past refusals lines s none
-from_unasked (Some act) h past refusals lines s first none =
+from_unasked None h past refusals lines s none = lines_unasked h past refusals lines s none
+from_unasked (Some act) h past refusals lines s none =
     let step : List ℕ × SessionState = session_act_step h None act s in
-    ap (then_told (λ z. lines_step h (past + 1) (other_refusals refusals) lines z)) (act_unasked h (first_refusal refusals) act s first)
-    ∙ ap (λ (rest : List ℕ × SessionState). (step.0 ++ rest.0, rest.1)) (lines_unasked h (past + 1) (other_refusals refusals) lines step.1 none)
+    let parts = either_false (is_refusable act) (has_refusable_in h (past + 1) lines step.1) none in
+    ap (then_told (λ z. lines_step h (past + 1) (other_refusals refusals) lines z)) (act_unasked h (first_refusal refusals) act s parts.0)
+    ∙ ap (λ (rest : List ℕ × SessionState). (step.0 ++ rest.0, rest.1)) (lines_unasked h (past + 1) (other_refusals refusals) lines step.1 parts.1)
 
 pub computed_of_bytes : ComputedOfBytes
 computed_of_bytes bytes refusals unasked =
     let read : ReadHead = read_head 0 (heard bytes) no_head in
     ap (λ (body : List ℕ × SessionState). read.text ++ (body.0 ++ finals_below read.head.servers body.1.report.desks (length read.head.servers)))
-    (from_unasked read.command read.head read.past refusals read.behind (session_begin read.head) unasked.0 unasked.1)
+    (from_unasked read.command read.head read.past refusals read.behind (session_begin read.head) unasked)

@@ -29,7 +29,8 @@ use Rattle.tp_exact.proofs.Cuts.{le_true}
 use Rattle.tp_exact.proofs.DumpReads.{both_told, dump_lines_read}
 use Rattle.tp_exact.proofs.HeadReads.{settings_lines_read, worker_lines_read}
 use Rattle.tp_exact.proofs.NoteReads.{counted, note_lines_read, same_bytes}
-use Rattle.tp_exact.proofs.RestoredHands.{some_same}
+use Rattle.tp_exact.proofs.PlaceNames.{some_place}
+use Rattle.tp_exact.proofs.RestoredHands.{got_in, some_same}
 use Rattle.tp_exact.proofs.ServerReads.{server_lines_read}
 use Rattle.tp_exact.proofs.StartReads.{same_places, start_lines_read}
 use Rattle.tp_exact.proofs.WordLines.{Word, small_word}
@@ -117,8 +118,9 @@ module _ (h : HeadView) (old done : Live) (survivors : List Survivor) (s : Sessi
 
   named : AreNamed g4
   named n w is =
-      let at = it.head.workers w (in_list h.workers n w is) in
-      (at.named, found_at (λ (v : WorkerView). bytes_eq v.name w.name) h.workers n w is (same_bytes w.name) (it.head.worker_names w.name))
+      let low = got_in h.workers n w is in
+      let few = it.head.few_workers in
+      (some_place n w.name (omega (arith, low, few)) (it.head.workers n w is).named, found_at (λ (v : WorkerView). bytes_eq v.name w.name) h.workers n w is (same_bytes w.name) (it.head.worker_names w.name))
 
   registered : (place : ℕ) (v : ServerView) (held : List ℕ) → slice_get h.servers place ≡ Some v → slice_get regs place ≡ Some held → HasRegisters h.servers place v held
   registered place v held is has =
@@ -131,8 +133,8 @@ module _ (h : HeadView) (old done : Live) (survivors : List Survivor) (s : Sessi
         values = λ n value. it.registers.values place n value held has;
       }
 
-  is_worker : (w : WorkerView) → In w h.workers → IsWorker g3 w
-  is_worker w at = let p = it.head.workers w at in record { named = p.named; no_server = server_free w.name p.no_server; no_client = refl; stage = p.stage }
+  is_worker : (place : ℕ) (w : WorkerView) → slice_get h.workers place ≡ Some w → IsWorker g3 place w
+  is_worker place w at = let p = it.head.workers place w at in record { named = p.named; no_server = server_free w.name p.no_server; no_client = refl; stage = p.stage }
 
   notes : AreNotes g5 old.notes
   notes = record {

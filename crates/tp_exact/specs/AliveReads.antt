@@ -8,7 +8,6 @@ use Rattle.tp_model.specs.declared.types.TheConstants.{MAX_ATTEMPTS, MAX_ROUNDS,
 use Rattle.tp_rollover.specs.declared.survivors.Survivor.{Survivor}
 use Rattle.tp_script.specs.Grammar.{head_at}
 use Rattle.tp_script.specs.Hands.{has_in_hand}
-use Rattle.tp_script.specs.LineWords.{is_name}
 use Rattle.tp_script.specs.Script.{HeadView, WorkerView}
 use Rattle.tp_script.specs.ServerLines.{worker_at}
 use Rattle.tp_script.specs.declared.head.TheConstants.{MAX_ALIVE}
@@ -18,6 +17,7 @@ use Rattle.tp_session.specs.Live.{FoundAlive, HoldsUnits, Live}
 use Rattle.tp_session.specs.Told.{HeadLines}
 use Rattle.tp_session.specs.declared.hand.Holding.{Holding}
 use Rattle.tp_exact.specs.Dumps.{all_lost, line_of, tries_of}
+use Rattle.tp_exact.specs.HeadReads.{IsPlaceName}
 use Rattle.tp_exact.specs.PlainSession.{SessionState}
 use Rattle.tp_exact.specs.Sessions.{StandsLive}
 
@@ -47,7 +47,7 @@ AliveLineReads =
 
 -- the name is that of this worker of a head, and no line of the head says that it has or had something in hand
 pub record IsFreeWorker (name : List ℕ) (worker : ℕ) (h : HeadView) : Type 0 where
-  pub named : is_name name ≡ true
+  pub named : IsPlaceName name
   pub at : worker_at name h ≡ Some worker
   pub idle : has_in_hand worker h ≡ false
 
@@ -96,7 +96,7 @@ LostLinesRead =
 -- each worker of a head has a name of its own
 abbrev pub AreNamed : HeadView → Type 0
 AreNamed h = (n : ℕ) (w : WorkerView) → slice_get h.workers n ≡ Some w
-    → (is_name w.name ≡ true) × (worker_at w.name h ≡ Some n)
+    → IsPlaceName w.name × (worker_at w.name h ≡ Some n)
 
 -- what these lines say, of a session with head h that has these works in hand and in which this is alive
 abbrev pub lines_between : HeadView → List Holding → List Survivor → List (List ℕ)

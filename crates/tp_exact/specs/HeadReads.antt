@@ -1,5 +1,5 @@
 -- What is read of the lines that a dump tells of settings, servers and workers.
-use Rattle.std.specs.Prelude.{◌≡◌, ◌<◌, ◌≤◌, ◌^◌, ⊤, ℕ, true, false, List, [], ◌∷◌, Some, is_none}
+use Rattle.std.specs.Prelude.{◌≡◌, ◌⊎◌, ◌<◌, ◌≤◌, ◌^◌, ⊤, ℕ, true, false, List, [], ◌∷◌, Some, is_none}
 use Rattle.std.specs.Prelude.{count_by, is_ok, length, map, position, replicate, slice_get}
 use Rattle.std.specs.Str.{bytes_eq}
 use Rattle.tp_model.specs.History.{In}
@@ -13,6 +13,7 @@ use Rattle.tp_server.specs.declared.recipe.KeyFrom.TheVariants as keys
 use Rattle.tp_server.specs.declared.recipe.Output.{Output}
 use Rattle.tp_script.specs.LineWords.{is_name}
 use Rattle.tp_script.specs.Script.{HeadView, ServerView, SettingsView, WorkerView}
+use Rattle.tp_script.specs.Places.{place_name}
 use Rattle.tp_script.specs.ServerLines.{has_client}
 use Rattle.tp_script.specs.declared.head.TheConstants.{MAX_WORKERS}
 use Rattle.tp_script.specs.declared.script.TheConstants.{MAX_SERVERS}
@@ -32,9 +33,17 @@ SettingsLinesRead =
     (s : SettingsView) (h : HeadView) (past : ℕ) → AreSettings s → h.servers ≡ []
     → HeadLines past (settings_lines s) h [] (record h { settings = s })
 
--- a worker of a head: a name that no server and no client has, and a stage of servers
-pub record IsWorker (h : HeadView) (w : WorkerView) : Type 0 where
-  pub named : is_name w.name ≡ true
+-- a name of letters, or what the free place of this number is called
+abbrev pub IsNameAt : ℕ → List ℕ → Type 0
+IsNameAt place name = (is_name name ≡ true) ⊎ (name ≡ place_name place)
+
+-- the same of some place
+abbrev pub IsPlaceName : List ℕ → Type 0
+IsPlaceName name = (is_name name ≡ true) ⊎ ((place : ℕ) × (place < MAX_WORKERS) × (name ≡ place_name place))
+
+-- the worker at a place of a head: a name that no server and no client has, and a stage of servers
+pub record IsWorker (h : HeadView) (place : ℕ) (w : WorkerView) : Type 0 where
+  pub named : IsNameAt place w.name
   pub no_server : is_none (position (λ server. bytes_eq server.name w.name) h.servers) ≡ true
   pub no_client : has_client w.name h ≡ false
   pub stage : (1 ≤ w.stage) × (w.stage ≤ MAX_STAGE)
@@ -44,7 +53,7 @@ pub record IsWorker (h : HeadView) (w : WorkerView) : Type 0 where
 abbrev pub WorkerLinesRead : Type 0
 WorkerLinesRead =
     (workers : List WorkerView) (h : HeadView) (past : ℕ)
-    → ((w : WorkerView) → In w workers → IsWorker h w)
+    → ((place : ℕ) (w : WorkerView) → slice_get workers place ≡ Some w → IsWorker h place w)
     → ((name : List ℕ) → count_by (λ (w : WorkerView). bytes_eq w.name name) workers ≤ 1)
     → length workers ≤ MAX_WORKERS → h.workers ≡ []
     → HeadLines past (map worker_text workers) h [] (record h { workers = workers })

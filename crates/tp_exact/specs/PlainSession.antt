@@ -13,6 +13,7 @@ use Rattle.tp_report.specs.Answer.{account_text, answer_text, line, rolled_text}
 use Rattle.tp_report.specs.declared.answer.Answer.TheVariants as answer
 use Rattle.tp_report.specs.declared.answer.Renamed.{Renamed}
 use Rattle.tp_script.specs.Fault.{◌<>◌}
+use Rattle.tp_script.specs.Notes.{NameView}
 use Rattle.tp_script.specs.Passes.{is_rollover}
 use Rattle.tp_script.specs.Grammar.{body_at, head_at}
 use Rattle.tp_script.specs.Script.{HeadView, WorkerView, no_head}
@@ -20,11 +21,12 @@ use Rattle.tp_script.specs.declared.fault.LineFault.{LineFault}
 use Rattle.tp_script.specs.declared.head.Act.{Act}
 use Rattle.tp_script.specs.declared.head.Act.TheVariants as acts
 use Rattle.tp_script.specs.declared.head.WorkerAct.{WorkerAct}
+use Rattle.tp_script.specs.declared.head.WorkerAct.TheVariants.{Abort}
 use Rattle.tp_script.specs.declared.script.Command.{Command}
 use Rattle.tp_perform.specs.Rollover.{renamed, roll_refused_text}
 use Rattle.tp_reference.specs.PlainClient.{counts_of}
 use Rattle.tp_reference.specs.PlainReport.{ReportState, command_step, finals_below, new_desk}
-use Rattle.tp_session.specs.Answers.{refused_line, restored_text, units_text, worker_line}
+use Rattle.tp_session.specs.Answers.{joined_line, left_line, refused_line, restored_text, units_text, worker_line}
 use Rattle.tp_session.specs.Carried.{lost_works, works_after}
 use Rattle.tp_session.specs.Conversed.{limits_of}
 use Rattle.tp_session.specs.Dump.{dump_lines, dump_text}
@@ -32,7 +34,7 @@ use Rattle.tp_session.specs.Hands.{has_unit}
 use Rattle.tp_session.specs.Heard.{heard}
 use Rattle.tp_session.specs.Lasts.{end_at}
 use Rattle.tp_session.specs.Live.{survivors_of}
-use Rattle.tp_session.specs.Notes.{NotesView, notes_in, notes_of, with_unit_end}
+use Rattle.tp_session.specs.Notes.{NotesView, notes_in, notes_of, with_unit_end, without_end}
 use Rattle.tp_session.specs.NoteTexts.{last_hand}
 use Rattle.tp_session.specs.Overviews.{names_of}
 use Rattle.tp_session.specs.Roots.{roots_of, roots_text}
@@ -160,6 +162,20 @@ last_step None at s = []
 last_step (Some it) at s =
     line (last_hand it.name (work_told (slice_index_or s.works at Nothing) s.report.manager) (end_at s.notes.ends at))
 
+-- `leave`: the worker whose place is free now gives up what it has in hand, and nothing is noted any more of its
+-- last unit
+abbrev pub leave_step : Option WorkerView → NameView → ℕ → ℕ → SessionState → List ℕ × SessionState
+leave_step None name at c s = ([], s)
+leave_step (Some it) name at c s =
+    let done = worker_does Abort it.stage c s.report.manager (slice_index_or s.works at Nothing) in (
+      left_line name done.answer,
+      record {
+        report = record s.report { manager = done.manager };
+        works = slice_set s.works at done.work;
+        notes = without_end at (with_unit_end (slice_index_or s.works at Nothing) done.answer at s.notes);
+      },
+    )
+
 -- ---- each line
 
 -- a command: a rollover, or one of those that scripts have without one
@@ -180,20 +196,34 @@ session_act_step h why (acts.Noted name act) s = noted_step (noted_does name act
 session_act_step h why (acts.Last at) s = (last_step (slice_get h.workers at) at s, s)
 session_act_step h why (acts.Overview what) s =
     (overview_line (names_of h) what s.report.manager s.report.desks s.works, s)
+session_act_step h why (acts.Joined name) s = (joined_line name, s)
+session_act_step h why (acts.Leave at name) s =
+    leave_step (slice_get h.workers at) name at (1 + length h.servers + at) s
+
+-- what a line says behind such a head, in such a state
+abbrev pub said_in : List ℕ → HeadView → SessionState → Result (HeadView × Option Act) LineFault
+said_in line h s = body_at line s.notes.clients h
+
+-- the head that it leaves
+abbrev pub head_left : HeadView → Result (HeadView × Option Act) LineFault → HeadView
+head_left h (Ok (left, asked)) = left
+head_left h (Err fault) = h
 
 -- a line after the head, which is the n-th of all lines
-abbrev pub line_step : HeadView → ℕ → Option RollFault → Result (Option Act) LineFault → SessionState
+abbrev pub line_step : ℕ → Option RollFault → Result (HeadView × Option Act) LineFault → SessionState
     → List ℕ × SessionState
-line_step h n why (Ok None) s = ([], s)
-line_step h n why (Ok (Some act)) s = session_act_step h why act s
-line_step h n why (Err fault) s = (refused_line n fault, s)
+line_step n why (Ok (left, None)) s = ([], s)
+line_step n why (Ok (left, Some act)) s = session_act_step left why act s
+line_step n why (Err fault) s = (refused_line n fault, s)
 
 -- such lines one after another, after this many others
 abbrev pub lines_step : HeadView → ℕ → Refusals → List (List ℕ) → SessionState → List ℕ × SessionState
 lines_step h past refusals [] s = ([], s)
 lines_step h past refusals (line ∷ others) s =
-    let first = line_step h (past + 1) (first_refusal refusals) (body_at line h) s in
-    let rest = lines_step h (past + 1) (other_refusals refusals) others first.1 in (first.0 ++ rest.0, rest.1)
+    let said = said_in line h s in
+    let first = line_step (past + 1) (first_refusal refusals) said s in
+    let rest = lines_step (head_left h said) (past + 1) (other_refusals refusals) others first.1 in
+    (first.0 ++ rest.0, rest.1)
 
 -- what the first command asks for, if there is one, and then such lines, after this many others
 abbrev pub lines_from : Option Act → HeadView → ℕ → Refusals → List (List ℕ) → SessionState

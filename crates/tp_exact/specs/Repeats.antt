@@ -1,15 +1,17 @@
 -- What sends and receives that are made again do, whatever lines are between.
-use Rattle.std.specs.Prelude.{◌≡◌, ◌≤◌, ◌+◌, ℕ, false, List, All, Option, Some, Ok}
+use Rattle.std.specs.Prelude.{◌≡◌, ◌≤◌, ◌+◌, ℕ, false, List, [], ◌∷◌, Option, Some, Result, Ok}
 use Rattle.std.specs.List.{find}
-use Rattle.tp_script.specs.Grammar.{body_at}
 use Rattle.tp_script.specs.Notes.{NameView}
 use Rattle.tp_script.specs.Script.{HeadView}
+use Rattle.tp_script.specs.declared.fault.LineFault.{LineFault}
+use Rattle.tp_script.specs.declared.head.Act.{Act}
 use Rattle.tp_script.specs.declared.head.Act.TheVariants as acts
 use Rattle.tp_script.specs.declared.notes.ClientNote.{ClientNote}
 use Rattle.tp_script.specs.declared.notes.NotedAct.TheVariants as asks
 use Rattle.tp_rollover.specs.declared.moved.RollFault.{RollFault}
 use Rattle.tp_session.specs.Notes.{has_name}
-use Rattle.tp_exact.specs.PlainSession.{Refusals, SessionState, session_act_step, lines_step}
+use Rattle.tp_exact.specs.PlainSession.{Refusals, SessionState, first_refusal, head_left, line_step, lines_step}
+use Rattle.tp_exact.specs.PlainSession.{other_refusals, said_in, session_act_step}
 
 -- what is noted of the client of this name
 abbrev pub note_of : NameView → SessionState → Option ClientNote
@@ -24,15 +26,22 @@ pub record HasDone (name : NameView) (sent received : ℕ) (s : SessionState) : 
 
 -- ---- what was done stays done
 
--- the line doesn't forget the client
-abbrev pub LeavesNote : NameView → HeadView → List ℕ → Type 0
-LeavesNote name h line = (other : NameView) → body_at line h ≡ Ok (Some (acts.Noted other asks.Forget))
+-- what was said doesn't forget the client
+abbrev pub LeavesNote : NameView → Result (HeadView × Option Act) LineFault → Type 0
+LeavesNote name said = (other : NameView) (left : HeadView) → said ≡ Ok (left, Some (acts.Noted other asks.Forget))
     → has_name name other ≡ false
+
+-- none of these lines does, which were refused so, after this many others
+abbrev pub KeepNote : NameView → HeadView → ℕ → Refusals → List (List ℕ) → SessionState → Type 0
+KeepNote name h past refusals [] s = Unit {0}
+KeepNote name h past refusals (line ∷ others) s = let said = said_in line h s in
+    LeavesNote name said × KeepNote name (head_left h said) (past + 1) (other_refusals refusals) others
+    (line_step (past + 1) (first_refusal refusals) said s).1
 
 -- over any lines that don't forget it, rollovers and restores among them, refused or not
 abbrev pub DoneForGood : Type 0
 DoneForGood = (h : HeadView) (past : ℕ) (refusals : Refusals) (lines : List (List ℕ)) (s : SessionState)
-    (name : NameView) (sent received : ℕ) → All (LeavesNote name h) lines → HasDone name sent received s
+    (name : NameView) (sent received : ℕ) → KeepNote name h past refusals lines s → HasDone name sent received s
     → HasDone name sent received (lines_step h past refusals lines s).1
 
 -- ---- what is done once

@@ -1,6 +1,6 @@
 -- What a live session is answered: the computed answers.
-use Rattle.std.specs.Prelude.{◌≡◌, ℕ, All, Bool, true, false, List, [], Option, Some, None, Result, Ok}
-use Rattle.std.specs.List.{list_any}
+use Rattle.std.specs.Prelude.{◌≡◌, ℕ, ◌+◌, ◌||◌, All, Bool, true, false, List, [], ◌∷◌, Option, Some, None}
+use Rattle.std.specs.Prelude.{Result, Ok, Err}
 use Rattle.std.specs.Io.KnownBytes.{Appends}
 use Rattle.tp_model.specs.declared.types.Limits.{Limits}
 use Rattle.tp_model.specs.declared.event.Event.{Event}
@@ -9,22 +9,21 @@ use Rattle.tp_rollover.specs.declared.moved.RollFault.{RollFault}
 use Rattle.tp_rollover.specs.declared.moved.RollFault.TheVariants as faults
 use Rattle.tp_report.specs.Written.{AppendsFront}
 use Rattle.tp_script.specs.Passes.{is_race, is_rollover}
-use Rattle.tp_script.specs.Grammar.{body_at}
 use Rattle.tp_script.specs.Script.{HeadView, head_view, no_head}
 use Rattle.tp_script.specs.declared.fault.LineFault.{LineFault}
 use Rattle.tp_script.specs.declared.head.Act.{Act}
 use Rattle.tp_script.specs.declared.head.Act.TheVariants as acts
-use Rattle.tp_script.specs.declared.head.Head.{Head}
 use Rattle.tp_script.specs.declared.head.WorkerAct.{WorkerAct}
 use Rattle.tp_alone.specs.Thread.{thread_of}
 use Rattle.tp_session.specs.Conversed.{Conversed, ConversedFront}
 use Rattle.tp_session.specs.Hands.{Hand, WorkerDoes}
 use Rattle.tp_session.specs.Heard.{heard}
 use Rattle.tp_session.specs.Live.{Live}
-use Rattle.tp_session.specs.Told.{LineTold}
+use Rattle.tp_session.specs.Told.{LineTold, Now, said_now}
 use Rattle.tp_session.specs.declared.hand.WorkerAnswer.{WorkerAnswer}
 use Rattle.tp_exact.specs.Acts.{Acts}
-use Rattle.tp_exact.specs.PlainSession.{Refusals, SessionState, line_step, read_head, session_of}
+use Rattle.tp_exact.specs.PlainSession.{Refusals, SessionState, head_left, line_step, read_head, said_in, session_of}
+use Rattle.tp_exact.specs.PlainSession.{session_act_step, session_begin}
 use Rattle.tp_exact.specs.PlainWorkers.{worker_does}
 use Rattle.tp_exact.specs.Stands.{StandsAsComputed}
 
@@ -57,11 +56,6 @@ IsUnforeseen (Some other) = ⊥
 abbrev pub AreUnforeseen : Refusals → Type 0
 AreUnforeseen refusals = All IsUnforeseen refusals
 
--- a line asks for what takes more than one thread; no session has such a line
-abbrev pub asks_race : Result (Option Act) LineFault → Bool
-asks_race (Ok (Some (acts.Command c))) = is_race c
-asks_race other = false
-
 -- the text is this step's, and what is there stands for the computed state after it
 abbrev pub IsStep : HeadView → Live → List ℕ → List ℕ × SessionState → Type 0
 IsStep h new text step = (text ≡ step.0) × StandsLive h new step.1
@@ -70,11 +64,12 @@ IsStep h new text step = (text ≡ step.0) × StandsLive h new step.1
 -- answer is the computed one; where it is refused as no line says, it is the line of that refusal
 abbrev pub ExactLine : Type 0
 ExactLine =
-    (head : Head) (n : ℕ) (said : Result (Option Act) LineFault) (old new : Live) (text : List ℕ)
-    (s : SessionState)
-    → asks_race said ≡ false → StandsLive (head_view head) old s → LineTold head n said old text new
+    (line : List ℕ) (n : ℕ) (old new : Now) (text : List ℕ) (s : SessionState)
+    → let said = said_in line (head_view old.head) s in
+    StandsLive (head_view old.head) old.live s → LineTold n (said_now line old) old text new
     → (why : Option RollFault) × IsUnforeseen why
-    × IsStep (head_view head) new text (line_step (head_view head) n why said s)
+    × IsStep (head_view new.head) new.live text (line_step n why said s)
+    × (head_view new.head ≡ head_left (head_view old.head) said)
 
 -- What is written of a session is the computed answers, and nothing else. They are computed of its bytes, and
 -- of which rollovers, dumps and restores were refused where the lines alone don't say so.
@@ -98,19 +93,32 @@ is_refusable acts.Dump = true
 is_refusable acts.Restore = true
 is_refusable other = false
 
--- a line asks for such
-abbrev pub asks_refusable : Result (Option Act) LineFault → Bool
-asks_refusable (Ok (Some act)) = is_refusable act
-asks_refusable other = false
+-- the first command does, if there is one
+abbrev pub is_first_refusable : Option Act → Bool
+is_first_refusable None = false
+is_first_refusable (Some act) = is_refusable act
 
--- whether one of these lines does
-abbrev pub has_refusable_in : HeadView → List (List ℕ) → Bool
-has_refusable_in h lines = list_any (λ line. asks_refusable (body_at line h)) lines
+-- a line asks for such
+abbrev pub asks_refusable : Result (HeadView × Option Act) LineFault → Bool
+asks_refusable (Ok (left, asked)) = is_first_refusable asked
+asks_refusable (Err fault) = false
+
+-- whether one of these lines does, after this many others
+abbrev pub has_refusable_in : HeadView → ℕ → List (List ℕ) → SessionState → Bool
+has_refusable_in h past [] s = false
+has_refusable_in h past (line ∷ others) s = let said = said_in line h s in
+    asks_refusable said || has_refusable_in (head_left h said) (past + 1) others (line_step (past + 1) None said s).1
+
+-- the same of all, of which this is the first command
+abbrev pub has_refusable_from : Option Act → HeadView → ℕ → List (List ℕ) → SessionState → Bool
+has_refusable_from None h past lines s = has_refusable_in h past lines s
+has_refusable_from (Some act) h past lines s =
+    is_refusable act || has_refusable_in h (past + 1) lines (session_act_step h None act s).1
 
 -- neither the first command nor a line after it asks for a rollover, a dump or a restore
 abbrev pub IsUnrefusable : List ℕ → Type 0
 IsUnrefusable bytes = let read = read_head 0 (heard bytes) no_head in
-    (asks_refusable (Ok read.command) ≡ false) × (has_refusable_in read.head read.behind ≡ false)
+    has_refusable_from read.command read.head read.past read.behind (session_begin read.head) ≡ false
 
 -- the answers to such a session are computed of its bytes alone
 abbrev pub ComputedOfBytes : Type 0

@@ -8,7 +8,6 @@ use Rattle.tp_model.specs.declared.types.TheConstants.{MAX_STAGE}
 use Rattle.tp_rollover.specs.declared.survivors.Survivor.{Survivor}
 use Rattle.tp_reference.specs.PlainReport.{finals_below}
 use Rattle.tp_reference.specs.declared.plain_desk.PlainDesk.{PlainDesk}
-use Rattle.tp_script.specs.LineWords.{is_name}
 use Rattle.tp_script.specs.Script.{HeadView, ServerView, WorkerView, head_view, no_head}
 use Rattle.tp_script.specs.ServerLines.{worker_at}
 use Rattle.tp_script.specs.declared.head.Act.TheVariants as acts
@@ -20,11 +19,11 @@ use Rattle.tp_session.specs.Dump.{drop_lines, lost_element}
 use Rattle.tp_session.specs.Live as lives
 use Rattle.tp_session.specs.Live.{FoundAlive, HoldsUnits, Live, LiveLooks, RestoredLive, lines_of}
 use Rattle.tp_session.specs.Notes.{notes_of}
-use Rattle.tp_session.specs.Told.{BodyLines}
+use Rattle.tp_session.specs.Told.{BodyLines, Now, now}
 use Rattle.tp_session.specs.declared.hand.Holding.{Holding}
 use Rattle.tp_exact.specs.AliveReads.{IsBody64}
 use Rattle.tp_exact.specs.Dumps.{all_lost, line_of}
-use Rattle.tp_exact.specs.HeadReads.{AreSettings, IsHeadServer, started}
+use Rattle.tp_exact.specs.HeadReads.{AreSettings, IsHeadServer, IsNameAt, started}
 use Rattle.tp_exact.specs.NoteReads.{AreNotes, alive_notes}
 use Rattle.tp_exact.specs.PlainSession.{Refusals, SessionState, session_begin, lines_step, read_head, session_restored}
 use Rattle.tp_exact.specs.PlainSession.{rolled_over}
@@ -32,9 +31,9 @@ use Rattle.tp_exact.specs.Sessions.{AreUnforeseen, StandsLive}
 
 -- ---- what was dumped
 
--- a worker of a head: a name that no server has, and a stage of servers
-pub record IsPlacedWorker (h : HeadView) (w : WorkerView) : Type 0 where
-  pub named : is_name w.name ≡ true
+-- the worker at a place of a head: a name that no server has, or that of the free place, and a stage of servers
+pub record IsPlacedWorker (h : HeadView) (place : ℕ) (w : WorkerView) : Type 0 where
+  pub named : IsNameAt place w.name
   pub no_server : is_none (position (λ (v : ServerView). bytes_eq v.name w.name) h.servers) ≡ true
   pub stage : (1 ≤ w.stage) × (w.stage ≤ MAX_STAGE)
 
@@ -45,7 +44,7 @@ pub record IsHead (h : HeadView) : Type 0 where
   pub server_names : (name : List ℕ) → count_by (λ (v : ServerView). bytes_eq v.name name) h.servers ≤ 1
   pub few_servers : length h.servers ≤ MAX_SERVERS
   pub apart : (v : ServerView) → In v h.servers → worker_at v.name h ≡ None
-  pub workers : (w : WorkerView) → In w h.workers → IsPlacedWorker h w
+  pub workers : (place : ℕ) (w : WorkerView) → slice_get h.workers place ≡ Some w → IsPlacedWorker h place w
   pub worker_names : (name : List ℕ) → count_by (λ (w : WorkerView). bytes_eq w.name name) h.workers ≤ 1
   pub few_workers : length h.workers ≤ MAX_WORKERS
 
@@ -141,13 +140,13 @@ abbrev pub AnswersGoOn : Type 0
 AnswersGoOn =
     (source : Head) (old done : Live) (survivors : List Survivor) (s : SessionState)
     (head : Head) (begun : Live) (text : List ℕ) (new : Live)
-    (past n : ℕ) (first : Live) (lines : List (List ℕ)) (told : List ℕ) (last : Live)
+    (past n : ℕ) (first : Live) (lines : List (List ℕ)) (told : List ℕ) (last : Now)
     → let h = head_view source in let t = head_view head in
     IsDumped h old done survivors s → SaysAll h t old survivors
     → old.stand.manager.limits ≡ limits_of h 0 → begun.stand.manager.limits ≡ limits_of t 0
     → StandsLive t begun (session_begin t) → HoldsUnits begun → RestoredLive t begun text new
     → StandsLive t first (lines_step t past [] (drops_of h old) (session_restored t (session_begin t)).1).1
-    → BodyLines head n lines first told last
+    → BodyLines n lines (now head first) told last
     → (refusals : Refusals) × AreUnforeseen refusals
     × (told ≡ (lines_step h n refusals lines (rolled_over h s).1).0)
     × ((desks : List PlainDesk)

@@ -7,3 +7,4 @@ pub mod FirstWords
 pub mod DraftLemmas
 pub mod AliveLemmas
 pub mod OnceLemmas
+pub mod PlaceLemmas

@@ -32,10 +32,11 @@ use Rattle.tp_script.specs.Ends.{ended_line, ended_words}
 use Rattle.tp_script.specs.Hands.{free_worker, held_of, held_words}
 use Rattle.tp_script.specs.Keyword.{keyword}
 use Rattle.tp_script.specs.Passes.{is_race}
+use Rattle.tp_script.specs.Places.{join_line, leave_line, worker_name, workers_line}
 use Rattle.tp_script.specs.Script.{HeadView}
-use Rattle.tp_script.specs.ServerLines.{new_name, server_line, shape_at, start_line, worker_at}
+use Rattle.tp_script.specs.ServerLines.{server_line, shape_at, start_line, worker_at}
 use Rattle.tp_script.specs.Text.{words}
-use Rattle.tp_script.specs.LineWords.{◌>>=◌, require, known, none, one, two, three, number_at}
+use Rattle.tp_script.specs.LineWords.{◌>>=◌, require, known, none, one, two, three, number_at, is_name}
 
 -- ---- words
 
@@ -87,13 +88,13 @@ spare_line w h = do
 
 -- ---- workers, what is alive, and what they have in hand
 
--- `worker NAME STAGE`
+-- `worker NAME STAGE`, or of a free place what it is called in place of a name
 unfoldable pub worker_line : List ℕ × List ℕ → HeadView → Result HeadView LineFault
 worker_line (name, stage) h = do
-  fresh ← new_name name h
+  name ← worker_name name h
   place ← stage_at stage
   _ ← require (nat_lt (length h.workers) MAX_WORKERS) BadLimits
-  Ok (record h { workers = h.workers ++ record { name = fresh.letters; stage = place } ∷ [] })
+  Ok (record h { workers = h.workers ++ record { name = name; stage = place } ∷ [] })
 
 -- the head with one element more that is alive
 abbrev pub with_alive : AliveLine → HeadView → Result HeadView LineFault
@@ -159,7 +160,7 @@ is_named other = false
 -- the worker that such words name
 abbrev pub worker_of : Verb → List (List ℕ) → HeadView → Option ℕ
 worker_of v [] h = None
-worker_of v (name ∷ ws) h = if is_named v then worker_at name h else None
+worker_of v (name ∷ ws) h = if is_named v && is_name name then worker_at name h else None
 
 -- a race is a script's
 abbrev pub given_by : Driver → Command → Result Act LineFault
@@ -228,6 +229,8 @@ head_keyword driver first.Spare ws h = in_head (one ws >>= λ w. spare_line w h)
 head_keyword driver first.Server ws h = in_head (server_line ws h)
 head_keyword driver first.Start ws h = in_head (three ws >>= λ w. start_line w h)
 head_keyword driver first.Worker ws h = in_head (two ws >>= λ w. worker_line w h)
+head_keyword driver first.Workers ws h = in_head (one ws >>= λ w. workers_line w h)
+head_keyword driver first.Leave ws h = in_head (one ws >>= λ _. Err Order)
 head_keyword driver first.Alive ws h = in_head (alive_line ws h)
 head_keyword driver first.Held ws h = in_head (held_line ws h)
 head_keyword driver first.Lost ws h = in_head (two ws >>= λ w. lost_line w h)
@@ -267,6 +270,8 @@ body_keyword driver first.Spare ws h = out_of_order (one ws)
 body_keyword driver first.Server ws h = out_of_order (shape_at ws)
 body_keyword driver first.Start ws h = out_of_order (three ws)
 body_keyword driver first.Worker ws h = out_of_order (two ws)
+body_keyword driver first.Workers ws h = out_of_order (one ws)
+body_keyword driver first.Leave ws h = out_of_order (one ws)
 body_keyword driver first.Alive ws h = out_of_order (alive_words ws)
 body_keyword driver first.Held ws h = out_of_order (held_words ws)
 body_keyword driver first.Lost ws h = out_of_order (two ws)
@@ -286,6 +291,24 @@ unfoldable pub body_words : Driver → List (List ℕ) → HeadView → Result (
 body_words driver [] h = Ok None
 body_words driver (w ∷ ws) h = known (keyword w) Syntax >>= λ k. body_keyword driver k ws h >>= λ a. Ok (Some a)
 
--- a line of a session behind its head
-unfoldable pub body_at : List ℕ → HeadView → Result (Option Act) LineFault
-body_at line h = line_words line >>= λ ws. body_words drivers.Session ws h
+-- ---- a line of a session behind its head
+
+-- that leaves the head so, and asks for this
+abbrev pub with_head : Result (HeadView × Act) LineFault → Result (HeadView × Option Act) LineFault
+with_head read = read >>= λ said. Ok (said.0, Some said.1)
+
+-- a session's workers come and go, while notes are kept of these clients; all else leaves the head as it is
+unfoldable pub late_keyword : Keyword → List (List ℕ) → List ClientNote → HeadView
+    → Result (HeadView × Option Act) LineFault
+late_keyword first.Worker ws clients h = with_head (two ws >>= λ w. join_line w clients h)
+late_keyword first.Leave ws clients h = with_head (one ws >>= λ w. leave_line w h)
+late_keyword k ws clients h = ends_head h (body_keyword drivers.Session k ws h)
+
+-- the words of such a line, which asks for nothing where there are none
+unfoldable pub late_words : List (List ℕ) → List ClientNote → HeadView → Result (HeadView × Option Act) LineFault
+late_words [] clients h = Ok (h, None)
+late_words (w ∷ ws) clients h = known (keyword w) Syntax >>= λ k. late_keyword k ws clients h
+
+-- what such a line leaves of the head, and what it asks for, where notes are kept of these clients
+unfoldable pub body_at : List ℕ → List ClientNote → HeadView → Result (HeadView × Option Act) LineFault
+body_at line clients h = line_words line >>= λ ws. late_words ws clients h

@@ -3,6 +3,7 @@ pub mod Text
 pub mod Devices
 pub mod Keyword
 pub mod Passes
+pub mod Places
 pub mod Ranges
 pub mod Rounds
 pub mod Holders

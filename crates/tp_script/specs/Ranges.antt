@@ -26,6 +26,7 @@ abbrev pub IsActOf : Driver → ℕ → ℕ → Act → Type 0
 IsActOf driver servers workers (act.Command c) = IsInRange servers c × IsGivenBy driver c
 IsActOf driver servers workers (act.Worker worker a) = worker < workers
 IsActOf driver servers workers (act.Last worker) = worker < workers
+IsActOf driver servers workers (act.Leave worker name) = worker < workers
 IsActOf driver servers workers other = Unit {0}
 
 -- the same of a session, and of a script
@@ -46,4 +47,5 @@ pub IsScriptAct-prop : (servers workers : ℕ) (a : Act) → IsProp (IsScriptAct
 IsScriptAct-prop servers workers (act.Command c) = ×_prop (IsInRange-prop servers c) Unit-prop
 IsScriptAct-prop servers workers (act.Worker worker a) = le_prop
 IsScriptAct-prop servers workers (act.Last worker) = le_prop
+IsScriptAct-prop servers workers (act.Leave worker name) = le_prop
 IsScriptAct-prop servers workers other = Unit-prop

@@ -115,12 +115,19 @@ impl ClientNote {
     }
 }
 
+/// Whether these are notes of a client of this name.
+pub(crate) fn has_note(clients: &[ClientNote], name: &[u8]) -> bool
+    ensures { result ≡ list_any (is_note_of name.now) clients.now }
+{
+    clients.iter().any(|note| note.is_of(name))
+}
+
 impl Head {
     /// Whether notes are kept of a client of this name.
     pub(crate) fn has_client(&self, name: &[u8]) -> bool
         ensures { result ≡ has_client name.now (head_view self.now) }
     {
-        self.clients.iter().any(|note| note.is_of(name))
+        has_note(self.clients.as_slice(), name)
     }
 
     // Adds a client, unless there are too many then.

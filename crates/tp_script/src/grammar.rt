@@ -5,7 +5,7 @@ ghost use Rattle.std.specs.List.{list_all, list_any};
 ghost use Rattle.tp_script.specs.declared.fault.LineFault.{LineFault};
 ghost use Rattle.tp_script.specs.declared.fault.LineFault.TheVariants.{Syntax};
 ghost use Rattle.tp_script.specs.declared.head.Act.{Act};
-ghost use Rattle.tp_script.specs.Grammar.{account_at, act_at, body_at, body_keyword, body_words, dump_at, given_by};
+ghost use Rattle.tp_script.specs.Grammar.{account_at, act_at, body_keyword, body_words, dump_at, given_by};
 ghost use Rattle.tp_script.specs.Grammar.{head_at, head_keyword, head_words, is_comment, limit_line, line_words};
 ghost use Rattle.tp_script.specs.Grammar.{out_of_order, restore_at, rows_line, setting_at, spare_line, units_line};
 ghost use Rattle.tp_script.specs.Grammar.{names_an_id, overview_at, unless_waiting, waits_for_restore};
@@ -49,8 +49,8 @@ pub(crate) fn line_words(alloc: Global, line: &[u8]) -> Result<Vec<&[u8]>, LineE
     Ok(words(alloc, line)?)
 }
 
-// The keyword that a word is.
-fn first_word(word: &[u8]) -> Result<Keyword, LineError>
+/// The keyword that a word is.
+pub(crate) fn first_word(word: &[u8]) -> Result<Keyword, LineError>
     ensures { Gives (λ k. k) result (known (keyword word.now) Syntax) }
 {
     match Keyword::of(word) {
@@ -287,6 +287,11 @@ impl Head {
             Keyword::Server => self.server_line(alloc, words)?,
             Keyword::Start => self.start_line(three(words)?)?,
             Keyword::Worker => self.worker_line(alloc, two(words)?)?,
+            Keyword::Workers => self.workers_line(alloc, one(words)?)?,
+            Keyword::Leave => {
+                one(words)?;
+                return Err(LineFault::Order.into());
+            }
             Keyword::Alive => self.alive_line(alloc, words)?,
             Keyword::Held => self.held_line(alloc, words)?,
             Keyword::Lost => self.lost_line(two(words)?)?,
@@ -357,9 +362,9 @@ impl Head {
 
     // ---- a line behind the head
 
-    // What a line of this first word asks for. A line of the head is out of order there.
+    /// What a line of this first word asks for. A line of the head is out of order there.
     #[tactic(auto, unfolding(crate::specs::Grammar::body_keyword))]
-    fn body_keyword(
+    pub(crate) fn body_keyword(
         &self,
         alloc: Global,
         driver: Driver,
@@ -392,6 +397,8 @@ impl Head {
                 two(words)?;
                 Err(LineFault::Order.into())
             }
+            Keyword::Workers => late_setting(words),
+            Keyword::Leave => late_setting(words),
             Keyword::Alive => {
                 alive_words(words)?;
                 Err(LineFault::Order.into())
@@ -445,14 +452,4 @@ impl Head {
         Ok(Some(act))
     }
 
-    /// What a line of a session behind its head asks for, if it isn't empty or a comment.
-    #[tactic(auto, unfolding(crate::specs::Grammar::body_at))]
-    pub fn body_line(&self, alloc: Global, line: &[u8]) -> Result<Option<Act>, LineError>
-        ensures gives { Gives (λ a. a) result (body_at line.now (head_view self.now)) }
-        ensures in_range { IfOk result (λ said. IfSome said (λ a.
-            IsActInRange (vec_len self.now.servers) (vec_len self.now.workers) a)) }
-    {
-        let words = line_words(alloc, line)?;
-        self.body_words(alloc, Driver::Session, words.as_slice())
-    }
 }

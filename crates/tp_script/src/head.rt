@@ -31,12 +31,14 @@ pub const MAX_WORKERS: usize = 23;
 /// of all passes and the spare ones.
 pub const MAX_ALIVE: usize = 10_240;
 
-/// A worker line: a worker outside of the program, which works on a stage through a pass of its own.
+/// A worker line: a worker outside of the program, which works on a stage through a pass of its own. Or a
+/// place that no worker has, whose pass is free.
 #[derive(Drop)]
 pub struct WorkerLine {
-    /// 1 to 8 small letters, which no other worker or server has.
+    /// 1 to 8 small letters, which no other worker or server has; of a free place a minus and its number among
+    /// the places, from 0 on.
     pub name: String,
-    /// The stage whose elements it takes, 1 to 14.
+    /// The stage whose elements it takes, 1 to 14; of a free place any.
     pub stage: u8,
     ghost low: { 1 ≤ stage },
     ghost high: { stage ≤ 14 },
@@ -107,6 +109,10 @@ pub enum Act {
     Noted { name: Name, act: NotedAct },
     /// What a worker has in hand is reported, and how its last unit of work ended.
     Last { worker: usize },
+    /// The worker of this name has come, which the head has now.
+    Joined { name: Name },
+    /// The worker of this name gives up what it has in hand, and leaves. The head has it no more.
+    Leave { worker: usize, name: Name },
 }
 
 impl Act {
@@ -141,7 +147,7 @@ pub struct Head {
     pub settings: Settings,
     /// The servers, in the order of their lines.
     pub servers: Vec<ScriptServer>,
-    /// The workers, in the order of their lines.
+    /// The places of workers, in the order of their lines: each has a pass, also where no worker has it.
     pub workers: Vec<WorkerLine>,
     /// What is alive, in hand or not, in the order of the `alive` and `held` lines. Lines may contradict each
     /// other, but no worker has two things in hand.

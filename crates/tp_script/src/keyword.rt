@@ -15,6 +15,10 @@ pub enum Keyword {
     Start,
     /// The line names a worker.
     Worker,
+    /// The line says how many places there are for workers.
+    Workers,
+    /// The line says that a worker leaves.
+    Leave,
     /// The line says that an element is alive.
     Alive,
     /// The line says that an element is in a worker's hand.
@@ -79,7 +83,7 @@ pub enum NotedVerb {
 }
 
 /// The first words that lines may have: how each is written, and what the line is.
-const FIRST_WORDS: [(&str, Keyword); 49] = [
+const FIRST_WORDS: [(&str, Keyword); 51] = [
     ("rows", Keyword::Rows),
     ("units", Keyword::Units),
     ("limit", Keyword::Limit),
@@ -87,6 +91,8 @@ const FIRST_WORDS: [(&str, Keyword); 49] = [
     ("server", Keyword::Server),
     ("start", Keyword::Start),
     ("worker", Keyword::Worker),
+    ("workers", Keyword::Workers),
+    ("leave", Keyword::Leave),
     ("alive", Keyword::Alive),
     ("held", Keyword::Held),
     ("lost", Keyword::Lost),

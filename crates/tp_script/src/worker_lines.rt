@@ -12,10 +12,9 @@ use crate::drafts::{draft_words, drafts_at};
 use crate::fault::{LineError, LineFault};
 use crate::head::{Head, MAX_WORKERS, WorkerAct, WorkerLine};
 use crate::keyword::Verb;
-use crate::line_words::{number_at, one, two};
+use crate::line_words::{is_name, number_at, one, two};
 use crate::script::DeskAct;
 use std::alloc::Global;
-use std::string::String;
 
 // `take NAME ID` of a worker.
 #[tactic(auto, unfolding(crate::specs::Grammar::worker_take))]
@@ -109,13 +108,13 @@ impl Head {
         let Some((name, _others)) = words.split_first() else {
             return None;
         };
-        if !is_named(verb) {
+        if !is_named(verb) || !is_name(name) {
             return None;
         }
         self.worker_at(name)
     }
 
-    /// `worker NAME STAGE`
+    /// `worker NAME STAGE`, or of a free place what it is called in place of a name.
     #[tactic(auto, unfolding(crate::specs::Grammar::worker_line), using(crate::proofs::AliveLemmas::held_by_more, crate::proofs::AliveLemmas::lost_by_more))]
     pub(crate) fn worker_line(
         &mut self,
@@ -126,8 +125,7 @@ impl Head {
             (worker_line (words.entry.0.now, words.entry.1.now) (head_view self.old)) }
         ensures kept { OnErr result (head_view self.new ≡ head_view self.old) }
     {
-        let name = self.new_name(words.0)?;
-        let name = String::from_str(alloc, name.as_str())?;
+        let name = self.worker_name(alloc, words.0)?;
         let stage = stage_at(words.1)?;
         if self.workers.len() >= MAX_WORKERS {
             return Err(LineFault::BadLimits.into());

@@ -2,14 +2,14 @@
 use Rattle.std.proofs.Common.{◌≡◌, ◌∙◌, ℕ, ◌+◌, true, false, List, [], ◌∷◌, ◌++◌, Option, Some, None, Ok, refl, sym, ap, subst, arith, append-nil, append_assoc, length}
 use Rattle.std.proofs.lemmas.List.{length-append}
 use Rattle.tp_report.specs.Written.{AppendsFront}
-use Rattle.tp_script.specs.Script.{HeadView, head_view}
-use Rattle.tp_script.specs.Grammar.{body_at, head_at}
+use Rattle.tp_script.specs.Script.{HeadView}
+use Rattle.tp_script.specs.Grammar.{head_at}
 use Rattle.tp_script.specs.declared.head.Head.{Head}
 use Rattle.tp_session.specs.Conversed.{HeadRead, TakesHeadLine}
 use Rattle.tp_session.specs.Heard.{Hears, HearsFront, IsAllOf, Next, Tells}
 use Rattle.tp_session.specs.Live.{Live, TellsAct}
 use Rattle.tp_session.specs.Reading.{to_come, unused}
-use Rattle.tp_session.specs.Told.{BodyTold, HeadLine, HeadLines, HeadLinesTold, LineTold}
+use Rattle.tp_session.specs.Told.{BodyTold, HeadLine, HeadLines, HeadLinesTold, LineTold, Now, now, said_now}
 use Rattle.tp_session.specs.declared.first.First.{First}
 use Rattle.tp_session.specs.declared.reading.Lines.{Lines}
 use Rattle.tp_session.proofs.CommandLemmas.{command_keeps}
@@ -98,12 +98,12 @@ head_front a b n old new w x y answers prior so_far front = record {
 
 -- ---- behind the head
 
-module _ (head : Head) (past : ℕ) where
-  abbrev pub BodySoFar : Option (List ℕ) → Option (List ℕ) → ℕ → Live → Live → Option (List ℕ) → Option (List ℕ) → List ℕ → List ℕ → Type 0
+module _ (past : ℕ) where
+  abbrev pub BodySoFar : Option (List ℕ) → Option (List ℕ) → ℕ → Now → Now → Option (List ℕ) → Option (List ℕ) → List ℕ → List ℕ → Type 0
   BodySoFar a b n old new w x answers prior =
-      BodyTold head past None (λ taken. Hears a taken b × (n ≡ past + length taken)) old new (λ text. Tells w x answers (prior ++ text))
+      BodyTold past None (λ taken. Hears a taken b × (n ≡ past + length taken)) old new (λ text. Tells w x answers (prior ++ text))
 
-  pub body_none : (a : Option (List ℕ)) (old : Live) (w : Option (List ℕ)) (prior : List ℕ) → BodySoFar a a past old old w w prior prior
+  pub body_none : (a : Option (List ℕ)) (old : Now) (w : Option (List ℕ)) (prior : List ℕ) → BodySoFar a a past old old w w prior prior
   body_none a old w prior = record {
     taken = [];
     heard = (Hears-none a, omega arith);
@@ -113,24 +113,24 @@ module _ (head : Head) (past : ℕ) where
   }
 
   -- a line more
-  pub body_next : (a b b' b'' : Option (List ℕ)) (n : ℕ) (old mid new : Live) (w x y : Option (List ℕ)) (kept answers answers' answers'' prior : List ℕ)
+  pub body_next : (a b b' b'' : Option (List ℕ)) (n : ℕ) (old mid new : Now) (w x y : Option (List ℕ)) (kept answers answers' answers'' prior : List ℕ)
       → BodySoFar a b n old mid w x answers prior → Next true b kept b' → Tells x y answers' answers → b'' ≡ b'
-      → (text : List ℕ) × (answers'' ≡ answers' ++ text) × LineTold head (n + 1) (body_at kept (head_view head)) mid text new → BodySoFar a b'' (n + 1) old new w y answers'' prior
+      → (text : List ℕ) × (answers'' ≡ answers' ++ text) × LineTold (n + 1) (said_now kept mid) mid text new → BodySoFar a b'' (n + 1) old new w y answers'' prior
   body_next a b b' b'' n old mid new w x y kept answers answers' answers'' prior so_far next told same answered =
-      let one = subst (λ said. LineTold head (n + 1) said mid answered.0 new) (kept_body kept next.0 (head_view head) next.1) answered.2 in
+      let one = subst (λ said. LineTold (n + 1) said mid answered.0 new) (kept_body kept next.0 mid next.1) answered.2 in
       let number : n + 1 ≡ past + length so_far.taken + 1 = omega (arith, so_far.heard.1) in
       record {
         taken = so_far.taken ++ next.0 ∷ [];
         heard = (subst (Hears a (so_far.taken ++ next.0 ∷ [])) (sym same) (Hears-then a b b' so_far.taken (next.0 ∷ []) so_far.heard.0 next.2), omega (arith, length-append so_far.taken (next.0 ∷ []), so_far.heard.1));
         text = so_far.text ++ answered.0;
-        lines = body_more head past (n + 1) so_far.taken next.0 old mid new so_far.text answered.0 number so_far.lines one;
+        lines = body_more past (n + 1) so_far.taken next.0 old mid new so_far.text answered.0 number so_far.lines one;
         told = subst (Tells w y answers'') (append_assoc prior so_far.text answered.0)
             (told_more w y answers'' answers' (prior ++ so_far.text) answered.0 answered.1 (told_then w x y answers' answers (prior ++ so_far.text) so_far.told told));
       }
 
   -- the end of the input
-  pub body_end : (a b b' : Option (List ℕ)) (n : ℕ) (old new : Live) (w x y : Option (List ℕ)) (kept answers answers' prior : List ℕ)
-      → BodySoFar a b n old new w x answers prior → Next false b kept b' → Tells x y answers' answers → BodyTold head past None (IsAllOf a) old new (λ text. Tells w y answers' (prior ++ text))
+  pub body_end : (a b b' : Option (List ℕ)) (n : ℕ) (old new : Now) (w x y : Option (List ℕ)) (kept answers answers' prior : List ℕ)
+      → BodySoFar a b n old new w x answers prior → Next false b kept b' → Tells x y answers' answers → BodyTold past None (IsAllOf a) old new (λ text. Tells w y answers' (prior ++ text))
   body_end a b b' n old new w x y kept answers answers' prior so_far next told = record {
     taken = so_far.taken;
     heard = hears_all a b' so_far.taken (subst (λ ls. Hears a ls b') (append-nil so_far.taken) (Hears-then a b b' so_far.taken [] so_far.heard.0 next.0)) next.1;
@@ -140,8 +140,8 @@ module _ (head : Head) (past : ℕ) where
   }
 
   -- after a fault
-  pub body_front : (a b : Option (List ℕ)) (n : ℕ) (old new : Live) (w x y : Option (List ℕ)) (answers prior : List ℕ)
-      → BodySoFar a b n old new w x answers prior → AppendsFront x y answers → BodyTold head past None (HearsFront a) old new (λ text. AppendsFront w y (prior ++ text))
+  pub body_front : (a b : Option (List ℕ)) (n : ℕ) (old new : Now) (w x y : Option (List ℕ)) (answers prior : List ℕ)
+      → BodySoFar a b n old new w x answers prior → AppendsFront x y answers → BodyTold past None (HearsFront a) old new (λ text. AppendsFront w y (prior ++ text))
   body_front a b n old new w x y answers prior so_far front = record {
     taken = so_far.taken;
     heard = hears_some a b so_far.taken so_far.heard.0;
@@ -151,9 +151,9 @@ module _ (head : Head) (past : ℕ) where
   }
 
 -- the first command, and then others
-pub body_begun : (head : Head) (f : First) (a a' : Option (List ℕ)) (Heard : Option (List ℕ) → List (List ℕ) → Type 0) (old mid new : Live) (answers answers' : List ℕ) (Told : List ℕ → Type 0) → a' ≡ a
+pub body_begun : (head : Head) (f : First) (a a' : Option (List ℕ)) (Heard : Option (List ℕ) → List (List ℕ) → Type 0) (old mid : Live) (new : Now) (answers answers' : List ℕ) (Told : List ℕ → Type 0) → a' ≡ a
     → (text : List ℕ) × (answers' ≡ answers ++ text) × TellsAct head f.act old text mid
-    → BodyTold head (f.past + 1) None (Heard a') mid new (λ text. Told (answers' ++ text)) → BodyTold head f.past (Some f.act) (Heard a) old new (λ text. Told (answers ++ text))
+    → BodyTold (f.past + 1) None (Heard a') (now head mid) new (λ text. Told (answers' ++ text)) → BodyTold f.past (Some f.act) (Heard a) (now head old) new (λ text. Told (answers ++ text))
 body_begun head f a a' Heard old mid new answers answers' Told same one others = record {
   taken = others.taken;
   heard = subst (λ come. Heard come others.taken) same others.heard;

@@ -1,10 +1,11 @@
 -- The first command of a session leaves its head as it is, and says the same behind it.
 use Rattle.std.proofs.Common.{◌≡◌, ℕ, Bool, true, false, List, [], ◌∷◌, Option, Some, None, Result, Ok, Err, ◌∙◌, sym, ap}
 use Rattle.std.proofs.lemmas.Option.{none-some}
-use Rattle.tp_script.specs.Grammar.{account_at, act_at, alive_line, body_at, body_keyword, body_words, dump_at, ends_head, head_at, head_keyword, head_words, held_line, in_head, limit_line, line_words, lost_line, overview_at, restore_at, rows_line, spare_line, units_line, unless_waiting, waits_for_restore, worker_line}
+use Rattle.tp_script.specs.Grammar.{account_at, act_at, alive_line, body_keyword, body_words, dump_at, ends_head, head_at, head_keyword, head_words, held_line, in_head, limit_line, line_words, lost_line, overview_at, restore_at, rows_line, spare_line, units_line, unless_waiting, waits_for_restore, worker_line}
 use Rattle.tp_script.specs.Clients.{client_line, noted_at, register_line, request_line}
 use Rattle.tp_script.specs.Ends.{ended_line}
 use Rattle.tp_script.specs.Keyword.{keyword}
+use Rattle.tp_script.specs.Places.{workers_line}
 use Rattle.tp_script.specs.LineWords.{◌>>=◌, known, one, three, two}
 use Rattle.tp_script.specs.Script.{HeadView}
 use Rattle.tp_script.specs.ServerLines.{server_line, start_line}
@@ -62,6 +63,8 @@ keywords h first.Spare ws = in_it h (one ws >>= λ w. spare_line w h)
 keywords h first.Server ws = in_it h (server_line ws h)
 keywords h first.Start ws = in_it h (three ws >>= λ w. start_line w h)
 keywords h first.Worker ws = in_it h (two ws >>= λ w. worker_line w h)
+keywords h first.Workers ws = in_it h (one ws >>= λ w. workers_line w h)
+keywords h first.Leave ws = in_it h (one ws >>= λ _. Err faults.Order)
 keywords h first.Alive ws = in_it h (alive_line ws h)
 keywords h first.Held ws = in_it h (held_line ws h)
 keywords h first.Lost ws = in_it h (two ws >>= λ w. lost_line w h)
@@ -97,6 +100,8 @@ is_restore act.Dump = false
 is_restore (act.Noted name a) = false
 is_restore (act.Last worker) = false
 is_restore (act.Overview what) = false
+is_restore (act.Joined name) = false
+is_restore (act.Leave worker name) = false
 
 -- what is a command here, and no restore, is that command there
 abbrev Meets : Said → Result (Option Act) LineFault → Type 0
@@ -158,6 +163,8 @@ keyword_meets h first.Spare ws = in_meets h (one ws >>= λ w. spare_line w h) (s
 keyword_meets h first.Server ws = in_meets h (server_line ws h) (said_behind h first.Server ws)
 keyword_meets h first.Start ws = in_meets h (three ws >>= λ w. start_line w h) (said_behind h first.Start ws)
 keyword_meets h first.Worker ws = in_meets h (two ws >>= λ w. worker_line w h) (said_behind h first.Worker ws)
+keyword_meets h first.Workers ws = in_meets h (one ws >>= λ w. workers_line w h) (said_behind h first.Workers ws)
+keyword_meets h first.Leave ws = in_meets h (one ws >>= λ _. Err faults.Order) (said_behind h first.Leave ws)
 keyword_meets h first.Alive ws = in_meets h (alive_line ws h) (said_behind h first.Alive ws)
 keyword_meets h first.Held ws = in_meets h (held_line ws h) (said_behind h first.Held ws)
 keyword_meets h first.Lost ws = in_meets h (two ws >>= λ w. lost_line w h) (said_behind h first.Lost ws)
@@ -178,6 +185,7 @@ words_meet h [] = no_command h (Ok None)
 words_meet h (w ∷ ws) = both (known (keyword w) Syntax) (λ k. head_keyword drivers.Session k ws h) (λ k. said_behind h k ws) (λ k. keyword_meets h k ws)
 
 -- the first command says behind the head what it says there, unless it is `restore`
-pub command_stays : (line : List ℕ) (h h' : HeadView) (a : Act) → is_restore a ≡ false → head_at line h ≡ Ok (h', Some a) → body_at line h ≡ Ok (Some a)
-unfolding head_at body_at
+pub command_stays : (line : List ℕ) (h h' : HeadView) (a : Act) → is_restore a ≡ false → head_at line h ≡ Ok (h', Some a)
+    → (line_words line >>= λ ws. body_words drivers.Session ws h) ≡ Ok (Some a)
+unfolding head_at
 command_stays line h = both (line_words line) (λ ws. head_words drivers.Session ws h) (λ ws. body_words drivers.Session ws h) (λ ws. words_meet h ws)

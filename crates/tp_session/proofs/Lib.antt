@@ -15,6 +15,7 @@ pub mod LiveLemmas
 pub mod NotesLemmas
 pub mod NoteLists
 pub mod ClientLemmas
+pub mod ComingLemmas
 pub mod OpenLemmas
 pub mod OverviewLemmas
 pub mod PassLemmas

@@ -4,12 +4,10 @@ use Rattle.std.proofs.lemmas.Bool.{cases_lt, lt-leb}
 use Rattle.std.proofs.lemmas.List.{length-take, take_all}
 use Rattle.tp_script.specs.LineWords.{◌>>=◌}
 use Rattle.tp_script.specs.Script.{HeadView, head_view}
-use Rattle.tp_script.specs.Grammar.{body_at, body_words, head_at, head_words, line_words}
+use Rattle.tp_script.specs.Grammar.{body_at, head_at, head_words, late_words, line_words}
 use Rattle.tp_script.specs.declared.fault.LineFault.TheVariants.{TooLong}
 use Rattle.tp_script.specs.declared.head.Driver.TheVariants as drivers
-use Rattle.tp_script.specs.declared.head.Head.{Head}
-use Rattle.tp_session.specs.Live.{Live}
-use Rattle.tp_session.specs.Told.{BodyLines, HeadLine, HeadLines, LineTold}
+use Rattle.tp_session.specs.Told.{BodyLines, HeadLine, HeadLines, LineTold, Now, said_now}
 use Rattle.tp_session.specs.declared.reading.TheConstants.{MAX_KEPT}
 
 -- ---- one line more
@@ -22,14 +20,13 @@ head_more past n [] line old mid new text last is so_far one =
 head_more past n (l ∷ ls) line old mid new text last is so_far one =
     (so_far.0, so_far.1 ++ last, so_far.2, so_far.3, head_more (past + 1) n ls line so_far.2 mid new so_far.1 last (omega (arith, is)) so_far.4 one, ap (λ t. t ++ last) so_far.5 ∙ append_assoc so_far.0 so_far.1 last)
 
-module _ (head : Head) where
-  pub body_more : (past n : ℕ) (ls : List (List ℕ)) (line : List ℕ) (old mid new : Live) (text last : List ℕ) → n ≡ past + length ls + 1
-      → BodyLines head past ls old text mid → LineTold head n (body_at line (head_view head)) mid last new → BodyLines head past (ls ++ line ∷ []) old (text ++ last) new
-  body_more past n [] line old mid new text last is so_far one =
-      let number : n ≡ past + 1 = omega (arith, is) in
-      (last, [], new, subst (λ k. LineTold head k (body_at line (head_view head)) old last new) number (subst (λ l. LineTold head n (body_at line (head_view head)) l last new) so_far.1 one), (refl, refl), ap (λ t. t ++ last) so_far.0 ∙ sym (append-nil last))
-  body_more past n (l ∷ ls) line old mid new text last is so_far one =
-      (so_far.0, so_far.1 ++ last, so_far.2, so_far.3, body_more (past + 1) n ls line so_far.2 mid new so_far.1 last (omega (arith, is)) so_far.4 one, ap (λ t. t ++ last) so_far.5 ∙ append_assoc so_far.0 so_far.1 last)
+pub body_more : (past n : ℕ) (ls : List (List ℕ)) (line : List ℕ) (old mid new : Now) (text last : List ℕ) → n ≡ past + length ls + 1
+    → BodyLines past ls old text mid → LineTold n (said_now line mid) mid last new → BodyLines past (ls ++ line ∷ []) old (text ++ last) new
+body_more past n [] line old mid new text last is so_far one =
+    let number : n ≡ past + 1 = omega (arith, is) in
+    (last, [], new, subst (λ k. LineTold k (said_now line old) old last new) number (subst (λ m. LineTold n (said_now line m) m last new) so_far.1 one), (refl, refl), ap (λ t. t ++ last) so_far.0 ∙ sym (append-nil last))
+body_more past n (l ∷ ls) line old mid new text last is so_far one =
+    (so_far.0, so_far.1 ++ last, so_far.2, so_far.3, body_more (past + 1) n ls line so_far.2 mid new so_far.1 last (omega (arith, is)) so_far.4 one, ap (λ t. t ++ last) so_far.5 ∙ append_assoc so_far.0 so_far.1 last)
 
 -- ---- a line that is too long says as much as its front
 
@@ -47,6 +44,6 @@ pub kept_head : (kept line : List ℕ) (h : HeadView) → kept ≡ take MAX_KEPT
 unfolding head_at
 kept_head kept line h is = ap (λ r. r >>= λ ws. head_words drivers.Session ws h) (ap line_words is ∙ kept_words line)
 
-pub kept_body : (kept line : List ℕ) (h : HeadView) → kept ≡ take MAX_KEPT line → body_at kept h ≡ body_at line h
+pub kept_body : (kept line : List ℕ) (at : Now) → kept ≡ take MAX_KEPT line → said_now kept at ≡ said_now line at
 unfolding body_at
-kept_body kept line h is = ap (λ r. r >>= λ ws. body_words drivers.Session ws h) (ap line_words is ∙ kept_words line)
+kept_body kept line at is = ap (λ r. r >>= λ ws. late_words ws at.live.notes.clients (head_view at.head)) (ap line_words is ∙ kept_words line)

@@ -78,3 +78,9 @@ module _ {X : Type 0} {F : X → Type 0} (behaviour : DynBox X Global F → Beha
   leads_none head h R held same =
       let l = live_there head h held in
       record { before = l.0; after = l.0; was = l.1; leads = same l.0; is = l.1 }
+
+  -- the same, by what is held
+  pub leads_here : (head : Head) (h : Held X F) (R : Live → Live → Type 0) → IsHeldBySession behaviour registers pending head h → ((l : Live) → Is h l → R l l) → Leads behaviour registers pending R h h
+  leads_here head h R held same =
+      let l = live_there head h held in
+      record { before = l.0; after = l.0; was = l.1; leads = same l.0 l.1; is = l.1 }

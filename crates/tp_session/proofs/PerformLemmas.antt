@@ -83,6 +83,8 @@ works_same head raced act.Restore old new text t = by_restore (head_view head) o
 works_same head raced (act.Noted name a) old new text t = ap length (t.gathers.works ∙ t.did.works)
 works_same head raced (act.Last at) old new text t = ap length (t.gathers.works ∙ t.did.works)
 works_same head raced (act.Overview what) old new text t = ap length (t.gathers.works ∙ t.did.works)
+works_same head raced (act.Joined name) old new text t = ap (λ (l : Live). length l.works) t.1
+works_same head raced (act.Leave at name) old new text t = ap length (t.gathers.works ∙ t.did.works) ∙ length-set old.works at _
 
 -- ---- the whole run
 

@@ -22,6 +22,8 @@ session_act servers workers act.Restore other is = is
 session_act servers workers (act.Noted name a) other is = is
 session_act servers workers (act.Last worker) other is = is
 session_act servers workers (act.Overview what) other is = is
+session_act servers workers (act.Joined name) other is = is
+session_act servers workers (act.Leave worker name) other is = is
 
 heads_tails : (a b : Option ℕ) (xs ys : List (Option ℕ)) → a ∷ xs ≡ b ∷ ys → (a ≡ b) × (xs ≡ ys)
 heads_tails a b xs ys e = (cc, cc)

@@ -11,7 +11,7 @@ use Rattle.tp_perform.specs.Ending.{final_lines}
 use Rattle.tp_session.specs.Conversed.{BodyFront, BodyWhole, Conversed, ConversedFront, HeadRead, LiveBegins, LiveEnds}
 use Rattle.tp_session.specs.Heard.{HearsFront, IsAllOf, IsSilent, Tells}
 use Rattle.tp_session.specs.Live.{Live}
-use Rattle.tp_session.specs.Told.{BodyTold, HeadLinesTold, first_act, past_of}
+use Rattle.tp_session.specs.Told.{BodyTold, HeadLinesTold, Now, first_act, now, past_of}
 use Rattle.tp_session.specs.declared.first.First.{First}
 use Rattle.tp_session.proofs.ToldLemmas.{told_with, told_with_front}
 use Rattle.tp_session.proofs.WholeLemmas.{session_head, session_part, session_whole}
@@ -64,11 +64,11 @@ front_before head past before come a c prior front = inl (subst (AppendsFront a 
 pub front_nothing : (head : Head) (past : ℕ) (before : Option Act) (come a : Option (List ℕ)) (prior : List ℕ) → BodyFront head past before come (λ text. AppendsFront a a (prior ++ text))
 front_nothing head past before come a prior = front_before head past before come a a prior (front_none a prior)
 
-module _ (head : Head) (past : ℕ) (before : Option Act) (come a b c : Option (List ℕ)) (answers prior : List ℕ) (first last : Live) (begins : LiveBegins (head_view head) 0 first) where
+module _ (head : Head) (past : ℕ) (before : Option Act) (come a b c : Option (List ℕ)) (answers prior : List ℕ) (first : Live) (last : Now) (begins : LiveBegins (head_view head) 0 first) where
   -- the final lines of these servers are told too
-  module _ (registers : List (List ℕ)) (ends : LiveEnds last registers) (finals : List ℕ)
+  module _ (registers : List (List ℕ)) (ends : LiveEnds last.live registers) (finals : List ℕ)
       (are : final_lines (head_view head).servers registers (length (head_view head).servers) ≡ finals)
-      (told : BodyTold head past before (IsAllOf come) first last (λ text. Tells a b answers (prior ++ text))) where
+      (told : BodyTold past before (IsAllOf come) (now head first) last (λ text. Tells a b answers (prior ++ text))) where
     whole : (Wrote : List ℕ → Type 0) → ((text : List ℕ) → Tells a b answers (prior ++ text) → Wrote (text ++ finals)) → BodyWhole head past before come Wrote
     whole Wrote so = record {
       first = first;

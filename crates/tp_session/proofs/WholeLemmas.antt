@@ -5,9 +5,8 @@ use Rattle.tp_script.specs.declared.head.Act.{Act}
 use Rattle.tp_script.specs.declared.head.Head.{Head}
 use Rattle.tp_session.specs.Conversed.{BodyPart, BodyWhole, HeadRead, Session, SessionPart}
 use Rattle.tp_session.specs.Heard.{HearsFront, heard}
-use Rattle.tp_session.specs.Live.{Live}
 use Rattle.tp_session.specs.Reading.{to_come, unused}
-use Rattle.tp_session.specs.Told.{BodyLines, BodyTold, HeadLinesTold, LinesFrom, first_act, past_of}
+use Rattle.tp_session.specs.Told.{BodyLines, BodyTold, HeadLinesTold, LinesFrom, Now, first_act, now, past_of}
 use Rattle.tp_session.specs.declared.first.First.{First}
 use Rattle.tp_session.specs.declared.reading.Lines.{Lines}
 
@@ -17,9 +16,9 @@ come_all l None is = refl
 come_all l (Some bytes) is = ap (λ u. Some (u ++ bytes)) is
 
 -- the same lines, and something else of what was told
-pub body_then : (head : Head) (past : ℕ) (before : Option Act) (Heard Heard' : List (List ℕ) → Type 0) (old new : Live) (Told Told' : List ℕ → Type 0)
-    → ((ls : List (List ℕ)) → Heard ls → Heard' ls) → ((t : List ℕ) → Told t → Told' t) → BodyTold head past before Heard old new Told → BodyTold head past before Heard' old new Told'
-body_then head past before Heard Heard' old new Told Told' also so b = record {
+pub body_then : (past : ℕ) (before : Option Act) (Heard Heard' : List (List ℕ) → Type 0) (old new : Now) (Told Told' : List ℕ → Type 0)
+    → ((ls : List (List ℕ)) → Heard ls → Heard' ls) → ((t : List ℕ) → Told t → Told' t) → BodyTold past before Heard old new Told → BodyTold past before Heard' old new Told'
+body_then past before Heard Heard' old new Told Told' also so b = record {
   taken = b.taken;
   heard = also b.taken b.heard;
   text = b.text;
@@ -49,7 +48,7 @@ module _ (bytes rest : List ℕ) (head : Head) (HeadDone Done Wrote : List ℕ �
         begins = whole.begins;
         text = whole.body.text;
         last = whole.last;
-        body = subst (λ ls. BodyLines head 0 ls whole.first whole.body.text whole.last) none whole.body.lines;
+        body = subst (λ ls. BodyLines 0 ls (now head whole.first) whole.body.text whole.last) none whole.body.lines;
         registers = whole.registers;
         ends = whole.ends;
         told = both read.1.text _ read.1.told whole.body.told;
@@ -65,7 +64,7 @@ module _ (bytes rest : List ℕ) (head : Head) (HeadDone Done Wrote : List ℕ �
     begins = whole.begins;
     text = whole.body.text;
     last = whole.last;
-    body = (f.act, read.1, subst (λ n. LinesFrom (Some f.act) head n whole.body.taken whole.first whole.body.text whole.last) (sym read.2.heard.1) whole.body.lines);
+    body = (f.act, read.1, subst (λ n. LinesFrom (Some f.act) n whole.body.taken (now head whole.first) whole.body.text whole.last) (sym read.2.heard.1) whole.body.lines);
     registers = whole.registers;
     ends = whole.ends;
     told = both read.2.text _ read.2.told whole.body.told;
@@ -88,7 +87,7 @@ module _ (bytes rest : List ℕ) (head : Head) (HeadDone Done Wrote : List ℕ �
         begins = part.begins;
         text = part.body.text;
         last = part.last;
-        body = subst (λ ls. BodyLines head 0 ls part.first part.body.text part.last) none part.body.lines;
+        body = subst (λ ls. BodyLines 0 ls (now head part.first) part.body.text part.last) none part.body.lines;
         told = both read.1.text part.body.text read.1.told part.body.told;
       }
   session_part (Some f) read part = record {
@@ -103,7 +102,7 @@ module _ (bytes rest : List ℕ) (head : Head) (HeadDone Done Wrote : List ℕ �
     begins = part.begins;
     text = part.body.text;
     last = part.last;
-    body = (f.act, read.1, subst (λ n. LinesFrom (Some f.act) head n part.body.taken part.first part.body.text part.last) (sym read.2.heard.1) part.body.lines);
+    body = (f.act, read.1, subst (λ n. LinesFrom (Some f.act) n part.body.taken (now head part.first) part.body.text part.last) (sym read.2.heard.1) part.body.lines);
     told = both read.2.text part.body.text read.2.told part.body.told;
   }
 

@@ -7,6 +7,7 @@ use Rattle.tp_report.specs.Answer.{line, named_text, renamed_text}
 use Rattle.tp_report.specs.declared.answer.Renamed.{Renamed}
 use Rattle.tp_script.specs.declared.fault.LineFault.{LineFault}
 use Rattle.tp_script.specs.Fault.{◌<>◌, fault_text}
+use Rattle.tp_script.specs.Notes.{NameView}
 use Rattle.tp_script.specs.Script.{WorkerView}
 use Rattle.tp_session.specs.declared.hand.Holding.{Holding}
 use Rattle.tp_session.specs.declared.hand.Holding.TheVariants.{Open}
@@ -29,6 +30,14 @@ took_line name w = name <> codes " work " <> decimal w.element.id <> codes " uni
 abbrev pub worker_line : List ℕ → WorkerAnswer → List ℕ
 worker_line name (Took work) = took_line name work
 worker_line name (Told answer) = line (named_text name answer)
+
+-- the line of a worker that has come
+abbrev pub joined_line : NameView → List ℕ
+joined_line name = codes "joined " <> name.letters <> codes "\n"
+
+-- the line of one that has left, with the answer to its abort
+abbrev pub left_line : NameView → WorkerAnswer → List ℕ
+left_line name answer = codes "left " <> worker_line name.letters answer
 
 -- how many elements are alive again, and each of them: its id in its line, and its id from now on
 abbrev pub restored_text : List Renamed → List ℕ

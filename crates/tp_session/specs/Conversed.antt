@@ -29,7 +29,7 @@ use Rattle.tp_session.specs.Hands.{WorkerGivesUp, hands}
 use Rattle.tp_session.specs.Heard.{Hears, HearsFront, IsAllOf, IsSilent, heard}
 use Rattle.tp_session.specs.Live.{Live}
 use Rattle.tp_session.specs.Notes.{notes_of}
-use Rattle.tp_session.specs.Told.{BodyTold, HeadLine, HeadLines, HeadLinesTold, LinesFrom}
+use Rattle.tp_session.specs.Told.{BodyTold, HeadLine, HeadLines, HeadLinesTold, LinesFrom, Now, now}
 use Rattle.tp_session.specs.declared.first.First.{First}
 
 -- ---- the head
@@ -119,10 +119,10 @@ pub record BodyWhole (head : Head) (past : ℕ) (begun : Option Act) (come : Opt
     (Told : List ℕ → Type 0) : Type 0 where
   pub first : Live
   pub begins : LiveBegins (head_view head) 0 first
-  pub last : Live
+  pub last : Now
   pub registers : List (List ℕ)
-  pub ends : LiveEnds last registers
-  pub body : BodyTold head past begun (IsAllOf come) first last
+  pub ends : LiveEnds last.live registers
+  pub body : BodyTold past begun (IsAllOf come) (now head first) last
       (λ text. Told (text ++ finals_of (head_view head) registers))
 
 -- some of them were, and this was told
@@ -130,8 +130,8 @@ pub record BodyPart (head : Head) (past : ℕ) (begun : Option Act) (come : Opti
     (Told : List ℕ → Type 0) : Type 0 where
   pub first : Live
   pub begins : LiveBegins (head_view head) 0 first
-  pub last : Live
-  pub body : BodyTold head past begun (HearsFront come) first last Told
+  pub last : Now
+  pub body : BodyTold past begun (HearsFront come) (now head first) last Told
 
 -- after a fault: nothing more was told than before, or a front of that
 abbrev pub BodyFront : Head → ℕ → Option Act → Option (List ℕ) → (List ℕ → Type 0) → Type 0
@@ -142,10 +142,10 @@ BodyFront head past begun come Told =
 
 -- The first line behind a head is a command. What it asks for was done, and then the other lines were answered,
 -- behind so many others.
-abbrev pub CommandLines : Head → ℕ → List (List ℕ) → Live → List ℕ → Live → Type 0
-CommandLines head past [] old text new = (text ≡ []) × (new ≡ old)
-CommandLines head past (line ∷ others) old text new =
-    (act : Act) × IsCommand line act (head_view head) × LinesFrom (Some act) head past others old text new
+abbrev pub CommandLines : ℕ → List (List ℕ) → Now → List ℕ → Now → Type 0
+CommandLines past [] old text new = (text ≡ []) × (new ≡ old)
+CommandLines past (line ∷ others) old text new =
+    (act : Act) × IsCommand line act (head_view old.head) × LinesFrom (Some act) past others old text new
 
 -- The lines of the bytes are those of the head and those behind it, of which the first is a command. Each is
 -- answered, in order, and behind the answers are the final lines. Told says of the text what became of it.
@@ -159,10 +159,10 @@ pub record Session (bytes : List ℕ) (Told : List ℕ → Type 0) : Type 0 wher
   pub first : Live
   pub begins : LiveBegins (head_view head) 0 first
   pub text : List ℕ
-  pub last : Live
-  pub body : CommandLines head (length taken) behind first text last
+  pub last : Now
+  pub body : CommandLines (length taken) behind (now head first) text last
   pub registers : List (List ℕ)
-  pub ends : LiveEnds last registers
+  pub ends : LiveEnds last.live registers
   pub told : Told (head_text ++ (text ++ finals_of (head_view head) registers))
 
 -- the same of some lines, and without the final ones
@@ -177,8 +177,8 @@ pub record SessionPart (bytes : List ℕ) (Told : List ℕ → Type 0) : Type 0 
   pub first : Live
   pub begins : LiveBegins (head_view head) 0 first
   pub text : List ℕ
-  pub last : Live
-  pub body : CommandLines head (length taken) behind first text last
+  pub last : Now
+  pub body : CommandLines (length taken) behind (now head first) text last
   pub told : Told (head_text ++ text)
 
 -- a whole session was answered, and its answers and final lines written

@@ -5,14 +5,12 @@ use Rattle.std.specs.declared.dyn_box.DynBox.{DynBox}
 use Rattle.tp_server.specs.Behaviour.{Behaviour}
 use Rattle.tp_server.specs.Pending.{Pending}
 use Rattle.tp_manager.specs.Shown.{PassShown}
-use Rattle.tp_script.specs.Grammar.{body_at}
-use Rattle.tp_script.specs.Script.{head_view}
 use Rattle.tp_script.specs.declared.head.Act.{Act}
 use Rattle.tp_script.specs.declared.head.Head.{Head}
 use Rattle.tp_perform.specs.Told.{began_of}
 use Rattle.tp_session.specs.Heard.{HearsFront}
 use Rattle.tp_session.specs.Live.{IsLive, Live, TellsAct}
-use Rattle.tp_session.specs.Told.{BodyTold, LineTold}
+use Rattle.tp_session.specs.Told.{BodyTold, LineTold, now, said_now}
 use Rattle.tp_session.specs.declared.held.Held.{Held}
 
 module _ {X : Type 0} {F : X → Type 0} (registers : DynBox X Global F → List ℕ) where
@@ -32,15 +30,15 @@ OrSame R old new = (new ≡ old) ⊎ R old new
 abbrev pub ActDone : Head → Act → Live → Live → Type 0
 ActDone head act = OrSame (λ old new. (text : List ℕ) × TellsAct head act old text new)
 
--- so was a line of this number
+-- so was a line of this number, whatever it left of the head
 abbrev pub LineDone : Head → ℕ → List ℕ → Live → Live → Type 0
-LineDone head n line = OrSame (λ old new. (text : List ℕ)
-    × LineTold head n (body_at line (head_view head)) old text new)
+LineDone head n line = OrSame (λ old new. (text : List ℕ) × (left : Head)
+    × LineTold n (said_now line (now head old)) (now head old) text (now left new))
 
 -- the first command and lines behind it were done, whatever became of the last one's answer
 abbrev pub BodyDone : Head → ℕ → Option Act → Option (List ℕ) → Live → Live → Type 0
-BodyDone head past begun come = OrSame (λ old new.
-    BodyTold head past begun (HearsFront come) old new (λ text. Unit {0}))
+BodyDone head past begun come = OrSame (λ old new. (left : Head)
+    × BodyTold past begun (HearsFront come) (now head old) (now left new) (λ text. Unit {0}))
 
 module _ {X : Type 0} {F : X → Type 0} (behaviour : DynBox X Global F → Behaviour)
     (registers : DynBox X Global F → List ℕ) (pending : DynBox X Global F → Option Pending) where

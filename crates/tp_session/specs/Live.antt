@@ -30,6 +30,7 @@ use Rattle.tp_script.specs.declared.head.Act.{Act}
 use Rattle.tp_script.specs.declared.head.Act.TheVariants as acts
 use Rattle.tp_script.specs.declared.head.Head.{Head}
 use Rattle.tp_script.specs.declared.head.WorkerAct.{WorkerAct}
+use Rattle.tp_script.specs.declared.head.WorkerAct.TheVariants.{Abort}
 use Rattle.tp_script.specs.declared.head.WorkerLine.{WorkerLine}
 use Rattle.tp_script.specs.Notes.{NameView}
 use Rattle.tp_script.specs.declared.notes.NotedAct.{NotedAct}
@@ -42,14 +43,14 @@ use Rattle.tp_perform.specs.Rollover.{IsUnrolled, OnlyLooked, RollRefused, Rolle
 use Rattle.tp_perform.specs.Rollover.{roll_refused_text}
 use Rattle.tp_perform.specs.Scenes.{Gathered, Scene, Stand, passes_in}
 use Rattle.tp_perform.specs.Told.{AreReady, IsScene, PerformsAll, units_held}
-use Rattle.tp_session.specs.Answers.{restored_text, units_text, worker_line}
+use Rattle.tp_session.specs.Answers.{joined_line, left_line, restored_text, units_text, worker_line}
 use Rattle.tp_session.specs.Carried.{lost_works, works_after}
 use Rattle.tp_session.specs.Clients.{NotedDoes, noting}
 use Rattle.tp_session.specs.Dump.{dump_lines, dump_text}
 use Rattle.tp_session.specs.Hands.{Hand, WorkerDoes, has_unit, unit_of}
 use Rattle.tp_session.specs.Lasts.{HandRead, end_at}
 use Rattle.tp_session.specs.NoteTexts.{last_hand}
-use Rattle.tp_session.specs.Notes.{NotesView, notes_in, notes_view, with_unit_end}
+use Rattle.tp_session.specs.Notes.{NotesView, notes_in, notes_view, with_unit_end, without_end}
 use Rattle.tp_session.specs.Overviews.{HoldersRead, holds_text, in_hands, names_of, room_told}
 use Rattle.tp_session.specs.Roots.{roots_of, roots_text}
 use Rattle.tp_session.specs.declared.hand.Holding.{Holding}
@@ -160,6 +161,22 @@ pub record WorkerTold (workers : List WorkerLine) (act : WorkerAct) (at : ℕ) (
   pub did : WorkerDid it act at old answer done
   pub text_is : text ≡ worker_line (string_bytes it.name) answer
   pub gathers : LiveGathers done new
+
+-- The worker whose place is free now has given up what it had in hand, and nothing is noted any more of its last
+-- unit. The line tells, with its name, what its abort was answered.
+pub record LeaveTold (workers : List WorkerLine) (at : ℕ) (name : NameView) (old : Live) (text : List ℕ)
+    (new : Live) : Type 0 where
+  pub it : WorkerLine
+  pub named : slice_get workers at ≡ Some it
+  pub answer : WorkerAnswer
+  pub done : Live
+  pub did : WorkerDid it Abort at old answer done
+  pub text_is : text ≡ left_line name answer
+  pub gathers : LiveGathers (with_notes (without_end at done.notes) done) new
+
+-- the line tells that a worker has come; nothing was done
+abbrev pub JoinTold : NameView → Live → List ℕ → Live → Type 0
+JoinTold name old text new = (text ≡ joined_line name) × (new ≡ old)
 
 -- with a unit of work open the account is refused, and nothing is done; else the line tells how many elements
 -- stand in each way, by reads of the client one after another
@@ -346,6 +363,8 @@ TellsAct head acts.Restore old text new = RestoreTold (head_view head) old text 
 TellsAct head (acts.Noted name act) old text new = NotedTold name act old text new
 TellsAct head (acts.Last at) old text new = LastTold head.workers.items at old text new
 TellsAct head (acts.Overview what) old text new = OverviewTold (head_view head) what old text new
+TellsAct head (acts.Joined name) old text new = JoinTold name old text new
+TellsAct head (acts.Leave at name) old text new = LeaveTold head.workers.items at name old text new
 
 -- a race, by the passes behind those of the workers and of the races before it, which took so many
 abbrev pub RaceTold : Head → ℕ → Act → Live → List ℕ → Live → Type 0

@@ -118,6 +118,10 @@ ends_by (Some how) worker ends = slice_set ends worker (Some how)
 abbrev pub with_unit_end : Holding → WorkerAnswer → ℕ → NotesView → NotesView
 with_unit_end work answer worker n = record n { ends = ends_by (end_in work answer) worker n.ends }
 
+-- nothing is noted any more of the last unit of the worker at a place
+abbrev pub without_end : ℕ → NotesView → NotesView
+without_end worker n = record n { ends = slice_set n.ends worker None }
+
 -- ---- in another manager
 
 -- the new id of a root, where something of its family goes on

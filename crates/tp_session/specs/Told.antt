@@ -39,39 +39,54 @@ pub record HeadLinesTold (Heard : List (List ℕ) → Type 0) (old new : HeadVie
 
 -- ---- behind the head
 
+-- what there is between two lines: the head, whose workers come and go, and all else
+pub record Now : Type 0 where
+  pub head : Head
+  pub live : Live
+
+abbrev pub now : Head → Live → Now
+now head l = record { head = head; live = l }
+
+-- what a line of these bytes leaves of the head, and what it asks for
+abbrev pub said_now : List ℕ → Now → Result (HeadView × Option Act) LineFault
+said_now line at = body_at line at.live.notes.clients (head_view at.head)
+
 -- A line behind the head has no answer where it asks for nothing. A faulty one is refused, by its number, and
--- leaves all as it was. Else its answer is what was done.
-abbrev pub LineTold : Head → ℕ → Result (Option Act) LineFault → Live → List ℕ → Live → Type 0
-LineTold head n (Ok None) old text new = (text ≡ []) × (new ≡ old)
-LineTold head n (Ok (Some act)) old text new = TellsAct head act old text new
-LineTold head n (Err fault) old text new = (text ≡ refused_line n fault) × (new ≡ old)
+-- leaves all as it was. Else its answer is what was done, under the head that it leaves.
+abbrev pub LineTold : ℕ → Result (HeadView × Option Act) LineFault → Now → List ℕ → Now → Type 0
+LineTold n (Ok (left, None)) old text new =
+    (head_view new.head ≡ left) × (text ≡ []) × (new.live ≡ old.live)
+LineTold n (Ok (left, Some act)) old text new =
+    (head_view new.head ≡ left) × TellsAct new.head act old.live text new.live
+LineTold n (Err fault) old text new =
+    (head_view new.head ≡ head_view old.head) × (text ≡ refused_line n fault) × (new.live ≡ old.live)
 
 -- such lines one after another, behind so many others
-abbrev pub BodyLines : Head → ℕ → List (List ℕ) → Live → List ℕ → Live → Type 0
-BodyLines head past [] old text new = (text ≡ []) × (new ≡ old)
-BodyLines head past (line ∷ others) old text new =
-    (first : List ℕ) × (rest : List ℕ) × (between : Live)
-    × LineTold head (past + 1) (body_at line (head_view head)) old first between
-    × BodyLines head (past + 1) others between rest new
+abbrev pub BodyLines : ℕ → List (List ℕ) → Now → List ℕ → Now → Type 0
+BodyLines past [] old text new = (text ≡ []) × (new ≡ old)
+BodyLines past (line ∷ others) old text new =
+    (first : List ℕ) × (rest : List ℕ) × (between : Now)
+    × LineTold (past + 1) (said_now line old) old first between
+    × BodyLines (past + 1) others between rest new
     × (text ≡ first ++ rest)
 
 -- What the first command asks for was done, where there is one, and then such lines were answered, behind so
 -- many others.
-abbrev pub LinesFrom : Option Act → Head → ℕ → List (List ℕ) → Live → List ℕ → Live → Type 0
-LinesFrom None head past lines old text new = BodyLines head past lines old text new
-LinesFrom (Some act) head past lines old text new =
+abbrev pub LinesFrom : Option Act → ℕ → List (List ℕ) → Now → List ℕ → Now → Type 0
+LinesFrom None past lines old text new = BodyLines past lines old text new
+LinesFrom (Some act) past lines old text new =
     (first : List ℕ) × (rest : List ℕ) × (between : Live)
-    × TellsAct head act old first between
-    × BodyLines head (past + 1) lines between rest new
+    × TellsAct old.head act old.live first between
+    × BodyLines (past + 1) lines (now old.head between) rest new
     × (text ≡ first ++ rest)
 
 -- that, as far as lines were heard and told
-pub record BodyTold (head : Head) (past : ℕ) (first_act : Option Act) (Heard : List (List ℕ) → Type 0)
-    (old new : Live) (Told : List ℕ → Type 0) : Type 0 where
+pub record BodyTold (past : ℕ) (first_act : Option Act) (Heard : List (List ℕ) → Type 0) (old new : Now)
+    (Told : List ℕ → Type 0) : Type 0 where
   pub taken : List (List ℕ)
   pub heard : Heard taken
   pub text : List ℕ
-  pub lines : LinesFrom first_act head past taken old text new
+  pub lines : LinesFrom first_act past taken old text new
   pub told : Told text
 
 -- what the first command asks for, if there is one

@@ -14,6 +14,7 @@ ghost use Rattle.tp_session.specs.Live.{AccountTold, ClientCounts, CommandTold, 
 ghost use Rattle.tp_session.specs.Live.{TellsAccount, TellsAct, TellsBy, WorkerDid, WorkerTold};
 
 use crate::answers::worker_line;
+use crate::comings::{joined_line, leave_told};
 use crate::dump::dump_told;
 use crate::hand::{Holding, WorkerAnswer, worker_act};
 use crate::held::Held;
@@ -259,5 +260,7 @@ pub fn act_line(
         Act::Noted { name, act } => noted_told(alloc, head, held, name, *act),
         Act::Last { worker } => last_told(alloc, head, held, *worker),
         Act::Overview(what) => overview_told(alloc, head, held, *what),
+        Act::Joined { name } => joined_line(alloc, name),
+        Act::Leave { worker, name } => leave_told(alloc, head, held, *worker, name),
     }
 }

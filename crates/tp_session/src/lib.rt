@@ -8,6 +8,7 @@ mod answers;
 mod carried;
 mod clients;
 mod closing;
+mod comings;
 mod dump;
 mod dump_lines;
 mod dump_lost;

@@ -8,7 +8,7 @@ ghost use Rattle.tp_session.specs.Notes.{has_name, lost_one};
 ghost use Rattle.tp_session.specs.Notes.{new_client, new_id, new_root, noted_id, notes_in, notes_of};
 ghost use Rattle.tp_session.specs.Notes.{notes_view};
 ghost use Rattle.tp_session.specs.Notes.{client_place, request_in, number_standing, with_new_client, with_unit_end};
-ghost use Rattle.tp_session.specs.Notes.{without_client};
+ghost use Rattle.tp_session.specs.Notes.{without_client, without_end};
 
 use crate::hand::{Holding, WorkerAnswer};
 use std::alloc::{AllocError, Global};
@@ -179,6 +179,15 @@ impl Notes {
         };
         if let Some(end) = self.ends.get_mut(worker) {
             *end = Some(how);
+        }
+    }
+
+    /// Notes nothing more of the last unit of the worker at a place.
+    pub(crate) fn forget_end(&mut self, worker: usize)
+        ensures { notes_view self.new ≡ without_end worker (notes_view self.old) }
+    {
+        if let Some(end) = self.ends.get_mut(worker) {
+            *end = None;
         }
     }
 }

@@ -12,6 +12,7 @@ ghost use Rattle.tp_report.specs.declared.fault.Exit.{Exit};
 ghost use Rattle.tp_report.specs.declared.fault.Fault.{Fault};
 ghost use Rattle.tp_script.specs.Ranges.{IsActInRange};
 ghost use Rattle.tp_script.specs.Script.{head_view};
+ghost use Rattle.tp_script.specs.declared.head.Head.{Head};
 ghost use Rattle.tp_session.specs.Conversed.{BodyFront, BodyWhole, Conversed, ConversedAs, ConversedFront};
 ghost use Rattle.tp_session.specs.Conversed.{IsNewManaged, LiveEnds, limits_of};
 ghost use Rattle.tp_session.specs.Heard.{HearsFront, IsAllOf, IsSilent, Tells};
@@ -20,7 +21,7 @@ ghost use Rattle.tp_perform.specs.Told.{AllLeftAt};
 ghost use Rattle.tp_session.specs.Left.{BodyDone};
 ghost use Rattle.tp_session.specs.Live.{Begins, IsHeldBySession, IsLive, Live};
 ghost use Rattle.tp_session.specs.Reading.{IsLong, IsOver, room, to_come};
-ghost use Rattle.tp_session.specs.Told.{BodyTold, first_act, past_of};
+ghost use Rattle.tp_session.specs.Told.{BodyTold, first_act, now, past_of};
 ghost use Rattle.tp_session.specs.declared.reading.TheConstants.{MAX_ASKED};
 
 use crate::answering::answer_all;
@@ -60,7 +61,7 @@ pub fn converse<W: Wire>(alloc: Global, wire: &mut W) -> Result<(), Fault>
     let mut lines = Lines::new(alloc);
     let mut head = Head::new(alloc);
     let first = read_head(alloc, &mut head, &mut lines, wire)?;
-    hold(alloc, &head, first, &mut lines, wire)
+    hold(alloc, &mut head, first, &mut lines, wire)
 }
 
 /// Answers a session as `converse` does, writes the line of a fault to the second writer, and answers the exit
@@ -105,7 +106,7 @@ pub(crate) fn limits_of(head: &Head, racers: u16) -> Limits
 /// Makes the manager that a session needs, and answers the first command and the lines behind it.
 fn hold<W: Wire>(
     alloc: Global,
-    head: &Head,
+    head: &mut Head,
     first: Option<First>,
     lines: &mut Lines,
     wire: &mut W,
@@ -113,14 +114,14 @@ fn hold<W: Wire>(
     requires ready { W.ready wire.old }
     requires asked { W.asked wire.old + lines.old.left < 2 ^ 64 }
     requires in_range { IfSome (first_act first) (IsActInRange
-        (vec_len head.now.servers) (vec_len head.now.workers)) }
+        (vec_len head.old.servers) (vec_len head.old.workers)) }
     requires few { past_of first + room lines.old + 2 < 2 ^ 64 }
     requires ended { first ≡ None → IsSilent (to_come lines.old (W.rest wire.old)) }
     ensures ready { W.ready wire.new }
-    ensures told { OnOk result (BodyWhole head.now (past_of first) (first_act first)
+    ensures told { OnOk result (BodyWhole head.old (past_of first) (first_act first)
         (to_come lines.old (W.rest wire.old))
         (λ text. Appends (W.contents wire.old) (W.contents wire.new) (lines.old.answers.items ++ text))) }
-    ensures front { OnErr result (BodyFront head.now (past_of first) (first_act first)
+    ensures front { OnErr result (BodyFront head.old (past_of first) (first_act first)
         (to_come lines.old (W.rest wire.old))
         (λ text. AppendsFront (W.contents wire.old) (W.contents wire.new)
         (lines.old.answers.items ++ text))) }
@@ -141,24 +142,24 @@ fn hold<W: Wire>(
 /// Makes the boxed servers.
 fn with_managed<W: Wire>(
     alloc: Global,
-    head: &Head,
+    head: &mut Head,
     first: Option<First>,
     managed: Managed,
     lines: &mut Lines,
     wire: &mut W,
 ) -> Result<(), Fault>
     requires ready { W.ready wire.old }
-    requires new { IsNewManaged (limits_of (head_view head.now) 0) managed }
+    requires new { IsNewManaged (limits_of (head_view head.old) 0) managed }
     requires asked { W.asked wire.old + lines.old.left < 2 ^ 64 }
     requires in_range { IfSome (first_act first) (IsActInRange
-        (vec_len head.now.servers) (vec_len head.now.workers)) }
+        (vec_len head.old.servers) (vec_len head.old.workers)) }
     requires few { past_of first + room lines.old + 2 < 2 ^ 64 }
     requires ended { first ≡ None → IsSilent (to_come lines.old (W.rest wire.old)) }
     ensures ready { W.ready wire.new }
-    ensures told { OnOk result (BodyWhole head.now (past_of first) (first_act first)
+    ensures told { OnOk result (BodyWhole head.old (past_of first) (first_act first)
         (to_come lines.old (W.rest wire.old))
         (λ text. Appends (W.contents wire.old) (W.contents wire.new) (lines.old.answers.items ++ text))) }
-    ensures front { OnErr result (BodyFront head.now (past_of first) (first_act first)
+    ensures front { OnErr result (BodyFront head.old (past_of first) (first_act first)
         (to_come lines.old (W.rest wire.old))
         (λ text. AppendsFront (W.contents wire.old) (W.contents wire.new)
         (lines.old.answers.items ++ text))) }
@@ -181,7 +182,7 @@ fn with_managed<W: Wire>(
 /// Answers the lines, and then writes the final lines of these servers.
 fn with_servers<W: Wire>(
     alloc: Global,
-    head: &Head,
+    head: &mut Head,
     first: Option<First>,
     managed: Managed,
     servers: Vec<Box<dyn Server + Send>>,
@@ -189,22 +190,22 @@ fn with_servers<W: Wire>(
     wire: &mut W,
 ) -> Result<(), Fault>
     requires ready { W.ready wire.old }
-    requires new { IsNewManaged (limits_of (head_view head.now) 0) managed }
+    requires new { IsNewManaged (limits_of (head_view head.old) 0) managed }
     requires behaviours { map (λ server. behaviour server) servers.items
-        ≡ map (λ line. behaviour_of line.recipe) head.now.servers.items }
+        ≡ map (λ line. behaviour_of line.recipe) head.old.servers.items }
     requires registers { map (λ server. registers server) servers.items
-        ≡ map (λ line. line.registers) head.now.servers.items }
+        ≡ map (λ line. line.registers) head.old.servers.items }
     requires clear { All (λ server. pending server ≡ None) servers.items }
     requires asked { W.asked wire.old + lines.old.left < 2 ^ 64 }
     requires in_range { IfSome (first_act first) (IsActInRange
-        (vec_len head.now.servers) (vec_len head.now.workers)) }
+        (vec_len head.old.servers) (vec_len head.old.workers)) }
     requires few { past_of first + room lines.old + 2 < 2 ^ 64 }
     requires ended { first ≡ None → IsSilent (to_come lines.old (W.rest wire.old)) }
     ensures ready { W.ready wire.new }
-    ensures told { OnOk result (BodyWhole head.now (past_of first) (first_act first)
+    ensures told { OnOk result (BodyWhole head.old (past_of first) (first_act first)
         (to_come lines.old (W.rest wire.old))
         (λ text. Appends (W.contents wire.old) (W.contents wire.new) (lines.old.answers.items ++ text))) }
-    ensures front { OnErr result (BodyFront head.now (past_of first) (first_act first)
+    ensures front { OnErr result (BodyFront head.old (past_of first) (first_act first)
         (to_come lines.old (W.rest wire.old))
         (λ text. AppendsFront (W.contents wire.old) (W.contents wire.new)
         (lines.old.answers.items ++ text))) }
@@ -234,39 +235,40 @@ fn with_servers<W: Wire>(
 /// What was done before a fault stands.
 pub fn answer_to_end<W: Wire>(
     alloc: Global,
-    head: &Head,
+    head: &mut Head,
     held: &mut Held,
     first: Option<First>,
     lines: &mut Lines,
     wire: &mut W,
 ) -> Result<(), Fault>
     requires ready { W.ready wire.old }
-    requires held { IsHeldBySession behaviour registers pending head.now held.old }
+    requires held { IsHeldBySession behaviour registers pending head.old held.old }
     requires asked { W.asked wire.old + lines.old.left < 2 ^ 64 }
     requires in_range { IfSome (first_act first) (IsActInRange
-        (vec_len head.now.servers) (vec_len head.now.workers)) }
+        (vec_len head.old.servers) (vec_len head.old.workers)) }
     requires few { past_of first + room lines.old + 2 < 2 ^ 64 }
     requires ended { first ≡ None → IsSilent (to_come lines.old (W.rest wire.old)) }
     ensures ready { W.ready wire.new }
     ensures free { All (IsFreePass held.new.managed.manager) held.new.managed.passes.items }
     ensures clear { All (λ server. pending server ≡ None) held.new.servers.items }
     ensures each_server { length held.new.servers.items ≡ length held.old.servers.items }
+    ensures servers { head.new.servers ≡ head.old.servers }
     ensures left { (before : Live) × (last : Live) × IsLive behaviour registers pending held.old before
-        × BodyDone head.now (past_of first) (first_act first)
+        × BodyDone head.old (past_of first) (first_act first)
         (to_come lines.old (W.rest wire.old)) before last
         × AllLeftAt behaviour registers last.stand.scene.places
         (workers (length held.old.servers.items) held.new.managed.passes.items) held.new.servers.items }
     ensures told { OnOk result (Begins behaviour registers pending (λ old last.
-        BodyTold head.now (past_of first) (first_act first)
-        (IsAllOf (to_come lines.old (W.rest wire.old))) old last
+        BodyTold (past_of first) (first_act first)
+        (IsAllOf (to_come lines.old (W.rest wire.old))) (now head.old old) (now head.new last)
         (λ text. Tells (W.contents wire.old) (W.contents wire.new)
         lines.new.answers.items (lines.old.answers.items ++ text))
         × LiveEnds last (map (λ server. registers server) held.new.servers.items)) held.old) }
     ensures front { OnErr result (AppendsFront (W.contents wire.old) (W.contents wire.new)
         lines.old.answers.items
-        ⊎ Begins behaviour registers pending (λ old last.
-        BodyTold head.now (past_of first) (first_act first)
-        (HearsFront (to_come lines.old (W.rest wire.old))) old last
+        ⊎ Begins behaviour registers pending (λ old last. (left : Head)
+        × BodyTold (past_of first) (first_act first)
+        (HearsFront (to_come lines.old (W.rest wire.old))) (now head.old old) (now left last)
         (λ text. AppendsFront (W.contents wire.old) (W.contents wire.new)
         (lines.old.answers.items ++ text))) held.old) }
     ensures write { IsErrOf result Fault.Write → IsTrue (W.write_failed wire.new) }

@@ -1,3 +1,6 @@
+use Rattle.std.proofs.Common.{refl}
+use Rattle.std.proofs.lemmas.Result.{IfOk-weaker}
+use Rattle.tp_session.proofs.LiveLemmas.{leads_none}
 use Rattle.tp_session.proofs.LeftLemmas.{reach_same}
 use Rattle.tp_session.proofs.acts.act_line.Goals as goal
 
@@ -42,3 +45,15 @@ returns-in-Overview-clause-tells g c = rw c.in-Overview.is c.overview_told.ensur
 
 pub returns-in-Overview-clause-went : goal.returns-in-Overview-clause-went
 returns-in-Overview-clause-went g c = reach_same (λ b. (goal.Server-dyn g (b.vtable, b.value)).behaviour b.value) (λ b. (goal.Server-dyn g (b.vtable, b.value)).registers b.value) (λ b. (goal.Server-dyn g (b.vtable, b.value)).pending b.value) c.args.head.now c.args.held.now c.overview_told.new.held _ c.requires.held c.overview_told.ensures.began
+
+pub returns-in-Leave-clause-tells : goal.returns-in-Leave-clause-tells
+returns-in-Leave-clause-tells g c = rw c.in-Leave.is c.leave_told.ensures.tells
+
+pub returns-in-Leave-clause-went : goal.returns-in-Leave-clause-went
+returns-in-Leave-clause-went g c = reach_same (λ b. (goal.Server-dyn g (b.vtable, b.value)).behaviour b.value) (λ b. (goal.Server-dyn g (b.vtable, b.value)).registers b.value) (λ b. (goal.Server-dyn g (b.vtable, b.value)).pending b.value) c.args.head.now c.args.held.now c.leave_told.new.held _ c.requires.held c.leave_told.ensures.began
+
+pub returns-in-Joined-clause-tells : goal.returns-in-Joined-clause-tells
+returns-in-Joined-clause-tells g c = rw c.in-Joined.is (IfOk-weaker c.joined_line.result _ _ (λ s text. leads_none (λ b. (goal.Server-dyn g (b.vtable, b.value)).behaviour b.value) (λ b. (goal.Server-dyn g (b.vtable, b.value)).registers b.value) (λ b. (goal.Server-dyn g (b.vtable, b.value)).pending b.value) c.args.head.now c.args.held.now _ c.requires.held (λ l. (text, refl))) c.joined_line.ensures)
+
+pub returns-in-Joined-clause-went : goal.returns-in-Joined-clause-went
+returns-in-Joined-clause-went g c = reach_same (λ b. (goal.Server-dyn g (b.vtable, b.value)).behaviour b.value) (λ b. (goal.Server-dyn g (b.vtable, b.value)).registers b.value) (λ b. (goal.Server-dyn g (b.vtable, b.value)).pending b.value) c.args.head.now c.args.held.now c.args.held.now _ c.requires.held refl

@@ -2,10 +2,11 @@ use Rattle.std.proofs.Common.{◌≡◌, ◌∙◌, length, subst, sym}
 use Rattle.std.proofs.lemmas.Result.{on_ok_weaker}
 use Rattle.tp_commands.specs.Places.{workers}
 use Rattle.tp_perform.specs.Told.{AllLeftAt}
+use Rattle.tp_session.proofs.TellLemmas.{many_of}
 use Rattle.tp_session.proofs.session.answer_to_end.Goals as goal
 
 pub returns-clause-each_server : goal.returns-clause-each_server
-returns-clause-each_server g c = c.end_held.ensures.each_server ∙ (c.answer_all-done.ensures.held.each_server ∙ sym c.requires.held.each_server)
+returns-clause-each_server g c = c.end_held.ensures.each_server ∙ (c.answer_all-done.ensures.held.each_server ∙ (many_of c.answer_all-done.ensures.servers ∙ sym c.requires.held.each_server))
 
 pub returns-clause-told : goal.returns-clause-told
 returns-clause-told g c =
@@ -19,7 +20,7 @@ returns-clause-told g c =
 pub returns-clause-left : goal.returns-clause-left
 returns-clause-left g c =
     let r = c.answer_all-done.ensures.went in
-    let many : length c.args.held.now.servers.items ≡ length c.answer_all-done.new.held.servers.items = c.requires.held.each_server ∙ sym c.answer_all-done.ensures.held.each_server in (
+    let many : length c.args.held.now.servers.items ≡ length c.answer_all-done.new.held.servers.items = c.requires.held.each_server ∙ (sym (many_of c.answer_all-done.ensures.servers) ∙ sym c.answer_all-done.ensures.held.each_server) in (
       r.before,
       r.after,
       r.was,
