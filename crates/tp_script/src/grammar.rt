@@ -451,5 +451,4 @@ impl Head {
         let act = self.body_keyword(alloc, driver, first_word(first)?, others)?;
         Ok(Some(act))
     }
-
 }
