@@ -252,7 +252,7 @@ module _ (head : Head) (old new : Live) (text : List ℕ) (s : SessionState) (is
   unrolled_for faults.NoPass due text_is stands = absurd due
   unrolled_for faults.Busy due text_is stands = busy (session_desk_open s) (session_desk_open s) (own_passes scene) s (rolled_over h s) refl due own_none text_is stands
   unrolled_for faults.Full due text_is stands = no_room (session_desk_open s) rolled_text (alive_of s.report.manager) s.works s (unfit due.1) (none_at_own due.0) text_is stands
-  unrolled_for faults.Unequal due text_is stands = failed (session_desk_open s) s (rolled_over h s) faults.Unequal tt (none_at_own due) text_is stands
+  unrolled_for faults.Unequal due text_is stands = failed (session_desk_open s) s (rolled_over h s) faults.Unequal tt (none_at_own due.0) text_is stands
 
   unrestored_for : (why : RollFault) → IsUnrestoredFor l (survivors_of h) (passes_in scene) why → text ≡ line (roll_refused_text why) → StandsLive h new (unrestored s) → Answered (session_is_open s) (unrestored s) (session_restored h s)
   unrestored_for faults.NoMemory due text_is stands = failed (session_is_open s) (unrestored s) (session_restored h s) faults.NoMemory tt (none_open due) text_is stands
