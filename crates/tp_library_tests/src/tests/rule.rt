@@ -50,6 +50,7 @@ fn pass(words: &Words, keeper: &mut Seat, number: u16) -> Seat
         × ((hand_of result).left ≡ l.rows) × ((hand_of result).drafts ≡ []) }
     ensures blank { (hand_of result).next_body ≡ blank_body }
     ensures units { ((hand_of result).claimed ≡ 0) × ((hand_of result).open_unit ≡ None) }
+    ensures passed { (hand_of result).passed_to ≡ 0 }
 {
     words.hand_out(keeper)
 }
@@ -61,8 +62,10 @@ fn submit(words: &Words, seat: &mut Seat, row: u32, body: Body)
     requires next { IsNextRow (table_limits words.now) (view_of seat.old) row }
     requires no_drafts { (hand_of seat.old).drafts ≡ [] }
     requires blank { (hand_of seat.old).next_body ≡ blank_body }
+    requires passed { (hand_of seat.old).passed_to ≡ 0 }
     ensures same { IsSameSeat seat.old seat.new }
     ensures one { IsPassOf words.now seat.new }
+    ensures passed { (hand_of seat.new).passed_to ≡ 0 }
     ensures number { (hand_of seat.new).number ≡ (hand_of seat.old).number }
     ensures used { ((hand_of seat.new).next ≡ (hand_of seat.old).next + 1)
         × ((hand_of seat.new).left ≡ (hand_of seat.old).left - 1) }
@@ -108,6 +111,7 @@ fn claim(words: &Words, seat: &mut Seat, row: u32, unit: u16) -> bool
     ensures rows { ((hand_of seat.new).next ≡ (hand_of seat.old).next)
         × ((hand_of seat.new).left ≡ (hand_of seat.old).left) × ((hand_of seat.new).drafts ≡ []) }
     ensures body { (hand_of seat.new).next_body ≡ (hand_of seat.old).next_body }
+    ensures passed { (hand_of seat.new).passed_to ≡ (hand_of seat.old).passed_to }
     ensures won { result ≡ true → (hand_of seat.new).open_unit ≡ Some unit }
     ensures work { result ≡ true → (work : IsOwnWork (view_of seat.new) unit) × (work.item.root ≡ 0) }
 {
@@ -130,8 +134,10 @@ fn draft_reply(words: &Words, seat: &mut Seat, row: u32, unit: u16)
     requires blank { (hand_of seat.old).next_body ≡ blank_body }
     requires open_unit { (hand_of seat.old).open_unit ≡ Some unit }
     requires work { (work : IsOwnWork (view_of seat.old) unit) × (work.item.root ≡ 0) }
+    requires passed { (hand_of seat.old).passed_to ≡ 0 }
     ensures same { IsSameSeat seat.old seat.new }
     ensures one { IsPassOf words.now seat.new }
+    ensures passed { (hand_of seat.new).passed_to ≡ 0 }
     ensures open_unit { (hand_of seat.new).open_unit ≡ Some unit }
     ensures drafts { (length (hand_of seat.new).drafts ≡ 1) × (first_id (hand_of seat.new).drafts ≡ row) }
     ensures work { IsOwnWork (view_of seat.new) unit }

@@ -1,0 +1,7 @@
+use Rattle.std.proofs.Common.{◌≡◌, ap, ◌∙◌, arith}
+use Rattle.tp_rule.specs.Views.{hand_of}
+use Rattle.tp_rule.specs.declared.view.Hand.{Hand}
+use Rattle.tp_library_tests.proofs.tests.rule.submit.Goals as goal
+
+pub publish-requires-clause-cleared : goal.publish-requires-clause-cleared
+publish-requires-clause-cleared c = λ i low high. let none : (hand_of c.store_draft_body.new.seat).passed_to ≡ 0 = ap (λ (z : Hand). z.passed_to) c.store_draft_body.ensures.view.hand_is ∙ c.requires.passed in absurd (omega arith)
