@@ -6,7 +6,7 @@ from rules import TOP
 
 NAMES, AMOUNTS = ("p", "q", "r"), (0, 1, 7, TOP - 1)
 # How often each of a client's commands comes.
-CLIENTS = {"send": 10, "receive": 10, "last": 3, "register": 1, "forget": 0.6}
+CLIENTS = {"send": 10, "receive": 10, "last": 3, "register": 1, "forget": 1}
 # What lines of clients and `last` are answered: of 400 sessions or more some have it.
 ANSWERS = [
     *(f"send {it}" for it in ("new", "again", "again gone", "done", "Gap", "Full", "BadStage", "NotThere")),
@@ -28,21 +28,29 @@ def chosen(chance, run, commands):
     """Returns a command's words, with the next number, mostly, or another one, and how many sends or receives were counted."""
     name, verb = chance.choice(NAMES), chance.choices([*CLIENTS], CLIENTS.values())[0]
     replied = [whose for root, whose in run.notes.requests.items() if run.replies(root)]
-    if replied and chance.random() < 0.4:
+    if replied and chance.random() < 0.6:
         verb, name = "receive", chance.choice(replied)
     it, words = run.notes.clients.get(name), []
-    if it is None and chance.random() < 0.8:
+    if it is None and chance.random() < 0.7:
         verb = "register"
     count = 0 if it is None else it.sends if verb == "send" else it.receives
     if verb in ("send", "receive"):
-        words = [max(1, count + chance.choice([1] * 6 + [0, 0, -1, -1, -9, 2]))]
+        # (what is done is a number below the last one)
+        words = [max(1, count + chance.choice([1] * 6 + [0, 0, -9, 2] + [-1] * (5 if count > 1 else 1)))]
     if verb == "send":
         stage = commands.mostly([1, 1, 2, 3], chance.choice([0, 1, 14, 15]))
         words += [stage, chance.choice([0, 0, 1]), *chance.choices(AMOUNTS, k=chance.choice([1, 2, 3]))]
-    elif verb == "receive" and chance.random() < 0.4:
+    elif verb == "receive" and chance.random() < 0.5:
         own = [root for root, whose in run.notes.requests.items() if whose == name]
         words.append(commands.mostly(own, chance.randint(0, commands.numbers)))
     return [verb, name, *words], count
+
+
+def again(chance, run):
+    """Of the clients' last calls some, to be made once more, and how many of its verb this client has made."""
+    clients = run.notes.clients.items()
+    calls = [(["send", name, it.sends, 1, 0, 7], it.sends) for name, it in clients] + [(["receive", name, it.receives], it.receives) for name, it in clients]
+    return [(words, count) for words, count in calls if count and chance.random() < 0.3]
 
 
 def kind_of(words, answer, count):
