@@ -20,7 +20,8 @@ use Rattle.tp_manager.specs.Requeues.{HasHadRounds, Requeues, RequeueFails}
 use Rattle.tp_manager.specs.Releases.{Releases, ReleaseFails, Collects, CollectFails}
 use Rattle.tp_manager.specs.Cancels.{Cancels, CancelFails}
 use Rattle.covetrivet_c.specs.declared.fault.Fault.{Fault}
-use Rattle.covetrivet_c.specs.Asked.{Asked, GoesSteps, IsBusy, IsNothing, LooksAtId, OnlyLooks, Refuses, SoughtByC, StaysFree}
+use Rattle.covetrivet_c.specs.Asked.{Asked, GoesSteps, IsBusy, IsNothing, LooksAtId, OnlyLooks, Refuses}
+use Rattle.covetrivet_c.specs.Asked.{SoughtByC, StaysFree}
 
 -- `submit`
 abbrev pub SubmitSays : ℕ → List ℕ → Limits → PassShown → PassShown → Result ℕ Fault → Type 0
@@ -58,7 +59,8 @@ FamilySays root from l old new r = OnlyLooks (family_steps l) l from old new
 
 -- `requeue`
 abbrev pub RequeueSays : ℕ → Limits → PassShown → PassShown → Result ℕ Fault → Type 0
-RequeueSays id l old new r = GoesSteps requeue_steps old new × LooksAtId l id old new × (new.open_unit ≡ old.open_unit)
+RequeueSays id l old new r = GoesSteps requeue_steps old new × LooksAtId l id old new
+    × (new.open_unit ≡ old.open_unit)
     × MatchResult r (λ round. Requeues id round old new) (Refuses (RequeueFails l id old new))
 
 -- `kill`

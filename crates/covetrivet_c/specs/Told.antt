@@ -27,7 +27,8 @@ Through None new code Did Nothing = (new ≡ None) × (code ≡ 1) × Nothing
 
 -- What a call of C answers: what these words say of the manager's limits and of the pass before and after it,
 -- told by the code and by what is written.
-abbrev pub AnswersByCode : {X Y : Type 0} → (X → Y) → (Limits → PassShown → PassShown → Result X Fault → Type 0)
+abbrev pub AnswersByCode : {X Y : Type 0} → (X → Y)
+    → (Limits → PassShown → PassShown → Result X Fault → Type 0)
     → Option Caller → Option Caller → ℕ → Y → Y → Type 0
 AnswersByCode {X} shape Says was is code old new = Through was is code
     (λ a b. (r : Result X Fault) × TellsByCode shape r code old new × Says (limits_of a) a.pass b.pass r)
@@ -40,6 +41,7 @@ Ends {X} Says was is code = Through was is code
     (λ a b. (r : Result X Fault) × TellsEnd r code × Says (limits_of a) a.pass b.pass r) (Unit {0})
 
 -- what is written is this of the caller, which stays as it is
-abbrev pub ShowsOfCaller : {Y : Type 0} → (Caller → Y → Type 0) → Option Caller → Option Caller → ℕ → Y → Y → Type 0
+abbrev pub ShowsOfCaller : {Y : Type 0} → (Caller → Y → Type 0)
+    → Option Caller → Option Caller → ℕ → Y → Y → Type 0
 ShowsOfCaller Says (Some c) is code old new = (is ≡ Some c) × (code ≡ 0) × Says c new
 ShowsOfCaller Says None is code old new = (is ≡ None) × (code ≡ 1) × (new ≡ old)

@@ -1,6 +1,7 @@
 //! What C calls to make, open, close and hand back.
 ghost use Rattle.std.specs.Prelude.{◌≡◌, None};
-ghost use Rattle.covetrivet_c.specs.Makes.{HandsBack, IsOfHome, MakesHome, OpensCaller, OpensNumber, ShowsHome, capacity_of};
+ghost use Rattle.covetrivet_c.specs.Makes.{HandsBack, IsOfHome, MakesHome, OpensCaller, OpensNumber};
+ghost use Rattle.covetrivet_c.specs.Makes.{ShowsHome, capacity_of};
 ghost use Rattle.covetrivet_c.specs.Homes.{home_limits};
 ghost use Rattle.covetrivet_c.specs.Shapes.{limits_in, limits_shape};
 
