@@ -2,7 +2,8 @@
 ghost use Rattle.std.specs.Prelude.{◌≡◌, ◌≤◌, length};
 ghost use Rattle.tp_model.specs.Steps.{IsServerStage};
 ghost use Rattle.tp_session.specs.Hands.{WorkerGivesUp, IsHand, WorkerDoes, worker_hand};
-ghost use Rattle.tp_session.specs.Hands.{WorkerTellsAbort, WorkerTellsClaim, WorkerTellsCommit, WorkerTellsNext, WorkerTellsTake};
+ghost use Rattle.tp_session.specs.Hands.{WorkerTellsAbort, WorkerTellsClaim, WorkerTellsCommit};
+ghost use Rattle.tp_session.specs.Hands.{WorkerTellsNext, WorkerTellsTake};
 
 use tp_desk::Turned;
 use tp_manager::{Manager, Pass};
@@ -143,7 +144,8 @@ fn take(manager: &Manager, pass: &mut Pass, work: &mut Holding, id: u32) -> Work
     requires holds { IsHand manager.now (worker_hand pass.old work.old) }
     ensures holds { IsHand manager.now (worker_hand pass.new work.new) }
     ensures number { pass.new.number ≡ pass.old.number }
-    ensures tells { WorkerTellsTake manager.now.limits id (worker_hand pass.old work.old) result (worker_hand pass.new work.new) }
+    ensures tells { WorkerTellsTake manager.now.limits id
+        (worker_hand pass.old work.old) result (worker_hand pass.new work.new) }
 {
     if work.is_busy() {
         return WorkerAnswer::Told(ServerAnswer::Busy);
@@ -186,7 +188,8 @@ fn abort(manager: &Manager, pass: &mut Pass, work: &mut Holding) -> WorkerAnswer
     requires holds { IsHand manager.now (worker_hand pass.old work.old) }
     ensures holds { IsHand manager.now (worker_hand pass.new work.new) }
     ensures number { pass.new.number ≡ pass.old.number }
-    ensures tells { WorkerTellsAbort manager.now.limits (worker_hand pass.old work.old) result (worker_hand pass.new work.new) }
+    ensures tells { WorkerTellsAbort manager.now.limits
+        (worker_hand pass.old work.old) result (worker_hand pass.new work.new) }
 {
     match *work {
         Holding::Nothing => WorkerAnswer::Told(ServerAnswer::NoneOpen),
