@@ -5,7 +5,7 @@ use Rattle.tp_model.specs.declared.types.Refusal.TheVariants as refusals
 use Rattle.tp_plain.specs.OneThread.{start}
 use Rattle.tp_alone.specs.Thread.{thread_of}
 use Rattle.tp_manager.specs.Shown.{KeeperShown, PassShown}
-use Rattle.tp_rollover.specs.Carries.{AreFresh, Carries, WouldDiffer, WouldNotFit}
+use Rattle.tp_rollover.specs.Carries.{AreFresh, Carries, WouldNotFit}
 use Rattle.tp_rollover.specs.declared.moved.Moved.{Moved}
 use Rattle.covetrivet_c.specs.declared.fault.Fault.{Fault}
 use Rattle.covetrivet_c.specs.declared.fault.Fault.TheVariants as faults
@@ -62,4 +62,4 @@ unrolled h k news faults.Nothing fresh long some why =
 unrolled h k news faults.NoPart fresh long some why = absurd why
 unrolled h k news faults.NotAll fresh long some why = absurd why
 unrolled h k news faults.Unequal fresh long some why = λ limits.
-    subst (λ n. WouldDiffer (home_limits h) h.passes.items n (start k)) long (why limits fresh)
+    subst (λ n. WouldNotFit (home_limits h) h.passes.items n (start k)) long (why limits fresh)

@@ -7,11 +7,11 @@ use Rattle.tp_rollover.specs.Carries.{AreFresh, WouldNotFit}
 use Rattle.tp_rollover.specs.Faults.{IsDue}
 use Rattle.tp_rollover.specs.declared.moved.RollFault.{RollFault}
 use Rattle.tp_rollover.specs.declared.moved.RollFault.TheVariants as rolls
-use Rattle.covetrivet_c.specs.Homes.{IsUncarried, fault_of}
+use Rattle.covetrivet_c.specs.Homes.{IsUncarried, rollover_fault}
 
 pub uncarried : (l k : Limits) (olds news news' : List PassShown) (f : RollFault)
     → (f ≡ rolls.Full → AreFresh k news → WouldNotFit l olds (length news) (start k))
-    → IsDue l k olds news news' f → IsUncarried l k olds news (fault_of f)
+    → IsDue l k olds news news' f → IsUncarried l k olds news (rollover_fault f)
 uncarried l k olds news news' rolls.NoMemory full due = tt
 uncarried l k olds news news' rolls.BadLimits full due = due
 uncarried l k olds news news' rolls.NoPass full due = due.1

@@ -9,7 +9,7 @@ use Rattle.tp_rollover.specs.declared.moved.Moved.{Moved}
 use Rattle.covetrivet_c.specs.declared.fault.Fault.{Fault}
 use Rattle.covetrivet_c.specs.declared.fault.Fault.TheVariants as faults
 use Rattle.covetrivet_c.specs.declared.home.Home.{Home}
-use Rattle.covetrivet_c.specs.Homes.{HomeGoesOn, HasGathered, IsHomeUnrolled, StaysHome, counts_of, home_limits}
+use Rattle.covetrivet_c.specs.Homes.{HomeGoesOn, HasGathered, IsHomeUnrolled, StaysHome, counts_of_stage, home_limits}
 use Rattle.covetrivet_c.specs.Told.{TellsByCode, TellsEnd}
 
 -- the handle led to a manager, and leads to one, for which this is so; or it led to nothing, the code says so,
@@ -69,7 +69,7 @@ pub record CountsStage (stage : ℕ) (h h' : Home) (counts : Counts) : Type 0 wh
   pub account : Account
   pub same : IsSameManager h h'
   pub accounts : Accounts (home_limits h) h.keeper h'.keeper h.passes.items h'.passes.items account
-  pub counts_are : counts ≡ counts_of account stage
+  pub counts_are : counts ≡ counts_of_stage account stage
 
 -- `account`
 abbrev pub CountSays : ℕ → Home → Home → Result Counts Fault → Type 0

@@ -41,11 +41,11 @@ IsNothing Why other = ⊥
 
 -- the manager was asked, and this is so of the call, of its answer, and of its refusal; or it wasn't asked,
 -- for this reason, and nothing has changed
-abbrev pub Asked : {X : Type 0} → Type 0 → (X → Type 0) → (Refusal → Type 0) → (Fault → Type 0)
+abbrev pub ManagerAsked : {X : Type 0} → Type 0 → (X → Type 0) → (Refusal → Type 0) → (Fault → Type 0)
     → PassShown → PassShown → Result X Fault → Type 0
-Asked Call Is Why Not old new (Ok x) = Call × Is x
-Asked Call Is Why Not old new (Err (faults.Refused e)) = Call × Why e
-Asked Call Is Why Not old new (Err other) = (new ≡ old) × Not other
+ManagerAsked Call Is Why Not old new (Ok x) = Call × Is x
+ManagerAsked Call Is Why Not old new (Err (faults.Refused e)) = Call × Why e
+ManagerAsked Call Is Why Not old new (Err other) = (new ≡ old) × Not other
 
 -- the same where it may find nothing, and refuses nothing
 abbrev pub SoughtByC : {X : Type 0} → Type 0 → (X → Type 0) → Type 0 → (Fault → Type 0)

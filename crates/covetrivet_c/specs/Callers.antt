@@ -5,8 +5,8 @@ use Rattle.tp_model.specs.declared.types.Limits.{Limits}
 use Rattle.covetrivet_c.specs.declared.caller.Caller.{Caller}
 
 -- the limits of its manager
-abbrev pub limits_of : Caller → Limits
-limits_of c = (arc_value c.manager).limits
+abbrev pub caller_limits : Caller → Limits
+caller_limits c = (arc_value c.manager).limits
 
 -- 1 where a unit is open
 abbrev pub open_code : Option ℕ → ℕ

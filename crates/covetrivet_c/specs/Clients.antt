@@ -20,7 +20,7 @@ use Rattle.tp_manager.specs.Requeues.{HasHadRounds, Requeues, RequeueFails}
 use Rattle.tp_manager.specs.Releases.{Releases, ReleaseFails, Collects, CollectFails}
 use Rattle.tp_manager.specs.Cancels.{Cancels, CancelFails}
 use Rattle.covetrivet_c.specs.declared.fault.Fault.{Fault}
-use Rattle.covetrivet_c.specs.Asked.{Asked, GoesSteps, IsBusy, IsNothing, LooksAtId, OnlyLooks, Refuses}
+use Rattle.covetrivet_c.specs.Asked.{ManagerAsked, GoesSteps, IsBusy, IsNothing, LooksAtId, OnlyLooks, Refuses}
 use Rattle.covetrivet_c.specs.Asked.{SoughtByC, StaysFree}
 
 -- `submit`
@@ -65,23 +65,23 @@ RequeueSays id l old new r = GoesSteps requeue_steps old new × LooksAtId l id o
 
 -- `kill`
 abbrev pub KillSays : ℕ → Limits → PassShown → PassShown → Result ℕ Fault → Type 0
-KillSays id l old new r = Asked (StaysFree (kill_steps l) old new × LooksAtId l id old new)
+KillSays id l old new r = ManagerAsked (StaysFree (kill_steps l) old new × LooksAtId l id old new)
     (λ n. Kills l id n old new) (KillFails l id old new) (IsBusy old) old new r
 
 -- `cancel`
 abbrev pub CancelSays : ℕ → Limits → PassShown → PassShown → Result ℕ Fault → Type 0
-CancelSays root l old new r = Asked (StaysFree (cancel_steps l) old new × LooksAtId l root old new
+CancelSays root l old new r = ManagerAsked (StaysFree (cancel_steps l) old new × LooksAtId l root old new
     × Follows (family_cancel_steps l (length (family new.seen root))) old new)
     (λ n. Cancels l root n old new) (CancelFails root old new) (IsBusy old) old new r
 
 -- `release`
 abbrev pub ReleaseSays : ℕ → Limits → PassShown → PassShown → Result Released Fault → Type 0
-ReleaseSays id l old new r = Asked (StaysFree release_steps old new × LooksAtId l id old new)
+ReleaseSays id l old new r = ManagerAsked (StaysFree release_steps old new × LooksAtId l id old new)
     (λ it. Releases l id it.unit it.attempt old new) (ReleaseFails l id old new) (IsBusy old) old new r
 
 -- `collect`
 abbrev pub CollectSays : ℕ → Limits → PassShown → PassShown → Result Element Fault → Type 0
-CollectSays id l old new r = Asked (StaysFree collect_steps old new × LooksAtId l id old new)
+CollectSays id l old new r = ManagerAsked (StaysFree collect_steps old new × LooksAtId l id old new)
     (λ x. Collects id x old new) (CollectFails l id old new) (IsBusy old) old new r
 
 -- `collect_next`, for which nothing may be found

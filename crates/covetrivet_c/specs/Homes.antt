@@ -14,7 +14,7 @@ use Rattle.tp_manager.specs.Shown.{KeeperShown, PassShown}
 use Rattle.tp_plain.specs.OneThread.{start}
 use Rattle.tp_alone.specs.Thread.{Stays, thread_of}
 use Rattle.tp_rollover.specs.Answers.{Rolls}
-use Rattle.tp_rollover.specs.Carries.{AreFresh, Carries, WouldDiffer, WouldNotFit}
+use Rattle.tp_rollover.specs.Carries.{AreFresh, Carries, WouldNotFit}
 use Rattle.tp_rollover.specs.Faults.{LacksPass}
 use Rattle.tp_rollover.specs.Managed.{IsNewPass}
 use Rattle.tp_rollover.specs.declared.moved.Moved.{Moved}
@@ -88,9 +88,9 @@ abbrev pub HasGathered : Limits → KeeperShown → KeeperShown → List PassSho
 HasGathered l keeper keeper' olds news = Gathers l (gather_steps l (length olds)) keeper keeper' olds news
 
 -- the counts of a stage, 1 to 15, and with 0 those of all stages
-abbrev pub counts_of : Account → ℕ → Counts
-counts_of a zero = a.total
-counts_of a (suc stage) = slice_index_or a.stages stage a.total
+abbrev pub counts_of_stage : Account → ℕ → Counts
+counts_of_stage a zero = a.total
+counts_of_stage a (suc stage) = slice_index_or a.stages stage a.total
 
 -- What was alive went over, held by the passes of the same numbers where it was held; and it was made anew as
 -- is computed, where nothing had happened in the new manager. The keeper of the old one, with a dash, and its
@@ -117,7 +117,7 @@ IsUncarried l k olds news (faults.Refused refusals.Full) =
 IsUncarried l k olds news (faults.Refused other) = ⊥
 IsUncarried l k olds news faults.Nothing = LacksPass olds news
 IsUncarried l k olds news faults.Unequal =
-    AreLimits l → AreFresh k news → WouldDiffer l olds (length news) (start k)
+    AreLimits k → AreFresh k news → WouldNotFit l olds (length news) (start k)
 IsUncarried l k olds news other = ⊥
 
 -- It has gone on in a new manager with these limits, all of whose passes are at home: what a pass held, the
@@ -158,15 +158,15 @@ IsHomeUnrolled h l (faults.Refused refusals.Full) = WouldNotFit (home_limits h) 
 IsHomeUnrolled h l (faults.Refused other) = ⊥
 IsHomeUnrolled h l faults.NotAll = ¬ AreAll h.keeper h.passes.items
 IsHomeUnrolled h l faults.Nothing = h.passes.items ≡ []
-IsHomeUnrolled h l faults.Unequal = AreLimits (home_limits h)
-    → WouldDiffer (home_limits h) h.passes.items l.parts (start l)
+IsHomeUnrolled h l faults.Unequal = AreLimits l
+    → WouldNotFit (home_limits h) h.passes.items l.parts (start l)
 IsHomeUnrolled h l other = ⊥
 
 -- a rollover's fault
-abbrev pub fault_of : RollFault → Fault
-fault_of rolls.NoMemory = faults.Refused refusals.NoMemory
-fault_of rolls.BadLimits = faults.Refused refusals.BadLimits
-fault_of rolls.NoPass = faults.Nothing
-fault_of rolls.Busy = faults.Busy
-fault_of rolls.Full = faults.Refused refusals.Full
-fault_of rolls.Unequal = faults.Unequal
+abbrev pub rollover_fault : RollFault → Fault
+rollover_fault rolls.NoMemory = faults.Refused refusals.NoMemory
+rollover_fault rolls.BadLimits = faults.Refused refusals.BadLimits
+rollover_fault rolls.NoPass = faults.Nothing
+rollover_fault rolls.Busy = faults.Busy
+rollover_fault rolls.Full = faults.Refused refusals.Full
+rollover_fault rolls.Unequal = faults.Unequal

@@ -10,7 +10,7 @@ use Rattle.covetrivet_c.specs.declared.caller.Caller.{Caller}
 use Rattle.covetrivet_c.specs.declared.fault.Fault.{Fault}
 use Rattle.covetrivet_c.specs.declared.home.Home.{Home}
 use Rattle.covetrivet_c.specs.declared.shapes.RoomOut.{RoomOut}
-use Rattle.covetrivet_c.specs.Callers.{limits_of}
+use Rattle.covetrivet_c.specs.Callers.{caller_limits}
 use Rattle.covetrivet_c.specs.Codes.{code_of}
 use Rattle.tp_manager.specs.Shown.{PassShown}
 use Rattle.covetrivet_c.specs.Homes.{IsNewHome, IsNumberUnlent, IsUnlent, IsUnmade, LendsFirst, LendsNumber}
@@ -76,7 +76,7 @@ capacity_of h = rows_of (home_limits h)
 
 -- what is left to the pass
 abbrev pub IsRoom : Caller → RoomOut → Type 0
-IsRoom c room = (room.rows ≡ c.pass.left) × (claims_in c.pass.mine + room.units ≡ (limits_of c).units)
+IsRoom c room = (room.rows ≡ c.pass.left) × (claims_in c.pass.mine + room.units ≡ (caller_limits c).units)
 
 -- both, where they are open, are of one manager
 abbrev pub IsOneManager : Option Caller → Option Caller → Type 0

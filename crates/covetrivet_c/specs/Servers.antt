@@ -19,9 +19,9 @@ use Rattle.covetrivet_c.specs.declared.shapes.BornOut.{BornOut}
 use Rattle.covetrivet_c.specs.declared.shapes.DraftIn.{DraftIn}
 use Rattle.covetrivet_c.specs.declared.fault.Fault.{Fault}
 use Rattle.covetrivet_c.specs.declared.fault.Fault.TheVariants as faults
-use Rattle.covetrivet_c.specs.Asked.{Asked, GoesSteps, IsBusy, IsNoClaim, IsNoCommit, LooksAtId, StaysFree}
+use Rattle.covetrivet_c.specs.Asked.{ManagerAsked, GoesSteps, IsBusy, IsNoClaim, IsNoCommit, LooksAtId, StaysFree}
 use Rattle.covetrivet_c.specs.Codes.{code_of, refusal_code}
-use Rattle.covetrivet_c.specs.Shapes.{draft_in}
+use Rattle.covetrivet_c.specs.Shapes.{draft_given}
 
 -- the claim's answer, as the manager gives it
 abbrev pub Claiming : (Claimed → Type 0) → ℕ → PassShown → PassShown → Result Work Fault → Type 0
@@ -45,7 +45,7 @@ ClaimNextSays stage l old new r = Claiming (λ it. Follows (claim_next_steps l) 
 
 -- `claim_id`
 abbrev pub ClaimIdSays : ℕ → Limits → PassShown → PassShown → Result Work Fault → Type 0
-ClaimIdSays id l old new r = Asked (GoesSteps claim_id_steps old new
+ClaimIdSays id l old new r = ManagerAsked (GoesSteps claim_id_steps old new
     × (claims_in old.mine < l.units → LooksAtId l id old new))
     (λ work. TakesId l id work old new) (ClaimIdFails l id old new) (IsBusy old) old new r
 
@@ -66,7 +66,7 @@ CommitsDrafts l drafts old new it = Ended (commit_steps l (length drafts)) old n
 
 -- `commit`
 abbrev pub CommitSays : List DraftIn → Limits → PassShown → PassShown → Result Outcome Fault → Type 0
-CommitSays drafts l old new r = MatchResult r (CommitsDrafts l (map draft_in drafts) old new)
+CommitSays drafts l old new r = MatchResult r (CommitsDrafts l (map draft_given drafts) old new)
     (λ f. (new ≡ old) × IsNoCommit drafts old f)
 
 -- how the code, and the ids that are written, tell it

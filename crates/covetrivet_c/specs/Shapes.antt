@@ -52,8 +52,8 @@ released_shape r = record { unit = r.unit; attempt = r.attempt }
 abbrev pub IsDraftIn : DraftIn → Type 0
 IsDraftIn d = (1 ≤ d.stage) × (d.stage ≤ REPLY_STAGE)
 
-abbrev pub draft_in : DraftIn → DraftView
-draft_in d = record { stage = d.stage; body = d.body }
+abbrev pub draft_given : DraftIn → DraftView
+draft_given d = record { stage = d.stage; body = d.body }
 
 abbrev pub counts_shape : Counts → CountsOut
 counts_shape n =

@@ -4,7 +4,7 @@ use Rattle.tp_model.specs.declared.types.Limits.{Limits}
 use Rattle.tp_manager.specs.Shown.{PassShown}
 use Rattle.covetrivet_c.specs.declared.caller.Caller.{Caller}
 use Rattle.covetrivet_c.specs.declared.fault.Fault.{Fault}
-use Rattle.covetrivet_c.specs.Callers.{limits_of}
+use Rattle.covetrivet_c.specs.Callers.{caller_limits}
 use Rattle.covetrivet_c.specs.Codes.{code_of}
 
 -- the code is 0, and what is written is the answer in this shape; or the code says why not, and nothing is
@@ -31,14 +31,14 @@ abbrev pub AnswersByCode : {X Y : Type 0} → (X → Y)
     → (Limits → PassShown → PassShown → Result X Fault → Type 0)
     → Option Caller → Option Caller → ℕ → Y → Y → Type 0
 AnswersByCode {X} shape Says was is code old new = Through was is code
-    (λ a b. (r : Result X Fault) × TellsByCode shape r code old new × Says (limits_of a) a.pass b.pass r)
+    (λ a b. (r : Result X Fault) × TellsByCode shape r code old new × Says (caller_limits a) a.pass b.pass r)
     (new ≡ old)
 
 -- the same where nothing is to be written
 abbrev pub Ends : {X : Type 0} → (Limits → PassShown → PassShown → Result X Fault → Type 0)
     → Option Caller → Option Caller → ℕ → Type 0
 Ends {X} Says was is code = Through was is code
-    (λ a b. (r : Result X Fault) × TellsEnd r code × Says (limits_of a) a.pass b.pass r) (Unit {0})
+    (λ a b. (r : Result X Fault) × TellsEnd r code × Says (caller_limits a) a.pass b.pass r) (Unit {0})
 
 -- what is written is this of the caller, which stays as it is
 abbrev pub ShowsOfCaller : {Y : Type 0} → (Caller → Y → Type 0)

@@ -20,12 +20,12 @@ impl Caller {
     ghost use Rattle.tp_manager.specs.Calls.{Follows, HasLooked, IsQuiet, claims_in};
     ghost use Rattle.tp_manager.specs.Bounds.{meet_steps, met_steps};
     ghost use Rattle.tp_manager.specs.Meetings.{Meets};
-    ghost use Rattle.covetrivet_c.specs.Callers.{limits_of, open_code};
+    ghost use Rattle.covetrivet_c.specs.Callers.{caller_limits, open_code};
 
     /// What is left to the pass.
     pub fn room(&self) -> Room
         ensures rows { result.rows ≡ self.now.pass.left }
-        ensures units { claims_in self.now.pass.mine + result.units ≡ (limits_of self.now).units }
+        ensures units { claims_in self.now.pass.mine + result.units ≡ (caller_limits self.now).units }
     {
         self.manager.room(&self.pass)
     }

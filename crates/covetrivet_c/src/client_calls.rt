@@ -5,14 +5,14 @@ use tp_model::types::{Body, Element, Look, Released};
 
 impl Caller {
     ghost use Rattle.std.specs.Prelude.{◌≡◌};
-    ghost use Rattle.covetrivet_c.specs.Callers.{limits_of};
+    ghost use Rattle.covetrivet_c.specs.Callers.{caller_limits};
     ghost use Rattle.covetrivet_c.specs.Clients.{CancelSays, CollectSays, ErrorSays, FamilySays, KillSays, NextSays};
     ghost use Rattle.covetrivet_c.specs.Clients.{ReadSays, ReleaseSays, ReplySays, RequeueSays, RoundsSays, SubmitSays};
 
     /// Puts an element into the queue of a stage, 1 to 14. Its id.
     pub fn submit(&mut self, stage: u8, body: Body) -> Result<u32, Fault>
         ensures manager { self.new.manager ≡ self.old.manager }
-        ensures answer { SubmitSays stage body (limits_of self.old) self.old.pass self.new.pass result }
+        ensures answer { SubmitSays stage body (caller_limits self.old) self.old.pass self.new.pass result }
     {
         match self.manager.submit(&mut self.pass, stage, body) {
             Ok(it) => Ok(it),
@@ -23,7 +23,7 @@ impl Caller {
     /// The element with this id, and its status.
     pub fn read(&mut self, id: u32) -> Result<Look, Fault>
         ensures manager { self.new.manager ≡ self.old.manager }
-        ensures answer { ReadSays id (limits_of self.old) self.old.pass self.new.pass result }
+        ensures answer { ReadSays id (caller_limits self.old) self.old.pass self.new.pass result }
     {
         match self.manager.read(&mut self.pass, id) {
             Ok(it) => Ok(it),
@@ -34,7 +34,7 @@ impl Caller {
     /// How many further rounds of attempts the element with this id was given.
     pub fn rounds(&mut self, id: u32) -> Result<u8, Fault>
         ensures manager { self.new.manager ≡ self.old.manager }
-        ensures answer { RoundsSays id (limits_of self.old) self.old.pass self.new.pass result }
+        ensures answer { RoundsSays id (caller_limits self.old) self.old.pass self.new.pass result }
     {
         match self.manager.rounds(&mut self.pass, id) {
             Ok(it) => Ok(it),
@@ -45,7 +45,7 @@ impl Caller {
     /// Gives a parked element another round of attempts. Which, 1 to 3.
     pub fn requeue(&mut self, id: u32) -> Result<u8, Fault>
         ensures manager { self.new.manager ≡ self.old.manager }
-        ensures answer { RequeueSays id (limits_of self.old) self.old.pass self.new.pass result }
+        ensures answer { RequeueSays id (caller_limits self.old) self.old.pass self.new.pass result }
     {
         match self.manager.requeue(&mut self.pass, id) {
             Ok(it) => Ok(it),
@@ -56,7 +56,7 @@ impl Caller {
     /// The least id from this one on of a reply to the request with this root that waits.
     pub fn reply(&mut self, root: u32, from: u32) -> Result<u32, Fault>
         ensures manager { self.new.manager ≡ self.old.manager }
-        ensures answer { ReplySays root from (limits_of self.old) self.old.pass self.new.pass result }
+        ensures answer { ReplySays root from (caller_limits self.old) self.old.pass self.new.pass result }
     {
         match self.manager.reply(&mut self.pass, root, from) {
             Some(it) => Ok(it),
@@ -67,7 +67,7 @@ impl Caller {
     /// The least id from this one on of an element that is parked.
     pub fn next_error(&mut self, from: u32) -> Result<u32, Fault>
         ensures manager { self.new.manager ≡ self.old.manager }
-        ensures answer { ErrorSays from (limits_of self.old) self.old.pass self.new.pass result }
+        ensures answer { ErrorSays from (caller_limits self.old) self.old.pass self.new.pass result }
     {
         match self.manager.next_error(&mut self.pass, from) {
             Some(it) => Ok(it),
@@ -78,7 +78,7 @@ impl Caller {
     /// The member with the least id from this one on of the family of a request, with its status.
     pub fn family(&mut self, root: u32, from: u32) -> Result<Look, Fault>
         ensures manager { self.new.manager ≡ self.old.manager }
-        ensures answer { FamilySays root from (limits_of self.old) self.old.pass self.new.pass result }
+        ensures answer { FamilySays root from (caller_limits self.old) self.old.pass self.new.pass result }
     {
         match self.manager.family(&mut self.pass, root, from) {
             Some(it) => Ok(it),
@@ -89,7 +89,7 @@ impl Caller {
     /// Kills an element. How many units of work that held it were aborted.
     pub fn kill(&mut self, id: u32) -> Result<u8, Fault>
         ensures manager { self.new.manager ≡ self.old.manager }
-        ensures answer { KillSays id (limits_of self.old) self.old.pass self.new.pass result }
+        ensures answer { KillSays id (caller_limits self.old) self.old.pass self.new.pass result }
     {
         if self.pass.has_open() {
             return Err(Fault::Busy);
@@ -103,7 +103,7 @@ impl Caller {
     /// Kills each element of the family of a request that is not finished. How many.
     pub fn cancel(&mut self, root: u32) -> Result<u32, Fault>
         ensures manager { self.new.manager ≡ self.old.manager }
-        ensures answer { CancelSays root (limits_of self.old) self.old.pass self.new.pass result }
+        ensures answer { CancelSays root (caller_limits self.old) self.old.pass self.new.pass result }
     {
         if self.pass.has_open() {
             return Err(Fault::Busy);
@@ -117,7 +117,7 @@ impl Caller {
     /// Aborts the unit of work that holds an element. Which.
     pub fn release(&mut self, id: u32) -> Result<Released, Fault>
         ensures manager { self.new.manager ≡ self.old.manager }
-        ensures answer { ReleaseSays id (limits_of self.old) self.old.pass self.new.pass result }
+        ensures answer { ReleaseSays id (caller_limits self.old) self.old.pass self.new.pass result }
     {
         if self.pass.has_open() {
             return Err(Fault::Busy);
@@ -131,7 +131,7 @@ impl Caller {
     /// Takes a reply, once.
     pub fn collect(&mut self, id: u32) -> Result<Element, Fault>
         ensures manager { self.new.manager ≡ self.old.manager }
-        ensures answer { CollectSays id (limits_of self.old) self.old.pass self.new.pass result }
+        ensures answer { CollectSays id (caller_limits self.old) self.old.pass self.new.pass result }
     {
         if self.pass.has_open() {
             return Err(Fault::Busy);
@@ -145,7 +145,7 @@ impl Caller {
     /// Takes the least reply to a request that waits, once.
     pub fn collect_next(&mut self, root: u32) -> Result<Element, Fault>
         ensures manager { self.new.manager ≡ self.old.manager }
-        ensures answer { NextSays root (limits_of self.old) self.old.pass self.new.pass result }
+        ensures answer { NextSays root (caller_limits self.old) self.old.pass self.new.pass result }
     {
         if self.pass.has_open() {
             return Err(Fault::Busy);

@@ -1,6 +1,6 @@
 //! What is asked of all passes, once they are at home.
 ghost use Rattle.std.specs.Prelude.{◌≡◌, ◌≤◌};
-ghost use Rattle.covetrivet_c.specs.Homes.{counts_of};
+ghost use Rattle.covetrivet_c.specs.Homes.{counts_of_stage};
 
 use crate::fault::Fault;
 use crate::home::Home;
@@ -10,7 +10,7 @@ use tp_rollover::Moved;
 /// The counts of a stage, 1 to 15, and with 0 those of all stages.
 pub(crate) fn counts_at(account: &Account, stage: u8) -> Counts
     requires inside { stage ≤ 15 }
-    ensures { result ≡ counts_of account.now stage }
+    ensures { result ≡ counts_of_stage account.now stage }
 {
     if stage == 0 {
         return account.total;

@@ -2,7 +2,7 @@
 ghost use Rattle.std.specs.Prelude.{◌≡◌, All, MatchResult, length};
 ghost use Rattle.tp_manager.specs.Accounts.{AreAll};
 ghost use Rattle.tp_manager.specs.Shown.{IsKeptBy, IsOf};
-ghost use Rattle.covetrivet_c.specs.Homes.{CarriesOver, IsUncarried, StayPut, fault_of};
+ghost use Rattle.covetrivet_c.specs.Homes.{CarriesOver, IsUncarried, StayPut, rollover_fault};
 
 use crate::fault::Fault;
 use std::alloc::Global;
@@ -12,7 +12,7 @@ use tp_rollover::{Moved, RollFault, roll_over};
 
 /// Why a rollover was refused.
 fn fault_of(fault: RollFault) -> Fault
-    ensures { result ≡ fault_of fault }
+    ensures { result ≡ rollover_fault fault }
 {
     match fault {
         RollFault::NoMemory => Fault::Refused(Refusal::NoMemory),

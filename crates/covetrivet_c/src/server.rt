@@ -2,7 +2,7 @@
 ghost use Rattle.std.specs.Prelude.{◌≡◌, Result};
 ghost use Rattle.tp_model.specs.declared.types.Outcome.{Outcome};
 ghost use Rattle.covetrivet_c.specs.declared.fault.Fault.{Fault};
-ghost use Rattle.covetrivet_c.specs.Callers.{limits_of};
+ghost use Rattle.covetrivet_c.specs.Callers.{caller_limits};
 ghost use Rattle.covetrivet_c.specs.Servers.{AbortSays, ClaimIdSays, ClaimNextSays, ClaimSays, CommitSays};
 ghost use Rattle.covetrivet_c.specs.Servers.{TellsOutcome};
 ghost use Rattle.covetrivet_c.specs.Shapes.{work_shape};
@@ -94,7 +94,7 @@ pub extern "C" fn covetrivet_commit(
 ) -> u32
     ensures answer { Through caller.old.held caller.new.held result
         (λ old new. (r : Result Outcome Fault) × TellsOutcome r result born.old born.new
-        × CommitSays drafts.now (limits_of old) old.pass new.pass r) (born.new ≡ born.old) }
+        × CommitSays drafts.now (caller_limits old) old.pass new.pass r) (born.new ≡ born.old) }
 {
     let Some(mut inner) = caller.lift(alloc) else {
         return CLOSED;

@@ -8,14 +8,14 @@ impl Caller {
     ghost use Rattle.std.specs.Prelude.{◌≡◌, ◌≤◌, MatchResult, None, length};
     ghost use Rattle.tp_model.specs.declared.types.TheConstants.{MAX_OUTPUTS};
     ghost use Rattle.covetrivet_c.specs.declared.fault.Fault.TheVariants as faults;
-    ghost use Rattle.covetrivet_c.specs.Callers.{limits_of};
+    ghost use Rattle.covetrivet_c.specs.Callers.{caller_limits};
     ghost use Rattle.covetrivet_c.specs.Servers.{AbortSays, ClaimIdSays, ClaimNextSays, ClaimSays, CommitSays};
     ghost use Rattle.covetrivet_c.specs.Servers.{CommitsDrafts};
 
     /// Takes the first element of a stage, 1 to 14, that waits.
     pub fn claim(&mut self, stage: u8) -> Result<Work, Fault>
         ensures manager { self.new.manager ≡ self.old.manager }
-        ensures answer { ClaimSays stage (limits_of self.old) self.old.pass self.new.pass result }
+        ensures answer { ClaimSays stage (caller_limits self.old) self.old.pass self.new.pass result }
     {
         if stage == 0 || stage > MAX_STAGE {
             return Err(Fault::BadStage);
@@ -33,7 +33,7 @@ impl Caller {
     /// Takes the next element of a stage, 1 to 14, in turn.
     pub fn claim_next(&mut self, stage: u8) -> Result<Work, Fault>
         ensures manager { self.new.manager ≡ self.old.manager }
-        ensures answer { ClaimNextSays stage (limits_of self.old) self.old.pass self.new.pass result }
+        ensures answer { ClaimNextSays stage (caller_limits self.old) self.old.pass self.new.pass result }
     {
         if stage == 0 || stage > MAX_STAGE {
             return Err(Fault::BadStage);
@@ -51,7 +51,7 @@ impl Caller {
     /// Takes the element with this id, if it waits.
     pub fn claim_id(&mut self, id: u32) -> Result<Work, Fault>
         ensures manager { self.new.manager ≡ self.old.manager }
-        ensures answer { ClaimIdSays id (limits_of self.old) self.old.pass self.new.pass result }
+        ensures answer { ClaimIdSays id (caller_limits self.old) self.old.pass self.new.pass result }
     {
         if self.pass.has_open() {
             return Err(Fault::Busy);
@@ -65,7 +65,7 @@ impl Caller {
     /// Gives up the open unit of work.
     pub fn abort(&mut self) -> Result<(), Fault>
         ensures manager { self.new.manager ≡ self.old.manager }
-        ensures answer { AbortSays (limits_of self.old) self.old.pass self.new.pass result }
+        ensures answer { AbortSays (caller_limits self.old) self.old.pass self.new.pass result }
     {
         if !self.pass.has_open() {
             return Err(Fault::NoOpen);
@@ -81,7 +81,7 @@ impl Caller {
         requires few { length drafts.now ≤ MAX_OUTPUTS }
         ensures manager { self.new.manager ≡ self.old.manager }
         ensures answer { MatchResult result
-            (CommitsDrafts (limits_of self.old) drafts.now self.old.pass self.new.pass)
+            (CommitsDrafts (caller_limits self.old) drafts.now self.old.pass self.new.pass)
             (λ f. (self.new.pass ≡ self.old.pass) × (f ≡ faults.NoOpen) × (self.old.pass.open_unit ≡ None)) }
     {
         if !self.pass.has_open() {
@@ -93,7 +93,7 @@ impl Caller {
     /// CommitsDrafts the open unit of work with these drafts.
     pub fn commit(&mut self, drafts: &[DraftIn]) -> Result<Outcome, Fault>
         ensures manager { self.new.manager ≡ self.old.manager }
-        ensures answer { CommitSays drafts.now (limits_of self.old) self.old.pass self.new.pass result }
+        ensures answer { CommitSays drafts.now (caller_limits self.old) self.old.pass self.new.pass result }
     {
         match drafts {
             [] => self.commit_drafts(&[]),

@@ -1,6 +1,6 @@
 //! What crosses between the library and C.
 ghost use Rattle.std.specs.Prelude.{◌≡◌, MatchOption};
-ghost use Rattle.covetrivet_c.specs.Shapes.{IsDraftIn, counts_shape, draft_in, element_shape, limits_in};
+ghost use Rattle.covetrivet_c.specs.Shapes.{IsDraftIn, counts_shape, draft_given, element_shape, limits_in};
 ghost use Rattle.covetrivet_c.specs.Shapes.{limits_shape, look_shape, moved_shape, released_shape, status_shape};
 ghost use Rattle.covetrivet_c.specs.Shapes.{number_code, work_shape};
 
@@ -223,7 +223,7 @@ pub(crate) fn released_out(released: &Released) -> ReleasedOut
 
 /// The draft that C asked for, or `None` unless its stage is 1 to 15.
 pub(crate) fn draft_in(draft: &DraftIn) -> Option<Draft>
-    ensures { MatchOption result (¬ IsDraftIn draft.now) (λ d. d ≡ draft_in draft.now) }
+    ensures { MatchOption result (¬ IsDraftIn draft.now) (λ d. d ≡ draft_given draft.now) }
 {
     Draft::new(draft.stage, draft.body)
 }

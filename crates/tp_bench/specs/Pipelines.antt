@@ -10,7 +10,7 @@ pub record IsFreeRole (m : ManagerShown) (r : Role) : Type 0 where
   pub free : r.pass.open_unit ≡ None
 
 -- and so are all
-pub record AreReady (m : ManagerShown) (r : Roles) : Type 0 where
+pub record AreRolesReady (m : ManagerShown) (r : Roles) : Type 0 where
   pub client : IsFreeRole m r.client
   pub first : IsFreeRole m r.first
   pub second : IsFreeRole m r.second

@@ -4,7 +4,7 @@
 ghost use Rattle.std.specs.Prelude.{◌≡◌, None, IfSome, IsSome};
 ghost use Rattle.tp_model.specs.Steps.{IsServerStage};
 ghost use Rattle.tp_manager.specs.Shown.{IsOf, IsKeptBy};
-ghost use Rattle.tp_bench.specs.Pipelines.{AreReady, IsFreeRole};
+ghost use Rattle.tp_bench.specs.Pipelines.{AreRolesReady, IsFreeRole};
 
 use crate::calls::{kept, now, pass};
 use std::io;
@@ -141,7 +141,7 @@ fn turn(manager: &Manager, keeper: &mut Keeper, server: &mut Role, stage: u8, ne
 fn all_roles(manager: &Manager, keeper: &mut Keeper, uses: u32, pairs: u32) -> Option<Roles>
     requires kept { IsKeptBy manager.now keeper.old }
     ensures kept { IsKeptBy manager.now keeper.new }
-    ensures ready { IfSome result (AreReady manager.now) }
+    ensures ready { IfSome result (AreRolesReady manager.now) }
 {
     let client = next_role(manager, keeper, uses)?;
     let first = next_role(manager, keeper, pairs)?;
@@ -160,9 +160,9 @@ fn all_roles(manager: &Manager, keeper: &mut Keeper, uses: u32, pairs: u32) -> O
 #[inline(never)]
 fn one_by_one(manager: &Manager, keeper: &mut Keeper, roles: &mut Roles, count: u32) -> u64
     requires kept { IsKeptBy manager.now keeper.old }
-    requires ready { AreReady manager.now roles.old }
+    requires ready { AreRolesReady manager.now roles.old }
     ensures kept { IsKeptBy manager.now keeper.new }
-    ensures ready { AreReady manager.now roles.new }
+    ensures ready { AreRolesReady manager.now roles.new }
 {
     let mut done = 0u64;
     for i in 0..count {
@@ -202,9 +202,9 @@ fn turns_of(
 /// were committed.
 fn stage_by_stage(manager: &Manager, keeper: &mut Keeper, roles: &mut Roles, count: u32) -> u64
     requires kept { IsKeptBy manager.now keeper.old }
-    requires ready { AreReady manager.now roles.old }
+    requires ready { AreRolesReady manager.now roles.old }
     ensures kept { IsKeptBy manager.now keeper.new }
-    ensures ready { AreReady manager.now roles.new }
+    ensures ready { AreRolesReady manager.now roles.new }
 {
     for i in 0..count {
         submit_one(manager, keeper, &mut roles.client, i);

@@ -81,34 +81,34 @@ module _ {X : Type 0} {F : X → Type 0} (behaviour : DynBox X Global F → Beha
       let place = zip_place (desks_in (length us) ps) us k v (desks_long ps (length us) long) at in
       record { pass = place.0; box = v; began = ap (λ l. slice_get l k) begun ∙ place.1; career = career }
 
-  enough : (c : Crew X F) → IsSteadyCrew behaviour registers pending c → 1 + length c.boxes.items ≤ length c.passes.items
+  enough : (c : Crew X F) → IsSteadyCrew behaviour registers pending c → 1 + length c.boxes.items ≤ length c.managed.passes.items
   enough c h = let e = h.count in omega (arith, e)
 
   pub has_begun : (c : Crew X F) (k : ℕ) (u : Boxed) → IsSteadyCrew behaviour registers pending c
-      → folds c ≡ zip (desks_in (length c.boxes.items) c.passes.items) c.boxes.items → slice_get c.boxes.items k ≡ Some u → HasCome behaviour registers k u [] c
-  has_begun c k u h begun at = begins_at c c.passes.items c.boxes.items k u u [] (enough c h) begun at refl
+      → folds c ≡ zip (desks_in (length c.boxes.items) c.managed.passes.items) c.boxes.items → slice_get c.boxes.items k ≡ Some u → HasCome behaviour registers k u [] c
+  has_begun c k u h begun at = begins_at c c.managed.passes.items c.boxes.items k u u [] (enough c h) begun at refl
 
   -- what it has done in the crew's manager is one stint more
   pub has_become : (c : Crew X F) (k : ℕ) (u : Boxed) (stints : List Stint) → IsSteadyCrew behaviour registers pending c → HasCome behaviour registers k u stints c
       → (more : List Stint) × HasBecome behaviour registers k u more c
   has_become c k u stints h come =
       let us = c.boxes.items in
-      let now = each_place (HasServed behaviour registers) (folds c) (zip (desks_in (length us) c.passes.items) us) k (come.pass, come.box) h.served come.began in (
+      let now = each_place (HasServed behaviour registers) (folds c) (zip (desks_in (length us) c.managed.passes.items) us) k (come.pass, come.box) h.served come.began in (
         stints ++ (come.pass, now.0.0) ∷ [],
         record {
           box = now.0.1;
-          stands = zip_second (desks_in (length us) c.passes.items) us k now.0 now.1;
+          stands = zip_second (desks_in (length us) c.managed.passes.items) us k now.0 now.1;
           career = career_more behaviour registers stints u come.box now.0.1 come.pass now.0.0 come.career now.2;
         },
       )
 
   -- and in the next manager it goes on from there
   pub has_rolled : (old new : Crew X F) (k : ℕ) (u : Boxed) (stints : List Stint) → IsSteadyCrew behaviour registers pending old → IsSteadyCrew behaviour registers pending new
-      → new.boxes ≡ old.boxes → folds new ≡ zip (desks_in (length new.boxes.items) new.passes.items) new.boxes.items
+      → new.boxes ≡ old.boxes → folds new ≡ zip (desks_in (length new.boxes.items) new.managed.passes.items) new.boxes.items
       → HasCome behaviour registers k u stints old → (more : List Stint) × HasCome behaviour registers k u more new
   has_rolled old new k u stints h h' boxes begun come =
       let now = has_become old k u stints h come in
-      (now.0, begins_at new new.passes.items new.boxes.items k u now.1.box now.0 (enough new h') begun (ap (λ v. slice_get v.items k) boxes ∙ now.1.stands) now.1.career)
+      (now.0, begins_at new new.managed.passes.items new.boxes.items k u now.1.box now.0 (enough new h') begun (ap (λ v. slice_get v.items k) boxes ∙ now.1.stands) now.1.career)
 
 pub careers_add_up : {X : Type 0} {F : X → Type 0} (behaviour : DynBox X Global F → Behaviour) (registers : DynBox X Global F → List ℕ) → CareersAddUp behaviour registers
 careers_add_up behaviour registers b measure worth stints u w raises is career = career_raised behaviour registers b measure worth stints u w raises is career

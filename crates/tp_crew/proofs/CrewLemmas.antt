@@ -250,6 +250,10 @@ module _ (n : ℕ) (h : List Event) where
   attend_show (p ∷ ps) [] a = absurd a
   attend_show (p ∷ ps) (q ∷ qs) a = All-cons ShowsAsPass q qs a.0.follows.shows (attend_show ps qs a.1)
 
+-- passes that are free are the manager's
+pub own_all : (m : ManagerShown) (ps : List PassShown) → All (IsFreePass m) ps → All (IsOf m) ps
+own_all m ps all = λ k d less. (all k d less).own
+
 -- such passes are free afterwards
 pub looked_free : (m : ManagerShown) (n : ℕ) (h : List Event) (ps qs : List PassShown) → AllZip (Attends n h) ps qs → All (IsFreePass m) ps → All (IsOf m) qs → All (IsFreePass m) qs
 looked_free m n h [] [] a free own = All-nil (IsFreePass m)
@@ -288,16 +292,19 @@ module _ {X : Type 0} {F : X → Type 0} (behaviour : DynBox X Global F → Beha
     (pending : DynBox X Global F → Option Pending) where
   -- a crew with the same manager and as many passes and boxes is steady, where its fold goes on
   pub next_steady : (old new : Crew X F) (ps : List PassShown) (us : List (DynBox X Global F)) → IsSteadyCrew behaviour registers pending old
-      → new.manager ≡ old.manager → new.clients ≡ old.clients → new.starts ≡ old.starts
-      → new.passes.items ≡ ps → new.boxes.items ≡ us → IsKeptBy old.manager new.keeper → AreAll new.keeper ps → length ps ≡ length old.passes.items
-      → All (IsFreePass old.manager) ps → length us ≡ length old.boxes.items → All (λ b. pending b ≡ None) us
+      → new.managed.manager ≡ old.managed.manager → new.clients ≡ old.clients → new.starts ≡ old.starts
+      → new.managed.passes.items ≡ ps → new.boxes.items ≡ us → IsKeptBy old.managed.manager new.managed.keeper → AreAll new.managed.keeper ps → length ps ≡ length old.managed.passes.items
+      → All (IsFreePass old.managed.manager) ps → length us ≡ length old.boxes.items → All (λ b. pending b ≡ None) us
       → HaveServed behaviour registers (folds old) ps us
       → IsSteadyCrew behaviour registers pending new
   next_steady old new ps us h manager clients starts passes boxes kept all long free boxed clear served = record {
-    kept = rw (manager) kept;
-    limits = rw (manager) h.limits;
-    parts = rw (passes, manager) (long ∙ h.parts);
-    all = rw (passes) all;
+    managed = record {
+      keeper = rw (manager) kept;
+      limits = rw (manager) h.managed.limits;
+      own = rw (passes, manager) (own_all old.managed.manager ps free);
+      all = rw (passes) all;
+      parts = rw (passes, manager) (long ∙ h.managed.parts);
+    };
     free = rw (passes, manager) free;
     count = rw (passes, boxes, clients, boxed) (long ∙ h.count);
     clear = rw (boxes) clear;
@@ -305,41 +312,44 @@ module _ {X : Type 0} {F : X → Type 0} (behaviour : DynBox X Global F → Beha
     served = rw (starts, passes, boxes) served;
   }
 
-  pub steady_looked : (old : Crew X F) (n : ℕ) (h : List Event) (qs : List PassShown) → IsSteadyCrew behaviour registers pending old → AllZip (Attends n h) old.passes.items qs
+  pub steady_looked : (old : Crew X F) (n : ℕ) (h : List Event) (qs : List PassShown) → IsSteadyCrew behaviour registers pending old → AllZip (Attends n h) old.managed.passes.items qs
       → HaveServed behaviour registers (folds old) qs old.boxes.items
   steady_looked old n h qs s a =
-      served_stays behaviour registers (folds old) old.passes.items old.boxes.items qs s.served (attend_stay n h old.passes.items qs a) (attend_show n h old.passes.items qs a)
+      served_stays behaviour registers (folds old) old.managed.passes.items old.boxes.items qs s.served (attend_stay n h old.managed.passes.items qs a) (attend_show n h old.managed.passes.items qs a)
 
   -- so is one whose passes have done nothing but look
   pub stayed_steady : (old new : Crew X F) (qs : List PassShown) → IsSteadyCrew behaviour registers pending old
-      → new.manager ≡ old.manager → new.clients ≡ old.clients → new.starts ≡ old.starts → new.boxes ≡ old.boxes → new.passes.items ≡ qs
-      → IsKeptBy old.manager new.keeper → AreAll new.keeper qs → length qs ≡ length old.passes.items → All (IsFreePass old.manager) qs
-      → AllZip Stays old.passes.items qs → All ShowsAsPass qs
+      → new.managed.manager ≡ old.managed.manager → new.clients ≡ old.clients → new.starts ≡ old.starts → new.boxes ≡ old.boxes → new.managed.passes.items ≡ qs
+      → IsKeptBy old.managed.manager new.managed.keeper → AreAll new.managed.keeper qs → length qs ≡ length old.managed.passes.items → All (IsFreePass old.managed.manager) qs
+      → AllZip Stays old.managed.passes.items qs → All ShowsAsPass qs
       → IsSteadyCrew behaviour registers pending new
   stayed_steady old new qs h manager clients starts boxes passes kept all long free stays shows =
       next_steady old new qs old.boxes.items h manager clients starts passes (ap (λ v. v.items) boxes) kept all long free refl h.clear
-      (served_stays behaviour registers (folds old) old.passes.items old.boxes.items qs h.served stays shows)
+      (served_stays behaviour registers (folds old) old.managed.passes.items old.boxes.items qs h.served stays shows)
 
   -- so is one with another box in one place, whose fold begins here
   pub swapped_steady : (old new : Crew X F) (k : ℕ) (x : DynBox X Global F) → IsSteadyCrew behaviour registers pending old
-      → k < length old.boxes.items → new.manager ≡ old.manager → new.keeper ≡ old.keeper → new.clients ≡ old.clients
-      → new.passes.items ≡ old.passes.items → new.boxes.items ≡ set old.boxes.items k x → pending x ≡ None
-      → length new.starts.items ≡ length old.starts.items → BeginsFold k x old.passes.items (folds old) (folds new)
+      → k < length old.boxes.items → new.managed.manager ≡ old.managed.manager → new.managed.keeper ≡ old.managed.keeper → new.clients ≡ old.clients
+      → new.managed.passes.items ≡ old.managed.passes.items → new.boxes.items ≡ set old.boxes.items k x → pending x ≡ None
+      → length new.starts.items ≡ length old.starts.items → BeginsFold k x old.managed.passes.items (folds old) (folds new)
       → IsSteadyCrew behaviour registers pending new
   swapped_steady old new k x h less manager keeper clients passes boxes clear starts begins =
       let us = set old.boxes.items k x in
       let long : length us ≡ length old.boxes.items = length-set old.boxes.items k x in
       record {
-        kept = rw (manager, keeper) h.kept;
-        limits = rw (manager) h.limits;
-        parts = rw (passes, manager) h.parts;
-        all = rw (passes, keeper) h.all;
+        managed = record {
+          keeper = rw (manager, keeper) h.managed.keeper;
+          limits = rw (manager) h.managed.limits;
+          own = rw (passes, manager) h.managed.own;
+          all = rw (passes, keeper) h.managed.all;
+          parts = rw (passes, manager) h.managed.parts;
+        };
         free = rw (passes, manager) h.free;
         count = rw (passes, boxes, clients, long) h.count;
         clear = rw (boxes) (All-set (λ b. pending b ≡ None) old.boxes.items k x clear h.clear);
         same_count = rw (boxes) (starts ∙ (h.same_count ∙ sym long));
         served = served_same behaviour registers begins.folds_are passes boxes
-            (served_swapped behaviour registers (folds old) old.passes.items old.boxes.items k begins.pass x less begins.pass_is h.served);
+            (served_swapped behaviour registers (folds old) old.managed.passes.items old.boxes.items k begins.pass x less begins.pass_is h.served);
       }
 
 -- the first of a list, which another takes the place of
@@ -349,20 +359,20 @@ at_front (x ∷ xs) p q some e = (xs, ap (λ (z : PassShown). z ∷ xs) (sym e),
 
 module _ {X : Type 0} {F : X → Type 0} (behaviour : DynBox X Global F → Behaviour) (registers : DynBox X Global F → List ℕ)
     (pending : DynBox X Global F → Option Pending) where
-  front_of : (old : Crew X F) (p q : PassShown) → IsSteadyCrew behaviour registers pending old → p ≡ get_or old.passes.items 0 p
-      → (others : List PassShown) × (old.passes.items ≡ p ∷ others) × (set old.passes.items 0 q ≡ q ∷ others)
-  front_of old p q h at = at_front old.passes.items p q (omega (arith, h.parts, h.limits.parts.0)) at
+  front_of : (old : Crew X F) (p q : PassShown) → IsSteadyCrew behaviour registers pending old → p ≡ get_or old.managed.passes.items 0 p
+      → (others : List PassShown) × (old.managed.passes.items ≡ p ∷ others) × (set old.managed.passes.items 0 q ≡ q ∷ others)
+  front_of old p q h at = at_front old.managed.passes.items p q (omega (arith, h.managed.parts, h.managed.limits.parts.0)) at
 
   -- the caller's own pass is free
-  pub still_free : (old : Crew X F) (p q : PassShown) → IsSteadyCrew behaviour registers pending old → p ≡ get_or old.passes.items 0 p
+  pub still_free : (old : Crew X F) (p q : PassShown) → IsSteadyCrew behaviour registers pending old → p ≡ get_or old.managed.passes.items 0 p
       → q.open_unit ≡ p.open_unit → q.open_unit ≡ None
   still_free old p q h at same =
       let f = front_of old p q h at in
-      same ∙ (All-head (IsFreePass old.manager) p f.0 (subst (All (IsFreePass old.manager)) f.1 h.free)).free
+      same ∙ (All-head (IsFreePass old.managed.manager) p f.0 (subst (All (IsFreePass old.managed.manager)) f.1 h.free)).free
 
   module _ (old new : Crew X F) where
-    pub own_call : (n : ℕ) (R : PassShown → PassShown → Type 0) (p q : PassShown) → IsSteadyCrew behaviour registers pending old → p ≡ get_or old.passes.items 0 p
-        → new.passes.items ≡ set old.passes.items 0 q → new.manager ≡ old.manager → new.keeper ≡ old.keeper → new.boxes ≡ old.boxes → new.clients ≡ old.clients
+    pub own_call : (n : ℕ) (R : PassShown → PassShown → Type 0) (p q : PassShown) → IsSteadyCrew behaviour registers pending old → p ≡ get_or old.managed.passes.items 0 p
+        → new.managed.passes.items ≡ set old.managed.passes.items 0 q → new.managed.manager ≡ old.managed.manager → new.managed.keeper ≡ old.managed.keeper → new.boxes ≡ old.boxes → new.clients ≡ old.clients
         → new.starts ≡ old.starts → Follows n p q → q.open_unit ≡ None → R p q → OwnCall n R old new
     own_call n R p q h at passes manager keeper boxes clients starts follows free answer =
         let f = front_of old p q h at in
@@ -380,19 +390,19 @@ module _ {X : Type 0} {F : X → Type 0} (behaviour : DynBox X Global F → Beha
           same_boxes = boxes;
         }
 
-    pub own_steady : (p q : PassShown) → IsSteadyCrew behaviour registers pending old → p ≡ get_or old.passes.items 0 p
-        → new.passes.items ≡ set old.passes.items 0 q → new.manager ≡ old.manager → new.keeper ≡ old.keeper → new.boxes ≡ old.boxes → new.clients ≡ old.clients
-        → new.starts ≡ old.starts → q.number ≡ p.number → IsOf old.manager q → q.open_unit ≡ None
+    pub own_steady : (p q : PassShown) → IsSteadyCrew behaviour registers pending old → p ≡ get_or old.managed.passes.items 0 p
+        → new.managed.passes.items ≡ set old.managed.passes.items 0 q → new.managed.manager ≡ old.managed.manager → new.managed.keeper ≡ old.managed.keeper → new.boxes ≡ old.boxes → new.clients ≡ old.clients
+        → new.starts ≡ old.starts → q.number ≡ p.number → IsOf old.managed.manager q → q.open_unit ≡ None
         → IsSteadyCrew behaviour registers pending new
     own_steady p q h at passes manager keeper boxes clients starts number own free =
         let f = front_of old p q h at in
-        let ps : List PassShown = set old.passes.items 0 q in
-        let numbered : numbers ps ≡ numbers old.passes.items = ap numbers f.2 ∙ (ap (λ n. n ∷ numbers f.0) number ∙ ap numbers (sym f.1)) in
-        let behind : drop 1 old.passes.items ≡ drop 1 ps = ap (drop 1) f.1 ∙ sym (ap (drop 1) f.2) in
+        let ps : List PassShown = set old.managed.passes.items 0 q in
+        let numbered : numbers ps ≡ numbers old.managed.passes.items = ap numbers f.2 ∙ (ap (λ n. n ∷ numbers f.0) number ∙ ap numbers (sym f.1)) in
+        let behind : drop 1 old.managed.passes.items ≡ drop 1 ps = ap (drop 1) f.1 ∙ sym (ap (drop 1) f.2) in
         let us : List (DynBox X Global F) = old.boxes.items in
         next_steady behaviour registers pending old new ps us h manager clients starts passes (ap (λ v. v.items) boxes)
-        (rw (keeper) h.kept) (rw (keeper) (all_same old.keeper old.passes.items ps numbered h.all)) (same_length old.passes.items ps numbered)
-        (All-set (IsFreePass old.manager) old.passes.items 0 q (record { own = own; free = free }) h.free) refl h.clear
+        (rw (keeper) h.managed.keeper) (rw (keeper) (all_same old.managed.keeper old.managed.passes.items ps numbered h.managed.all)) (same_length old.managed.passes.items ps numbered)
+        (All-set (IsFreePass old.managed.manager) old.managed.passes.items 0 q (record { own = own; free = free }) h.free) refl h.clear
         (subst (λ l. AllZip (HasServed behaviour registers) (folds old) (zip (take (length us) l) us)) behind h.served)
 
 -- a number that was told up to 32, and above by one above

@@ -12,27 +12,22 @@ use Rattle.tp_server.specs.Behaviour.{Behaviour}
 use Rattle.tp_server.specs.Pending.{Pending}
 use Rattle.tp_manager.specs.Accounts.{AreAll, steps_together}
 use Rattle.tp_manager.specs.Bounds.{gather_steps}
-use Rattle.tp_manager.specs.Shown.{IsKeptBy, IsOf, KeeperShown, ManagerShown, PassShown, view_in}
+use Rattle.tp_manager.specs.Shown.{IsOf, KeeperShown, ManagerShown, PassShown, view_in}
 use Rattle.tp_alone.specs.Thread.{AreTogether, HasSeen, Stays}
 use Rattle.tp_rollover.specs.Bounds.{AllMake, alive_after, survey_steps}
 use Rattle.tp_rollover.specs.Faults.{AreFree}
-use Rattle.tp_rollover.specs.Managed.{IsRefusedFor}
-use Rattle.tp_rollover.specs.declared.moved.RollFault.{RollFault}
-use Rattle.tp_rollover.specs.declared.moved.RollFault.TheVariants.{BadLimits, Busy, Full, NoMemory, NoPass, Unequal}
+use Rattle.tp_rollover.specs.Managed.{IsManaged}
 use Rattle.tp_workers.specs.Free.{IsFreePass}
 use Rattle.tp_crew.specs.declared.crew.Crew.{Crew}
 use Rattle.tp_crew.specs.Crew.{IsSteadyCrew, folds}
 use Rattle.tp_crew.specs.CrewPasses.{ShowsAsPass, desks_in}
-use Rattle.tp_crew.specs.Rolling.{IsCrewFault, RefusedSteps}
+use Rattle.tp_crew.specs.Rolling.{RefusedSteps}
 use Rattle.tp_rollover.specs.Answers.{Rolls}
 use Rattle.tp_rollover.specs.declared.moved.Moved.{Moved}
 use Rattle.tp_rollover.proofs.Assembly.{free_stays}
 use Rattle.tp_rollover.proofs.Freed.{free_again}
 use Rattle.tp_rollover.proofs.Sums.{all_make}
 use Rattle.tp_crew.proofs.CrewLemmas.{served_new, served_same}
-
-pub own_all : (m : ManagerShown) (ps : List PassShown) → All (IsFreePass m) ps → All (IsOf m) ps
-own_all m ps all = λ k d less. (all k d less).own
 
 pub free_all : (m : ManagerShown) (ps : List PassShown) → All (IsFreePass m) ps → AreFree ps
 free_all m ps all = λ k d less. (all k d less).free
@@ -63,15 +58,6 @@ gathered_after l h keeper keeper1 keeper2 olds olds1 olds2 parts all all' given 
     let f = subst (λ n. AllMake (gather_steps l n) keeper1 olds1 keeper2 olds2) parts e in
     omega (arith, f, made)
 
--- a steady crew meets no other fault
-pub crew_fault : (l : Limits) (passes : List PassShown) (fault : RollFault) → IsRefusedFor l passes fault → IsCrewFault l passes fault
-crew_fault l passes NoMemory due = due
-crew_fault l passes BadLimits due = due
-crew_fault l passes NoPass due = due
-crew_fault l passes Busy due = due
-crew_fault l passes Full due = due
-crew_fault l passes Unequal due = due
-
 -- its passes are free in the new manager too
 pub rolled_free : (l k : Limits) (m m' : ManagerShown) (old' new' : KeeperShown) (olds olds' news : List PassShown) (moved : List Moved) → Rolls l k old' new' olds olds' news moved → All (IsFreePass m) olds → All (IsOf m') news → All (IsFreePass m') news
 rolled_free l k m m' old' new' olds olds' news moved rolls free own = both_all m' news own (free_again l k old' new' olds olds' news moved rolls (free_all m olds free))
@@ -79,23 +65,19 @@ rolled_free l k m m' old' new' olds olds' news moved rolls free own = both_all m
 module _ {X : Type 0} {F : X → Type 0} (behaviour : DynBox X Global F → Behaviour) (registers : DynBox X Global F → List ℕ)
     (pending : DynBox X Global F → Option Pending) where
   pub rolled_steady : (old new : Crew X F) (l : Limits) (h : List Event) → IsSteadyCrew behaviour registers pending old
-      → new.boxes ≡ old.boxes → new.clients ≡ old.clients → new.manager.limits ≡ old.manager.limits
-      → IsKeptBy new.manager new.keeper → AreAll new.keeper new.passes.items → length new.passes.items ≡ new.manager.limits.parts
-      → All (IsFreePass new.manager) new.passes.items
-      → AreTogether l new.keeper new.passes.items h
-      → length new.starts.items ≡ length old.starts.items → folds new ≡ zip (desks_in (length old.boxes.items) new.passes.items) old.boxes.items
+      → new.boxes ≡ old.boxes → new.clients ≡ old.clients → new.managed.manager.limits ≡ old.managed.manager.limits
+      → IsManaged new.managed → All (IsFreePass new.managed.manager) new.managed.passes.items
+      → AreTogether l new.managed.keeper new.managed.passes.items h
+      → length new.starts.items ≡ length old.starts.items → folds new ≡ zip (desks_in (length old.boxes.items) new.managed.passes.items) old.boxes.items
       → IsSteadyCrew behaviour registers pending new
-  rolled_steady old new l seen h boxes clients limits kept all parts free together starts begins =
+  rolled_steady old new l seen h boxes clients limits managed free together starts begins =
       let us : new.boxes.items ≡ old.boxes.items = ap (λ v. v.items) boxes in
       record {
-        kept = kept;
-        limits = rw (limits) h.limits;
-        parts = parts;
-        all = all;
+        managed = managed;
         free = free;
-        count = rw (us, clients) (parts ∙ (ap (λ (l : Limits). l.parts) limits ∙ (sym h.parts ∙ h.count)));
+        count = rw (us, clients) (managed.parts ∙ (ap (λ (l : Limits). l.parts) limits ∙ (sym h.managed.parts ∙ h.count)));
         clear = rw (us) h.clear;
         same_count = rw (us) (starts ∙ h.same_count);
-        served = served_same behaviour registers {ps = new.passes.items} begins refl us
-            (served_new behaviour registers new.passes.items old.boxes.items (show_each l new.keeper new.passes.items seen together));
+        served = served_same behaviour registers {ps = new.managed.passes.items} begins refl us
+            (served_new behaviour registers new.managed.passes.items old.boxes.items (show_each l new.managed.keeper new.managed.passes.items seen together));
       }

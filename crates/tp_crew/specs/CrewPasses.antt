@@ -22,6 +22,10 @@ limits_with l parts = record {
 abbrev pub crew_passes : ℕ → ℕ → ℕ
 crew_passes boxes clients = 1 + boxes + clients
 
+-- the limits of the manager of such a crew
+abbrev pub crew_limits : CrewLimits → ℕ → ℕ → Limits
+crew_limits l boxes clients = limits_with l (crew_passes boxes clients)
+
 -- a crew's passes in order of number: the caller's own, then one for each of so many boxes, then one for each
 -- client
 abbrev pub own_in : List PassShown → List PassShown

@@ -27,8 +27,8 @@ IsLeastOfAll measure passes n = IsLeastOf measure passes (length passes) n
 module _ {X : Type 0} {F : X → Type 0} where
   -- one of the crew's passes has the fewest rows left, and one the fewest units: so many
   pub record HasLeft (rows units : ℕ) (c : Crew X F) : Type 0 where
-    pub rows_are : IsLeastOfAll part_rows_left c.passes.items rows
-    pub units_are : IsLeastOfAll (units_left c.manager.limits) c.passes.items units
+    pub rows_are : IsLeastOfAll part_rows_left c.managed.passes.items rows
+    pub units_are : IsLeastOfAll (units_left c.managed.manager.limits) c.managed.passes.items units
 
   -- each has as many rows and units left, or more
   pub record CrewHasRoom (rows units : ℕ) (c : Crew X F) : Type 0 where

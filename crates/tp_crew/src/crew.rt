@@ -3,10 +3,9 @@ ghost use Rattle.std.specs.Prelude.{◌≡◌, ◌+◌, ◌*◌, ◌<◌, ◌≤
 ghost use Rattle.std.specs.Prelude.{length, option_copied, sum_by, slice_get, slice_index_or, slice_set, zip};
 ghost use Rattle.tp_model.specs.Steps.{AreLimits};
 ghost use Rattle.tp_manager.specs.declared.manager.MakeFault.TheVariants as faults;
-ghost use Rattle.tp_manager.specs.Accounts.{Accounts};
 ghost use Rattle.tp_rollover.specs.Managed.{IsNewPass};
 ghost use Rattle.tp_workers.specs.Clients.{ClientRan, IsClientJob};
-ghost use Rattle.tp_crew.specs.CrewPasses.{clients_in, crew_passes, desks_in, limits_with};
+ghost use Rattle.tp_crew.specs.CrewPasses.{clients_in, crew_limits, crew_passes, desks_in, limits_with};
 ghost use Rattle.tp_crew.specs.CrewPasses.{own_in};
 ghost use Rattle.tp_workers.specs.Asking.{AsksTurns};
 ghost use Rattle.tp_workers.specs.Desks.{DeskRan};
@@ -23,7 +22,7 @@ use std::alloc::Global;
 use std::mem::swap;
 use std::thread::Threads;
 use tp_desk::Order;
-use tp_manager::{Keeper, MakeFault, Manager, Pass};
+use tp_manager::{MakeFault, Manager, Pass};
 use tp_model::types::{Account, Limits};
 use tp_rollover::Managed;
 use tp_server::Server;
@@ -61,9 +60,7 @@ impl CrewLimits {
 /// caller's own. The passes stand in order of number: the caller's own, the boxes', the clients'.
 #[derive(Drop)]
 pub struct Crew {
-    pub(crate) manager: Manager,
-    pub(crate) keeper: Keeper,
-    pub(crate) passes: Vec<Pass>,
+    pub(crate) managed: Managed,
     pub(crate) boxes: Vec<Box<dyn Server + Send>>,
     pub(crate) clients: u8,
     pub(crate) starts: Vec<FoldStart>,
@@ -91,17 +88,21 @@ fn drain_desks(
     requires clear { All (λ server. pending server ≡ None) boxes.old }
     ensures desks { (counts : Shift) × (result.done ≡ counts.done)
         × RanEach (DeskDrained behaviour registers pending manager.now order)
-        (desks_in (length boxes.old) passes.old) boxes.old counts (desks_in (length boxes.old) passes.new) boxes.new }
+        (desks_in (length boxes.old) passes.old) boxes.old counts
+        (desks_in (length boxes.old) passes.new) boxes.new }
     ensures last_turns { (counts : Shift) × (result.nounit ≡ counts.nounit)
         × RanEach (LastTurn behaviour registers pending manager.now order)
-        (desks_in (length boxes.old) passes.old) boxes.old counts (desks_in (length boxes.old) passes.new) boxes.new }
+        (desks_in (length boxes.old) passes.old) boxes.old counts
+        (desks_in (length boxes.old) passes.new) boxes.new }
     ensures asked { (counts : Shift) × (result.done ≡ counts.done)
         × RanEach (AsksTurns behaviour registers pending asked manager.now order)
-        (desks_in (length boxes.old) passes.old) boxes.old counts (desks_in (length boxes.old) passes.new) boxes.new }
+        (desks_in (length boxes.old) passes.old) boxes.old counts
+        (desks_in (length boxes.old) passes.new) boxes.new }
     ensures done { result.done + sum_by commits_in (desks_in (length boxes.old) passes.old)
         ≡ sum_by commits_in (desks_in (length boxes.old) passes.new) }
     ensures own { own_in passes.new ≡ own_in passes.old }
-    ensures clients { clients_in (length boxes.old) passes.new ≡ clients_in (length boxes.old) passes.old }
+    ensures clients { clients_in (length boxes.old) passes.new
+        ≡ clients_in (length boxes.old) passes.old }
     ensures free { All (IsFreePass manager.now) passes.new }
     ensures numbered { numbers passes.new ≡ numbers passes.old }
     ensures clear { All (λ server. pending server ≡ None) boxes.new }
@@ -112,7 +113,8 @@ fn drain_desks(
     drain(manager, desks, boxes, order)
 }
 
-/// What a shift is run with: its threads, the manager, what is planned, and what holds workers at their points.
+/// What a shift is run with: its threads, the manager, what is planned, and what holds workers at their
+/// points.
 #[derive(Drop)]
 struct ShiftMeans<'r, 'm, 'g, R: Threads + Sync, G: Gate> {
     rt: &'r R,
@@ -144,7 +146,8 @@ fn shift_all<R: Threads + Sync, G: Gate>(
     ensures each_desk { AreTold (DeskRan behaviour registers pending with.now.manager.now with.now.plan)
         (desks_in (length boxes.old) passes.old) boxes.old counts.old (desk_part result)
         (desks_in (length boxes.old) passes.new) boxes.new counts.new }
-    ensures asked { RanEach (AsksTurns behaviour registers pending asked with.now.manager.now with.now.plan.order)
+    ensures asked { let with = with.now in
+        RanEach (AsksTurns behaviour registers pending asked with.manager.now with.plan.order)
         (desks_in (length boxes.old) passes.old) boxes.old (desk_part result)
         (desks_in (length boxes.old) passes.new) boxes.new }
     ensures own { own_in passes.new ≡ own_in passes.old }
@@ -158,7 +161,8 @@ fn shift_all<R: Threads + Sync, G: Gate>(
     ensures submitted { result.submitted + sum_by enqueues_in (clients_in (length boxes.old) passes.old)
         ≡ sum_by enqueues_in (clients_in (length boxes.old) passes.new) }
     ensures all_turns { result.nounit ≡ 0
-        → result.done + result.refused + result.lost + result.full + result.idle ≡ with.now.plan.turns * length boxes.old }
+        → result.done + result.refused + result.lost + result.full + result.idle
+        ≡ with.now.plan.turns * length boxes.old }
     ensures all_calls { result.submitted + result.submit_full ≡ sum_by calls_of jobs.old }
 {
     let (_own, others) = passes.split_at_mut(1);
@@ -179,7 +183,8 @@ fn shift_all<R: Threads + Sync, G: Gate>(
 }
 
 impl Crew {
-    ghost use Rattle.tp_crew.specs.Crew.{IsSteadyCrew, IsSameCrew, folds};
+    ghost use Rattle.tp_crew.specs.Crew.{CountsAll, EachDesk, IsSteadyCrew, IsSameCrew, committed_by};
+    ghost use Rattle.tp_crew.specs.Crew.{folds, submitted_by};
 
     /// A crew of these boxes and of so many clients. `BadLimits` where a limit is outside its range, or where
     /// that would be more passes than a manager can have; `NoMemory` only where the allocator refused.
@@ -193,26 +198,21 @@ impl Crew {
         ensures steady { IfOk result (λ crew. IsSteadyCrew behaviour registers pending crew) }
         ensures boxes { IfOk result (λ crew. (crew.boxes ≡ boxes) × (crew.clients ≡ clients)) }
         ensures folds { IfOk result (λ crew.
-            folds crew ≡ zip (desks_in (length boxes.items) crew.passes.items) boxes.items) }
-        ensures new { IfOk result (λ crew. All IsNewPass crew.passes.items) }
+            folds crew ≡ zip (desks_in (length boxes.items) crew.managed.passes.items) boxes.items) }
+        ensures new { IfOk result (λ crew. All IsNewPass crew.managed.passes.items) }
         ensures limits { IfOk result (λ crew.
-            crew.manager.limits ≡ limits_with limits (crew_passes (length boxes.items) clients)) }
-        ensures bad { (result ≡ Err faults.BadLimits) ↔ (¬ AreLimits (limits_with limits (crew_passes (length boxes.items) clients))) }
+            crew.managed.manager.limits ≡ crew_limits limits (length boxes.items) clients) }
+        ensures bad { (result ≡ Err faults.BadLimits)
+            ↔ (¬ AreLimits (crew_limits limits (length boxes.items) clients)) }
         ensures part { ¬ (result ≡ Err faults.NoPart) }
     {
         let parts = passes_for(boxes.len(), clients);
-        let Managed {
-            manager,
-            keeper,
-            passes,
-        } = Managed::new(alloc, limits.with_parts(parts))?;
-        let Ok(starts) = FoldStart::each(alloc, &passes, &boxes) else {
+        let managed = Managed::new(alloc, limits.with_parts(parts))?;
+        let Ok(starts) = FoldStart::each(alloc, &managed.passes, &boxes) else {
             return Err(MakeFault::NoMemory);
         };
         Ok(Crew {
-            manager,
-            keeper,
-            passes,
+            managed,
             boxes,
             clients,
             starts,
@@ -237,37 +237,44 @@ impl Crew {
         requires counts_fit { sum_by calls_of jobs.old < 2 ^ 32 }
         ensures steady { IsSteadyCrew behaviour registers pending self.new }
         ensures same { IsSameCrew self.old self.new }
-        ensures desks { RanEach (DeskRan behaviour registers pending self.old.manager plan)
-            (desks_in (length self.old.boxes.items) self.old.passes.items) self.old.boxes.items (desk_part result)
-            (desks_in (length self.old.boxes.items) self.new.passes.items) self.new.boxes.items }
-        ensures clients { RanEach (ClientRan self.old.manager)
-            (clients_in (length self.old.boxes.items) self.old.passes.items) jobs.old (client_part result)
-            (clients_in (length self.old.boxes.items) self.new.passes.items) jobs.new }
-        ensures each_desk { AreTold (DeskRan behaviour registers pending self.old.manager plan)
-            (desks_in (length self.old.boxes.items) self.old.passes.items) self.old.boxes.items counts.old (desk_part result)
-            (desks_in (length self.old.boxes.items) self.new.passes.items) self.new.boxes.items counts.new }
-        ensures asked { RanEach (AsksTurns behaviour registers pending asked self.old.manager plan.order)
-            (desks_in (length self.old.boxes.items) self.old.passes.items) self.old.boxes.items (desk_part result)
-            (desks_in (length self.old.boxes.items) self.new.passes.items) self.new.boxes.items }
-        ensures own { own_in self.new.passes.items ≡ own_in self.old.passes.items }
-        ensures keeper { self.new.keeper ≡ self.old.keeper }
+        ensures desks { EachDesk (DeskRan behaviour registers pending self.old.managed.manager plan)
+            (desk_part result) self.old self.new }
+        ensures clients { let n = length self.old.boxes.items in
+            RanEach (ClientRan self.old.managed.manager)
+            (clients_in n self.old.managed.passes.items) jobs.old (client_part result)
+            (clients_in n self.new.managed.passes.items) jobs.new }
+        ensures each_desk { let n = length self.old.boxes.items in
+            AreTold (DeskRan behaviour registers pending self.old.managed.manager plan)
+            (desks_in n self.old.managed.passes.items) self.old.boxes.items counts.old (desk_part result)
+            (desks_in n self.new.managed.passes.items) self.new.boxes.items counts.new }
+        ensures asked { let m = self.old.managed.manager in
+            EachDesk (AsksTurns behaviour registers pending asked m plan.order)
+            (desk_part result) self.old self.new }
+        ensures own { own_in self.new.managed.passes.items ≡ own_in self.old.managed.passes.items }
+        ensures keeper { self.new.managed.keeper ≡ self.old.managed.keeper }
         ensures jobs_same { jobs.new ≡ jobs.old }
-        ensures done { result.done + sum_by commits_in (desks_in (length self.old.boxes.items) self.old.passes.items)
-            ≡ sum_by commits_in (desks_in (length self.old.boxes.items) self.new.passes.items) }
-        ensures submitted { result.submitted
-            + sum_by enqueues_in (clients_in (length self.old.boxes.items) self.old.passes.items)
-            ≡ sum_by enqueues_in (clients_in (length self.old.boxes.items) self.new.passes.items) }
+        ensures done { let n = length self.old.boxes.items in
+            result.done + committed_by n self.old ≡ committed_by n self.new }
+        ensures submitted { let n = length self.old.boxes.items in
+            result.submitted + submitted_by n self.old ≡ submitted_by n self.new }
         ensures all_turns { result.nounit ≡ 0
-            → result.done + result.refused + result.lost + result.full + result.idle ≡ plan.turns * length self.old.boxes.items }
+            → result.done + result.refused + result.lost + result.full + result.idle
+            ≡ plan.turns * length self.old.boxes.items }
         ensures all_calls { result.submitted + result.submit_full ≡ sum_by calls_of jobs.old }
     {
         let with = ShiftMeans {
             rt,
-            manager: &self.manager,
+            manager: &self.managed.manager,
             plan,
             gate,
         };
-        shift_all(&with, &mut self.passes, &mut self.boxes, jobs, counts)
+        shift_all(
+            &with,
+            &mut self.managed.passes,
+            &mut self.boxes,
+            jobs,
+            counts,
+        )
     }
 
     /// Has the boxes' desks take turns on the caller's thread, one turn each in a round, whose claims are in
@@ -277,25 +284,27 @@ impl Crew {
         ensures steady { IsSteadyCrew behaviour registers pending self.new }
         ensures same { IsSameCrew self.old self.new }
         ensures desks { (counts : Shift) × (result.done ≡ counts.done)
-            × RanEach (DeskDrained behaviour registers pending self.old.manager order)
-            (desks_in (length self.old.boxes.items) self.old.passes.items) self.old.boxes.items counts
-            (desks_in (length self.old.boxes.items) self.new.passes.items) self.new.boxes.items }
+            × EachDesk (DeskDrained behaviour registers pending self.old.managed.manager order)
+            counts self.old self.new }
         ensures last_turns { (counts : Shift) × (result.nounit ≡ counts.nounit)
-            × RanEach (LastTurn behaviour registers pending self.old.manager order)
-            (desks_in (length self.old.boxes.items) self.old.passes.items) self.old.boxes.items counts
-            (desks_in (length self.old.boxes.items) self.new.passes.items) self.new.boxes.items }
+            × EachDesk (LastTurn behaviour registers pending self.old.managed.manager order)
+            counts self.old self.new }
         ensures asked { (counts : Shift) × (result.done ≡ counts.done)
-            × RanEach (AsksTurns behaviour registers pending asked self.old.manager order)
-            (desks_in (length self.old.boxes.items) self.old.passes.items) self.old.boxes.items counts
-            (desks_in (length self.old.boxes.items) self.new.passes.items) self.new.boxes.items }
-        ensures done { result.done + sum_by commits_in (desks_in (length self.old.boxes.items) self.old.passes.items)
-            ≡ sum_by commits_in (desks_in (length self.old.boxes.items) self.new.passes.items) }
-        ensures own { own_in self.new.passes.items ≡ own_in self.old.passes.items }
-        ensures clients { clients_in (length self.old.boxes.items) self.new.passes.items
-            ≡ clients_in (length self.old.boxes.items) self.old.passes.items }
-        ensures keeper { self.new.keeper ≡ self.old.keeper }
+            × EachDesk (AsksTurns behaviour registers pending asked self.old.managed.manager order)
+            counts self.old self.new }
+        ensures done { let n = length self.old.boxes.items in
+            result.done + committed_by n self.old ≡ committed_by n self.new }
+        ensures own { own_in self.new.managed.passes.items ≡ own_in self.old.managed.passes.items }
+        ensures clients { let n = length self.old.boxes.items in
+            clients_in n self.new.managed.passes.items ≡ clients_in n self.old.managed.passes.items }
+        ensures keeper { self.new.managed.keeper ≡ self.old.managed.keeper }
     {
-        drain_desks(&self.manager, &mut self.passes, &mut self.boxes, order)
+        drain_desks(
+            &self.managed.manager,
+            &mut self.managed.passes,
+            &mut self.boxes,
+            order,
+        )
     }
 
     /// How many elements there are of each kind of status, in all and by stage.
@@ -304,10 +313,11 @@ impl Crew {
         ensures steady { IsSteadyCrew behaviour registers pending self.new }
         ensures same { IsSameCrew self.old self.new }
         ensures boxes { self.new.boxes ≡ self.old.boxes }
-        ensures account { Accounts self.old.manager.limits self.old.keeper self.new.keeper
-            self.old.passes.items self.new.passes.items result }
+        ensures account { CountsAll result self.old self.new }
     {
-        self.keeper.account(&self.manager, &mut self.passes)
+        self.managed
+            .keeper
+            .account(&self.managed.manager, &mut self.managed.passes)
     }
 
     /// Puts another box in the place of the one with this number, counted from 0, and gives that one back.
@@ -319,12 +329,11 @@ impl Crew {
         ensures steady { IsSteadyCrew behaviour registers pending self.new }
         ensures boxes { self.new.boxes.items ≡ slice_set self.old.boxes.items k other.old }
         ensures other { other.new ≡ slice_index_or self.old.boxes.items k other.old }
-        ensures passes { self.new.passes ≡ self.old.passes }
-        ensures others { (self.new.manager ≡ self.old.manager) × (self.new.keeper ≡ self.old.keeper)
-            × (self.new.clients ≡ self.old.clients) }
-        ensures folds { BeginsFold k other.old self.old.passes.items (folds self.old) (folds self.new) }
+        ensures others { (self.new.managed ≡ self.old.managed) × (self.new.clients ≡ self.old.clients) }
+        ensures folds { let passes = self.old.managed.passes.items in
+            BeginsFold k other.old passes (folds self.old) (folds self.new) }
     {
-        FoldStart::begin(&mut self.starts, k, &self.passes, other);
+        FoldStart::begin(&mut self.starts, k, &self.managed.passes, other);
         swap(&mut self.boxes[k], other);
     }
 

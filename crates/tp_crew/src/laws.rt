@@ -1,5 +1,5 @@
-//! The laws of what boxes do over several managers, for contracts of one's own. These functions do nothing: their
-//! contracts are the laws.
+//! The laws of what boxes do over several managers, for contracts of one's own. These functions do nothing:
+//! their contracts are the laws.
 ghost use Rattle.tp_crew.specs.Careers.{CareersAddUp};
 
 use tp_server::Server;

@@ -1,5 +1,5 @@
-//! A crew: a manager, boxed servers, and all passes that they and their clients need, in one value. It goes on
-//! in a new manager where the old one is used up.
+//! A crew: a manager with all its passes, and boxed servers, in one value. It goes on in a new manager where
+//! the old one is used up.
 #![tactic(auto)]
 
 mod crew;

@@ -2,7 +2,7 @@
 ghost use Rattle.std.specs.Prelude.{◌≡◌, ◌≤◌, All, IfErr, IfOk, IfSome, None, Ok, length};
 ghost use Rattle.tp_manager.specs.Shown.{IsOf};
 ghost use Rattle.tp_rollover.specs.Bounds.{made_by_all, most_successor_steps, successor_steps};
-ghost use Rattle.tp_crew.specs.Rolling.{IsCrewFault};
+ghost use Rattle.tp_rollover.specs.Managed.{IsRefusedFor};
 ghost use Rattle.tp_crew.specs.Rooms.{IsLeastOfAll, part_rows_left, units_left};
 
 use crate::crew::Crew;
@@ -29,16 +29,15 @@ fn least_room(manager: &Manager, passes: &[Pass]) -> Room
 impl Crew {
     ghost use Rattle.tp_crew.specs.Crew.{IsSteadyCrew};
     ghost use Rattle.tp_crew.specs.Rolling.{CrewRolls, CrewStays, RefusedWithin};
-    ghost use Rattle.tp_crew.specs.Rooms.{CrewHasRoom, LacksRoom};
+    ghost use Rattle.tp_crew.specs.Rooms.{CrewHasRoom, HasLeft, LacksRoom};
 
     /// The fewest rows, and the fewest units, that are left to one of the crew's passes. Spare blocks, which
     /// any pass may draw, aren't counted.
     pub fn room(&self) -> Room
         requires steady { IsSteadyCrew behaviour registers pending self.now }
-        ensures rows { IsLeastOfAll part_rows_left self.now.passes.items result.rows }
-        ensures units { IsLeastOfAll (units_left self.now.manager.limits) self.now.passes.items result.units }
+        ensures left { HasLeft result.rows result.units self.now }
     {
-        least_room(&self.manager, &self.passes)
+        least_room(&self.managed.manager, &self.managed.passes)
     }
 
     /// Rolls over, as `roll_over` does, where one of the crew's passes has fewer rows or units left than
@@ -53,19 +52,20 @@ impl Crew {
         ensures steady { IsSteadyCrew behaviour registers pending self.new }
         ensures boxes { self.new.boxes ≡ self.old.boxes }
         ensures clients { self.new.clients ≡ self.old.clients }
-        ensures limits { self.new.manager.limits ≡ self.old.manager.limits }
+        ensures limits { self.new.managed.manager.limits ≡ self.old.managed.manager.limits }
         ensures enough { result ≡ Ok None → (self.new ≡ self.old) × CrewHasRoom rows units self.old }
         ensures moved { IfOk result (λ answer. IfSome answer (λ moved. LacksRoom rows units self.old
             × CrewRolls self.old self.new moved.items)) }
         ensures refused { IfErr result (λ fault. LacksRoom rows units self.old
             × CrewStays self.old self.new) }
-        ensures fault { IfErr result (IsCrewFault self.old.manager.limits self.old.passes.items) }
+        ensures fault { IfErr result
+            (IsRefusedFor self.old.managed.manager.limits self.old.managed.passes.items) }
         ensures steps { IfOk result (λ answer. IfSome answer (λ moved.
-            made_by_all self.new.keeper self.new.passes.items
-            ≤ most_successor_steps self.old.manager.limits (length moved.items))) }
+            made_by_all self.new.managed.keeper self.new.managed.passes.items
+            ≤ most_successor_steps self.old.managed.manager.limits (length moved.items))) }
         ensures replayed { IfOk result (λ answer. IfSome answer (λ moved.
-            made_by_all self.new.keeper self.new.passes.items
-            ≤ successor_steps self.old.manager.limits self.new.keeper.seen moved.items)) }
+            made_by_all self.new.managed.keeper self.new.managed.passes.items
+            ≤ successor_steps self.old.managed.manager.limits self.new.managed.keeper.seen moved.items)) }
         ensures refused_steps { IfErr result (λ fault. RefusedWithin self.old self.new) }
     {
         let room = self.room();

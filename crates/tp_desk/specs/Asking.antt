@@ -6,7 +6,7 @@ use Rattle.tp_model.specs.declared.types.Element.{Element}
 use Rattle.tp_model.specs.declared.types.Outcome.{Outcome}
 use Rattle.tp_model.specs.declared.types.Outcome.TheVariants as outcomes
 use Rattle.tp_model.specs.History.{element_of}
-use Rattle.tp_server.specs.Asked.{Asked, Prepare, Undo, commit_of}
+use Rattle.tp_server.specs.Asked.{Asked, Prepare, Undo, commit_asked}
 use Rattle.tp_server.specs.Pending.{Pending}
 use Rattle.tp_desk.specs.declared.turned.Turned.{Turned}
 use Rattle.tp_desk.specs.declared.turned.Turned.TheVariants as turneds
@@ -18,7 +18,7 @@ undo_of (Some p) = Undo ∷ []
 
 -- to keep prepared work where its unit was committed, and else to undo it
 abbrev pub settling : Outcome → Option Pending → List Asked
-settling (outcomes.Committed first count) pending = commit_of pending
+settling (outcomes.Committed first count) pending = commit_asked pending
 settling outcomes.Lost pending = undo_of pending
 settling outcomes.Full pending = undo_of pending
 
@@ -29,7 +29,7 @@ prepare_of (Some x) registers = Prepare x registers ∷ []
 
 -- to commit the work of this element, which leaves these registers
 abbrev pub commit_to : Option Element → List ℕ → List Asked
-commit_to x after = commit_of (option_map (λ y. record { prepared_for = y; registers = after }) x)
+commit_to x after = commit_asked (option_map (λ y. record { prepared_for = y; registers = after }) x)
 
 -- what a turn asks that had this answer, the last call first. The elements are those of the events that the
 -- pass has seen. The server had the first registers before the turn, and has the second after it.

@@ -1,6 +1,6 @@
 //! The calls of a boxed server that change it, each with clauses of its own on the box.
 ghost use Rattle.std.specs.Prelude.{◌≡◌, [], ◌∷◌, None, Some, Err, IsSome, IfOk, IfErr, OnOk, OnErr};
-ghost use Rattle.tp_server.specs.Asked.{Asks, Prepare, commit_of};
+ghost use Rattle.tp_server.specs.Asked.{Asks, Prepare, commit_asked};
 ghost use Rattle.tp_server.specs.Behaviour.{Allows, IsMade};
 ghost use Rattle.tp_server.specs.Pending.{registers_of};
 ghost use Rattle.tp_desk.specs.Asking.{settling, undo_of};
@@ -51,7 +51,7 @@ fn commit(server: &mut Box<dyn Server + Send>)
     ensures behaviour { behaviour server.new ≡ behaviour server.old }
     ensures registers { Some (registers server.new) ≡ registers_of (pending server.old) }
     ensures clear { pending server.new ≡ None }
-    ensures asked { Asks (commit_of (pending server.old)) (asked server.old) (asked server.new) }
+    ensures asked { Asks (commit_asked (pending server.old)) (asked server.old) (asked server.new) }
 {
     server.commit()
 }

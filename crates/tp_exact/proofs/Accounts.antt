@@ -11,7 +11,7 @@ use Rattle.tp_model.proofs.RowTallies.{counts_by_rows, row_empty, row_full}
 use Rattle.tp_model.proofs.Tallies.{counts_last}
 use Rattle.tp_plain.specs.Computed.{read_found}
 use Rattle.tp_plain.specs.OneThread.{State}
-use Rattle.tp_reference.specs.PlainClient.{counted, counts_below}
+use Rattle.tp_reference.specs.PlainClient.{count_read, counts_below}
 use Rattle.tp_reference.proofs.ListingLemmas.{counts_more, counts_none}
 use Rattle.tp_alone.specs.Thread.{thread_of}
 use Rattle.tp_exact.specs.Finals.{ExactAccount}
@@ -21,7 +21,7 @@ module _ (s : State) where
   abbrev so_far : ℕ → Counts
   so_far n = counts_among s.limits.attempts s.history (elements_below s.history n)
 
-  one_row : (n : ℕ) (c : Counts) (o : Option Element) → element_of s.history n ≡ o → c ≡ so_far n → counted (read_found s o) c ≡ so_far (n + 1)
+  one_row : (n : ℕ) (c : Counts) (o : Option Element) → element_of s.history n ≡ o → c ≡ so_far n → count_read (read_found s o) c ≡ so_far (n + 1)
   one_row n c None is same = same ∙ ap (counts_among s.limits.attempts s.history) (sym (row_empty s.history n is))
   one_row n c (Some e) is same =
       ap (one_more (status_of s.limits.attempts s.history e.id)) same

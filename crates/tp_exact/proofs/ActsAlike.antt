@@ -15,11 +15,11 @@ use Rattle.tp_session.specs.Answers.{units_text}
 use Rattle.tp_session.specs.NoteTexts.{note_lines}
 use Rattle.tp_session.specs.Overviews.{names_of}
 use Rattle.tp_session.specs.Roots.{roots_of, roots_text}
-use Rattle.tp_exact.specs.Alive.{alive_of}
+use Rattle.tp_exact.specs.Alive.{survivors_now}
 use Rattle.tp_report.specs.declared.answer.Renamed.{Renamed}
 use Rattle.tp_desk.specs.declared.order.Order.{Order}
 use Rattle.tp_desk.specs.declared.order.Order.TheVariants.{LeastFirst, InTurn}
-use Rattle.tp_reference.specs.PlainReport.{ReportState, balance_at, command_step, desk_at, drain_of, final_line, finals_below, most_rounds, round_below, round_of, round_turn, rounds}
+use Rattle.tp_reference.specs.PlainReport.{ReportState, balance_answer, command_step, desk_at, drain_of, final_line, finals_below, most_rounds, round_below, round_of, round_turn, drain_rounds}
 use Rattle.tp_reference.specs.declared.plain_desk.PlainDesk.{PlainDesk}
 use Rattle.tp_script.specs.Grammar.{body_at}
 use Rattle.tp_script.specs.Passes.{is_rollover}
@@ -30,7 +30,7 @@ use Rattle.tp_script.specs.declared.head.Act.TheVariants as acts
 use Rattle.tp_script.specs.declared.script.Command.{Command}
 use Rattle.tp_script.specs.declared.script.Command.TheVariants.{Client, Desk, Balance, Sum, Race, Drain, DrainNext, Rollover}
 use Rattle.tp_script.specs.declared.script.DeskAct.{DeskAct}
-use Rattle.tp_session.specs.Dump.{all_starts, drop_lines, drop_of, dump_text, life_text, lost_lines, server_line, server_starts, settings_lines, worker_text}
+use Rattle.tp_session.specs.Dump.{all_starts, drop_lines, drop_of, dump_text, life_text, lost_lines, server_dump_line, server_starts, settings_lines, worker_text}
 use Rattle.tp_session.specs.declared.hand.Holding.{Holding}
 use Rattle.tp_exact.specs.PlainOverviews.{overview_line}
 use Rattle.tp_exact.specs.PlainSession.{SessionState, session_act_step, anew_as, command_by, dump_of, leave_step, session_desk_open, last_step, rolled_over, unless_refused, worker_step, session_works_in}
@@ -58,7 +58,7 @@ module _ (gs hs : List ServerView) (alike : map strip gs ≡ map strip hs) where
   desk_stripped (Some d) i act s None = refl
   desk_stripped (Some d) i act s (Some v) = refl
 
-  balance_stripped : (d : Option PlainDesk) (k : ℕ) (o : Option ServerView) → balance_at o d k ≡ balance_at (option_map strip o) d k
+  balance_stripped : (d : Option PlainDesk) (k : ℕ) (o : Option ServerView) → balance_answer o d k ≡ balance_answer (option_map strip o) d k
   balance_stripped None k None = refl
   balance_stripped None k (Some v) = refl
   balance_stripped (Some d) k None = refl
@@ -83,14 +83,14 @@ module _ (gs hs : List ServerView) (alike : map strip gs ≡ map strip hs) where
   same_round : (order : Order) (s : ReportState) → round_of order gs s ≡ round_of order hs s
   same_round order s = ap (λ n. round_below order gs n s) as_many ∙ same_below order (length hs) s
 
-  same_rounds : (order : Order) (n : ℕ) (s : ReportState) → rounds order gs n s ≡ rounds order hs n s
-  unfolding rounds
+  same_rounds : (order : Order) (n : ℕ) (s : ReportState) → drain_rounds order gs n s ≡ drain_rounds order hs n s
+  unfolding drain_rounds
   same_rounds order zero s = refl
   same_rounds order (suc n) s =
-      ap (λ (round : Bool × ReportState). if round.0 then rounds order gs n round.1 else round.1) (same_round order s)
+      ap (λ (round : Bool × ReportState). if round.0 then drain_rounds order gs n round.1 else round.1) (same_round order s)
       ∙ go (round_of order hs s).0 (round_of order hs s).1 (same_rounds order n (round_of order hs s).1)
     where
-      go : (b : Bool) (x : ReportState) → rounds order gs n x ≡ rounds order hs n x → (if b then rounds order gs n x else x) ≡ (if b then rounds order hs n x else x)
+      go : (b : Bool) (x : ReportState) → drain_rounds order gs n x ≡ drain_rounds order hs n x → (if b then drain_rounds order gs n x else x) ≡ (if b then drain_rounds order hs n x else x)
       go true x same = same
       go false x same = refl
 
@@ -100,7 +100,7 @@ module _ (gs hs : List ServerView) (alike : map strip gs ≡ map strip hs) where
   same_step : (c : Command) (s : ReportState) → command_step gs c s ≡ command_step hs c s
   same_step (Client act) s = refl
   same_step (Desk i act) s = by_place (λ o. desk_at o (slice_get s.desks i) i act s) (desk_stripped (slice_get s.desks i) i act s) i
-  same_step (Balance i k) s = ap (λ text. (text, s)) (by_place (λ o. balance_at o (slice_get s.desks i) k) (balance_stripped (slice_get s.desks i) k) i)
+  same_step (Balance i k) s = ap (λ text. (text, s)) (by_place (λ o. balance_answer o (slice_get s.desks i) k) (balance_stripped (slice_get s.desks i) k) i)
   same_step (Sum k) s = refl
   same_step (Race race) s = refl
   same_step Rollover s = refl
@@ -124,12 +124,12 @@ module _ (gs hs : List ServerView) (alike : map strip gs ≡ map strip hs) where
 
   -- ---- dumps
 
-  lines_stripped : (vs : List ServerView) → map server_line vs ≡ map server_line (map strip vs)
+  lines_stripped : (vs : List ServerView) → map server_dump_line vs ≡ map server_dump_line (map strip vs)
   lines_stripped [] = refl
-  lines_stripped (v ∷ vs) = ap (λ z. server_line v ∷ z) (lines_stripped vs)
+  lines_stripped (v ∷ vs) = ap (λ z. server_dump_line v ∷ z) (lines_stripped vs)
 
-  same_lines : map server_line gs ≡ map server_line hs
-  same_lines = lines_stripped gs ∙ (ap (λ (vs : List ServerView). map server_line vs) alike ∙ sym (lines_stripped hs))
+  same_lines : map server_dump_line gs ≡ map server_dump_line hs
+  same_lines = lines_stripped gs ∙ (ap (λ (vs : List ServerView). map server_dump_line vs) alike ∙ sym (lines_stripped hs))
 
   names_stripped : (vs : List ServerView) → map (λ v. v.name) vs ≡ map (λ v. v.name) (map strip vs)
   names_stripped [] = refl
@@ -198,17 +198,17 @@ module _ (g h : HeadView) (same : SayTheSame g h) where
   same_dump s =
       let rss = map (λ d. d.registers) s.report.desks in
       let bs = map (λ d. d.is_dropped) s.report.desks in
-      let alive = alive_of s.report.manager in
-      ap (λ st. lines_by st (map server_line g.servers) (all_starts g.servers rss (length g.servers)) g.workers (length g.servers) (drop_lines g.servers bs (length g.servers))) same.settings
+      let alive = survivors_now s.report.manager in
+      ap (λ st. lines_by st (map server_dump_line g.servers) (all_starts g.servers rss (length g.servers)) g.workers (length g.servers) (drop_lines g.servers bs (length g.servers))) same.settings
       ∙ (ap (λ ls. lines_by h.settings ls (all_starts g.servers rss (length g.servers)) g.workers (length g.servers) (drop_lines g.servers bs (length g.servers))) (same_lines g.servers h.servers same.servers)
-      ∙ (ap (λ n. lines_by h.settings (map server_line h.servers) (all_starts g.servers rss n) g.workers n (drop_lines g.servers bs n)) servers_many
-      ∙ (ap (λ ls. lines_by h.settings (map server_line h.servers) ls g.workers (length h.servers) (drop_lines g.servers bs (length h.servers))) (same_starts g.servers h.servers same.servers rss (length h.servers))
-      ∙ (ap (λ ws. lines_by h.settings (map server_line h.servers) (all_starts h.servers rss (length h.servers)) ws (length h.servers) (drop_lines g.servers bs (length h.servers))) same.workers
-      ∙ ap (λ ls. lines_by h.settings (map server_line h.servers) (all_starts h.servers rss (length h.servers)) h.workers (length h.servers) ls) (same_drops g.servers h.servers same.servers bs (length h.servers))))))
+      ∙ (ap (λ n. lines_by h.settings (map server_dump_line h.servers) (all_starts g.servers rss n) g.workers n (drop_lines g.servers bs n)) servers_many
+      ∙ (ap (λ ls. lines_by h.settings (map server_dump_line h.servers) ls g.workers (length h.servers) (drop_lines g.servers bs (length h.servers))) (same_starts g.servers h.servers same.servers rss (length h.servers))
+      ∙ (ap (λ ws. lines_by h.settings (map server_dump_line h.servers) (all_starts h.servers rss (length h.servers)) ws (length h.servers) (drop_lines g.servers bs (length h.servers))) same.workers
+      ∙ ap (λ ls. lines_by h.settings (map server_dump_line h.servers) (all_starts h.servers rss (length h.servers)) h.workers (length h.servers) ls) (same_drops g.servers h.servers same.servers bs (length h.servers))))))
     where
       lines_by : SettingsView → List (List ℕ) → List (List ℕ) → List WorkerView → ℕ → List (List ℕ) → List (List ℕ)
       lines_by st servers starts workers n drops =
-          let alive = alive_of s.report.manager in
+          let alive = survivors_now s.report.manager in
           settings_lines st ++ servers ++ starts ++ map worker_text workers ++ map (life_text workers (1 + n)) alive
           ++ lost_lines workers (1 + n) s.works alive (length workers) ++ note_lines workers s.notes alive ++ (codes "restore" ∷ drops)
 

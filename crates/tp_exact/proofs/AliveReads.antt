@@ -12,7 +12,7 @@ use Rattle.tp_model.proofs.Bridges.{append_nil}
 use Rattle.tp_rollover.specs.declared.survivors.Survivor.{Survivor}
 use Rattle.tp_script.specs.Alive.{AliveWords, alive_at, alive_of, alive_places, alive_words}
 use Rattle.tp_script.specs.Commands.{SubmitWords, submit_body, submit_words}
-use Rattle.tp_script.specs.Drafts.{draft_at, draft_of, is_draft}
+use Rattle.tp_script.specs.Drafts.{draft_at, draft_numbers, is_draft}
 use Rattle.tp_script.specs.LineWords.{◌>>=◌, any_stage_at, known, number_at, require}
 use Rattle.tp_script.specs.Grammar.{alive_line, head_at, head_keyword, head_words, held_line, line_words, with_alive}
 use Rattle.tp_script.specs.Hands.{free_worker, has_in_hand, held_of, held_words}
@@ -23,8 +23,8 @@ use Rattle.tp_script.specs.Text.{words}
 use Rattle.tp_script.specs.declared.fault.LineFault.TheVariants.{BadName, BadNumber, BadLimits, Syntax}
 use Rattle.tp_script.specs.declared.head.AliveLine.{AliveLine}
 use Rattle.tp_script.specs.declared.head.TheConstants.{MAX_ALIVE}
-use Rattle.tp_session.specs.Dump.{attempts_of, draft_text, element_text, held_text, holder_in, text_by}
-use Rattle.tp_exact.specs.AliveReads.{AliveLineReads, HeldLineReads, IsBody64, IsFit, IsFreeWorker}
+use Rattle.tp_session.specs.Dump.{attempts_of, draft_text, survivor_text, held_text, holder_in, text_by}
+use Rattle.tp_exact.specs.AliveReads.{AliveLineReads, HeldLineReads, IsBody64, FitsLine, IsFreeWorker}
 use Rattle.tp_exact.specs.Dumps.{tries_of}
 use Rattle.tp_exact.proofs.LineReads.{bind_ok, digits_allowed, digits_free, line_ok, no_space, number_ok, word_long}
 use Rattle.tp_exact.proofs.PlaceNames.{place_short}
@@ -91,13 +91,13 @@ module _ (stage a b c d : ℕ) (low : 1 ≤ stage) (high : stage ≤ REPLY_STAGE
   body_ok : submit_body submitted ≡ Ok body
   body_ok = words_read a b c d fa fb fc fd
 
-  numbers : draft_of submitted ≡ Ok (record { stage = stage; body = body })
-  unfolding draft_of
+  numbers : draft_numbers submitted ≡ Ok (record { stage = stage; body = body })
+  unfolding draft_numbers
   numbers = bind_ok (any_stage_at (decimal stage)) stage _ stage_ok ∙ bind_ok (submit_body submitted) body _ body_ok
 
   reads : draft_at text ≡ Ok (record { stage = stage; body = body })
   unfolding draft_at
-  reads = ap (λ ps. submit_words ps >>= λ ws. draft_of ws) parts ∙ numbers
+  reads = ap (λ ps. submit_words ps >>= λ ws. draft_numbers ws) parts ∙ numbers
 
   bytes : Bytes 48 58 text
   bytes =
@@ -254,7 +254,7 @@ held_front name small some = record {
   no_comment = refl;
 }
 
-module _ (s : Survivor) (tries : ℕ) (fit : IsFit s) (few : tries ≤ MAX_ATTEMPTS) where
+module _ (s : Survivor) (tries : ℕ) (fit : FitsLine s) (few : tries ≤ MAX_ATTEMPTS) where
   own : Draft (draft_text s.stage s.body) s.stage s.body
   own = draft s.stage s.body fit.stage.0 fit.stage.1 fit.body
 
@@ -398,7 +398,7 @@ module _ (s : Survivor) (tries : ℕ) (fit : IsFit s) (few : tries ≤ MAX_ATTEM
   abbrev root_with : Bool → List ℕ
   root_with own = if own then [] else 32 ∷ (decimal s.root ++ (32 ∷ draft_text s.root_stage s.root_body))
 
-  pub alive_reads : (h : HeadView) → length h.alive < MAX_ALIVE → head_at (codes "alive " ++ element_text s tries) h ≡ Ok (added h None, None)
+  pub alive_reads : (h : HeadView) → length h.alive < MAX_ALIVE → head_at (codes "alive " ++ survivor_text s tries) h ≡ Ok (added h None, None)
   alive_reads h room =
       elim (eqb_tells s.root s.id) [
         | inl p ↦ ap (λ t. head_at (alive_with (draft_text s.stage s.body ++ root_with t)) h) p.0 ∙ (ap (λ z. head_at (alive_with z) h) (append_nil behind_own) ∙ alive_own h room p.1)
@@ -438,22 +438,22 @@ module _ (s : Survivor) (tries : ℕ) (fit : IsFit s) (few : tries ≤ MAX_ATTEM
         let line = in_head_held s.id tries s.rounds s.root (draft_text s.stage s.body) s.stage s.body own (draft_text s.root_stage s.root_body) s.root_stage s.root_body of_root fit.id few fit.rounds_are fit.root name worker (numbers_with last_words) h refl some free room in
         bind_ok (line_words (held_with behind_other)) _ (λ ws. head_words drivers.Session ws h) read ∙ line
 
-    held_same : codes "held " ++ (name ++ (32 ∷ element_text s tries)) ≡ name_front ++ element_text s tries
-    held_same = ap (λ z. codes "held " ++ z) (sym (append_assoc name (32 ∷ []) (element_text s tries)))
+    held_same : codes "held " ++ (name ++ (32 ∷ survivor_text s tries)) ≡ name_front ++ survivor_text s tries
+    held_same = ap (λ z. codes "held " ++ z) (sym (append_assoc name (32 ∷ []) (survivor_text s tries)))
 
-    held_reads_so : (h : HeadView) → free_worker name h ≡ Ok worker → length h.alive < MAX_ALIVE → head_at (name_front ++ element_text s tries) h ≡ Ok (added h (Some worker), None)
+    held_reads_so : (h : HeadView) → free_worker name h ≡ Ok worker → length h.alive < MAX_ALIVE → head_at (name_front ++ survivor_text s tries) h ≡ Ok (added h (Some worker), None)
     held_reads_so h free room =
         elim (eqb_tells s.root s.id) [
           | inl p ↦
-              let same : element_text s tries ≡ element_with behind_own = ap (λ t. element_with (draft_text s.stage s.body ++ root_with t)) p.0 ∙ ap element_with (append_nil behind_own) in
+              let same : survivor_text s tries ≡ element_with behind_own = ap (λ t. element_with (draft_text s.stage s.body ++ root_with t)) p.0 ∙ ap element_with (append_nil behind_own) in
               ap (λ z. head_at (name_front ++ z) h) same ∙ held_own h free room p.1
           | inr p ↦
-              let same : element_text s tries ≡ element_with behind_other = ap (λ t. element_with (draft_text s.stage s.body ++ root_with t)) p.0 in
+              let same : survivor_text s tries ≡ element_with behind_other = ap (λ t. element_with (draft_text s.stage s.body ++ root_with t)) p.0 in
               ap (λ z. head_at (name_front ++ z) h) same ∙ held_other h free room
         ]
 
     pub held_reads : (h : HeadView) → free_worker name h ≡ Ok worker → length h.alive < MAX_ALIVE
-        → head_at (codes "held " ++ (name ++ (32 ∷ element_text s tries))) h ≡ Ok (added h (Some worker), None)
+        → head_at (codes "held " ++ (name ++ (32 ∷ survivor_text s tries))) h ≡ Ok (added h (Some worker), None)
     held_reads h free room = ap (λ z. head_at z h) held_same ∙ held_reads_so h free room
 
 -- ---- the lines of survivors

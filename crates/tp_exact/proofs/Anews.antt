@@ -39,7 +39,7 @@ use Rattle.tp_session.specs.Live as lives
 use Rattle.tp_session.specs.Live.{DumpTold, HoldsUnits, Live, LiveGathers, RestoreTold, RestoredLive, RolledLive, RolloverTold, survivors_of}
 use Rattle.tp_session.specs.Notes.{NotesView, notes_in}
 use Rattle.tp_session.specs.declared.hand.Holding.{Holding}
-use Rattle.tp_exact.specs.Alive.{alive_of}
+use Rattle.tp_exact.specs.Alive.{survivors_now}
 use Rattle.tp_exact.specs.Dumps.{DumpComputed}
 use Rattle.tp_exact.specs.PlainSession.{SessionState, session_anew, anew_as, dump_of, session_desk_open, session_is_open, session_restored, rolled_over, unless_refused, session_works_in, unrestored}
 use Rattle.tp_exact.specs.Sessions.{IsStep, IsUnforeseen, StandsLive}
@@ -240,10 +240,10 @@ module _ (head : Head) (old new : Live) (text : List ℕ) (s : SessionState) (is
       answered b left (session_anew told h survivors before left s) none
       (subst (λ o. IsStep h new text (anew_as told h before left s o)) (sym (ap (λ (z : Limits). made_anew z z.parts survivors (start z)) limits_are ∙ full)) (text_is, stands))
 
-  unfit : WouldNotFit l (passes_in scene) l.parts (start l) → made_anew l l.parts (alive_of s.report.manager) (start l) ≡ None
+  unfit : WouldNotFit l (passes_in scene) l.parts (start l) → made_anew l l.parts (survivors_now s.report.manager) (start l) ≡ None
   unfit w =
       let same : thread_of l w.looked w.keeper.seen ≡ s.report.manager = (alone_idle l old.stand.keeper w.keeper (passes_in scene) w.looked old.stand.keeper.seen w.keeper.seen is.stands.together w.stay w.together).1 ∙ sym is.stands.manager in
-      let alive : w.survivors ≡ alive_of s.report.manager = described_so l w.keeper.seen w.survivors w.together.legal w.found ∙ ap alive_of same in
+      let alive : w.survivors ≡ survivors_now s.report.manager = described_so l w.keeper.seen w.survivors w.together.legal w.found ∙ ap survivors_now same in
       subst (λ ss. made_anew l l.parts ss (start l) ≡ None) alive w.full
 
   unrolled_for : (why : RollFault) → IsUnrolledFor l (own_passes scene) (passes_in scene) why → text ≡ line (roll_refused_text why) → StandsLive h new s → Answered (session_desk_open s) s (rolled_over h s)
@@ -251,8 +251,8 @@ module _ (head : Head) (old new : Live) (text : List ℕ) (s : SessionState) (is
   unrolled_for faults.BadLimits due text_is stands = absurd due
   unrolled_for faults.NoPass due text_is stands = absurd due
   unrolled_for faults.Busy due text_is stands = busy (session_desk_open s) (session_desk_open s) (own_passes scene) s (rolled_over h s) refl due own_none text_is stands
-  unrolled_for faults.Full due text_is stands = no_room (session_desk_open s) rolled_text (alive_of s.report.manager) s.works s (unfit due.1) (none_at_own due.0) text_is stands
-  unrolled_for faults.Unequal due text_is stands = failed (session_desk_open s) s (rolled_over h s) faults.Unequal tt (none_at_own due.0) text_is stands
+  unrolled_for faults.Full due text_is stands = no_room (session_desk_open s) rolled_text (survivors_now s.report.manager) s.works s (unfit due.1) (none_at_own due.0) text_is stands
+  unrolled_for faults.Unequal due text_is stands = absurd due
 
   unrestored_for : (why : RollFault) → IsUnrestoredFor l (survivors_of h) (passes_in scene) why → text ≡ line (roll_refused_text why) → StandsLive h new (unrestored s) → Answered (session_is_open s) (unrestored s) (session_restored h s)
   unrestored_for faults.NoMemory due text_is stands = failed (session_is_open s) (unrestored s) (session_restored h s) faults.NoMemory tt (none_open due) text_is stands
@@ -341,7 +341,7 @@ module _ (head : Head) (old new : Live) (text : List ℕ) (s : SessionState) (is
       let r = t.rolled in
       let c = r.carries in
       let same : thread_of l c.looked c.keeper.seen ≡ s.report.manager = (alone_idle l old.stand.keeper c.keeper (passes_in scene) c.looked old.stand.keeper.seen c.keeper.seen is.stands.together c.stay c.together).1 ∙ sym is.stands.manager in
-      let alive : c.survivors ≡ alive_of s.report.manager = described_so l c.keeper.seen c.survivors c.together.legal c.found ∙ ap alive_of same in
+      let alive : c.survivors ≡ survivors_now s.report.manager = described_so l c.keeper.seen c.survivors c.together.legal c.found ∙ ap survivors_now same in
       let m : State = thread_of l (passes_in next) new.stand.keeper.seen in
       let m_is : m ≡ m_new = ap (λ (z : Limits). thread_of z (passes_in next) new.stand.keeper.seen) (sym r.limits) in
       let stands = stands_anew m m_is r.rolls.new_together r.free r.places in

@@ -17,18 +17,18 @@ use Rattle.tp_script.specs.declared.script.TheConstants.{MAX_SERVERS}
 use Rattle.tp_model.specs.declared.types.TheConstants.{MAX_ATTEMPTS, MAX_BLOCKS, MAX_PART_ROWS, MAX_UNITS}
 use Rattle.tp_script.specs.Alive.{AliveWords, alive_at}
 use Rattle.tp_script.specs.Commands.{stage_at}
-use Rattle.tp_script.specs.Grammar.{account_at, act_at, alive_line, dump_at, ends_head, head_keyword, head_words, held_line, in_head, limit_line, lost_line, overview_at, restore_at, rows_line, setting_at, spare_line, units_line, unless_waiting, waits_for_restore, with_alive, with_lost, worker_line}
-use Rattle.tp_script.specs.Clients.{ClientWords, client_line, client_words, has_request, known_client, note_of, noted_at, nothing_noted, register_line, request_line, with_client, with_registered, with_request}
-use Rattle.tp_script.specs.Ends.{EndWords, end_of, ended_line, ended_words, unended_worker, with_end}
+use Rattle.tp_script.specs.Grammar.{account_at, act_said, alive_line, dump_at, ends_head, head_keyword, head_words, held_line, in_head, limit_line, lost_line, overview_at, restore_at, rows_line, setting_at, spare_line, units_line, unless_waiting, waits_for_restore, with_alive, with_lost_line, worker_line}
+use Rattle.tp_script.specs.Clients.{ClientWords, client_line, client_words, has_request, known_client, note_of, noted_at, nothing_noted, register_line, request_line, with_client, with_registered, with_one_request}
+use Rattle.tp_script.specs.Ends.{EndWords, end_said, ended_line, ended_words, unended_worker, with_end_line}
 use Rattle.tp_script.specs.Notes.{NameView}
 use Rattle.tp_script.specs.Places.{first_places, worker_name, workers_line}
 use Rattle.tp_script.specs.declared.notes.ClientNote.{ClientNote}
 use Rattle.tp_script.specs.declared.notes.TheConstants.{MAX_CLIENTS}
 use Rattle.tp_script.specs.Hands.{free_worker, held_of, held_words}
 use Rattle.tp_script.specs.Keyword.{keyword}
-use Rattle.tp_script.specs.LineWords.{◌>>=◌, is_name, known, number_at, one, require, three, two}
+use Rattle.tp_script.specs.LineWords.{◌>>=◌, is_name, known, number_at, one_word, require, three, two}
 use Rattle.tp_script.specs.Script.{HeadView, ServerView}
-use Rattle.tp_script.specs.ServerLines.{Shape, begin_at, begun, free_name, has_client, new_name, recipe_at, registers_for, server_at, server_line, shape_at, start_line, with_server}
+use Rattle.tp_script.specs.ServerLines.{Shape, begin_at, with_start, free_name, has_client, new_name, recipe_at, registers_for, server_at, server_line, shape_at, start_line, with_server}
 use Rattle.tp_exact.specs.Programs.{IsChecked}
 
 abbrev pub Good : HeadView → Type 0
@@ -127,8 +127,8 @@ good_at [] i x good is = absurd cc
 good_at (y ∷ xs) zero x good is = let same : y ≡ x = cc in subst IsChecked same (All-head IsChecked y xs good)
 good_at (y ∷ xs) (suc i) x good is = good_at xs i x (All-tail IsChecked y xs good) is
 
-begun_good : (k v : ℕ) (x y : ServerView) → begun k v x ≡ Ok y → IsChecked x → IsChecked y
-unfolding begun
+begun_good : (k v : ℕ) (x y : ServerView) → with_start k v x ≡ Ok y → IsChecked x → IsChecked y
+unfolding with_start
 begun_good k v x y is good =
     let a = went (require (nat_lt k (length x.registers)) fault.BadRecipe) (λ u. Ok (record x { registers = slice_set x.registers k v })) y is in
     subst IsChecked (went_to (record x { registers = slice_set x.registers k v }) y a.2) good
@@ -136,8 +136,8 @@ begun_good k v x y is good =
 begin_good : (place k v : ℕ) (s t : HeadView) → begin_at place k v s ≡ Ok t → Good s → Good t
 unfolding begin_at
 begin_good place k v s t is good =
-    let old = went (known (slice_get s.servers place) fault.BadName) (λ server. begun k v server >>= λ y. Ok (record s { servers = slice_set s.servers place y })) t is in
-    let new = went (begun k v old.0) (λ y. Ok (record s { servers = slice_set s.servers place y })) t old.2 in
+    let old = went (known (slice_get s.servers place) fault.BadName) (λ server. with_start k v server >>= λ y. Ok (record s { servers = slice_set s.servers place y })) t is in
+    let new = went (with_start k v old.0) (λ y. Ok (record s { servers = slice_set s.servers place y })) t old.2 in
     let there = found (slice_get s.servers place) fault.BadName old.0 old.1 in
     let one = begun_good k v old.0 new.0 new.1 (good_at s.servers place old.0 good there) in
     subst Good (went_to (record s { servers = slice_set s.servers place new.0 }) t new.2) (All-set IsChecked s.servers place new.0 one good)
@@ -224,11 +224,11 @@ lost_good : (name id : List ℕ) (h t : HeadView) → lost_line (name, id) h ≡
 unfolding lost_line
 lost_good name id h t is good =
     let worker = went (free_worker name h) of_worker t is in
-    let element = went (number_at (2 ^ 32 - 1) id) (λ element. Ok (with_lost (record { worker = worker.0; element = element }) h)) t worker.2 in
-    subst Good (went_to (with_lost (record { worker = worker.0; element = element.0 }) h) t element.2) good
+    let element = went (number_at (2 ^ 32 - 1) id) (λ element. Ok (with_lost_line (record { worker = worker.0; element = element }) h)) t worker.2 in
+    subst Good (went_to (with_lost_line (record { worker = worker.0; element = element.0 }) h) t element.2) good
   where
     of_worker : ℕ → Result HeadView LineFault
-    of_worker worker = number_at (2 ^ 32 - 1) id >>= λ element. Ok (with_lost (record { worker = worker; element = element }) h)
+    of_worker worker = number_at (2 ^ 32 - 1) id >>= λ element. Ok (with_lost_line (record { worker = worker; element = element }) h)
 
 -- ---- clients, requests and ends
 
@@ -269,11 +269,11 @@ unfolding request_line
 request_good name root h t is good =
     let client = went (known_client name h) of_client t is in
     let number = went (number_at (2 ^ 32 - 1) root) (of_root client.0) t client.2 in
-    let fresh = went (require (not (has_request number.0 h)) fault.BadNumber) (λ u. Ok (with_request (record { root = number.0; client = client.0 }) h)) t number.2 in
-    subst Good (went_to (with_request (record { root = number.0; client = client.0 }) h) t fresh.2) good
+    let fresh = went (require (not (has_request number.0 h)) fault.BadNumber) (λ u. Ok (with_one_request (record { root = number.0; client = client.0 }) h)) t number.2 in
+    subst Good (went_to (with_one_request (record { root = number.0; client = client.0 }) h) t fresh.2) good
   where
     of_root : NameView → ℕ → Result HeadView LineFault
-    of_root client number = require (not (has_request number h)) fault.BadNumber >>= λ u. Ok (with_request (record { root = number; client = client }) h)
+    of_root client number = require (not (has_request number h)) fault.BadNumber >>= λ u. Ok (with_one_request (record { root = number; client = client }) h)
 
     of_client : NameView → Result HeadView LineFault
     of_client client = number_at (2 ^ 32 - 1) root >>= λ number. of_root client number
@@ -283,11 +283,11 @@ unfolding ended_line
 ended_good ws h t is good =
     let w = went (ended_words ws) of_words t is in
     let worker = went (unended_worker w.0.0 h) (of_worker w.0) t w.2 in
-    let how = went (end_of w.0.1) (λ how. Ok (with_end (record { worker = worker.0; end = how }) h)) t worker.2 in
-    subst Good (went_to (with_end (record { worker = worker.0; end = how.0 }) h) t how.2) good
+    let how = went (end_said w.0.1) (λ how. Ok (with_end_line (record { worker = worker.0; end = how }) h)) t worker.2 in
+    subst Good (went_to (with_end_line (record { worker = worker.0; end = how.0 }) h) t how.2) good
   where
     of_worker : List ℕ × EndWords → ℕ → Result HeadView LineFault
-    of_worker w worker = end_of w.1 >>= λ how. Ok (with_end (record { worker = worker; end = how }) h)
+    of_worker w worker = end_said w.1 >>= λ how. Ok (with_end_line (record { worker = worker; end = how }) h)
 
     of_words : List ℕ × EndWords → Result HeadView LineFault
     of_words w = unended_worker w.0 h >>= λ worker. of_worker w worker
@@ -314,26 +314,26 @@ never_so (Err e) s so = absurd cc
 
 keyword_good : (driver : Driver) (k : Keyword) (ws : List (List ℕ)) (h : HeadView) (t : Read) → head_keyword driver k ws h ≡ Ok t → Good h → Good t.0
 unfolding head_keyword
-keyword_good driver first.Rows ws h t is good = in_good (one ws >>= λ w. rows_line w h) h t is (λ s so. let a = went (one ws) (λ w. rows_line w h) s so in rows_good a.0 h s a.2 good)
-keyword_good driver first.Units ws h t is good = in_good (one ws >>= λ w. units_line w h) h t is (λ s so. let a = went (one ws) (λ w. units_line w h) s so in units_good a.0 h s a.2 good)
-keyword_good driver first.Limit ws h t is good = in_good (one ws >>= λ w. limit_line w h) h t is (λ s so. let a = went (one ws) (λ w. limit_line w h) s so in limit_good a.0 h s a.2 good)
-keyword_good driver first.Spare ws h t is good = in_good (one ws >>= λ w. spare_line w h) h t is (λ s so. let a = went (one ws) (λ w. spare_line w h) s so in spare_good a.0 h s a.2 good)
+keyword_good driver first.Rows ws h t is good = in_good (one_word ws >>= λ w. rows_line w h) h t is (λ s so. let a = went (one_word ws) (λ w. rows_line w h) s so in rows_good a.0 h s a.2 good)
+keyword_good driver first.Units ws h t is good = in_good (one_word ws >>= λ w. units_line w h) h t is (λ s so. let a = went (one_word ws) (λ w. units_line w h) s so in units_good a.0 h s a.2 good)
+keyword_good driver first.Limit ws h t is good = in_good (one_word ws >>= λ w. limit_line w h) h t is (λ s so. let a = went (one_word ws) (λ w. limit_line w h) s so in limit_good a.0 h s a.2 good)
+keyword_good driver first.Spare ws h t is good = in_good (one_word ws >>= λ w. spare_line w h) h t is (λ s so. let a = went (one_word ws) (λ w. spare_line w h) s so in spare_good a.0 h s a.2 good)
 keyword_good driver first.Server ws h t is good = in_good (server_line ws h) h t is (λ s so. server_good ws h s so good)
 keyword_good driver first.Start ws h t is good = in_good (three ws >>= λ w. start_line w h) h t is (λ s so. let a = went (three ws) (λ w. start_line w h) s so in start_good a.0.0 a.0.1 a.0.2 h s a.2 good)
 keyword_good driver first.Worker ws h t is good = in_good (two ws >>= λ w. worker_line w h) h t is (λ s so. let a = went (two ws) (λ w. worker_line w h) s so in worker_good a.0.0 a.0.1 h s a.2 good)
-keyword_good driver first.Workers ws h t is good = in_good (one ws >>= λ w. workers_line w h) h t is (λ s so. let a = went (one ws) (λ w. workers_line w h) s so in workers_good a.0 h s a.2 good)
-keyword_good driver first.Leave ws h t is good = in_good (one ws >>= λ _. Err fault.Order) h t is (λ s so. absurd (never_so (one ws) s so))
+keyword_good driver first.Workers ws h t is good = in_good (one_word ws >>= λ w. workers_line w h) h t is (λ s so. let a = went (one_word ws) (λ w. workers_line w h) s so in workers_good a.0 h s a.2 good)
+keyword_good driver first.Leave ws h t is good = in_good (one_word ws >>= λ _. Err fault.Order) h t is (λ s so. absurd (never_so (one_word ws) s so))
 keyword_good driver first.Alive ws h t is good = in_good (alive_line ws h) h t is (λ s so. alive_good ws h s so good)
 keyword_good driver first.Held ws h t is good = in_good (held_line ws h) h t is (λ s so. held_good ws h s so good)
 keyword_good driver first.Lost ws h t is good = in_good (two ws >>= λ w. lost_line w h) h t is (λ s so. let a = went (two ws) (λ w. lost_line w h) s so in lost_good a.0.0 a.0.1 h s a.2 good)
-keyword_good driver (first.Do v) ws h t is good = ends_good (unless_waiting (waits_for_restore h) (act_at driver v ws h)) h t is good
+keyword_good driver (first.Do v) ws h t is good = ends_good (unless_waiting (waits_for_restore h) (act_said driver v ws h)) h t is good
 keyword_good driver first.Dump ws h t is good = ends_good (unless_waiting (waits_for_restore h) (dump_at ws)) h t is good
 keyword_good driver first.Account ws h t is good = ends_good (unless_waiting (waits_for_restore h) (account_at ws)) h t is good
 keyword_good driver (first.Overview what) ws h t is good = ends_good (unless_waiting (waits_for_restore h) (overview_at what ws)) h t is good
 keyword_good driver first.Client ws h t is good = in_good (client_line ws h) h t is (λ s so. client_good ws h s so good)
 keyword_good driver first.Request ws h t is good = in_good (two ws >>= λ w. request_line w h) h t is (λ s so. let a = went (two ws) (λ w. request_line w h) s so in request_good a.0.0 a.0.1 h s a.2 good)
 keyword_good driver first.Ended ws h t is good = in_good (ended_line ws h) h t is (λ s so. ended_good ws h s so good)
-keyword_good driver first.Register ws h t is good = in_good (one ws >>= λ w. register_line w h) h t is (λ s so. let a = went (one ws) (λ w. register_line w h) s so in register_good a.0 h s a.2 good)
+keyword_good driver first.Register ws h t is good = in_good (one_word ws >>= λ w. register_line w h) h t is (λ s so. let a = went (one_word ws) (λ w. register_line w h) s so in register_good a.0 h s a.2 good)
 keyword_good driver (first.Noted v) ws h t is good = ends_good (unless_waiting (waits_for_restore h) (noted_at v ws h)) h t is good
 keyword_good driver first.Restore ws h t is good = ends_good (restore_at ws) h t is good
 

@@ -3,9 +3,9 @@ use Rattle.std.proofs.Common.{◌≡◌, ℕ, suc, ◌-◌, ◌^◌, ◌<◌, �
 use Rattle.std.specs.Prelude.{codes, decimal, is_none, position}
 use Rattle.std.specs.Str.{bytes_eq}
 use Rattle.tp_model.specs.declared.types.TheConstants.{MAX_OUTPUTS}
-use Rattle.tp_script.specs.Clients.{ClientWords, client_line, client_words, has_request, known_client, note_of, request_line, with_client, with_request}
+use Rattle.tp_script.specs.Clients.{ClientWords, client_line, client_words, has_request, known_client, note_of, request_line, with_client, with_one_request}
 use Rattle.tp_script.specs.Drafts.{colons}
-use Rattle.tp_script.specs.Ends.{done_at, done_words, end_of, ended_line, has_ended, undone_at, undone_words, unended_worker, with_end}
+use Rattle.tp_script.specs.Ends.{done_at, done_words, end_said, ended_line, has_ended, undone_at, undone_words, unended_worker, with_end_line}
 use Rattle.tp_script.specs.Grammar.{head_at, head_keyword, head_words, line_words}
 use Rattle.tp_script.specs.LineWords.{◌>>=◌, body_at, id_or_gone, is_name, known, number_at, require}
 use Rattle.tp_script.specs.Script.{HeadView}
@@ -121,18 +121,18 @@ module _ (r : RequestNote) (h : HeadView) (small : r.root < 2 ^ 32) (named : is_
       bind_ok (require (is_name r.client.letters) BadName) tt _ (ap (λ b. require b BadName) named)
       ∙ bind_ok (require (has_client r.client.letters h) BadName) tt _ (ap (λ b. require b BadName) of_one)
 
-  request_is : request_line (r.client.letters, decimal r.root) h ≡ Ok (with_request r h)
+  request_is : request_line (r.client.letters, decimal r.root) h ≡ Ok (with_one_request r h)
   unfolding request_line
   request_is =
       bind_ok (known_client r.client.letters h) r.client _ client_ok
       ∙ (bind_ok (number_at (2 ^ 32 - 1) (decimal r.root)) r.root _ (number_ok (2 ^ 32 - 1) r.root f_root (omega (arith, small)))
       ∙ bind_ok (require (not (has_request r.root h)) BadNumber) tt _ (ap (λ b. require (not b) BadNumber) new))
 
-  request_words : head_words drivers.Session (codes "request" ∷ r.client.letters ∷ decimal r.root ∷ []) h ≡ Ok (with_request r h, None)
+  request_words : head_words drivers.Session (codes "request" ∷ r.client.letters ∷ decimal r.root ∷ []) h ≡ Ok (with_one_request r h, None)
   unfolding head_words head_keyword
-  request_words = bind_ok (request_line (r.client.letters, decimal r.root) h) (with_request r h) (λ t. Ok (t, None)) request_is
+  request_words = bind_ok (request_line (r.client.letters, decimal r.root) h) (with_one_request r h) (λ t. Ok (t, None)) request_is
 
-  pub request_reads : head_at (request_text r) h ≡ Ok (with_request r h, None)
+  pub request_reads : head_at (request_text r) h ≡ Ok (with_one_request r h, None)
   unfolding head_at
   request_reads =
       bind_ok (line_words (request_text r)) (codes "request" ∷ r.client.letters ∷ decimal r.root ∷ []) (λ ws. head_words drivers.Session ws h)
@@ -165,11 +165,11 @@ record Told (name : List ℕ) (worker : ℕ) (how : UnitEnd) (h : HeadView) : Ty
   lengths : List ℕ
   are_words : AreWords others lengths
   few : room_of 8 lengths ≤ 100
-  line_is : ended_line (name ∷ first ∷ others) h ≡ Ok (with_end (record { worker = worker; end = how }) h)
+  line_is : ended_line (name ∷ first ∷ others) h ≡ Ok (with_end_line (record { worker = worker; end = how }) h)
 
 module _ (name : List ℕ) (worker : ℕ) (h : HeadView) (free : unended_worker name h ≡ Ok worker) where
   abbrev with_one : UnitEnd → Result HeadView LineFault
-  with_one how = Ok (with_end (record { worker = worker; end = how }) h)
+  with_one how = Ok (with_end_line (record { worker = worker; end = how }) h)
 
   module _ (element : Option ℕ) (fit : IsId element) where
     module _ (unit : ℕ) (fu : unit < 2 ^ 16) (first : Option ℕ) (ff : IsId first) (count : ℕ) (fc : count ≤ MAX_OUTPUTS) where
@@ -180,7 +180,7 @@ module _ (name : List ℕ) (worker : ℕ) (h : HeadView) (free : unended_worker 
       c64 = omega (arith, fc)
 
       done_is : ended_line (name ∷ codes "done" ∷ id_text element ∷ decimal unit ∷ id_text first ∷ decimal count ∷ []) h ≡ with_one (Done element unit first count)
-      unfolding ended_line done_words done_at end_of
+      unfolding ended_line done_words done_at end_said
       done_is =
           bind_ok (unended_worker name h) worker _ free
           ∙ (ap (λ e. e >>= λ (end : UnitEnd). with_one end) (bind_ok (id_or_gone (id_text element)) element _ (id_reads element fit)
@@ -201,19 +201,19 @@ module _ (name : List ℕ) (worker : ℕ) (h : HeadView) (free : unended_worker 
       }
 
     aborted_is : ended_line (name ∷ codes "aborted" ∷ id_text element ∷ []) h ≡ with_one (Aborted element)
-    unfolding ended_line undone_words undone_at end_of id_or_gone
+    unfolding ended_line undone_words undone_at end_said id_or_gone
     aborted_is =
         bind_ok (unended_worker name h) worker _ free
         ∙ (ap (λ e. e >>= λ (end : UnitEnd). with_one end) (bind_ok (id_or_gone (id_text element)) element _ (id_reads element fit)))
 
     lost_is : ended_line (name ∷ codes "lost" ∷ id_text element ∷ []) h ≡ with_one (Lost element)
-    unfolding ended_line undone_words undone_at end_of id_or_gone
+    unfolding ended_line undone_words undone_at end_said id_or_gone
     lost_is =
         bind_ok (unended_worker name h) worker _ free
         ∙ (ap (λ e. e >>= λ (end : UnitEnd). with_one end) (bind_ok (id_or_gone (id_text element)) element _ (id_reads element fit)))
 
     full_is : ended_line (name ∷ codes "full" ∷ id_text element ∷ []) h ≡ with_one (Full element)
-    unfolding ended_line undone_words undone_at end_of id_or_gone
+    unfolding ended_line undone_words undone_at end_said id_or_gone
     full_is =
         bind_ok (unended_worker name h) worker _ free
         ∙ (ap (λ e. e >>= λ (end : UnitEnd). with_one end) (bind_ok (id_or_gone (id_text element)) element _ (id_reads element fit)))
@@ -247,7 +247,7 @@ module _ (name : List ℕ) (worker : ℕ) (how : UnitEnd) (h : HeadView) (fit : 
   told = told_of name worker h worker_ok how fit
 
   abbrev ended : HeadView
-  ended = with_end (record { worker = worker; end = how }) h
+  ended = with_end_line (record { worker = worker; end = how }) h
 
   end_words_read : head_words drivers.Session (codes "ended" ∷ name ∷ told.first ∷ told.others) h ≡ Ok (ended, None)
   unfolding head_words head_keyword

@@ -29,7 +29,7 @@ use Rattle.tp_alone.specs.Thread.{thread_of}
 use Rattle.tp_alone.proofs.Lists.{reply_is}
 use Rattle.tp_alone.proofs.Members.{alone_collect_next}
 use Rattle.tp_commands.specs.Asked.{TellsCollected}
-use Rattle.tp_reference.specs.PlainClient.{client, picked, replies_of, reply_in, with_collected}
+use Rattle.tp_reference.specs.PlainClient.{client, picked, replies_of, reply_shown, with_collected}
 use Rattle.tp_exact.specs.Acts.{Acts}
 use Rattle.tp_exact.proofs.Parts.{Went, first_part, last_part, middle, seen_by, went_by, went_on, whole}
 use Rattle.tp_exact.proofs.Picks.{at, is_picked, none_before, none_from, passed, picks, picks_alike, picks_all, picks_some, some_from}
@@ -55,7 +55,7 @@ module _ (root : ℕ) (s : State) (i : ℕ) where
   abbrev so : Element → Status → Option Element
   so x st = if ((x.stage == 15) && (x.root == root)) && is_waiting st then Some x else None
 
-  after : (j : ℕ) (o : Option Element) → element_of s.history j ≡ o → (b : Bool) → (i == j) ≡ b → picked (reply_in root) (read_found gone o) ≡ (if b then None else picked (reply_in root) (read_found s o))
+  after : (j : ℕ) (o : Option Element) → element_of s.history j ≡ o → (b : Bool) → (i == j) ≡ b → picked (reply_shown root) (read_found gone o) ≡ (if b then None else picked (reply_shown root) (read_found s o))
   after j None is true same = refl
   after j None is false same = refl
   after j (Some x) is b same =
@@ -67,13 +67,13 @@ module _ (root : ℕ) (s : State) (i : ℕ) where
       go true = dead ((x.stage == 15) && (x.root == root)) x
       go false = refl
 
-  at_then : (j : ℕ) (b : Bool) → (i == j) ≡ b → at (reply_in root) gone j ≡ (if b then None else at (reply_in root) s j)
-  at_then j b same = ap (λ o. picked (reply_in root) (read_found gone o)) (born_same j) ∙ after j (element_of s.history j) refl b same
+  at_then : (j : ℕ) (b : Bool) → (i == j) ≡ b → at (reply_shown root) gone j ≡ (if b then None else at (reply_shown root) s j)
+  at_then j b same = ap (λ o. picked (reply_shown root) (read_found gone o)) (born_same j) ∙ after j (element_of s.history j) refl b same
 
-  pub at_killed : at (reply_in root) gone i ≡ None
+  pub at_killed : at (reply_shown root) gone i ≡ None
   at_killed = at_then i true (eq-eqb i i refl)
 
-  pub at_other : (j : ℕ) → ¬ (i ≡ j) → at (reply_in root) gone j ≡ at (reply_in root) s j
+  pub at_other : (j : ℕ) → ¬ (i ≡ j) → at (reply_shown root) gone j ≡ at (reply_shown root) s j
   at_other j other = ⊎_elim (λ t. absurd (other t.1)) (λ t. at_then j false t.0) (eqb_tells i j)
 
 -- a collect of a reply that waits
@@ -88,7 +88,7 @@ module _ (root : ℕ) (s : State) where
   found_so : (i : ℕ) → next_reply_of s root 0 ≡ Some i → (x : Element) × (element_of s.history i ≡ Some x) × (collect_of s client i ≡ (Ok x, extended s (Kill client i)))
   found_so i f =
       let all : rows_of s.limits - 0 ≡ rows_of s.limits = omega arith in
-      let some = is_picked (reply_in root) s (reply_at root s) (reply_same root s) (rows_of s.limits) 0 i f in
+      let some = is_picked (reply_shown root) s (reply_at root s) (reply_same root s) (rows_of s.limits) 0 i f in
       let r = reply_is root (status_of s.limits.attempts s.history i) (element_of s.history i) (reply_same root s i ∙ some) in
       (r.0, r.1, collect_waits s client i r.0 r.1 r.2 r.4)
 
@@ -117,16 +117,16 @@ module _ (root : ℕ) (s : State) where
   collects_some m e is = some_of m e (next_reply_of s root 0) refl is
 
   -- what is picked there
-  pub at_so : (e : Element) → next_reply_of s root 0 ≡ Some e.id → element_of s.history e.id ≡ Some e → at (reply_in root) s e.id ≡ Some e
+  pub at_so : (e : Element) → next_reply_of s root 0 ≡ Some e.id → element_of s.history e.id ≡ Some e → at (reply_shown root) s e.id ≡ Some e
   at_so e f born =
-      let some = is_picked (reply_in root) s (reply_at root s) (reply_same root s) (rows_of s.limits) 0 e.id f in
+      let some = is_picked (reply_shown root) s (reply_at root s) (reply_same root s) (rows_of s.limits) 0 e.id f in
       reply_value root s e.id (look_at s.limits.attempts s.history e) (ap (read_found s) born) some
 
   pub inside_so : (e : Element) → next_reply_of s root 0 ≡ Some e.id → e.id < rows_of s.limits
-  inside_so e f = let high = (picks_some (reply_in root) s (reply_at root s) (reply_same root s) 0 (rows_of s.limits - 0) e.id f).1 in omega arith
+  inside_so e f = let high = (picks_some (reply_shown root) s (reply_at root s) (reply_same root s) 0 (rows_of s.limits - 0) e.id f).1 in omega arith
 
   -- the replies are that one, and those of the state behind it
-  pub one_less : (e : Element) → e.id < rows_of s.limits → next_reply_of s root 0 ≡ Some e.id → at (reply_in root) s e.id ≡ Some e → replies_of root s ≡ e ∷ replies_of root (extended s (Kill client e.id))
+  pub one_less : (e : Element) → e.id < rows_of s.limits → next_reply_of s root 0 ≡ Some e.id → at (reply_shown root) s e.id ≡ Some e → replies_of root s ≡ e ∷ replies_of root (extended s (Kill client e.id))
   one_less e inside f is =
       let rows : ℕ = rows_of s.limits in
       let m : State = extended s (Kill client e.id) in
@@ -134,15 +134,15 @@ module _ (root : ℕ) (s : State) where
       let whole : (e.id + 1) + (rows - (e.id + 1)) ≡ rows = omega arith in
       let rest : ℕ = rows - (e.id + 1) in
       let from : 0 + (e.id + 1) ≡ e.id + 1 = omega arith in
-      let none : (j : ℕ) → 0 ≤ j → j < 0 + (e.id + 1) → at (reply_in root) m j ≡ None =
-      λ j low less. ⊎_elim (λ t. ap (at (reply_in root) m) (sym t.1) ∙ at_killed root s e.id)
-      (λ t. at_other root s e.id j t.1 ∙ none_before (reply_in root) s (reply_at root s) (reply_same root s) 0 (rows - 0) e.id f j (omega arith) (let apart = t.1 in omega (arith, less, apart)))
+      let none : (j : ℕ) → 0 ≤ j → j < 0 + (e.id + 1) → at (reply_shown root) m j ≡ None =
+      λ j low less. ⊎_elim (λ t. ap (at (reply_shown root) m) (sym t.1) ∙ at_killed root s e.id)
+      (λ t. at_other root s e.id j t.1 ∙ none_before (reply_shown root) s (reply_at root s) (reply_same root s) 0 (rows - 0) e.id f j (omega arith) (let apart = t.1 in omega (arith, less, apart)))
       (eqb_tells e.id j) in
-      let later : picks (reply_in root) m 0 rows ≡ picks (reply_in root) s (e.id + 1) rest =
-      ap (picks (reply_in root) m 0) (sym whole) ∙ (passed (reply_in root) m (e.id + 1) 0 rest none ∙ (ap (λ a. picks (reply_in root) m a rest) from)
-      ∙ picks_alike (reply_in root) s m rest (e.id + 1) (λ j low. at_other root s e.id j (λ same. omega (arith, same, low)))) in
-      picks_all (reply_in root) s ∙ (ap (picks (reply_in root) s 0) (sym all)
-      ∙ (some_from (reply_in root) s (reply_at root s) (reply_same root s) rows 0 e.id e f is ∙ ap (λ xs. e ∷ xs) (sym later ∙ sym (picks_all (reply_in root) m))))
+      let later : picks (reply_shown root) m 0 rows ≡ picks (reply_shown root) s (e.id + 1) rest =
+      ap (picks (reply_shown root) m 0) (sym whole) ∙ (passed (reply_shown root) m (e.id + 1) 0 rest none ∙ (ap (λ a. picks (reply_shown root) m a rest) from)
+      ∙ picks_alike (reply_shown root) s m rest (e.id + 1) (λ j low. at_other root s e.id j (λ same. omega (arith, same, low)))) in
+      picks_all (reply_shown root) s ∙ (ap (picks (reply_shown root) s 0) (sym all)
+      ∙ (some_from (reply_shown root) s (reply_at root s) (reply_same root s) rows 0 e.id e f is ∙ ap (λ xs. e ∷ xs) (sym later ∙ sym (picks_all (reply_shown root) m))))
 
 -- a pass that takes replies goes on
 collected_go : (l : Limits) (root : ℕ) (old : PassShown) (found : List Element) (new : PassShown) → TellsCollected l root old found new → Went old new
@@ -158,7 +158,7 @@ module _ (l : Limits) (keeper' : KeeperShown) (news : List PassShown) (h' : List
       let law = alone_collect_next root l keeper keeper' olds news h h' n client old new None (whole l keeper keeper' olds news h h' client n old new a t.0) t.0.turn t.2 in
       let r = collects_none root s (thread_of l news h') law in
       let all : rows_of l - 0 ≡ rows_of l = omega arith in
-      let none : replies_of root s ≡ [] = picks_all (reply_in root) s ∙ (ap (picks (reply_in root) s 0) (sym all) ∙ none_from (reply_in root) s (reply_at root s) (reply_same root s) (rows_of l) 0 r.0) in
+      let none : replies_of root s ≡ [] = picks_all (reply_shown root) s ∙ (ap (picks (reply_shown root) s 0) (sym all) ∙ none_from (reply_shown root) s (reply_at root s) (reply_same root s) (rows_of l) 0 r.0) in
       (sym none, r.1 ∙ ap (with_collected s) (sym none))
   all_collected (e ∷ rest) keeper olds h old a t =
       let s : State = thread_of l olds h in
@@ -174,7 +174,7 @@ module _ (l : Limits) (keeper' : KeeperShown) (news : List PassShown) (h' : List
       let r = collects_some root s m e law in
       let later = all_collected rest keeper mids mid.seen mid (last_part l keeper keeper' olds news h h' client old mid new a first shows on) t.4 in
       let all : rows_of l - 0 ≡ rows_of l = omega arith in
-      let is : at (reply_in root) s e.id ≡ Some e = at_so root s e r.0 r.3 in
+      let is : at (reply_shown root) s e.id ≡ Some e = at_so root s e r.0 r.3 in
       let inside : e.id < rows_of l = inside_so root s e r.0 in
       let less : replies_of root s ≡ e ∷ rest =
       one_less root s e inside r.0 is ∙ ap (λ xs. e ∷ xs) (ap (replies_of root) (sym r.2) ∙ sym later.0) in

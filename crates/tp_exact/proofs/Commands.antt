@@ -22,7 +22,7 @@ use Rattle.tp_perform.specs.Told.{Performs}
 use Rattle.tp_reference.specs.declared.plain_desk.PlainDesk.{PlainDesk}
 use Rattle.tp_reference.specs.PlainClient.{client, client_step}
 use Rattle.tp_reference.specs.PlainReport as plain
-use Rattle.tp_reference.specs.PlainReport.{ReportState, balance_at, command_step, with_manager}
+use Rattle.tp_reference.specs.PlainReport.{ReportState, balance_answer, command_step, with_manager}
 use Rattle.tp_alone.specs.Thread.{AreTogether, Stays, thread_of}
 use Rattle.tp_exact.specs.Acts.{Acts}
 use Rattle.tp_exact.specs.Stands.{IsFor, IsServedBy, SceneOnlyLooks, OnlyLooksAt, StandsAsComputed}
@@ -140,10 +140,10 @@ module _ (servers : List ServerView) (l : Limits) (keeper keeper' : KeeperShown)
 -- ---- registers
 
 -- a register that is told
-pub told_so : (server : ServerView) (k : ℕ) (place : PlaceShown) (d : PlainDesk) (text : List ℕ) → IsFor place d → TellsBalance server.name k place.desk.registers place.is_dropped text → text ≡ balance_at (Some server) (Some d) k
+pub told_so : (server : ServerView) (k : ℕ) (place : PlaceShown) (d : PlainDesk) (text : List ℕ) → IsFor place d → TellsBalance server.name k place.desk.registers place.is_dropped text → text ≡ balance_answer (Some server) (Some d) k
 told_so server k place d text is tells = go place.is_dropped tells is.dropped
   where
-    go : (b : Bool) → TellsBalance server.name k place.desk.registers b text → d.is_dropped ≡ b → text ≡ balance_at (Some server) (Some d) k
+    go : (b : Bool) → TellsBalance server.name k place.desk.registers b text → d.is_dropped ≡ b → text ≡ balance_answer (Some server) (Some d) k
     go true t same = t ∙ sym (ap (λ (c : Bool). if c then line (named_text server.name told.Ended) else line (balance_text server.name k (slice_get d.registers k))) same)
     go false t same = t ∙ (ap (λ rs. line (balance_text server.name k (slice_get rs k))) (sym is.desk.registers) ∙ sym (ap (λ (c : Bool). if c then line (named_text server.name told.Ended) else line (balance_text server.name k (slice_get d.registers k))) same))
 

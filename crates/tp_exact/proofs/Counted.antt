@@ -15,7 +15,7 @@ use Rattle.tp_alone.specs.Laws.{ReadAnswers}
 use Rattle.tp_alone.specs.Thread.{HasSeen, thread_of}
 use Rattle.tp_alone.proofs.Looks.{alone_read}
 use Rattle.tp_commands.specs.Asked.{Called, TellsCount, TellsRead, with_read}
-use Rattle.tp_reference.specs.PlainClient.{client, counted, counts_below}
+use Rattle.tp_reference.specs.PlainClient.{client, count_read, counts_below}
 use Rattle.tp_reference.proofs.ListingLemmas.{counts_more, counts_none}
 use Rattle.tp_exact.specs.Acts.{Acts}
 use Rattle.tp_exact.proofs.Parts.{Went, first_part, idle, last_part, middle, old_shows, seen_by, went_by, went_none, went_on, whole}
@@ -27,7 +27,7 @@ module _ (l : Limits) (keeper keeper' : KeeperShown) (olds news : List PassShown
       let law = alone_read id l keeper keeper' olds news h h' (read_steps l) client old new r (whole l keeper keeper' olds news h h' client (read_steps l) old new a f) f.turn says in
       (ap (λ p. p.0) law, ap (λ p. p.1) law)
 
-  pub read_one : (x : Answer) → TellsRead l id old new x → (r : Result Look Refusal) × ((c : Counts) → with_read x c ≡ counted r c) × (r ≡ read_of (thread_of l olds h) id) × (thread_of l news h' ≡ thread_of l olds h)
+  pub read_one : (x : Answer) → TellsRead l id old new x → (r : Result Look Refusal) × ((c : Counts) → with_read x c ≡ count_read r c) × (r ≡ read_of (thread_of l olds h) id) × (thread_of l news h' ≡ thread_of l olds h)
   read_one (answer.Read look) t = let law = by_read (Ok look) t.0 (t.1, t.3) in (Ok look, λ c. refl, law.0, law.1)
   read_one (answer.Refused why) t = let law = by_read (Err why) t.0 (t.1, t.3) in (Err why, λ c. refl, law.0, law.1)
   read_one other t = absurd t.3
@@ -55,7 +55,7 @@ module _ (l : Limits) (keeper : KeeperShown) (olds : List PassShown) (h : List E
       let read = read_one l keeper keeper' mids news mid.seen h' mid new (last_part l keeper keeper' olds news h h' client old mid new a go.0 go.1 on) id t.2 t.4 in
       let is : read.0 ≡ read_of s id = read.2 ∙ ap (λ (m : State). read_of m id) before.1 in
       let more : suc id ≡ id + 1 = omega arith in
-      let next : counts_below s (suc id) ≡ counted (read_of s id) (counts_below s id) = ap (counts_below s) more ∙ counts_more s id in (
-        t.5 ∙ (read.1 t.0 ∙ (ap (λ r. counted r t.0) is ∙ (ap (counted (read_of s id)) before.0 ∙ sym next))),
+      let next : counts_below s (suc id) ≡ count_read (read_of s id) (counts_below s id) = ap (counts_below s) more ∙ counts_more s id in (
+        t.5 ∙ (read.1 t.0 ∙ (ap (λ r. count_read r t.0) is ∙ (ap (count_read (read_of s id)) before.0 ∙ sym next))),
         read.3 ∙ before.1,
       )

@@ -11,7 +11,7 @@ use Rattle.tp_script.specs.declared.script.Command.{Command}
 use Rattle.tp_script.specs.declared.script.Command.TheVariants as command
 use Rattle.tp_perform.specs.Scenes.{Gathered, Scene}
 use Rattle.tp_perform.specs.Told.{Performs}
-use Rattle.tp_reference.specs.PlainReport.{ReportState, balance_at, command_step}
+use Rattle.tp_reference.specs.PlainReport.{ReportState, balance_answer, command_step}
 use Rattle.tp_exact.specs.Commands.{ExactCommand}
 use Rattle.tp_exact.specs.Stands.{IsFor, StandsAsComputed}
 use Rattle.tp_exact.proofs.Commands.{by_client, idles, racers_kept, summed_so, told_so, zip_at}
@@ -34,7 +34,7 @@ module _ (m : ManagerShown) (head : HeadView) (raced : ℕ) (keeper keeper' : Ke
       let places : done.places ≡ old.places = ap (λ (z : Scene). z.places) t.same in
       let racers = racers_kept m head (command.Balance at k) raced old text done p (ap (λ (z : Scene). z.racers) t.same) in
       let d = zip_at IsFor old.places s.desks at t.place stands.desks t.there in (
-        told_so t.server k t.place d.0 text d.2 t.tells ∙ (ap (λ o. balance_at (Some t.server) o k) (sym d.1) ∙ ap (λ o. balance_at o (slice_get s.desks at) k) (sym t.named)),
+        told_so t.server k t.place d.0 text d.2 t.tells ∙ (ap (λ o. balance_answer (Some t.server) o k) (sym d.1) ∙ ap (λ o. balance_answer o (slice_get s.desks at) k) (sym t.named)),
         idles head.servers m.limits keeper keeper' keeper.seen keeper'.seen old done next s stands places racers (looks m keeper keeper' done next g) (together m keeper keeper' done next g) (ap (λ (z : Scene). z.client) t.same),
       )
   single (command.Sum k) raceless p =

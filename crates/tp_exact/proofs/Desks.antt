@@ -30,7 +30,7 @@ use Rattle.tp_report.specs.declared.answer.ServerAnswer.{ServerAnswer}
 use Rattle.tp_report.specs.declared.answer.ServerAnswer.TheVariants as told
 use Rattle.tp_commands.specs.Acting.{AbortsAt, ClaimsAt, DeskShown, DropsAt, TellsAbort, TellsClaim, TellsDrop, TakesAt, TellsTake}
 use Rattle.tp_reference.specs.declared.plain_desk.PlainDesk.{PlainDesk}
-use Rattle.tp_reference.specs.PlainDesks.{DeskAnswered, abort_step, abort_work, aborted_as, claim_by, claim_step, claimed_as, drop_step, given_up, has_open, in_hand, nothing_done, with_drop, claim_given, given_as, take_step}
+use Rattle.tp_reference.specs.PlainDesks.{DeskAnswered, abort_step, abort_work, aborted_as, claim_in_order, claim_step, claimed_as, drop_step, after_giving_up, has_open, work_in_hand, nothing_done, with_drop, claim_given, given_as, take_step}
 use Rattle.tp_alone.specs.Thread.{Alone, not_given, state_of, thread_of}
 use Rattle.tp_alone.proofs.Aborts.{alone_abort}
 use Rattle.tp_alone.proofs.Claims.{alone_claim, alone_claim_next}
@@ -60,7 +60,7 @@ module _ (recipe : Recipe) (l : Limits) (keeper keeper' : KeeperShown) (olds new
   pub open_so : has_open m c ≡ is_some old.work
   open_so = ap (λ (o : Option ℕ). is_some o) holds ∙ is.open_is
 
-  pub hand_so : in_hand m c d ≡ old.work
+  pub hand_so : work_in_hand m c d ≡ old.work
   hand_so = ap (λ (o : Option ℕ). if is_some o then d.taken else None) holds ∙ is.work
 
   alone : (n : ℕ) → Follows n old.pass new.pass → Alone l keeper keeper' olds news h h' n c old.pass new.pass
@@ -88,7 +88,7 @@ module _ (recipe : Recipe) (l : Limits) (keeper keeper' : KeeperShown) (olds new
   was_shut none = shut_of old.pass.open_unit (is.open_is ∙ ap (λ (o : Option Work). is_some o) none)
 
   module _ (server : IsServerStage recipe.stage) (stage : old.behaviour.stage ≡ recipe.stage) where
-    law_by : (order : Order) (claimed : Claimed) → ClaimsAt order l claimed old new → (claimed, thread_of l news h') ≡ claim_by order m c recipe.stage
+    law_by : (order : Order) (claimed : Claimed) → ClaimsAt order l claimed old new → (claimed, thread_of l news h') ≡ claim_in_order order m c recipe.stage
     law_by orders.LeastFirst claimed f = alone_claim recipe.stage l keeper keeper' olds news h h' (steps_by orders.LeastFirst l) c old.pass new.pass claimed (alone (steps_by orders.LeastFirst l) f.follows) f.turn
         (subst (λ s. ClaimsBy orders.LeastFirst l s old.pass new.pass claimed) stage f.answer)
     law_by orders.InTurn claimed f = alone_claim_next recipe.stage l keeper keeper' olds news h h' (steps_by orders.InTurn l) c old.pass new.pass claimed (alone (steps_by orders.InTurn l) f.follows) server
@@ -97,7 +97,7 @@ module _ (recipe : Recipe) (l : Limits) (keeper keeper' : KeeperShown) (olds new
     done_by : (order : Order) (claimed : Claimed) → ClaimsAt order l claimed old new → claimed_as (claimed, thread_of l news h') d ≡ claim_step order recipe c m d
     done_by order claimed f =
         ap (λ r. claimed_as r d) (law_by order claimed f)
-        ∙ sym (ap (λ (b : Bool). if b then nothing_done told.Busy m d else claimed_as (claim_by order m c recipe.stage) d) (open_so ∙ ap (λ (o : Option Work). is_some o) f.idle))
+        ∙ sym (ap (λ (b : Bool). if b then nothing_done told.Busy m d else claimed_as (claim_in_order order m c recipe.stage) d) (open_so ∙ ap (λ (o : Option Work). is_some o) f.idle))
 
     opened : (order : Order) (work : Work) → ClaimsAt order l (claimeds.Work work) old new → new.pass.open_unit ≡ Some work.unit
     opened orders.LeastFirst work f = f.answer.opens.open_unit
@@ -132,7 +132,7 @@ module _ (recipe : Recipe) (l : Limits) (keeper keeper' : KeeperShown) (olds new
     claims order (told.Turned turneds.NoUnit) t = subst (Exact (told.Turned turneds.NoUnit)) (done_by order claimeds.NoUnit t) (refl, refl, claims_none (used_shut order t) t.work t.server.1)
     claims order told.Busy t =
         let busy : is_some old.work ≡ true = t.0 in
-        subst (Exact told.Busy) (sym (ap (λ (b : Bool). if b then nothing_done told.Busy m d else claimed_as (claim_by order m c recipe.stage) d) (open_so ∙ busy))) (same told.Busy t.1)
+        subst (Exact told.Busy) (sym (ap (λ (b : Bool). if b then nothing_done told.Busy m d else claimed_as (claim_in_order order m c recipe.stage) d) (open_so ∙ busy))) (same told.Busy t.1)
     claims order other t = absurd t
 
     given_other : (id : ℕ) (why : Refusal) (t : thread.State) → ¬ (why ≡ refusals.NoUnit) → given_as id (Err why, t) d ≡ nothing_done (told.NotTaken id why) t d
@@ -202,7 +202,7 @@ module _ (recipe : Recipe) (l : Limits) (keeper keeper' : KeeperShown) (olds new
   aborts told.NoneOpen t = subst (Exact told.NoneOpen) (ap (λ o. abort_work o c m d) (sym (hand_so ∙ t.0))) (same told.NoneOpen t.1)
   aborts other t = absurd t
 
-  given_by : (o : Option ℕ) → old.pass.open_unit ≡ o → EndsOpen o old.pass new.pass → IfSome o (λ _. Follows abort_steps old.pass new.pass) → new.pass.from ≡ old.pass.from → (thread_of l news h' ≡ given_up m c) × (new.pass.open_unit ≡ None)
+  given_by : (o : Option ℕ) → old.pass.open_unit ≡ o → EndsOpen o old.pass new.pass → IfSome o (λ _. Follows abort_steps old.pass new.pass) → new.pass.from ≡ old.pass.from → (thread_of l news h' ≡ after_giving_up m c) × (new.pass.open_unit ≡ None)
   given_by (Some u) at ends follows turn = (
     ap (λ r. r.1) (alone_abort l keeper keeper' olds news h h' abort_steps c old.pass new.pass ends.0 (alone abort_steps follows) turn ends.1)
         ∙ sym (ap (λ (b : Bool). if b then (abort_of m c).1 else m) (ap (λ (o : Option ℕ). is_some o) (holds ∙ at))),
@@ -214,7 +214,7 @@ module _ (recipe : Recipe) (l : Limits) (keeper keeper' : KeeperShown) (olds new
   )
 
   -- what a desk gives up before all end
-  pub gives_up : DropsAt old new → (thread_of l news h' ≡ given_up m c) × IsForDesk new d × (new.pass.open_unit ≡ None)
+  pub gives_up : DropsAt old new → (thread_of l news h' ≡ after_giving_up m c) × IsForDesk new d × (new.pass.open_unit ≡ None)
   gives_up f =
       let t = given_by old.pass.open_unit refl f.gives_up f.follows f.turn in
       (t.0, claims_none t.1 f.none_left f.server.1, t.1)

@@ -25,9 +25,9 @@ use Rattle.tp_perform.specs.Drains.{Drains, NoTurn, Round, RoundsClaim, TurnTake
 use Rattle.tp_perform.specs.Scenes.{Scene, passes_in}
 use Rattle.tp_reference.specs.declared.plain_desk.PlainDesk.{PlainDesk}
 use Rattle.tp_reference.specs.PlainDesks as desks
-use Rattle.tp_reference.specs.PlainDesks.{DeskAnswered, claim_by, has_open, turn_by}
+use Rattle.tp_reference.specs.PlainDesks.{DeskAnswered, claim_in_order, has_open, turn_by}
 use Rattle.tp_reference.specs.PlainReport as plain
-use Rattle.tp_reference.specs.PlainReport.{ReportState, drain_of, most_rounds, round_below, round_of, round_turn, rounds, with_acted, worker}
+use Rattle.tp_reference.specs.PlainReport.{ReportState, drain_of, most_rounds, round_below, round_of, round_turn, drain_rounds, with_acted, worker}
 use Rattle.tp_reference.proofs.DrainEnds.{drains_end, no_more, none_yet, one_more}
 use Rattle.tp_alone.specs.Thread.{not_given, state_of, thread_of}
 use Rattle.tp_exact.specs.Stands.{IsFor, IsForDesk, IsServedBy, StandsAsComputed}
@@ -125,7 +125,7 @@ module _ (servers : List ServerView) (order : Order) (m : ManagerShown) where
       let manager : thread_of l (passes_in new) keeper'.seen ≡ done.manager = law.1 ∙ ap (λ (x : DeskAnswered). x.manager) same in
       let is : IsFor q done.desk = record {
         desk = subst (λ (x : DeskAnswered). IsForDesk q.desk x.desk) same law.2;
-        dropped = kept_turned d.0 by.0.recipe (worker at) (claim_by order s.manager (worker at) by.0.recipe.stage) ∙ (d.2.dropped ∙ sym did.kept);
+        dropped = kept_turned d.0 by.0.recipe (worker at) (claim_in_order order s.manager (worker at) by.0.recipe.stage) ∙ (d.2.dropped ∙ sym did.kept);
       } in
       let stands' = leads_at servers l keeper keeper' keeper.seen keeper'.seen old t.done new s at p q stands t.turns.there t.turns.others t.others.client t.others.racers only after by.0 d.0 done by.1 d.1 did.turn.behaviour_is by.2 manager is in
       subst (λ (r : Bool × ReportState). (b ≡ r.0) × Is keeper' new r.1) (sym (computed at s by.0 d.0 true by.1 d.1 (free_same keeper old s at p d.0 stands t.turns.there d.2 ∙ t.turns.free)))
@@ -163,29 +163,29 @@ module _ (servers : List ServerView) (order : Order) (m : ManagerShown) where
   -- ---- rounds
 
   abbrev After : ℕ → ReportState → ReportState → Type 0
-  After n s t = ((k : ℕ) → rounds order servers (n + k) s ≡ rounds order servers k t) × ((j : ℕ) → j < n → (round_of order servers (rounds order servers j s)).0 ≡ true)
+  After n s t = ((k : ℕ) → drain_rounds order servers (n + k) s ≡ drain_rounds order servers k t) × ((j : ℕ) → j < n → (round_of order servers (drain_rounds order servers j s)).0 ≡ true)
 
   pair_is : (r : Bool × ReportState) (b : Bool) → b ≡ r.0 → r ≡ (b, r.1)
   pair_is r b is = ap (λ c. (c, r.1)) (sym is)
 
   claimed : (n : ℕ) (keeper keeper' : KeeperShown) (old new : Scene) (s : ReportState) → Is keeper old s → RoundsClaim order m n keeper old keeper' new → (t : ReportState) × Is keeper' new t × After n s t
-  claimed zero keeper keeper' old new s stands t = (s, subst (λ k. Is k new s) (sym t.0) (subst (λ z. Is keeper z s) (sym t.1) stands), ((λ k. ap (λ j. rounds order servers j s) (omega arith)), λ j less. absurd (omega (arith, less))))
+  claimed zero keeper keeper' old new s stands t = (s, subst (λ k. Is k new s) (sym t.0) (subst (λ z. Is keeper z s) (sym t.1) stands), ((λ k. ap (λ j. drain_rounds order servers j s) (omega arith)), λ j less. absurd (omega (arith, less))))
   claimed (suc n) keeper keeper' old new s stands t =
       let before = claimed n keeper t.0 old t.1 s stands t.2 in
       let u : ReportState = before.0 in
       let one = round_so t.0 keeper' t.1 new true u before.1 t.3 in
       let next : ReportState = (round_of order servers u).1 in
-      let on : (k : ℕ) → rounds order servers (suc n + k) s ≡ rounds order servers k next = λ k. (
+      let on : (k : ℕ) → drain_rounds order servers (suc n + k) s ≡ drain_rounds order servers k next = λ k. (
       let more : suc n + k ≡ n + suc k = omega arith in
-      ap (λ j. rounds order servers j s) more ∙ (before.2.0 (suc k) ∙ one_more order servers k u next (pair_is (round_of order servers u) true one.0))) in (
+      ap (λ j. drain_rounds order servers j s) more ∙ (before.2.0 (suc k) ∙ one_more order servers k u next (pair_is (round_of order servers u) true one.0))) in (
         next,
         one.1,
         (
           on,
           λ j less. elim (eqb_tells j n) [
             | inl same ↦ (
-                let is : rounds order servers j s ≡ u =
-                ap (λ i. rounds order servers i s) (let e = same.1 in omega (arith, e)) ∙ (before.2.0 0 ∙ none_yet order servers u) in
+                let is : drain_rounds order servers j s ≡ u =
+                ap (λ i. drain_rounds order servers i s) (let e = same.1 in omega (arith, e)) ∙ (before.2.0 0 ∙ none_yet order servers u) in
                 ap (λ (z : ReportState). (round_of order servers z).0) is ∙ sym one.0)
             | inr other ↦ before.2.1 j (let e = other.1 in omega (arith, less, e))
           ],
@@ -228,5 +228,5 @@ module _ (servers : List ServerView) (order : Order) (m : ManagerShown) where
       let k : ℕ = most - suc n in
       let is : most ≡ n + suc k = omega (arith, few) in
       let same : drain_of order servers s ≡ (round_of order servers u).1 =
-      ap (λ j. rounds order servers j s) is ∙ (before.2.0 (suc k) ∙ no_more order servers k u (round_of order servers u).1 (pair_is (round_of order servers u) false last.0)) in
+      ap (λ j. drain_rounds order servers j s) is ∙ (before.2.0 (suc k) ∙ no_more order servers k u (round_of order servers u).1 (pair_is (round_of order servers u) false last.0)) in
       (t.text_is, subst (λ z. Is keeper' new z) (sym same) last.1)

@@ -14,8 +14,8 @@ use Rattle.tp_report.specs.declared.answer.ServerAnswer.TheVariants as told
 use Rattle.tp_reference.specs.PlainDesks.{does, has_open, nothing_done, with_drop}
 use Rattle.tp_reference.specs.PlainReport.{desk_at, with_acted, worker}
 use Rattle.tp_reference.specs.declared.plain_desk.PlainDesk.{PlainDesk}
-use Rattle.tp_script.specs.Commands.{command_at, named, one_server}
-use Rattle.tp_script.specs.Grammar.{act_at, act_by, body_at, body_keyword, late_keyword, late_words, given_by, line_words}
+use Rattle.tp_script.specs.Commands.{command_at, server_named, one_server}
+use Rattle.tp_script.specs.Grammar.{act_said, act_by, body_at, body_keyword, late_keyword, late_words, given_by, line_words}
 use Rattle.tp_script.specs.LineWords.{is_name, known, require}
 use Rattle.tp_script.specs.Script.{HeadView, ServerView}
 use Rattle.tp_script.specs.ServerLines.{server_at, worker_at}
@@ -45,7 +45,7 @@ module _ (name : List ℕ) (place : ℕ) (t : HeadView) (good : is_name name ≡
   asked = acts.Command (Desk place desk.Drop)
 
   server_is : one_server (name ∷ []) t ≡ Ok place
-  unfolding one_server named
+  unfolding one_server server_named
   server_is =
       bind_ok (require (is_name name) BadName) tt (λ _. server_at name t) (ap (λ b. require b BadName) good) ∙ ap (λ o. known o BadName) at
 
@@ -53,8 +53,8 @@ module _ (name : List ℕ) (place : ℕ) (t : HeadView) (good : is_name name ≡
   unfolding command_at
   command_is = bind_ok (one_server (name ∷ []) t) place (λ server. Ok (Desk server desk.Drop)) server_is
 
-  act_is : act_at drivers.Session (verb.Desk desk.Drop) (name ∷ []) t ≡ Ok asked
-  unfolding act_at
+  act_is : act_said drivers.Session (verb.Desk desk.Drop) (name ∷ []) t ≡ Ok asked
+  unfolding act_said
   act_is =
       ap (λ b. act_by drivers.Session (if b then worker_at name t else None) (verb.Desk desk.Drop) (name ∷ []) t) good
       ∙ ap (λ o. act_by drivers.Session o (verb.Desk desk.Drop) (name ∷ []) t) no_worker
@@ -62,7 +62,7 @@ module _ (name : List ℕ) (place : ℕ) (t : HeadView) (good : is_name name ≡
 
   words_read : (clients : List ClientNote) → late_words (codes "drop" ∷ name ∷ []) clients t ≡ Ok (t, Some asked)
   unfolding late_words late_keyword body_keyword
-  words_read clients = bind_ok (act_at drivers.Session (verb.Desk desk.Drop) (name ∷ []) t) asked (λ a. Ok (t, Some a)) act_is
+  words_read clients = bind_ok (act_said drivers.Session (verb.Desk desk.Drop) (name ∷ []) t) asked (λ a. Ok (t, Some a)) act_is
 
   pub drop_reads : (clients : List ClientNote) → body_at (codes "drop " ++ name) clients t ≡ Ok (t, Some asked)
   unfolding body_at

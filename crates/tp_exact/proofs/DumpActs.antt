@@ -15,7 +15,7 @@ use Rattle.tp_alone.proofs.Idle.{alone_idle}
 use Rattle.tp_session.specs.Dump.{dump_lines, dump_text}
 use Rattle.tp_session.specs.declared.hand.Holding.{Holding}
 use Rattle.tp_session.specs.Live.{FoundAlive, Live, LiveGathers, LiveLooks, TellsDump, lines_of}
-use Rattle.tp_exact.specs.Alive.{alive_of}
+use Rattle.tp_exact.specs.Alive.{survivors_now}
 use Rattle.tp_exact.specs.Dumps.{DumpComputed, ExactDump}
 use Rattle.tp_exact.specs.PlainSession.{SessionState, dump_of, session_desk_open}
 use Rattle.tp_exact.specs.Sessions.{StandsLive}
@@ -75,10 +75,10 @@ module _ (head : Head) (old : Live) (s : SessionState) (is : StandsLive (head_vi
         }
 
   -- all that is alive is computed
-  pub alive_so : (done : Live) (survivors : List Survivor) → LiveLooks old done → FoundAlive old survivors done → survivors ≡ alive_of s.report.manager
+  pub alive_so : (done : Live) (survivors : List Survivor) → LiveLooks old done → FoundAlive old survivors done → survivors ≡ survivors_now s.report.manager
   alive_so done survivors looks found =
       described_so l done.stand.keeper.seen survivors found.together.legal found.found
-      ∙ ap alive_of (same done looks.manager found.together looks.looked.passes)
+      ∙ ap survivors_now (same done looks.manager found.together looks.looked.passes)
 
   abbrev registers_now : List (List ℕ)
   registers_now = map (λ d. d.registers) s.report.desks
@@ -86,7 +86,7 @@ module _ (head : Head) (old : Live) (s : SessionState) (is : StandsLive (head_vi
   abbrev dropped_now : List Bool
   dropped_now = map (λ d. d.is_dropped) s.report.desks
 
-  lines_so : (survivors : List Survivor) → survivors ≡ alive_of s.report.manager → lines_of h old survivors ≡ dump_of h s
+  lines_so : (survivors : List Survivor) → survivors ≡ survivors_now s.report.manager → lines_of h old survivors ≡ dump_of h s
   lines_so survivors alive =
       ap (λ rs. dump_lines h rs (map (λ p. p.is_dropped) old.stand.scene.places) old.works old.notes survivors) (registers_are old.stand.scene.places s.report.desks is.stands.desks)
       ∙ (ap (λ ds. dump_lines h registers_now ds old.works old.notes survivors) (dropped_are old.stand.scene.places s.report.desks is.stands.desks)

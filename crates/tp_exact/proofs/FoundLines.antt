@@ -26,7 +26,7 @@ use Rattle.tp_script.specs.Grammar.{head_at}
 use Rattle.tp_script.specs.Holders.{is_holder}
 use Rattle.tp_session.specs.Dump.{attempts_of, holds_one, life_text}
 use Rattle.tp_session.specs.Told.{HeadLine, HeadLines}
-use Rattle.tp_exact.specs.AliveReads.{FoundLinesRead, IsBody64, IsFit, IsFreeWorker, IsWorkersPass}
+use Rattle.tp_exact.specs.AliveReads.{FoundLinesRead, IsBody64, FitsLine, IsFreeWorker, IsWorkersPass}
 use Rattle.tp_exact.specs.Dumps.{line_of, tries_of}
 use Rattle.tp_exact.proofs.AliveReads.{alive_line_reads, held_line_reads}
 use Rattle.tp_exact.proofs.HoldsOnce.{AreOneEach, one_each}
@@ -131,7 +131,7 @@ module _ (l : Limits) (h : List Event) (limits : AreLimits l) (legal : IsLegal l
   some_same : (x y : Element) (o : Option Element) → o ≡ Some x → o ≡ Some y → x ≡ y
   some_same x y o p q = let e : Some x ≡ Some y = sym p ∙ q in cc
 
-  fit : (s : Survivor) → IsSurvivor l h s → IsBody64 s.body → IsBody64 s.root_body → IsFit s
+  fit : (s : Survivor) → IsSurvivor l h s → IsBody64 s.body → IsBody64 s.root_body → FitsLine s
   fit s is body root_body = record {
     id = row s.id is.item is.born;
     root = row s.root is.request is.began;
@@ -146,7 +146,7 @@ module _ (l : Limits) (h : List Event) (limits : AreLimits l) (legal : IsLegal l
   }
 
   -- one line, whether a pass holds the element or not
-  one_read : (workers : List WorkerView) (first : ℕ) (s : Survivor) (head : HeadView) → IsFit s → Holds workers first head s.holder → length head.alive < MAX_ALIVE
+  one_read : (workers : List WorkerView) (first : ℕ) (s : Survivor) (head : HeadView) → FitsLine s → Holds workers first head s.holder → length head.alive < MAX_ALIVE
       → head_at (life_text workers first s) head ≡ Ok (record head { alive = head.alive ++ line_of first s ∷ [] }, None)
   one_read workers first s head fit holds room = by_holder s.holder refl holds
     where

@@ -7,7 +7,7 @@ use Rattle.tp_script.specs.Script.{ServerView}
 use Rattle.tp_commands.specs.Acting.{PlaceShown}
 use Rattle.tp_perform.specs.GivingUp.{GiveUpBelow, DeskGivesUp}
 use Rattle.tp_perform.specs.Scenes.{Scene, passes_in}
-use Rattle.tp_reference.specs.PlainDesks.{given_up}
+use Rattle.tp_reference.specs.PlainDesks.{after_giving_up}
 use Rattle.tp_reference.specs.PlainReport.{ReportState, ended_below, worker}
 use Rattle.tp_exact.specs.Stands.{IsFor, IsServedBy, StandsAsComputed}
 use Rattle.tp_exact.proofs.Commands.{served_all, still_all, zip_at}
@@ -26,7 +26,7 @@ module _ (servers : List ServerView) (m : ManagerShown) where
   Is keeper z s = StandsAsComputed servers m.limits keeper keeper.seen z s
 
   gives : (at : ℕ) (keeper keeper' : KeeperShown) (old new : Scene) (s : ReportState) → Is keeper old s → DeskGivesUp m at keeper old keeper' new
-      → Is keeper' new (with_state s (given_up s.manager (worker at)))
+      → Is keeper' new (with_state s (after_giving_up s.manager (worker at)))
   gives at keeper keeper' old new s stands t =
       let p : PlaceShown = t.gives_up.old in
       let q : PlaceShown = t.gives_up.new in
@@ -41,7 +41,7 @@ module _ (servers : List ServerView) (m : ManagerShown) where
       let by_it : IsServedBy q by.0 = record { behaviour = did.drops.server.0 ∙ by.2.behaviour; stage = by.2.stage } in
       record {
         together = after;
-        manager = ap (λ (x : thread.State). given_up x (worker at)) stands.manager ∙ sym law.0;
+        manager = ap (λ (x : thread.State). after_giving_up x (worker at)) stands.manager ∙ sym law.0;
         desks = still_all t.done.places new.places s.desks only.places (subst (λ ps. AllZip IsFor ps s.desks) (sym t.gives_up.others) (zip_beside IsFor old.places s.desks at q d.0 stands.desks d.1 is));
         served = served_all t.done.places new.places servers only.places (subst (λ ps. AllZip IsServedBy ps servers) (sym t.gives_up.others) (zip_beside IsServedBy old.places servers at q by.0 stands.served by.1 by_it));
       }

@@ -4,10 +4,10 @@ use Rattle.std.specs.Prelude.{is_none, position, slice_set}
 use Rattle.std.specs.List.{list_any}
 use Rattle.std.specs.Str.{bytes_eq}
 use Rattle.tp_script.specs.Clients.{client_words, forget_at, last_at, last_by, noted_at, receive_at, receive_least, receive_of, register_at, send_of, send_words}
-use Rattle.tp_script.specs.Commands.{SubmitWords, balance_at, command_at, named, one_server, stage_at, submit_body, take_at}
-use Rattle.tp_script.specs.Grammar.{act_at, act_by, body_at, body_keyword, ends_head, given_by, is_named, late_keyword, late_words, line_words, out_of_order, with_head, worker_act, worker_of}
+use Rattle.tp_script.specs.Commands.{SubmitWords, balance_at, command_at, server_named, one_server, stage_at, submit_body, take_at}
+use Rattle.tp_script.specs.Grammar.{act_said, act_by, body_at, body_keyword, ends_head, given_by, is_named, late_keyword, late_words, line_words, out_of_order, with_head, worker_act, worker_of}
 use Rattle.tp_script.specs.Keyword.{keyword}
-use Rattle.tp_script.specs.LineWords.{◌>>=◌, is_name, known, none, number_at, one, ordinal_at, require, three, two}
+use Rattle.tp_script.specs.LineWords.{◌>>=◌, is_name, known, no_word, number_at, one_word, ordinal_at, require, three, two}
 use Rattle.tp_script.specs.Script.{HeadView, ServerView, WorkerView}
 use Rattle.tp_script.specs.ServerLines.{free_name, server_at, shape_at, worker_at}
 use Rattle.tp_script.specs.declared.fault.LineFault.{LineFault}
@@ -62,8 +62,8 @@ module _ (g h : HeadView) (same : SameNames g h) where
       ap (λ o. require (is_name name && is_none o) BadName >>= λ _. require (is_none (worker_at name g)) BadName >>= λ _. Ok (record { letters = name })) (same.servers name)
       ∙ ap (λ o. require (is_name name && is_none (position (λ (v : ServerView). bytes_eq v.name name) h.servers)) BadName >>= λ _. require (is_none o) BadName >>= λ _. Ok (record { letters = name })) (same_worker name)
 
-  same_named : (name : List ℕ) → named name g ≡ named name h
-  unfolding named
+  same_named : (name : List ℕ) → server_named name g ≡ server_named name h
+  unfolding server_named
   same_named name = ap (λ r. require (is_name name) BadName >>= λ _. r) (same_server name)
 
   same_one : (ws : List (List ℕ)) → one_server ws g ≡ one_server ws h
@@ -162,8 +162,8 @@ module _ (g h : HeadView) (same : SameNames g h) where
   same_by d None v ws = then_same _ (same_command v ws)
   same_by d (Some worker) v ws = refl
 
-  same_act : (d : Driver) (v : Verb) (ws : List (List ℕ)) → act_at d v ws g ≡ act_at d v ws h
-  unfolding act_at
+  same_act : (d : Driver) (v : Verb) (ws : List (List ℕ)) → act_said d v ws g ≡ act_said d v ws h
+  unfolding act_said
   same_act d v ws = ap (λ o. act_by d o v ws g) (same_worker_of v ws) ∙ same_by d (worker_of v ws h) v ws
 
   same_keyword : (d : Driver) (k : Keyword) (ws : List (List ℕ)) → body_keyword d k ws g ≡ body_keyword d k ws h
@@ -262,7 +262,7 @@ module _ (g h : HeadView) (same : SameNames g h) where
   same_late clients first.Start ws = same_ends first.Start ws
   same_late clients first.Worker ws = then_carried (two ws) (λ w. join_line w clients g) (λ w. join_line w clients h) (same_join clients)
   same_late clients first.Workers ws = same_ends first.Workers ws
-  same_late clients first.Leave ws = then_carried (one ws) (λ w. leave_line w g) (λ w. leave_line w h) same_leave
+  same_late clients first.Leave ws = then_carried (one_word ws) (λ w. leave_line w g) (λ w. leave_line w h) same_leave
   same_late clients first.Alive ws = same_ends first.Alive ws
   same_late clients first.Held ws = same_ends first.Held ws
   same_late clients first.Lost ws = same_ends first.Lost ws
@@ -326,8 +326,8 @@ module _ (h : HeadView) where
   unfolding noted_at last_at forget_at
   never_noted noted.Send ws = never_bound (send_words ws) _ never_sent
   never_noted noted.Receive ws = never_receive ws
-  never_noted noted.Last ws = never_bound (one ws) _ (λ name. never_last (worker_at name h) name)
-  never_noted noted.Forget ws = never_bound (one ws) _ (λ name. never_bound (free_name name h) _ (λ n. tt))
+  never_noted noted.Last ws = never_bound (one_word ws) _ (λ name. never_last (worker_at name h) name)
+  never_noted noted.Forget ws = never_bound (one_word ws) _ (λ name. never_bound (free_name name h) _ (λ n. tt))
 
   never_given : (d : Driver) (c : Command) → IsOther (given_by d c)
   never_given drivers.Script c = tt
@@ -341,25 +341,25 @@ module _ (h : HeadView) where
   never_by d None v ws = never_bound (command_at v ws h) _ (never_given d)
   never_by d (Some worker) v ws = never_bound (worker_act v ws) _ (λ a. tt)
 
-  never_act : (d : Driver) (v : Verb) (ws : List (List ℕ)) → IsOther (act_at d v ws h)
-  unfolding act_at
+  never_act : (d : Driver) (v : Verb) (ws : List (List ℕ)) → IsOther (act_said d v ws h)
+  unfolding act_said
   never_act d v ws = never_by d (worker_of v ws h) v ws
 
   never_register : (ws : List (List ℕ)) → IsOther (register_at ws h)
   unfolding register_at
-  never_register ws = never_bound (one ws) _ (λ name. never_bound (free_name name h) _ (λ n. tt))
+  never_register ws = never_bound (one_word ws) _ (λ name. never_bound (free_name name h) _ (λ n. tt))
 
   never_keyword : (d : Driver) (k : Keyword) (ws : List (List ℕ)) → IsOther (body_keyword d k ws h)
   unfolding body_keyword
-  never_keyword d first.Rows ws = never_ordered (one ws)
-  never_keyword d first.Units ws = never_ordered (one ws)
-  never_keyword d first.Limit ws = never_ordered (one ws)
-  never_keyword d first.Spare ws = never_ordered (one ws)
+  never_keyword d first.Rows ws = never_ordered (one_word ws)
+  never_keyword d first.Units ws = never_ordered (one_word ws)
+  never_keyword d first.Limit ws = never_ordered (one_word ws)
+  never_keyword d first.Spare ws = never_ordered (one_word ws)
   never_keyword d first.Server ws = never_ordered (shape_at ws)
   never_keyword d first.Start ws = never_ordered (three ws)
   never_keyword d first.Worker ws = never_ordered (two ws)
-  never_keyword d first.Workers ws = never_ordered (one ws)
-  never_keyword d first.Leave ws = never_ordered (one ws)
+  never_keyword d first.Workers ws = never_ordered (one_word ws)
+  never_keyword d first.Leave ws = never_ordered (one_word ws)
   never_keyword d first.Alive ws = never_ordered (alive_words ws)
   never_keyword d first.Held ws = never_ordered (held_words ws)
   never_keyword d first.Lost ws = never_ordered (two ws)
@@ -368,10 +368,10 @@ module _ (h : HeadView) where
   never_keyword d first.Ended ws = never_ordered (ended_words ws)
   never_keyword d first.Register ws = never_register ws
   never_keyword d (first.Noted v) ws = never_noted v ws
-  never_keyword d first.Restore ws = never_ordered (none ws)
-  never_keyword d first.Dump ws = never_bound (none ws) _ (λ _. tt)
-  never_keyword d first.Account ws = never_bound (none ws) _ (λ _. tt)
-  never_keyword d (first.Overview what) ws = never_bound (none ws) _ (λ _. tt)
+  never_keyword d first.Restore ws = never_ordered (no_word ws)
+  never_keyword d first.Dump ws = never_bound (no_word ws) _ (λ _. tt)
+  never_keyword d first.Account ws = never_bound (no_word ws) _ (λ _. tt)
+  never_keyword d (first.Overview what) ws = never_bound (no_word ws) _ (λ _. tt)
   never_keyword d (first.Do v) ws = never_act d v ws
 
   asks_none : (k : Keyword) (ws : List (List ℕ)) (a : Act) → body_keyword drivers.Session k ws h ≡ Ok a → IsNoRestore a

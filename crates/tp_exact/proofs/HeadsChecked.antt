@@ -25,10 +25,10 @@ use Rattle.tp_script.specs.declared.keyword.NotedVerb.{NotedVerb}
 use Rattle.tp_script.specs.declared.keyword.NotedVerb.TheVariants as verbs
 use Rattle.tp_script.specs.declared.notes.NotedAct.{NotedAct}
 use Rattle.tp_script.specs.declared.notes.NotedAct.TheVariants as asks
-use Rattle.tp_script.specs.Grammar.{act_at, act_by, body_keyword, body_words, given_by, head_at, head_words, line_words, out_of_order, worker_act, worker_of}
+use Rattle.tp_script.specs.Grammar.{act_said, act_by, body_keyword, body_words, given_by, head_at, head_words, line_words, out_of_order, worker_act, worker_of}
 use Rattle.tp_script.specs.ServerLines.{worker_at}
 use Rattle.tp_script.specs.Keyword.{keyword}
-use Rattle.tp_script.specs.LineWords.{◌>>=◌, known, none, number_at, one, ordinal_at, require, three, two}
+use Rattle.tp_script.specs.LineWords.{◌>>=◌, known, no_word, number_at, one_word, ordinal_at, require, three, two}
 use Rattle.tp_script.specs.Passes.{is_race, racers_of}
 use Rattle.tp_script.specs.Script.{HeadView, ScriptView, passes}
 use Rattle.tp_script.specs.ServerLines.{free_name, shape_at}
@@ -171,8 +171,8 @@ by_raceless (Some worker) v ws h c is = let a = went (worker_act v ws) (λ x. Ok
     other : {x : _} → acts.Worker worker x ≡ acts.Command c → ⊥
     other e = cc
 
-act_raceless : (v : Verb) (ws : List (List ℕ)) (h : HeadView) (c : Command) → act_at drivers.Session v ws h ≡ Ok (acts.Command c) → is_race c ≡ false
-unfolding act_at
+act_raceless : (v : Verb) (ws : List (List ℕ)) (h : HeadView) (c : Command) → act_said drivers.Session v ws h ≡ Ok (acts.Command c) → is_race c ≡ false
+unfolding act_said
 act_raceless v ws h c is = by_raceless (worker_of v ws h) v ws h c is
 
 -- ---- what clients of whom notes are kept ask for is no command
@@ -198,7 +198,7 @@ is_last worker c is = absurd (other (went_to (acts.Last worker) (acts.Command c)
 
 register_none : (ws : List (List ℕ)) (h : HeadView) → NoCommand (register_at ws h)
 unfolding register_at
-register_none ws h = none_then (one ws) _ (λ w. none_then (free_name w h) _ (λ name. is_noted name asks.Register))
+register_none ws h = none_then (one_word ws) _ (λ w. none_then (free_name w h) _ (λ name. is_noted name asks.Register))
 
 send_none : (w : List ℕ × List ℕ × SubmitWords) (h : HeadView) → NoCommand (send_of w h)
 unfolding send_of
@@ -230,11 +230,11 @@ last_by_none None name h = none_then (free_name name h) _ (λ free. is_noted fre
 
 last_none : (ws : List (List ℕ)) (h : HeadView) → NoCommand (last_at ws h)
 unfolding last_at
-last_none ws h = none_then (one ws) _ (λ name. last_by_none (worker_at name h) name h)
+last_none ws h = none_then (one_word ws) _ (λ name. last_by_none (worker_at name h) name h)
 
 forget_none : (ws : List (List ℕ)) (h : HeadView) → NoCommand (forget_at ws h)
 unfolding forget_at
-forget_none ws h = none_then (one ws) _ (λ w. none_then (free_name w h) _ (λ name. is_noted name asks.Forget))
+forget_none ws h = none_then (one_word ws) _ (λ w. none_then (free_name w h) _ (λ name. is_noted name asks.Forget))
 
 noted_none : (v : NotedVerb) (ws : List (List ℕ)) (h : HeadView) → NoCommand (noted_at v ws h)
 unfolding noted_at
@@ -247,15 +247,15 @@ noted_none verbs.Forget ws h = forget_none ws h
 
 pub keyword_raceless : (k : Keyword) (ws : List (List ℕ)) (h : HeadView) (c : Command) → body_keyword drivers.Session k ws h ≡ Ok (acts.Command c) → is_race c ≡ false
 unfolding body_keyword
-keyword_raceless first.Rows ws h c is = absurd (never_in_order (one ws) (acts.Command c) is)
-keyword_raceless first.Units ws h c is = absurd (never_in_order (one ws) (acts.Command c) is)
-keyword_raceless first.Limit ws h c is = absurd (never_in_order (one ws) (acts.Command c) is)
-keyword_raceless first.Spare ws h c is = absurd (never_in_order (one ws) (acts.Command c) is)
+keyword_raceless first.Rows ws h c is = absurd (never_in_order (one_word ws) (acts.Command c) is)
+keyword_raceless first.Units ws h c is = absurd (never_in_order (one_word ws) (acts.Command c) is)
+keyword_raceless first.Limit ws h c is = absurd (never_in_order (one_word ws) (acts.Command c) is)
+keyword_raceless first.Spare ws h c is = absurd (never_in_order (one_word ws) (acts.Command c) is)
 keyword_raceless first.Server ws h c is = absurd (never_in_order (shape_at ws) (acts.Command c) is)
 keyword_raceless first.Start ws h c is = absurd (never_in_order (three ws) (acts.Command c) is)
 keyword_raceless first.Worker ws h c is = absurd (never_in_order (two ws) (acts.Command c) is)
-keyword_raceless first.Workers ws h c is = absurd (never_in_order (one ws) (acts.Command c) is)
-keyword_raceless first.Leave ws h c is = absurd (never_in_order (one ws) (acts.Command c) is)
+keyword_raceless first.Workers ws h c is = absurd (never_in_order (one_word ws) (acts.Command c) is)
+keyword_raceless first.Leave ws h c is = absurd (never_in_order (one_word ws) (acts.Command c) is)
 keyword_raceless first.Alive ws h c is = absurd (never_in_order (alive_words ws) (acts.Command c) is)
 keyword_raceless first.Held ws h c is = absurd (never_in_order (held_words ws) (acts.Command c) is)
 keyword_raceless first.Lost ws h c is = absurd (never_in_order (two ws) (acts.Command c) is)
@@ -264,22 +264,22 @@ keyword_raceless first.Request ws h c is = absurd (never_in_order (two ws) (acts
 keyword_raceless first.Ended ws h c is = absurd (never_in_order (ended_words ws) (acts.Command c) is)
 keyword_raceless first.Register ws h c is = absurd (register_none ws h c is)
 keyword_raceless (first.Noted v) ws h c is = absurd (noted_none v ws h c is)
-keyword_raceless first.Restore ws h c is = absurd (never_in_order (none ws) (acts.Command c) is)
+keyword_raceless first.Restore ws h c is = absurd (never_in_order (no_word ws) (acts.Command c) is)
 keyword_raceless (first.Do v) ws h c is = act_raceless v ws h c is
 keyword_raceless first.Account ws h c is =
-    let b = went (none ws) (λ u. Ok acts.Account) (acts.Command c) is in
+    let b = went (no_word ws) (λ u. Ok acts.Account) (acts.Command c) is in
     absurd (other (went_to acts.Account (acts.Command c) b.2))
   where
     other : acts.Account ≡ acts.Command c → ⊥
     other e = cc
 keyword_raceless first.Dump ws h c is =
-    let b = went (none ws) (λ u. Ok acts.Dump) (acts.Command c) is in
+    let b = went (no_word ws) (λ u. Ok acts.Dump) (acts.Command c) is in
     absurd (other (went_to acts.Dump (acts.Command c) b.2))
   where
     other : acts.Dump ≡ acts.Command c → ⊥
     other e = cc
 keyword_raceless (first.Overview what) ws h c is =
-    let b = went (none ws) (λ u. Ok (acts.Overview what)) (acts.Command c) is in
+    let b = went (no_word ws) (λ u. Ok (acts.Overview what)) (acts.Command c) is in
     absurd (other (went_to (acts.Overview what) (acts.Command c) b.2))
   where
     other : acts.Overview what ≡ acts.Command c → ⊥

@@ -5,7 +5,7 @@ use Rattle.std.specs.List.{list_any}
 use Rattle.tp_script.specs.Commands.{stage_at}
 use Rattle.tp_script.specs.Grammar.{body_at, body_keyword, ends_head, late_keyword, late_words, line_words, with_head}
 use Rattle.tp_script.specs.Keyword.{keyword}
-use Rattle.tp_script.specs.LineWords.{◌>>=◌, is_name, known, one, require, two}
+use Rattle.tp_script.specs.LineWords.{◌>>=◌, is_name, known, one_word, require, two}
 use Rattle.tp_script.specs.Notes.{NameView}
 use Rattle.tp_script.specs.Once.{is_note_of}
 use Rattle.tp_script.specs.Passes.{is_race}
@@ -29,7 +29,7 @@ Said = Result (HeadView × Option Act) LineFault
 
 -- a line behind the head is one that a script may have too, or a worker comes or goes by it
 pub late_as : (k : Keyword) (ws : List (List ℕ)) (clients : List ClientNote) (h : HeadView) → (late_keyword k ws clients h ≡ ends_head h (body_keyword drivers.Session k ws h))
-    ⊎ ((late_keyword k ws clients h ≡ with_head (two ws >>= λ w. join_line w clients h)) ⊎ (late_keyword k ws clients h ≡ with_head (one ws >>= λ w. leave_line w h)))
+    ⊎ ((late_keyword k ws clients h ≡ with_head (two ws >>= λ w. join_line w clients h)) ⊎ (late_keyword k ws clients h ≡ with_head (one_word ws >>= λ w. leave_line w h)))
 unfolding late_keyword
 late_as first.Rows ws clients h = inl refl
 late_as first.Units ws clients h = inl refl
@@ -111,7 +111,7 @@ module _ (P : HeadView → Option Act → Type 0) where
           | inl e ↦ subst (OfSaid P) (sym e) (bound (body_keyword drivers.Session k ws h) (λ a. Ok (h, Some a)) (λ a is. asked k ws a is))
           | inr e ↦ elim e [
             | inl j ↦ subst (OfSaid P) (sym j) (with_bound (two ws) (λ w. join_line w clients h) joins)
-            | inr l ↦ subst (OfSaid P) (sym l) (with_bound (one ws) (λ w. leave_line w h) leaves)
+            | inr l ↦ subst (OfSaid P) (sym l) (with_bound (one_word ws) (λ w. leave_line w h) leaves)
           ]
         ]
 

@@ -7,7 +7,7 @@ use Rattle.std.proofs.lemmas.Fmt.{decimal_nonempty, length-decimal-le}
 use Rattle.std.proofs.lemmas.List.{length-append}
 use Rattle.tp_model.proofs.Bridges.{append_nil}
 use Rattle.tp_rollover.specs.declared.survivors.Survivor.{Survivor}
-use Rattle.tp_script.specs.Grammar.{head_at, head_keyword, head_words, line_words, lost_line, with_lost}
+use Rattle.tp_script.specs.Grammar.{head_at, head_keyword, head_words, line_words, lost_line, with_lost_line}
 use Rattle.tp_script.specs.Hands.{free_worker}
 use Rattle.tp_script.specs.Holders.{is_holder}
 use Rattle.tp_script.specs.LineWords.{number_at}
@@ -81,7 +81,7 @@ module _ (name : List ℕ) (small : Bytes 33 126 name) (letters : 0 < length nam
 
   module _ (worker : ℕ) (h : HeadView) (free : free_worker name h ≡ Ok worker) where
     abbrev next : HeadView
-    next = with_lost (record { worker = worker; element = element }) h
+    next = with_lost_line (record { worker = worker; element = element }) h
 
     line_is : lost_line (name, decimal element) h ≡ Ok next
     unfolding lost_line
@@ -150,7 +150,7 @@ module _ (workers : List WorkerView) (first : ℕ) (works : List Holding) (ss : 
   none_more : (n : ℕ) → with_more_lost n [] ≡ behind_first n
   none_more n = ap (λ ls. record h { lost = ls }) (append_nil (h.lost ++ all_lost first works ss n))
 
-  one_taken : (n element : ℕ) (w : WorkerView) → IsFreeWorker w.name n h → element < 2 ^ 32 → AreTaken (dumps.lost_line w (Some element)) (behind_first n) (with_more_lost n (lost_told n (Some element)))
+  one_taken : (n element : ℕ) (w : WorkerView) → IsFreeWorker w.name n h → element < 2 ^ 32 → AreTaken (dumps.lost_dump_line w (Some element)) (behind_first n) (with_more_lost n (lost_told n (Some element)))
   one_taken n element w free within =
       let so = place_short w.name free.named in
       let now = still_free n w.name free in (
@@ -163,7 +163,7 @@ module _ (workers : List WorkerView) (first : ℕ) (works : List Holding) (ss : 
   place_taken n w None there_is has = none_more n
   place_taken n w (Some work) there_is has = go (lost_element (holds_one (first + n) ss) work) refl
     where
-      go : (e : Option ℕ) → lost_element (holds_one (first + n) ss) work ≡ e → AreTaken (dumps.lost_line w e) (behind_first n) (with_more_lost n (lost_told n e))
+      go : (e : Option ℕ) → lost_element (holds_one (first + n) ss) work ≡ e → AreTaken (dumps.lost_dump_line w e) (behind_first n) (with_more_lost n (lost_told n e))
       go None is = none_more n
       go (Some element) is = let good = each n element w work there_is has is in one_taken n element w good.0 good.1
 

@@ -16,7 +16,7 @@ use Rattle.tp_server.specs.declared.recipe.AmountFrom.TheVariants as amounts
 use Rattle.tp_server.specs.declared.recipe.KeyFrom.{KeyFrom}
 use Rattle.tp_server.specs.declared.recipe.KeyFrom.TheVariants as keys
 use Rattle.tp_server.specs.declared.recipe.Output.{Output}
-use Rattle.tp_script.specs.LineWords.{◌>>=◌, act_at, act_named, amount_at, is_output, key_at, kind_at, number_at, output_at, outputs_at, place_at, three}
+use Rattle.tp_script.specs.LineWords.{◌>>=◌, act_and_place, act_named, amount_at, has_two_colons, key_at, kind_at, number_at, output_at, outputs_at, place_at, three}
 use Rattle.tp_script.specs.declared.fault.LineFault.{LineFault}
 use Rattle.tp_script.specs.declared.script.Kind.{Kind}
 use Rattle.tp_script.specs.declared.script.Kind.TheVariants as kinds
@@ -127,7 +127,7 @@ module _ (o : Output) (fit : IsFitOutput o) where
       ∙ ap (λ n. 1 + n) (counted 58 (key_text o.key) _ key.no_colon_in
       ∙ ap (λ n. 1 + n) (uncounted 58 (amount_text o.amount) amount.no_colon_in))
 
-  is_one : is_output (out_word o) ≡ true
+  is_one : has_two_colons (out_word o) ≡ true
   is_one = ap (λ n. n == 2) colons_are
 
   output_reads : output_at (out_word o) ≡ Ok o
@@ -159,9 +159,9 @@ pub outs_words : (os : List Output) → ((o : Output) → In o os → IsFitOutpu
 outs_words [] fit = tt
 outs_words (o ∷ os) fit = (out_is_word o (fit o here), outs_words os (λ p at. fit p (there at)))
 
-pub outs_one : (os : List Output) → ((o : Output) → In o os → IsFitOutput o) → list_all is_output (map out_word os) ≡ true
+pub outs_one : (os : List Output) → ((o : Output) → In o os → IsFitOutput o) → list_all has_two_colons (map out_word os) ≡ true
 outs_one [] fit = refl
-outs_one (o ∷ os) fit = and_true (is_output (out_word o)) (list_all is_output (map out_word os)) (is_one o (fit o here)) (outs_one os (λ p at. fit p (there at)))
+outs_one (o ∷ os) fit = and_true (has_two_colons (out_word o)) (list_all has_two_colons (map out_word os)) (is_one o (fit o here)) (outs_one os (λ p at. fit p (there at)))
 
 pub outs_read : (os : List Output) → ((o : Output) → In o os → IsFitOutput o) → outputs_at (map out_word os) ≡ Ok os
 unfolding outputs_at
@@ -181,23 +181,23 @@ two_is = decimal_digit 2 (omega arith)
 three_is : decimal 3 ≡ codes "3"
 three_is = decimal_digit 3 (omega arith)
 
-act_one : (a : Act) → act_at (act_word a 1) ≡ Ok (a, 1)
-unfolding act_at act_named place_at
+act_one : (a : Act) → act_and_place (act_word a 1) ≡ Ok (a, 1)
+unfolding act_and_place act_named place_at
 act_one act.Add = refl
 act_one act.Take = refl
 act_one act.Pass = refl
 
-act_two : (a : Act) → act_at (act_word a 2) ≡ Ok (a, 2)
-unfolding act_at act_named place_at
-act_two act.Add = ap (λ d. act_at (codes "add" ++ (58 ∷ d))) two_is
-act_two act.Take = ap (λ d. act_at (codes "take" ++ (58 ∷ d))) two_is
-act_two act.Pass = ap (λ d. act_at (codes "pass" ++ (58 ∷ d))) two_is
+act_two : (a : Act) → act_and_place (act_word a 2) ≡ Ok (a, 2)
+unfolding act_and_place act_named place_at
+act_two act.Add = ap (λ d. act_and_place (codes "add" ++ (58 ∷ d))) two_is
+act_two act.Take = ap (λ d. act_and_place (codes "take" ++ (58 ∷ d))) two_is
+act_two act.Pass = ap (λ d. act_and_place (codes "pass" ++ (58 ∷ d))) two_is
 
-act_three : (a : Act) → act_at (act_word a 3) ≡ Ok (a, 3)
-unfolding act_at act_named place_at
-act_three act.Add = ap (λ d. act_at (codes "add" ++ (58 ∷ d))) three_is
-act_three act.Take = ap (λ d. act_at (codes "take" ++ (58 ∷ d))) three_is
-act_three act.Pass = ap (λ d. act_at (codes "pass" ++ (58 ∷ d))) three_is
+act_three : (a : Act) → act_and_place (act_word a 3) ≡ Ok (a, 3)
+unfolding act_and_place act_named place_at
+act_three act.Add = ap (λ d. act_and_place (codes "add" ++ (58 ∷ d))) three_is
+act_three act.Take = ap (λ d. act_and_place (codes "take" ++ (58 ∷ d))) three_is
+act_three act.Pass = ap (λ d. act_and_place (codes "pass" ++ (58 ∷ d))) three_is
 
 add_small : Bytes 97 122 (codes "add")
 add_small = ((omega arith, omega arith), ((omega arith, omega arith), ((omega arith, omega arith), tt)))
@@ -233,7 +233,7 @@ act_alone : (a : Act) → Word 41 (act_text a ++ [])
 act_alone a = subst (Word 41) (sym (append_nil (act_text a))) (let p = act_part a in let t = p.short in record { some = p.some; free = p.no_space_in; bytes = p.bytes; short = omega (arith, t) })
 
 pub record Deed (a : Act) (word : ℕ) : Type 0 where
-  pub reads : act_at (act_word a word) ≡ Ok (a, word)
+  pub reads : act_and_place (act_word a word) ≡ Ok (a, word)
   pub is_word : Word 41 (act_word a word)
 
 pub deed : (a : Act) (word : ℕ) → 1 ≤ word → word ≤ 3 → Deed a word

@@ -34,7 +34,7 @@ use Rattle.tp_commands.specs.Acting.{DeskShown, Does, DoesUnless, PlaceShown, Te
 use Rattle.tp_perform.specs.Scenes.{Scene, passes_in}
 use Rattle.tp_perform.specs.Told.{Performs}
 use Rattle.tp_reference.specs.declared.plain_desk.PlainDesk.{PlainDesk}
-use Rattle.tp_reference.specs.PlainDesks.{DeskAnswered, abort_work, aborted_as, claim_by, claim_given, claimed_as, commit_work, committed_as, does, does_unless_dropped, given_as, has_open, in_hand, nothing_done, prepare_with, prepare_work, settle_with, turn_as}
+use Rattle.tp_reference.specs.PlainDesks.{DeskAnswered, abort_work, aborted_as, claim_in_order, claim_given, claimed_as, commit_work, committed_as, does, does_unless_dropped, given_as, has_open, work_in_hand, nothing_done, prepare_with, prepare_work, settle_with, turn_as}
 use Rattle.tp_reference.specs.PlainReport.{ReportState, command_step, desk_at, with_acted, worker}
 use Rattle.tp_alone.specs.Thread.{AreTogether, Stays, thread_of}
 use Rattle.tp_exact.specs.Acts.{Acts}
@@ -136,16 +136,16 @@ module _ (d : PlainDesk) where
 
   drops_alone : (recipe : Recipe) (act : DeskAct) (c : ℕ) (m : thread.State) → d.is_dropped ≡ false → (does recipe act c m d).desk.is_dropped ≡ is_drop act
   drops_alone recipe acts.Turn c m not =
-      kept_either (has_open m c) (nothing_done told.Busy m d) (turn_as recipe c (claim_by orders.LeastFirst m c recipe.stage) d) refl (kept_turned recipe c (claim_by orders.LeastFirst m c recipe.stage)) ∙ not
+      kept_either (has_open m c) (nothing_done told.Busy m d) (turn_as recipe c (claim_in_order orders.LeastFirst m c recipe.stage) d) refl (kept_turned recipe c (claim_in_order orders.LeastFirst m c recipe.stage)) ∙ not
   drops_alone recipe acts.Claim c m not =
-      kept_either (has_open m c) (nothing_done told.Busy m d) (claimed_as (claim_by orders.LeastFirst m c recipe.stage) d) refl (kept_claimed (claim_by orders.LeastFirst m c recipe.stage)) ∙ not
+      kept_either (has_open m c) (nothing_done told.Busy m d) (claimed_as (claim_in_order orders.LeastFirst m c recipe.stage) d) refl (kept_claimed (claim_in_order orders.LeastFirst m c recipe.stage)) ∙ not
   drops_alone recipe acts.Next c m not =
-      kept_either (has_open m c) (nothing_done told.Busy m d) (claimed_as (claim_by orders.InTurn m c recipe.stage) d) refl (kept_claimed (claim_by orders.InTurn m c recipe.stage)) ∙ not
+      kept_either (has_open m c) (nothing_done told.Busy m d) (claimed_as (claim_in_order orders.InTurn m c recipe.stage) d) refl (kept_claimed (claim_in_order orders.InTurn m c recipe.stage)) ∙ not
   drops_alone recipe (acts.Take id) c m not =
       kept_either (has_open m c) (nothing_done told.Busy m d) (given_as id (claim_given recipe.stage c id m) d) refl (kept_given id (claim_given recipe.stage c id m)) ∙ not
-  drops_alone recipe acts.Prepare c m not = kept_prepare recipe (in_hand m c d) c m ∙ not
-  drops_alone recipe acts.Commit c m not = kept_commit recipe (in_hand m c d) c m ∙ not
-  drops_alone recipe acts.Abort c m not = kept_abort (in_hand m c d) c m ∙ not
+  drops_alone recipe acts.Prepare c m not = kept_prepare recipe (work_in_hand m c d) c m ∙ not
+  drops_alone recipe acts.Commit c m not = kept_commit recipe (work_in_hand m c d) c m ∙ not
+  drops_alone recipe acts.Abort c m not = kept_abort (work_in_hand m c d) c m ∙ not
   drops_alone recipe acts.Drop c m not = refl
 
 -- ---- lists with one place changed

@@ -35,10 +35,10 @@ use Rattle.tp_session.specs.Notes.{NotesView, client_in, has_name, new_client, c
 use Rattle.tp_session.specs.declared.hand.Holding.{Holding}
 use Rattle.tp_session.specs.declared.notes.Standing.{Standing}
 use Rattle.tp_session.specs.declared.notes.Standing.TheVariants.{Next, Again, Earlier, Later}
-use Rattle.tp_exact.specs.Alive.{alive_of}
+use Rattle.tp_exact.specs.Alive.{survivors_now}
 use Rattle.tp_exact.specs.PlainNotes.{NotedAnswered, by_note, first_below, next_receive, noted_does, of_client, receive_by, receives, register_by, send_by, sends, reply_taken}
 use Rattle.tp_exact.specs.PlainSession.{head_left, leave_step, said_in, Refusals, SessionState, session_act_step, anew_as, command_by, dump_of, first_refusal, session_desk_open, session_is_open, line_step, lines_step, noted_step, other_refusals, session_restored, rolled_over, unless_refused, unrestored, worker_step}
-use Rattle.tp_exact.specs.Repeats.{DoneForGood, KeepNote, LeavesNote, ReceivesAgain, ReceivesOnce, SendsAgain, SendsOnce, note_of}
+use Rattle.tp_exact.specs.Repeats.{DoneForGood, KeepNote, LeavesNote, ReceivesAgain, ReceivesOnce, SendsAgain, SendsOnce, client_note_of}
 use Rattle.tp_exact.proofs.NoteKeeps.{Has, filter_has, map_has, more_has, passes, placed, set_has}
 
 -- ---- how a number stands to a count
@@ -181,7 +181,7 @@ module _ (name : NameView) (sent received : ℕ) where
   command_has : (b : Bool) (h : HeadView) (why : Option RollFault) (c : _) (s : SessionState) → DoneIn s → DoneIn (command_by b h why c s).1
   command_has true h why c s has =
       let l = s.report.manager.limits in
-      unless_has (session_desk_open s) why s (rolled_over h s) has (anew_has rolled_text h s.works s s (made_anew l l.parts (alive_of s.report.manager) (start l)) has has)
+      unless_has (session_desk_open s) why s (rolled_over h s) has (anew_has rolled_text h s.works s s (made_anew l l.parts (survivors_now s.report.manager) (start l)) has has)
   command_has false h why c s has = has
 
   act_has : (h : HeadView) (why : Option RollFault) (act : Act) (s : SessionState) → ((other : NameView) → act ≡ acts.Noted other asks.Forget → has_name name other ≡ false) → DoneIn s → DoneIn (session_act_step h why act s).1
@@ -258,7 +258,7 @@ one_note : {c d : ClientNote} {o : Option ClientNote} → o ≡ Some c → o ≡
 one_note {c} {d} a b = let same : Some c ≡ Some d = sym a ∙ b in cc
 
 module _ (h : HeadView) (why : Option RollFault) (name : NameView) (number : ℕ) where
-  send_again : (s : SessionState) (stage : ℕ) (body : List ℕ) (note : ClientNote) → note_of name s ≡ Some note → note.sent ≡ number
+  send_again : (s : SessionState) (stage : ℕ) (body : List ℕ) (note : ClientNote) → client_note_of name s ≡ Some note → note.sent ≡ number
       → session_act_step h why (acts.Noted name (asks.Send number stage body)) s ≡ (line (sent_text name number (id_text note.element)), s)
   send_again s stage body note noted same =
       let n = s.notes in
@@ -266,7 +266,7 @@ module _ (h : HeadView) (why : Option RollFault) (name : NameView) (number : ℕ
       let is = own name n m note (λ place c. send_by (number_standing number c.sent) name stage body number place c) noted in
       ap (λ d. noted_step d s) is.4 ∙ ap (λ st. noted_step (send_by st name stage body number is.0 note n m) s) (same_again number note.sent same)
 
-  receive_again : (s : SessionState) (root : Option ℕ) (note : ClientNote) → note_of name s ≡ Some note → note.received ≡ number
+  receive_again : (s : SessionState) (root : Option ℕ) (note : ClientNote) → client_note_of name s ≡ Some note → note.received ≡ number
       → session_act_step h why (acts.Noted name (asks.Receive number root)) s ≡ (line (received_text name number (last_reply_text note)), s)
   receive_again s root note noted same =
       let n = s.notes in
@@ -275,21 +275,21 @@ module _ (h : HeadView) (why : Option RollFault) (name : NameView) (number : ℕ
       ap (λ d. noted_step d s) is.4 ∙ ap (λ st. noted_step (receive_by st name root number is.0 note n m) s) (same_again number note.received same)
 
 -- what was told first is what the note then says, where it is of this number
-module _ (name : NameView) (number : ℕ) (s : SessionState) (c : ClientNote) (place : ℕ) (noted : note_of name s ≡ Some c)
+module _ (name : NameView) (number : ℕ) (s : SessionState) (c : ClientNote) (place : ℕ) (noted : client_note_of name s ≡ Some c)
     (sets : (y : ClientNote) → has_name name y.name ≡ true → find (λ c. has_name name c.name) (slice_set s.notes.clients place y) ≡ Some y) where
   named : has_name name c.name ≡ true
   named = passes (λ c. has_name name c.name) s.notes.clients c noted
 
   abbrev SentIs : List ℕ × SessionState → Type 0
-  SentIs step = (note : ClientNote) → note_of name step.1 ≡ Some note → note.sent ≡ number → step.0 ≡ line (sent_text name number (id_text note.element))
+  SentIs step = (note : ClientNote) → client_note_of name step.1 ≡ Some note → note.sent ≡ number → step.0 ≡ line (sent_text name number (id_text note.element))
 
   abbrev ReceivedIs : List ℕ × SessionState → Type 0
-  ReceivedIs step = (note : ClientNote) → note_of name step.1 ≡ Some note → note.received ≡ number → step.0 ≡ line (received_text name number (last_reply_text note))
+  ReceivedIs step = (note : ClientNote) → client_note_of name step.1 ≡ Some note → note.received ≡ number → step.0 ≡ line (received_text name number (last_reply_text note))
 
-  sent_count : (note : ClientNote) → note_of name s ≡ Some note → note.sent ≡ number → c.sent ≡ number
+  sent_count : (note : ClientNote) → client_note_of name s ≡ Some note → note.sent ≡ number → c.sent ≡ number
   sent_count note is same = ap (λ (z : ClientNote). z.sent) (one_note noted is) ∙ same
 
-  received_count : (note : ClientNote) → note_of name s ≡ Some note → note.received ≡ number → c.received ≡ number
+  received_count : (note : ClientNote) → client_note_of name s ≡ Some note → note.received ≡ number → c.received ≡ number
   received_count note is same = ap (λ (z : ClientNote). z.received) (one_note noted is) ∙ same
 
   sends_first : (r : Result ℕ Refusal) (m : State) → number ≡ c.sent + 1 → SentIs (noted_step (sends name place c number s.notes (r, m)) s)

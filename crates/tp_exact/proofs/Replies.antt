@@ -20,7 +20,7 @@ use Rattle.tp_alone.specs.Thread.{HasSeen, thread_of}
 use Rattle.tp_alone.proofs.Lists.{alone_reply}
 use Rattle.tp_alone.proofs.Looks.{alone_read}
 use Rattle.tp_commands.specs.Asked.{Called, FindsReply, TellsReplies}
-use Rattle.tp_reference.specs.PlainClient.{client, is_reply, picked, picked_of, reply_in}
+use Rattle.tp_reference.specs.PlainClient.{client, is_reply, picked, picked_of, reply_shown}
 use Rattle.tp_exact.specs.Acts.{Acts}
 use Rattle.tp_exact.proofs.Parts.{Went, first_part, idle, last_part, middle, seen_by, went_by, went_none, went_on, whole}
 use Rattle.tp_exact.proofs.Picks.{at, is_picked, none_from, past_all, picks, picks_all, some_from}
@@ -43,19 +43,19 @@ module _ (root : ℕ) (s : State) where
   abbrev pub reply_at : ℕ → Bool
   reply_at i = reply_found root (status_of s.limits.attempts s.history i) (element_of s.history i)
 
-  same_at : (i : ℕ) (o : Option Element) → element_of s.history i ≡ o → reply_found root (status_of s.limits.attempts s.history i) o ≡ is_some (picked (reply_in root) (read_found s o))
+  same_at : (i : ℕ) (o : Option Element) → element_of s.history i ≡ o → reply_found root (status_of s.limits.attempts s.history i) o ≡ is_some (picked (reply_shown root) (read_found s o))
   same_at i None is = refl
   same_at i (Some e) is =
       ap (λ j. (e.stage == 15) && ((e.root == root) && is_waiting (status_of s.limits.attempts s.history j))) (sym (element_of-id s.history i e is))
       ∙ (and_group (e.stage == 15) (e.root == root) (is_waiting (status_of s.limits.attempts s.history e.id))
       ∙ tests_some (((e.stage == 15) && (e.root == root)) && is_waiting (status_of s.limits.attempts s.history e.id)) e)
 
-  pub reply_same : (i : ℕ) → reply_at i ≡ is_some (at (reply_in root) s i)
+  pub reply_same : (i : ℕ) → reply_at i ≡ is_some (at (reply_shown root) s i)
   reply_same i = same_at i (element_of s.history i) refl
 
-  pub reply_value : (i : ℕ) (look : Look) → read_of s i ≡ Ok look → is_some (at (reply_in root) s i) ≡ true → at (reply_in root) s i ≡ Some look.element
+  pub reply_value : (i : ℕ) (look : Look) → read_of s i ≡ Ok look → is_some (at (reply_shown root) s i) ≡ true → at (reply_shown root) s i ≡ Some look.element
   reply_value i look read some =
-      let is : at (reply_in root) s i ≡ picked (reply_in root) (Ok look) = ap (picked (reply_in root)) read in
+      let is : at (reply_shown root) s i ≡ picked (reply_shown root) (Ok look) = ap (picked (reply_shown root)) read in
       is ∙ some_tested (is_reply root look) look.element (sym (ap is_some is) ∙ some)
 
 -- a reply that was found waiting has a row
@@ -124,13 +124,13 @@ module _ (l : Limits) (keeper keeper' : KeeperShown) (olds news : List PassShown
 
 module _ (l : Limits) (keeper' : KeeperShown) (news : List PassShown) (h' : List Event) (root : ℕ) (new : PassShown) where
   replies_are : (found : List Element) (from : ℕ) (keeper : KeeperShown) (olds : List PassShown) (h : List Event) (old : PassShown) → Acts l keeper keeper' olds news h h' client old new → TellsReplies l root from old found new
-      → (found ≡ picks (reply_in root) (thread_of l olds h) from (rows_of l - from)) × (thread_of l news h' ≡ thread_of l olds h)
+      → (found ≡ picks (reply_shown root) (thread_of l olds h) from (rows_of l - from)) × (thread_of l news h' ≡ thread_of l olds h)
   replies_are [] from keeper olds h old a t = ⊎_elim
       (λ f.
       let s : State = thread_of l olds h in
       let law = alone_reply root from l keeper keeper' olds news h h' (reply_steps l) client old new None (whole l keeper keeper' olds news h h' client (reply_steps l) old new a f.0) f.0.turn (f.1, tt, f.3) in
-      (sym (none_from (reply_in root) s (reply_at root s) (reply_same root s) (rows_of l) from (sym (ap (λ p. p.0) law))), ap (λ p. p.1) law))
-      (λ none. (sym (past_all (reply_in root) (thread_of l olds h) (rows_of l) from none.0), idle l keeper keeper' olds news h h' client old new a none.1))
+      (sym (none_from (reply_shown root) s (reply_at root s) (reply_same root s) (rows_of l) from (sym (ap (λ p. p.0) law))), ap (λ p. p.1) law))
+      (λ none. (sym (past_all (reply_shown root) (thread_of l olds h) (rows_of l) from none.0), idle l keeper keeper' olds news h h' client old new a none.1))
       t
   replies_are (e ∷ rest) from keeper olds h old a t =
       let s : State = thread_of l olds h in
@@ -145,16 +145,16 @@ module _ (l : Limits) (keeper' : KeeperShown) (news : List PassShown) (h' : List
       let still = reply_leaves l keeper keeper olds mids h mid.seen old mid one root from e f in
       let read = reply_read_here l keeper keeper olds mids h mid.seen old mid one root from e f in
       let later = replies_are rest (e.id + 1) keeper mids mid.seen mid (last_part l keeper keeper' olds news h h' client old mid new a first shows on) t.2 in
-      let is : at (reply_in root) s e.id ≡ Some e =
-      reply_value root s e.id f.look read (is_picked (reply_in root) s (reply_at root s) (reply_same root s) (rows_of l) from e.id found) ∙ ap (λ x. Some x) f.shows in (
-        ap (λ xs. e ∷ xs) (later.0 ∙ ap (λ (m : State). picks (reply_in root) m (e.id + 1) (rows_of l - (e.id + 1))) still)
-            ∙ sym (some_from (reply_in root) s (reply_at root s) (reply_same root s) (rows_of l) from e.id e found is),
+      let is : at (reply_shown root) s e.id ≡ Some e =
+      reply_value root s e.id f.look read (is_picked (reply_shown root) s (reply_at root s) (reply_same root s) (rows_of l) from e.id found) ∙ ap (λ x. Some x) f.shows in (
+        ap (λ xs. e ∷ xs) (later.0 ∙ ap (λ (m : State). picks (reply_shown root) m (e.id + 1) (rows_of l - (e.id + 1))) still)
+            ∙ sym (some_from (reply_shown root) s (reply_at root s) (reply_same root s) (rows_of l) from e.id e found is),
         later.1 ∙ still,
       )
 
   pub all_replies : (found : List Element) (keeper : KeeperShown) (olds : List PassShown) (h : List Event) (old : PassShown) → Acts l keeper keeper' olds news h h' client old new → TellsReplies l root 0 old found new
-      → (found ≡ picked_of (reply_in root) (thread_of l olds h)) × (thread_of l news h' ≡ thread_of l olds h)
+      → (found ≡ picked_of (reply_shown root) (thread_of l olds h)) × (thread_of l news h' ≡ thread_of l olds h)
   all_replies found keeper olds h old a t =
       let r = replies_are found 0 keeper olds h old a t in
       let all : rows_of l - 0 ≡ rows_of l = omega arith in
-      (r.0 ∙ (ap (picks (reply_in root) (thread_of l olds h) 0) all ∙ sym (picks_all (reply_in root) (thread_of l olds h))), r.1)
+      (r.0 ∙ (ap (picks (reply_shown root) (thread_of l olds h) 0) all ∙ sym (picks_all (reply_shown root) (thread_of l olds h))), r.1)

@@ -29,7 +29,7 @@ use Rattle.tp_session.specs.Live.{HoldsUnits, Live, RestoredLive, survivors_of}
 use Rattle.tp_session.specs.Notes.{notes_in, notes_of}
 use Rattle.tp_session.specs.declared.hand.Holding.{Holding}
 use Rattle.tp_session.specs.declared.hand.Holding.TheVariants.{Nothing}
-use Rattle.tp_exact.specs.Alive.{alive_of}
+use Rattle.tp_exact.specs.Alive.{survivors_now}
 use Rattle.tp_exact.specs.Dumps.{AreHeldFrom, all_lost, line_of}
 use Rattle.tp_exact.specs.HeadReads.{started}
 use Rattle.tp_exact.specs.NoteReads.{alive_notes}
@@ -183,7 +183,7 @@ module _ (source : Head) (old done : Live) (survivors : List Survivor) (s : Sess
   described : survivors_of g ≡ survivors
   described = described_again old done survivors g it.limits it.found held alive_said attempts
 
-  alive : survivors ≡ alive_of s.report.manager
+  alive : survivors ≡ survivors_now s.report.manager
   alive = alive_so source old s it.stands done survivors it.looks it.found
 
   made : made_anew old.stand.manager.limits old.stand.manager.limits.parts survivors (start old.stand.manager.limits) ≡ Some (moved, m)

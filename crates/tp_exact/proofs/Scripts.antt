@@ -27,7 +27,7 @@ use Rattle.tp_script.specs.declared.whole.Script.{Script}
 use Rattle.tp_perform.specs.Scenes.{passes_in}
 use Rattle.tp_reference.specs.PlainClient.{counts_of}
 use Rattle.tp_reference.specs.PlainReport.{ended_below, finals_below}
-use Rattle.tp_session.specs.Answers.{worker_line}
+use Rattle.tp_session.specs.Answers.{worker_answer_line}
 use Rattle.tp_session.specs.Conversed.{LiveBegins, finals_of}
 use Rattle.tp_session.specs.Live.{Live, TellsAct, TellsRaced}
 use Rattle.tp_session.specs.Performed.{ActsTold, SessionCloses, Counts as CountsLive, DesksClose, LiveCounts, Ran, RanFront, Report, ReportFront, ReportPart, WorkerCloses, WorkersBelow, closing_text}
@@ -110,7 +110,7 @@ module _ (head : Head) where
 
   worker_so : (at : ℕ) (old new : Live) (s : SessionState) → StandsLive h old s → WorkerCloses head.workers.items at old new → StandsLive h new (session_act_step h None (acts.Worker at Abort) s).1
   worker_so at old new s is t =
-      (by_worker head old new (worker_line (string_bytes t.it.name) t.answer) s is at Abort
+      (by_worker head old new (worker_answer_line (string_bytes t.it.name) t.answer) s is at Abort
       (record { it = t.it; named = t.named; answer = t.answer; done = t.done; did = t.did; text_is = refl; gathers = t.gathers })).1
 
   workers_so : (n : ℕ) (old new : Live) (s : SessionState) → StandsLive h old s → WorkersBelow head.workers.items n old new → StandsLive h new (workers_closed h n s)

@@ -10,7 +10,7 @@ use Rattle.tp_model.proofs.Bridges.{append_nil}
 use Rattle.tp_server.specs.Check.{check_of}
 use Rattle.tp_server.specs.declared.recipe.Output.{Output}
 use Rattle.tp_script.specs.Grammar.{head_at, head_keyword, head_words, line_words}
-use Rattle.tp_script.specs.LineWords.{act_at, is_name, is_output, kind_at, number_at, outputs_at, require}
+use Rattle.tp_script.specs.LineWords.{act_and_place, is_name, has_two_colons, kind_at, number_at, outputs_at, require}
 use Rattle.tp_script.specs.Script.{HeadView, ServerView, WorkerView}
 use Rattle.tp_script.specs.ServerLines as grammar
 use Rattle.tp_script.specs.ServerLines.{Shape, free_name, has_client, new_name, recipe_at, registers_for, shape_at, with_server, worker_at}
@@ -18,7 +18,7 @@ use Rattle.tp_script.specs.declared.fault.LineFault.TheVariants.{BadLimits, BadN
 use Rattle.tp_script.specs.declared.head.Driver.TheVariants as drivers
 use Rattle.tp_script.specs.declared.notes.ClientNote.{ClientNote}
 use Rattle.tp_script.specs.declared.script.TheConstants.{MAX_SERVERS}
-use Rattle.tp_session.specs.Dump.{kind_text, output_text, server_line}
+use Rattle.tp_session.specs.Dump.{kind_text, output_text, server_dump_line}
 use Rattle.tp_exact.specs.HeadReads.{IsHeadServer, ServerLinesRead, unstarted}
 use Rattle.tp_exact.proofs.LineReads.{bind_ok, line_ok, number_ok}
 use Rattle.tp_exact.proofs.Cuts.{and_true, le_true}
@@ -50,7 +50,7 @@ module _ (v : ServerView) where
   abbrev more : List ℕ
   more = flat_map output_text outs
 
-  line_is_words : server_line v ≡ joined (codes "server") places
+  line_is_words : server_dump_line v ≡ joined (codes "server") places
   line_is_words =
       ap (λ z. codes "server " ++ z) (append_assoc v.name behind_name more)
       ∙ (ap (λ z. codes "server " ++ (v.name ++ (32 ∷ z))) (append_assoc (kind_text v.kind) (32 ∷ (decimal v.recipe.stage ++ (32 ∷ (decimal v.recipe.registers ++ (32 ∷ last_word))))) more)
@@ -74,7 +74,7 @@ module _ (v : ServerView) where
     are_words : AreWords places lengths
     are_words = (name_word v.name it.named, (kind_word v.kind, (number_word v.recipe.stage s64, (number_word v.recipe.registers r64, (does.is_word, outs_words outs it.outputs)))))
 
-    line_read : line_words (server_line v) ≡ Ok (codes "server" ∷ places)
+    line_read : line_words (server_dump_line v) ≡ Ok (codes "server" ∷ places)
     line_read =
         let all = bytes_are (codes "server") places 8 lengths server_word are_words in
         let short : length (joined (codes "server") places) ≤ 208 = subst (λ z. length z ≤ 208) line_is_words it.short in
@@ -89,9 +89,9 @@ module _ (v : ServerView) where
     unfolding shape_at
     shape_is =
         bind_ok (kind_at (kind_text v.kind)) v.kind _ (kind_reads v.kind)
-        ∙ (bind_ok (act_at last_word) (v.recipe.act, v.recipe.word) _ does.reads
-        ∙ bind_ok (require (nat_le (length (map out_word outs)) MAX_OUTPUTS && list_all is_output (map out_word outs)) Syntax) tt _
-        (ap (λ b. require b Syntax) (and_true (nat_le (length (map out_word outs)) MAX_OUTPUTS) (list_all is_output (map out_word outs))
+        ∙ (bind_ok (act_and_place last_word) (v.recipe.act, v.recipe.word) _ does.reads
+        ∙ bind_ok (require (nat_le (length (map out_word outs)) MAX_OUTPUTS && list_all has_two_colons (map out_word outs)) Syntax) tt _
+        (ap (λ b. require b Syntax) (and_true (nat_le (length (map out_word outs)) MAX_OUTPUTS) (list_all has_two_colons (map out_word outs))
         (le_true (length (map out_word outs)) MAX_OUTPUTS (let l = length-map outs out_word in let f = it.few in omega (arith, l, f))) (outs_one outs it.outputs))))
 
     recipe_is : recipe_at said ≡ Ok v.recipe
@@ -131,9 +131,9 @@ module _ (v : ServerView) where
       unfolding head_words head_keyword
       words_read = bind_ok (grammar.server_line places h) next (λ t. Ok (t, None)) line_is
 
-      server_reads : head_at (server_line v) h ≡ Ok (next, None)
+      server_reads : head_at (server_dump_line v) h ≡ Ok (next, None)
       unfolding head_at
-      server_reads = bind_ok (line_words (server_line v)) (codes "server" ∷ places) (λ ws. head_words drivers.Session ws h) line_read ∙ words_read
+      server_reads = bind_ok (line_words (server_dump_line v)) (codes "server" ∷ places) (λ ws. head_words drivers.Session ws h) line_read ∙ words_read
 
 -- ---- all of them
 
@@ -156,7 +156,7 @@ module _ (h : HeadView) (no_workers : h.workers ≡ []) (no_clients : h.clients 
 
   servers_taken : (before vs : List ServerView) → length (before ++ vs) ≤ MAX_SERVERS → ((v : ServerView) → In v vs → IsHeadServer v)
       → ((k : List ℕ) → count_by (λ (u : ServerView). bytes_eq u.name k) (before ++ vs) ≤ 1)
-      → AreTaken (map server_line vs) (with_servers before) (with_servers (before ++ vs))
+      → AreTaken (map server_dump_line vs) (with_servers before) (with_servers (before ++ vs))
   servers_taken before [] few fit once = ap with_servers (append_nil before)
   servers_taken before (v ∷ vs) few fit once =
       let l = length-append before (v ∷ vs) in
@@ -170,10 +170,10 @@ module _ (h : HeadView) (no_workers : h.workers ≡ []) (no_clients : h.clients 
       let one = server_reads v (fit v here) (with_servers before) new no_workers no_clients (omega (arith, l, k, m, few)) in (
         with_servers (before ++ v ∷ []),
         one ∙ ap (λ vs. Ok (record h { servers = vs }, None)) (sym (map_two unstarted before (v ∷ []))),
-        subst (λ z. AreTaken (map server_line vs) (with_servers (before ++ v ∷ [])) (with_servers z)) same rest,
+        subst (λ z. AreTaken (map server_dump_line vs) (with_servers (before ++ v ∷ [])) (with_servers z)) same rest,
       )
 
 pub server_lines_read : ServerLinesRead
 server_lines_read vs h past fit own few none no_workers no_clients =
-    taken_told (map server_line vs) past h (with_servers h no_workers no_clients vs)
-    (subst (λ z. AreTaken (map server_line vs) (record h { servers = z }) (with_servers h no_workers no_clients vs)) (sym none) (servers_taken h no_workers no_clients [] vs few fit own))
+    taken_told (map server_dump_line vs) past h (with_servers h no_workers no_clients vs)
+    (subst (λ z. AreTaken (map server_dump_line vs) (record h { servers = z }) (with_servers h no_workers no_clients vs)) (sym none) (servers_taken h no_workers no_clients [] vs few fit own))

@@ -24,7 +24,7 @@ use Rattle.tp_reference.specs.declared.plain_desk.PlainDesk.{PlainDesk}
 use Rattle.tp_reference.specs.PlainClient.{client, counts_of}
 use Rattle.tp_reference.specs.PlainReport.{command_step}
 use Rattle.tp_alone.specs.Thread.{AreTogether, Stays, not_given, state_of, thread_of}
-use Rattle.tp_session.specs.Answers.{left_line, worker_line}
+use Rattle.tp_session.specs.Answers.{left_line, worker_answer_line}
 use Rattle.tp_session.specs.Live as lives
 use Rattle.tp_session.specs.Hands.{Hand, has_unit}
 use Rattle.tp_session.specs.Live.{AccountTold, CommandTold, JoinTold, LeaveTold, Live, TellsAccount, WorkerTold, with_notes}
@@ -208,7 +208,7 @@ module _ (head : Head) (old new : Live) (text : List ℕ) (s : SessionState) (is
     by_worker =
         let named : slice_get h.workers at ≡ Some (worker_view t.it) = got_map worker_view head.workers.items at t.it t.named in
         subst (λ o. Leads (worker_step o act at c s)) (sym named) (
-          t.text_is ∙ ap (λ x. worker_line (string_bytes t.it.name) x) so.0,
+          t.text_is ∙ ap (λ x. worker_answer_line (string_bytes t.it.name) x) so.0,
           record {
             stands = subst (λ (m : ManagerShown). StandsAsComputed h.servers m.limits new.stand.keeper new.stand.keeper.seen new.stand.scene (record s.report { manager = done.manager })) (sym manager_same)
                 (stands_so middle new.stand.keeper new.stand.scene refl gathered done.manager (sym so.1));
@@ -289,7 +289,7 @@ module _ (head : Head) (old new : Live) (text : List ℕ) (s : SessionState) (is
   before_notes = with_notes t.done.notes new
 
   abbrev abort_line : List ℕ
-  abort_line = worker_line (string_bytes t.it.name) t.answer
+  abort_line = worker_answer_line (string_bytes t.it.name) t.answer
 
   aborted : WorkerTold head.workers.items Abort at old abort_line before_notes
   aborted = record {

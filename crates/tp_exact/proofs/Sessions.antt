@@ -33,7 +33,7 @@ use Rattle.tp_session.specs.Notes.{NotesView}
 use Rattle.tp_session.specs.declared.hand.Holding.{Holding}
 use Rattle.tp_session.specs.declared.hand.Holding.TheVariants.{Nothing}
 use Rattle.tp_session.specs.Told.{BodyLines, HeadLines, HeadLinesTold, LineTold, LinesFrom, Now, now, said_now}
-use Rattle.tp_exact.specs.PlainSession.{ReadHead, Refusals, SessionState, session_act_step, session_begin, command_by, first_refusal, head_left, line_step, lines_from, lines_step, other_refusals, said_in, read_head, session_by, session_of}
+use Rattle.tp_exact.specs.PlainSession.{ReadHead, Refusals, SessionState, session_act_step, session_begin, command_by, first_refusal, head_left, line_step, session_lines_from, lines_step, other_refusals, said_in, read_head, session_by, session_of}
 use Rattle.tp_exact.specs.Programs.{IsChecked}
 use Rattle.tp_exact.specs.Sessions.{AreUnforeseen, ComputedOfBytes, ExactSession, ExactSessionFront, IsStep, IsUnforeseen, StandsLive, asks_refusable, has_refusable_from, has_refusable_in, is_refusable}
 use Rattle.tp_exact.proofs.Begins.{desks_first, served_first}
@@ -76,7 +76,7 @@ servers_stay past (line ∷ others) old last text (first, rest, between, one, mo
 
 -- the first command, and the lines after it
 from_command : (past : ℕ) (line : List ℕ) (act : Act) (lines : List (List ℕ)) (old last : Now) (text : List ℕ) (s : SessionState) → IsCommand line act (head_view old.head)
-    → StandsLive (head_view old.head) old.live s → LinesFrom (Some act) past lines old text last → AreSteps (head_view last.head) last.live text (λ refusals. lines_from (Some act) (head_view old.head) past refusals lines s)
+    → StandsLive (head_view old.head) old.live s → LinesFrom (Some act) past lines old text last → AreSteps (head_view last.head) last.live text (λ refusals. session_lines_from (Some act) (head_view old.head) past refusals lines s)
 from_command past line act lines old last text s command is (first, rest, between, one, more, whole) =
     let h : HeadView = head_view old.head in
     let a = exact_act old.head act old.live between first s (no_race act command) is one in
@@ -207,9 +207,9 @@ module _ (bytes : List ℕ) (Told : List ℕ → Type 0) (t : Session bytes Told
 
   -- this was read, and the answers behind the head are the computed ones
   told_so : (refusals : Refusals) (command : Option Act) (lines : List (List ℕ)) → read_head 0 (heard bytes) no_head ≡ read_as t.head_text whole_head (length t.taken) command lines
-      → (head_view t.last.head).servers ≡ whole_head.servers → IsStep (head_view t.last.head) t.last.live t.text (lines_from command whole_head (length t.taken) refusals lines (session_begin whole_head)) → Told (session_of refusals bytes)
+      → (head_view t.last.head).servers ≡ whole_head.servers → IsStep (head_view t.last.head) t.last.live t.text (session_lines_from command whole_head (length t.taken) refusals lines (session_begin whole_head)) → Told (session_of refusals bytes)
   told_so refusals command lines read servers is =
-      let all : List ℕ × SessionState = lines_from command whole_head (length t.taken) refusals lines (session_begin whole_head) in
+      let all : List ℕ × SessionState = session_lines_from command whole_head (length t.taken) refusals lines (session_begin whole_head) in
       subst Told (ap (λ x. t.head_text ++ (x ++ finals_of whole_head t.registers)) is.0 ∙ (ap (λ x. t.head_text ++ (all.0 ++ x)) (finals_are whole_head t.last.live t.registers all.1 (stands_under (head_view t.last.head) whole_head t.last.live all.1 (sym servers) is.1) t.ends) ∙ sym (ap (session_by refusals) read))) t.told
 
   covered_so : (command : Option Act) (lines : List (List ℕ)) → read_head 0 (heard bytes) no_head ≡ read_as t.head_text whole_head (length t.taken) command lines → All IsChecked whole_head.servers
@@ -247,7 +247,7 @@ fewer h past refusals (line ∷ lines) others s =
     (more.0, ap (λ t. step.0 ++ t) more.1 ∙ sym (append_assoc step.0 (lines_step (head_left h said) (past + 1) (other_refusals refusals) lines step.1).0 more.0))
 
 fewer_from : (h : HeadView) (past : ℕ) (refusals : Refusals) (act : Act) (lines others : List (List ℕ)) (s : SessionState)
-    → (rest : List ℕ) × ((lines_from (Some act) h past refusals (lines ++ others) s).0 ≡ (lines_from (Some act) h past refusals lines s).0 ++ rest)
+    → (rest : List ℕ) × ((session_lines_from (Some act) h past refusals (lines ++ others) s).0 ≡ (session_lines_from (Some act) h past refusals lines s).0 ++ rest)
 fewer_from h past refusals act lines others s =
     let step : List ℕ × SessionState = session_act_step h (first_refusal refusals) act s in
     let more = fewer h (past + 1) (other_refusals refusals) lines others step.1 in
@@ -259,7 +259,7 @@ module _ (bytes : List ℕ) (before after : Option (List ℕ)) where
   by_head taken rest h text are lines told =
       let read = ap (λ lines. read_head 0 lines no_head) are ∙ head_more 0 taken rest no_head h text lines in
       let others : ReadHead = read_head (0 + length taken) rest h in
-      let all : List ℕ × SessionState = lines_from others.command others.head others.past [] others.behind (session_begin others.head) in
+      let all : List ℕ × SessionState = session_lines_from others.command others.head others.past [] others.behind (session_begin others.head) in
       let finals : List ℕ = finals_below others.head.servers all.1.report.desks (length others.head.servers) in
       ([], All-nil IsUnforeseen, subst (AppendsFront before after) (sym (ap (session_by []) read ∙ append_assoc text others.text (all.0 ++ finals))) (front_longer before after text (others.text ++ (all.0 ++ finals)) told))
 
@@ -278,9 +278,9 @@ module _ (bytes : List ℕ) (before after : Option (List ℕ)) where
         let servers : All IsChecked part_head.servers = subst IsCoveredRead read (covers bytes) in
         let told = from_command (length t.taken) line act lines (now t.head t.first) t.last t.text (session_begin part_head) command (begins_live t.head 0 refl t.first t.begins servers) body in
         let few = fewer_from part_head (length t.taken) told.0 act lines t.others (session_begin part_head) in
-        let all : List ℕ × SessionState = lines_from (Some act) part_head (length t.taken) told.0 (lines ++ t.others) (session_begin part_head) in
+        let all : List ℕ × SessionState = session_lines_from (Some act) part_head (length t.taken) told.0 (lines ++ t.others) (session_begin part_head) in
         let finals : List ℕ = finals_below part_head.servers all.1.report.desks (length part_head.servers) in
-        let first : List ℕ = (lines_from (Some act) part_head (length t.taken) told.0 lines (session_begin part_head)).0 in
+        let first : List ℕ = (session_lines_from (Some act) part_head (length t.taken) told.0 lines (session_begin part_head)).0 in
         let is : session_of told.0 bytes ≡ (t.head_text ++ first) ++ (few.0 ++ finals) =
         ap (session_by told.0) read ∙ (ap (λ x. t.head_text ++ (x ++ finals)) few.1 ∙ (ap (λ x. t.head_text ++ x) (append_assoc first few.0 finals) ∙ sym (append_assoc t.head_text first (few.0 ++ finals)))) in
         (told.0, told.1, subst (AppendsFront before after) (sym is) (front_longer before after (t.head_text ++ first) (few.0 ++ finals) (subst (λ x. AppendsFront before after (t.head_text ++ x)) told.2.0 t.told)))
@@ -331,7 +331,7 @@ lines_unasked h past refusals (line ∷ others) s none =
     ∙ ap (λ (rest : List ℕ × SessionState). (step.0 ++ rest.0, rest.1)) (lines_unasked (head_left h said) (past + 1) (other_refusals refusals) others step.1 parts.1)
 
 from_unasked : (command : Option Act) (h : HeadView) (past : ℕ) (refusals : Refusals) (lines : List (List ℕ)) (s : SessionState) → has_refusable_from command h past lines s ≡ false
-    → lines_from command h past refusals lines s ≡ lines_from command h past [] lines s
+    → session_lines_from command h past refusals lines s ≡ session_lines_from command h past [] lines s
 from_unasked None h past refusals lines s none = lines_unasked h past refusals lines s none
 from_unasked (Some act) h past refusals lines s none =
     let step : List ℕ × SessionState = session_act_step h None act s in

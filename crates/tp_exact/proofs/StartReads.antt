@@ -7,7 +7,7 @@ use Rattle.std.proofs.lemmas.Bool.Decides.{Decides-eqb}
 use Rattle.tp_script.specs.Grammar.{head_at, head_keyword, head_words, line_words}
 use Rattle.tp_script.specs.LineWords.{is_name, known, number_at, require}
 use Rattle.tp_script.specs.Script.{HeadView, ServerView}
-use Rattle.tp_script.specs.ServerLines.{begin_at, begun, server_at, start_line}
+use Rattle.tp_script.specs.ServerLines.{begin_at, with_start, server_at, start_line}
 use Rattle.tp_script.specs.declared.fault.LineFault.TheVariants.{BadName, BadRecipe}
 use Rattle.tp_script.specs.declared.head.Driver.TheVariants as drivers
 use Rattle.tp_session.specs.Dump.{all_starts, server_starts, start_lines, starts_of}
@@ -31,15 +31,15 @@ module _ (name : List ℕ) (k value place : ℕ) (h : HeadView) (v : ServerView)
   abbrev next : HeadView
   next = record h { servers = slice_set h.servers place (record v { registers = slice_set v.registers k value }) }
 
-  begun_is : begun k value v ≡ Ok (record v { registers = slice_set v.registers k value })
-  unfolding begun
+  begun_is : with_start k value v ≡ Ok (record v { registers = slice_set v.registers k value })
+  unfolding with_start
   begun_is = bind_ok (require (nat_lt k (length v.registers)) BadRecipe) tt _ (ap (λ b. require b BadRecipe) (le_true (suc k) (length v.registers) (omega (arith, within))))
 
   begin_is : begin_at place k value h ≡ Ok next
   unfolding begin_at
   begin_is =
       bind_ok (known (slice_get h.servers place) BadName) v _ (ap (λ o. known o BadName) there_is)
-      ∙ bind_ok (begun k value v) (record v { registers = slice_set v.registers k value }) _ begun_is
+      ∙ bind_ok (with_start k value v) (record v { registers = slice_set v.registers k value }) _ begun_is
 
   line_is : start_line (name, decimal k, decimal value) h ≡ Ok next
   unfolding start_line

@@ -35,7 +35,7 @@ use Rattle.tp_report.specs.declared.answer.ServerAnswer.TheVariants as told
 use Rattle.tp_workers.specs.Desks.{TakesTurn}
 use Rattle.tp_commands.specs.Acting.{DeskShown, PreparesAt, TellsCommit, TellsPrepare, TellsTurn, WorksOffAt, place_of_desk}
 use Rattle.tp_reference.specs.declared.plain_desk.PlainDesk.{PlainDesk}
-use Rattle.tp_reference.specs.PlainDesks.{DeskAnswered, claim_by, commit_step, commit_work, committed_as, in_hand, nothing_done, prepare_step, prepare_with, prepare_work, settle, settle_with, settled_as, turn_as, turn_by, turn_step}
+use Rattle.tp_reference.specs.PlainDesks.{DeskAnswered, claim_in_order, commit_step, commit_work, committed_as, work_in_hand, nothing_done, prepare_step, prepare_with, prepare_work, settle, settle_with, settled_desk, turn_as, turn_by, turn_step}
 use Rattle.tp_alone.specs.Thread.{Alone, HasSeen, thread_of}
 use Rattle.tp_alone.proofs.Aborts.{alone_abort}
 use Rattle.tp_alone.proofs.Claims.{alone_claim, alone_claim_next}
@@ -63,19 +63,19 @@ made_effect recipe behaviour registers x (Some p) drafts is (same, allowed) =
 -- ---- the answers of work that is worked off
 
 done_told : (work : Work) (unit element first count : ℕ) (now : thread.State) (left after : List ℕ) (d : PlainDesk) → unit ≡ work.unit → element ≡ work.element.id → left ≡ after
-    → settled_as (turneds.Done work.unit work.element.id first count) now after d ≡ settled_as (turneds.Done unit element first count) now left d
+    → settled_desk (turneds.Done work.unit work.element.id first count) now after d ≡ settled_desk (turneds.Done unit element first count) now left d
 done_told work unit element first count now left after d a b is = rw (a, b, is) refl
 
 lost_told : (work : Work) (element : ℕ) (now : thread.State) (left after : List ℕ) (d : PlainDesk) → element ≡ work.element.id → left ≡ after
-    → settled_as (turneds.Lost work.element.id) now after d ≡ settled_as (turneds.Lost element) now left d
+    → settled_desk (turneds.Lost work.element.id) now after d ≡ settled_desk (turneds.Lost element) now left d
 lost_told work element now left after d b is = rw (b, is) refl
 
 full_told : (work : Work) (element : ℕ) (now : thread.State) (left after : List ℕ) (d : PlainDesk) → element ≡ work.element.id → left ≡ after
-    → settled_as (turneds.Full work.element.id) now after d ≡ settled_as (turneds.Full element) now left d
+    → settled_desk (turneds.Full work.element.id) now after d ≡ settled_desk (turneds.Full element) now left d
 full_told work element now left after d b is = rw (b, is) refl
 
 refused_told : (work : Work) (element : ℕ) (why : Declined) (was now : thread.State) (left after : List ℕ) (d : PlainDesk) → element ≡ work.element.id → left ≡ after → was ≡ now
-    → settled_as (turneds.Refused work.element.id why) was after d ≡ settled_as (turneds.Refused element why) now left d
+    → settled_desk (turneds.Refused work.element.id why) was after d ≡ settled_desk (turneds.Refused element why) now left d
 refused_told work element why was now left after d b is same = rw (b, is, same) refl
 
 module _ (recipe : Recipe) (l : Limits) (keeper keeper' : KeeperShown) (olds news : List PassShown) (h h' : List Event) (c : ℕ) (d : PlainDesk) where
@@ -96,7 +96,7 @@ module _ (recipe : Recipe) (l : Limits) (keeper keeper' : KeeperShown) (olds new
         ap (λ r. settle_with work r c was d) (ap (λ rs. effect_of recipe rs work.element) begins ∙ same_effect recipe behaviour registers work.element effect is allowed)
         ∙ ap (λ r. committed_as work effect r d) (sym (alone_commit effect.drafts l keeper keeper' olds news h h' n c old new outcome whole turn settles))
 
-    pub offs : (turned : Turned) → WorksOff behaviour registers work old new turned left → settle recipe work c was d ≡ settled_as turned now left d
+    pub offs : (turned : Turned) → WorksOff behaviour registers work old new turned left → settle recipe work c was d ≡ settled_desk turned now left d
     offs turneds.Idle off = absurd off
     offs turneds.NoUnit off = absurd off
     offs (turneds.Done unit element first count) (u, e, (effect, allowed, settles, left_is)) =
@@ -144,7 +144,7 @@ module _ (recipe : Recipe) (l : Limits) (keeper keeper' : KeeperShown) (olds new
   abbrev So : ServerAnswer → DeskAnswered → Type 0
   So answer done = Exact recipe l keeper keeper' olds news h h' c old new d a limits is answer done
 
-  in_hand_is : (o : Option Work) → old.work ≡ o → in_hand s c d ≡ o
+  in_hand_is : (o : Option Work) → old.work ≡ o → work_in_hand s c d ≡ o
   in_hand_is o at = hand_so recipe l keeper keeper' olds news h h' c old new d a limits is ∙ at
 
   -- nothing is in hand any more
@@ -161,7 +161,7 @@ module _ (recipe : Recipe) (l : Limits) (keeper keeper' : KeeperShown) (olds new
   worked : (turned : Turned) (f : WorksOffAt l turned old new) → So (told.Turned turned) (settle recipe f.work c s d)
   worked turned f =
       subst (So (told.Turned turned)) (sym (offs recipe l keeper keeper' olds news h h' c d old.pass new.pass a limits (commit_steps l 4) f.follows f.turn f.work old.behaviour old.registers new.registers serves is.registers turned f.answer))
-      (refl, refl, emptied (off_shut old.behaviour old.registers f.work old.pass new.pass turned new.registers f.answer) f.none_left (settled_as turned t new.registers d).desk refl)
+      (refl, refl, emptied (off_shut old.behaviour old.registers f.work old.pass new.pass turned new.registers f.answer) f.none_left (settled_desk turned t new.registers d).desk refl)
 
   pub commits : (answer : ServerAnswer) → TellsCommit l old answer new → So answer (commit_step recipe c s d)
   commits (told.Turned turned) f = subst (So (told.Turned turned)) (ap (λ o. commit_work recipe o c s d) (sym (in_hand_is (Some f.work) f.in_hand))) (worked turned f)
@@ -224,7 +224,7 @@ module _ (recipe : Recipe) (l : Limits) (keeper keeper' : KeeperShown) (olds new
     stage_is = ap (λ (b : Behaviour). b.stage) serves
 
     claim_law : (order : Order) (n : ℕ) (mids : List PassShown) (k : KeeperShown) (g : List Event) (mid : PassShown) (claimed : Claimed) → Acts l keeper k olds mids h g c old.pass mid → mid.limits ≡ l → Follows n old.pass mid → KeepsTurn order old.pass mid
-        → ClaimsBy order l old.behaviour.stage old.pass mid claimed → (claimed, thread_of l mids g) ≡ claim_by order s c recipe.stage
+        → ClaimsBy order l old.behaviour.stage old.pass mid claimed → (claimed, thread_of l mids g) ≡ claim_in_order order s c recipe.stage
     claim_law orders.LeastFirst n mids k g mid claimed acts lim follows keeps says =
         alone_claim recipe.stage l keeper k olds mids h g n c old.pass mid claimed (record { before = acts.before; front = acts.front; back = acts.back; olds_are = acts.olds_are; place = acts.place; limits = lim; follows = follows; others = acts.others; after = acts.after })
         keeps (subst (λ z. ClaimsBy orders.LeastFirst l z old.pass mid claimed) stage_is says)
@@ -252,7 +252,7 @@ module _ (recipe : Recipe) (l : Limits) (keeper keeper' : KeeperShown) (olds new
         let claim = claim_law order (steps_by order l) mids keeper w.between.seen w.between (claimeds.Work w.work) first w.limits w.claims w.keeps_turn w.takes in
         let off = offs recipe l keeper keeper' mids news w.between.seen h' c d w.between new.pass last limits (commit_steps l 4) w.ends w.same_turn w.work old.behaviour old.registers new.registers serves is.registers turned w.off in
         subst (So (told.Turned turned)) (sym (ap (λ r. turn_as recipe c r d) (sym claim) ∙ off))
-        (refl, refl, emptied (off_shut old.behaviour old.registers w.work w.between new.pass turned new.registers w.off) none (settled_as turned t new.registers d).desk refl)
+        (refl, refl, emptied (off_shut old.behaviour old.registers w.work w.between new.pass turned new.registers w.off) none (settled_desk turned t new.registers d).desk refl)
 
     pub turned_so : (order : Order) (turned : Turned) → old.work ≡ None → TakesTurn order l (place_of_desk old) turned (place_of_desk new) → new.work ≡ None → So (told.Turned turned) (turn_by order recipe c s d)
     turned_so order turneds.Idle none f none_left =

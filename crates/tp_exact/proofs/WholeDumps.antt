@@ -13,7 +13,7 @@ use Rattle.tp_script.specs.declared.head.Act.TheVariants as acts
 use Rattle.tp_script.specs.declared.head.Driver.TheVariants as drivers
 use Rattle.tp_script.specs.declared.notes.EndLine.{EndLine}
 use Rattle.tp_session.specs.Answers.{refused_line}
-use Rattle.tp_session.specs.Dump.{all_starts, drop_lines, life_text, lost_lines, server_line, settings_lines, worker_text}
+use Rattle.tp_session.specs.Dump.{all_starts, drop_lines, life_text, lost_lines, server_dump_line, settings_lines, worker_text}
 use Rattle.tp_session.specs.Live.{Live}
 use Rattle.tp_session.specs.NoteTexts.{note_lines}
 use Rattle.tp_session.specs.Told.{HeadLine, HeadLines}
@@ -158,7 +158,7 @@ module _ (h : HeadView) (old done : Live) (survivors : List Survivor) (s : Sessi
   settled = settings_lines h.settings
 
   abbrev served : List (List ℕ)
-  served = map server_line h.servers
+  served = map server_dump_line h.servers
 
   abbrev starting : List (List ℕ)
   starting = all_starts h.servers regs (length h.servers)

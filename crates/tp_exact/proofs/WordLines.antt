@@ -8,7 +8,7 @@ use Rattle.std.proofs.lemmas.Fmt.{decimal_nonempty, length-decimal-le}
 use Rattle.std.proofs.lemmas.List.{length-append}
 use Rattle.std.proofs.lemmas.Slice.Eq.{bytes_eq-Decides}
 use Rattle.tp_script.specs.Drafts.{colons}
-use Rattle.tp_script.specs.LineWords.{◌>>=◌, body_at, body_of, four, id_or_gone, is_name, number_at}
+use Rattle.tp_script.specs.LineWords.{◌>>=◌, body_at, body_numbers, four, id_or_gone, is_name, number_at}
 use Rattle.tp_script.specs.Text.{words}
 use Rattle.tp_script.specs.declared.fault.LineFault.{LineFault}
 use Rattle.tp_exact.specs.AliveReads.{IsBody64}
@@ -161,8 +161,8 @@ module _ (a b c d : ℕ) (fa : a < 2 ^ 64) (fb : b < 2 ^ 64) (fc : c < 2 ^ 64) (
       ∙ ap (λ z. decimal b ∷ z) (cut 58 (decimal c) _ (digits_free 58 c fc no_colon)
       ∙ ap (λ z. decimal c ∷ z) (uncut 58 (decimal d) (digits_free 58 d fd no_colon))))
 
-  pub words_read : body_of (decimal a, decimal b, decimal c, decimal d) ≡ Ok body
-  unfolding body_of
+  pub words_read : body_numbers (decimal a, decimal b, decimal c, decimal d) ≡ Ok body
+  unfolding body_numbers
   words_read =
       bind_ok (number_at (2 ^ 64 - 1) (decimal a)) a _ (number_ok (2 ^ 64 - 1) a fa (omega (arith, fa)))
       ∙ (bind_ok (number_at (2 ^ 64 - 1) (decimal b)) b _ (number_ok (2 ^ 64 - 1) b fb (omega (arith, fb)))
@@ -171,7 +171,7 @@ module _ (a b c d : ℕ) (fa : a < 2 ^ 64) (fb : b < 2 ^ 64) (fc : c < 2 ^ 64) (
 
   reads : body_at (body_text body) ≡ Ok body
   unfolding body_at
-  reads = ap (λ ps. four ps >>= λ ws. body_of ws) parts ∙ words_read
+  reads = ap (λ ps. four ps >>= λ ws. body_numbers ws) parts ∙ words_read
 
   colons_are : colons (body_text body) ≡ 3
   colons_are =

@@ -44,6 +44,6 @@ if_alive l h id (Some item) = let status = status_of l.attempts h id in
     if is_alive status then with_root (alive_standing l status) h id item (element_of h item.root) else []
 
 -- all that is alive, by ascending ids
-abbrev pub alive_of : State → List Survivor
-alive_of m = flat_map (λ id. if_alive m.limits m.history id (element_of m.history id))
+abbrev pub survivors_now : State → List Survivor
+survivors_now m = flat_map (λ id. if_alive m.limits m.history id (element_of m.history id))
     (range_with_len 0 (rows_of m.limits))

@@ -27,7 +27,7 @@ IsBody64 (a ∷ b ∷ c ∷ d ∷ []) = (a < 2 ^ 64) × (b < 2 ^ 64) × (c < 2 ^
 IsBody64 other = ⊥
 
 -- the numbers are those that an element and its root may have, and one that is its own root is like it
-pub record IsFit (s : Survivor) : Type 0 where
+pub record FitsLine (s : Survivor) : Type 0 where
   pub id : s.id < 100000
   pub root : s.root < 100000
   pub attempts : tries_of s.status s.holder ≤ MAX_ATTEMPTS
@@ -42,7 +42,7 @@ pub record IsFit (s : Survivor) : Type 0 where
 abbrev pub AliveLineReads : Type 0
 AliveLineReads =
     (workers : List WorkerView) (first : ℕ) (s : Survivor) (h : HeadView)
-    → IsFit s → s.holder ≡ None → length h.alive < MAX_ALIVE
+    → FitsLine s → s.holder ≡ None → length h.alive < MAX_ALIVE
     → head_at (life_text workers first s) h ≡ Ok (record h { alive = h.alive ++ line_of first s ∷ [] }, None)
 
 -- the name is that of this worker of a head, and no line of the head says that it has or had something in hand
@@ -56,7 +56,7 @@ pub record IsFreeWorker (name : List ℕ) (worker : ℕ) (h : HeadView) : Type 0
 abbrev pub HeldLineReads : Type 0
 HeldLineReads =
     (workers : List WorkerView) (first worker : ℕ) (w : WorkerView) (s : Survivor) (h : HeadView)
-    → IsFit s → s.holder ≡ Some (first + worker) → slice_get workers worker ≡ Some w
+    → FitsLine s → s.holder ≡ Some (first + worker) → slice_get workers worker ≡ Some w
     → IsFreeWorker w.name worker h → length h.alive < MAX_ALIVE
     → head_at (life_text workers first s) h ≡ Ok (record h { alive = h.alive ++ line_of first s ∷ [] }, None)
 

@@ -17,7 +17,7 @@ use Rattle.tp_script.specs.Places.{place_name}
 use Rattle.tp_script.specs.ServerLines.{has_client}
 use Rattle.tp_script.specs.declared.head.TheConstants.{MAX_WORKERS}
 use Rattle.tp_script.specs.declared.script.TheConstants.{MAX_SERVERS}
-use Rattle.tp_session.specs.Dump.{all_starts, server_line, settings_lines, worker_text}
+use Rattle.tp_session.specs.Dump.{all_starts, server_dump_line, settings_lines, worker_text}
 use Rattle.tp_session.specs.Told.{HeadLines}
 
 -- settings that a head may have
@@ -81,7 +81,7 @@ pub record IsHeadServer (v : ServerView) : Type 0 where
   pub good : is_ok (check_of v.recipe) ≡ true
   pub few : length v.recipe.outputs.items ≤ MAX_OUTPUTS
   pub outputs : (o : Output) → In o v.recipe.outputs.items → IsFitOutput o
-  pub short : length (server_line v) ≤ 208
+  pub short : length (server_dump_line v) ≤ 208
 
 -- a server whose registers are all 0, as its line makes it
 abbrev pub unstarted : ServerView → ServerView
@@ -95,7 +95,7 @@ ServerLinesRead =
     → ((v : ServerView) → In v servers → IsHeadServer v)
     → ((name : List ℕ) → count_by (λ (v : ServerView). bytes_eq v.name name) servers ≤ 1)
     → length servers ≤ MAX_SERVERS → h.servers ≡ [] → h.workers ≡ [] → h.clients ≡ []
-    → HeadLines past (map server_line servers) h [] (record h { servers = map unstarted servers })
+    → HeadLines past (map server_dump_line servers) h [] (record h { servers = map unstarted servers })
 
 -- the servers with these registers
 abbrev pub started : List ServerView → List (List ℕ) → List ServerView

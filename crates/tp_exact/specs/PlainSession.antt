@@ -26,7 +26,7 @@ use Rattle.tp_script.specs.declared.script.Command.{Command}
 use Rattle.tp_perform.specs.Rollover.{renamed, roll_refused_text}
 use Rattle.tp_reference.specs.PlainClient.{counts_of}
 use Rattle.tp_reference.specs.PlainReport.{ReportState, command_step, finals_below, new_desk}
-use Rattle.tp_session.specs.Answers.{joined_line, left_line, refused_line, restored_text, units_text, worker_line}
+use Rattle.tp_session.specs.Answers.{joined_line, left_line, refused_line, restored_text, units_text, worker_answer_line}
 use Rattle.tp_session.specs.Carried.{lost_works, works_after}
 use Rattle.tp_session.specs.Conversed.{limits_of}
 use Rattle.tp_session.specs.Dump.{dump_lines, dump_text}
@@ -40,7 +40,7 @@ use Rattle.tp_session.specs.Overviews.{names_of}
 use Rattle.tp_session.specs.Roots.{roots_of, roots_text}
 use Rattle.tp_session.specs.declared.hand.Holding.{Holding}
 use Rattle.tp_session.specs.declared.hand.Holding.TheVariants.{Nothing}
-use Rattle.tp_exact.specs.Alive.{alive_of}
+use Rattle.tp_exact.specs.Alive.{survivors_now}
 use Rattle.tp_exact.specs.PlainNotes.{NotedAnswered, work_told, noted_does}
 use Rattle.tp_exact.specs.PlainOverviews.{overview_line}
 use Rattle.tp_exact.specs.PlainWorkers.{worker_does}
@@ -58,7 +58,7 @@ abbrev pub worker_step : Option WorkerView → WorkerAct → ℕ → ℕ → Ses
 worker_step None act at c s = ([], s)
 worker_step (Some it) act at c s =
     let done = worker_does act it.stage c s.report.manager (slice_index_or s.works at Nothing) in (
-      worker_line it.name done.answer,
+      worker_answer_line it.name done.answer,
       record {
         report = record s.report { manager = done.manager };
         works = slice_set s.works at done.work;
@@ -134,7 +134,7 @@ session_anew told h survivors before left s = let l = s.report.manager.limits in
 
 -- a rollover: what the workers have in hand goes on
 abbrev pub rolled_over : HeadView → SessionState → List ℕ × SessionState
-rolled_over h s = session_anew rolled_text h (alive_of s.report.manager) s.works s s
+rolled_over h s = session_anew rolled_text h (survivors_now s.report.manager) s.works s s
 
 -- where a restore is refused no id goes on that the head has noted
 abbrev pub unrestored : SessionState → SessionState
@@ -147,7 +147,7 @@ session_restored h s = session_anew restored_text h (survivors_of h) (lost_works
 -- the lines that lead to this state
 abbrev pub dump_of : HeadView → SessionState → List (List ℕ)
 dump_of h s = dump_lines h (map (λ d. d.registers) s.report.desks) (map (λ d. d.is_dropped) s.report.desks)
-    s.works s.notes (alive_of s.report.manager)
+    s.works s.notes (survivors_now s.report.manager)
 
 -- ---- clients of whom notes are kept, and what workers are told of theirs
 
@@ -226,10 +226,10 @@ lines_step h past refusals (line ∷ others) s =
     (first.0 ++ rest.0, rest.1)
 
 -- what the first command asks for, if there is one, and then such lines, after this many others
-abbrev pub lines_from : Option Act → HeadView → ℕ → Refusals → List (List ℕ) → SessionState
+abbrev pub session_lines_from : Option Act → HeadView → ℕ → Refusals → List (List ℕ) → SessionState
     → List ℕ × SessionState
-lines_from None h past refusals lines s = lines_step h past refusals lines s
-lines_from (Some act) h past refusals lines s =
+session_lines_from None h past refusals lines s = lines_step h past refusals lines s
+session_lines_from (Some act) h past refusals lines s =
     let first = session_act_step h (first_refusal refusals) act s in
     let rest = lines_step h (past + 1) (other_refusals refusals) lines first.1 in (first.0 ++ rest.0, rest.1)
 
@@ -275,7 +275,7 @@ session_begin h = record {
 -- and the final lines
 abbrev pub session_by : Refusals → ReadHead → List ℕ
 session_by refusals read =
-    let body = lines_from read.command read.head read.past refusals read.behind (session_begin read.head) in
+    let body = session_lines_from read.command read.head read.past refusals read.behind (session_begin read.head) in
     read.text ++ (body.0 ++ finals_below read.head.servers body.1.report.desks
     (length read.head.servers))
 

@@ -14,13 +14,13 @@ use Rattle.tp_exact.specs.PlainSession.{Refusals, SessionState, first_refusal, h
 use Rattle.tp_exact.specs.PlainSession.{other_refusals, said_in, session_act_step}
 
 -- what is noted of the client of this name
-abbrev pub note_of : NameView → SessionState → Option ClientNote
-note_of name s = find (λ c. has_name name c.name) s.notes.clients
+abbrev pub client_note_of : NameView → SessionState → Option ClientNote
+client_note_of name s = find (λ c. has_name name c.name) s.notes.clients
 
 -- so many sends and receives of the client were done, or more
 pub record HasDone (name : NameView) (sent received : ℕ) (s : SessionState) : Type 0 where
   pub note : ClientNote
-  pub noted : note_of name s ≡ Some note
+  pub noted : client_note_of name s ≡ Some note
   pub sends : sent ≤ note.sent
   pub receives : received ≤ note.received
 
@@ -49,13 +49,13 @@ DoneForGood = (h : HeadView) (past : ℕ) (refusals : Refusals) (lines : List (L
 -- only a send of the next number does anything: no send that was done, and none past the next one
 abbrev pub SendsOnce : Type 0
 SendsOnce = (h : HeadView) (why : Option RollFault) (s : SessionState) (name : NameView) (number stage : ℕ)
-    (body : List ℕ) (note : ClientNote) → note_of name s ≡ Some note → (number ≡ note.sent + 1 → ⊥)
+    (body : List ℕ) (note : ClientNote) → client_note_of name s ≡ Some note → (number ≡ note.sent + 1 → ⊥)
     → (session_act_step h why (acts.Noted name (asks.Send number stage body)) s).1 ≡ s
 
 -- and so it is of receives: each takes one reply at most, which no other receive takes
 abbrev pub ReceivesOnce : Type 0
 ReceivesOnce = (h : HeadView) (why : Option RollFault) (s : SessionState) (name : NameView) (number : ℕ)
-    (root : Option ℕ) (note : ClientNote) → note_of name s ≡ Some note → (number ≡ note.received + 1 → ⊥)
+    (root : Option ℕ) (note : ClientNote) → client_note_of name s ≡ Some note → (number ≡ note.received + 1 → ⊥)
     → (session_act_step h why (acts.Noted name (asks.Receive number root)) s).1 ≡ s
 
 -- ---- what is answered again
@@ -63,15 +63,15 @@ ReceivesOnce = (h : HeadView) (why : Option RollFault) (s : SessionState) (name 
 -- a send that was done, made again with any body, has the same answer and does nothing
 abbrev pub SendsAgain : Type 0
 SendsAgain = (h : HeadView) (why why' : Option RollFault) (s : SessionState) (name : NameView)
-    (number stage stage' : ℕ) (body body' : List ℕ) (before note : ClientNote) → note_of name s ≡ Some before
+    (number stage stage' : ℕ) (body body' : List ℕ) (before note : ClientNote) → client_note_of name s ≡ Some before
     → let first = session_act_step h why (acts.Noted name (asks.Send number stage body)) s in
-    note_of name first.1 ≡ Some note → note.sent ≡ number
+    client_note_of name first.1 ≡ Some note → note.sent ≡ number
     → session_act_step h why' (acts.Noted name (asks.Send number stage' body')) first.1 ≡ first
 
 -- a receive that took a reply, made again of any request, has the same answer and takes nothing
 abbrev pub ReceivesAgain : Type 0
 ReceivesAgain = (h : HeadView) (why why' : Option RollFault) (s : SessionState) (name : NameView) (number : ℕ)
-    (root root' : Option ℕ) (before note : ClientNote) → note_of name s ≡ Some before
+    (root root' : Option ℕ) (before note : ClientNote) → client_note_of name s ≡ Some before
     → let first = session_act_step h why (acts.Noted name (asks.Receive number root)) s in
-    note_of name first.1 ≡ Some note → note.received ≡ number
+    client_note_of name first.1 ≡ Some note → note.received ≡ number
     → session_act_step h why' (acts.Noted name (asks.Receive number root')) first.1 ≡ first

@@ -19,9 +19,9 @@ quote n question price = record {
 }
 
 -- without a price the question is declined, for a reason of the server's own
-abbrev pub told : ℕ → Element → List ℕ → Result Effect Declined
-told n question (price ∷ []) = Ok (quote n question price)
-told n question heard = Err (Own 2)
+abbrev pub quote_heard : ℕ → Element → List ℕ → Result Effect Declined
+quote_heard n question (price ∷ []) = Ok (quote n question price)
+quote_heard n question heard = Err (Own 2)
 
 -- what was heard: the price, if there is one
 abbrev pub as_heard : Option ℕ → List ℕ
@@ -30,7 +30,7 @@ as_heard None = []
 
 -- one register: how many quotes were given
 abbrev pub quoted : List ℕ → Element → List ℕ → Result Effect Declined
-quoted (n ∷ []) question heard = if nat_lt (n + 1) (2 ^ 64) then told n question heard else Err TooLarge
+quoted (n ∷ []) question heard = if nat_lt (n + 1) (2 ^ 64) then quote_heard n question heard else Err TooLarge
 quoted registers question heard = Err NoRegister
 
 abbrev pub quotes : Behaviour

@@ -22,7 +22,7 @@ use Rattle.tp_desk.proofs.Keeping.{claimed, committed, emptied, gives_up, leaves
 use Rattle.tp_desk.proofs.Serves.{ended_none, serves_none}
 use Rattle.tp_workers.specs.Gains.{commits_in, is_commit}
 use Rattle.tp_workers.proofs.Events.{counted_one}
-use Rattle.tp_images.specs.Pictures.{bytes_of, smaller, spaceless}
+use Rattle.tp_images.specs.Pictures.{picture_bytes, smaller, spaceless}
 
 -- with this work in hand, or none, since it showed the first
 abbrev pub Resizing : PassShown → PassShown → Option Work → Type 0
@@ -55,7 +55,7 @@ has_bytes n some = elim (leb_tells 1 n) [
 ]
 
 -- a commit of the smaller picture, whatever its answer
-pub commits : (f p q : PassShown) (w : Work) (n : ℕ) (drafts : List DraftView) (outcome : Outcome) → Resizing f p (Some w) → 0 < bytes_of w.element → drafts ≡ smaller w.element ∷ []
+pub commits : (f p q : PassShown) (w : Work) (n : ℕ) (drafts : List DraftView) (outcome : Outcome) → Resizing f p (Some w) → 0 < picture_bytes w.element → drafts ≡ smaller w.element ∷ []
     → Follows n p q → Settles drafts p q outcome → q.open_unit ≡ None → Resizing f q None
 commits f p q w n drafts outcome s some are follows says free =
     let made : Pending = record { prepared_for = w.element; registers = [] } in
@@ -65,7 +65,7 @@ commits f p q w n drafts outcome s some are follows says free =
         open_unit = s.in_hand.open_unit;
         claimed = s.in_hand.claimed;
         is_born = s.in_hand.is_born;
-        prepared = λ is. (refl, ([], rw (are, has_bytes (bytes_of w.element) some) refl));
+        prepared = λ is. (refl, ([], rw (are, has_bytes (picture_bytes w.element) some) refl));
       };
       ended = s.ended;
     } in

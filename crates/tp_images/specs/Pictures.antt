@@ -13,8 +13,8 @@ use Rattle.tp_model.specs.declared.types.TheConstants.{REPLY_STAGE}
 abbrev pub format_of : Element → ℕ
 format_of picture = slice_index picture.body 0
 
-abbrev pub bytes_of : Element → ℕ
-bytes_of picture = slice_index picture.body 1
+abbrev pub picture_bytes : Element → ℕ
+picture_bytes picture = slice_index picture.body 1
 
 -- a picture of at most a thousand bytes needs no resizing
 abbrev pub route : ℕ → ℕ
@@ -27,7 +27,7 @@ validated formats picture =
     then Ok (record {
       registers = [];
       drafts = record {
-        stage = route (bytes_of picture);
+        stage = route (picture_bytes picture);
         body = picture.body;
       } ∷ [];
     })
@@ -38,7 +38,7 @@ validator formats = record { stage = 1; effect = λ registers picture heard. val
 
 -- a picture is resized to a quarter of its bytes
 abbrev pub resized_to : Element → ℕ
-resized_to picture = bytes_of picture / 4
+resized_to picture = picture_bytes picture / 4
 
 abbrev pub smaller : Element → DraftView
 smaller picture = record {
@@ -67,13 +67,13 @@ abbrev pub spaceless : Behaviour
 spaceless = record {
   stage = 2;
   effect = λ registers picture heard.
-      if nat_lt 0 (bytes_of picture) then Ok (record { registers = []; drafts = smaller picture ∷ [] })
+      if nat_lt 0 (picture_bytes picture) then Ok (record { registers = []; drafts = smaller picture ∷ [] })
       else Err (Own 2);
 }
 
 abbrev pub notice : ℕ → ℕ → Element → Effect
 notice count bytes picture = record {
-  registers = (count + 1) ∷ (bytes + bytes_of picture) ∷ [];
+  registers = (count + 1) ∷ (bytes + picture_bytes picture) ∷ [];
   drafts = record { stage = REPLY_STAGE; body = picture.body } ∷ [];
 }
 
@@ -81,7 +81,7 @@ notice count bytes picture = record {
 abbrev pub notify : List ℕ → Element → Result Effect Declined
 notify (count ∷ bytes ∷ []) picture =
     if nat_lt (count + 1) (2 ^ 64)
-    then (if nat_lt (bytes + bytes_of picture) (2 ^ 64) then Ok (notice count bytes picture)
+    then (if nat_lt (bytes + picture_bytes picture) (2 ^ 64) then Ok (notice count bytes picture)
     else Err TooLarge)
     else Err TooLarge
 notify other picture = Err NoRegister

@@ -4,7 +4,7 @@ ghost use Rattle.tp_model.specs.Counts.{taken};
 ghost use Rattle.tp_server.specs.Books.{Raises};
 ghost use Rattle.tp_desk.specs.Serving.{gained};
 ghost use Rattle.tp_images.specs.Books.{CountsAll, bytes_in, notices_in, one};
-ghost use Rattle.tp_images.specs.Pictures.{bytes_of, notifier};
+ghost use Rattle.tp_images.specs.Pictures.{picture_bytes, notifier};
 ghost use Rattle.tp_workers.specs.Desks.{IsDeskOf};
 ghost use Rattle.tp_workers.specs.Gains.{commits_in};
 
@@ -36,5 +36,5 @@ pub fn deliver(
 /// Each notice counts one more, and adds the bytes of its picture.
 fn each_notice()
     ensures notices { Raises notifier notices_in one }
-    ensures bytes { Raises notifier bytes_in bytes_of }
+    ensures bytes { Raises notifier bytes_in picture_bytes }
 {}

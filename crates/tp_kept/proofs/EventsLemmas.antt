@@ -9,11 +9,11 @@ use Rattle.tp_journal.specs.Event.{Event}
 use Rattle.tp_model.specs.declared.types.Refusal.TheVariants as refusals
 use Rattle.tp_report.specs.Answer.{line, refusal_text}
 use Rattle.tp_kept.specs.Lines.{begins}
-use Rattle.tp_kept.specs.Events.{WritesAndTells, WritesSoFar, contents_of, is_late, is_sure, lacks_memory, shown_by, told, written}
+use Rattle.tp_kept.specs.Events.{WritesAndTells, WritesSoFar, contents_of, is_late, is_sure, lacks_memory, shown_answers, told, bytes_written}
 use Rattle.tp_kept.specs.declared.events.TheConstants.{NUMBERED, RESUMED, SHOWN}
 
 pub writes_none : (events : List Event) → WritesAndTells [] [] events events
-writes_none events = record { standing_is = refl; tried_is = refl; own_is = refl; taken_is = refl; quiet_is = refl; due_is = refl; right_is = refl; sure_is = λ none. refl; handed_is = refl; told_is = sym (append-nil (told events)); written_is = sym (append-nil (written events)); appended_is = refl; prompt_is = refl; begun_is = refl; gone_on_is = refl; late_is = λ on. refl }
+writes_none events = record { standing_is = refl; tried_is = refl; own_is = refl; taken_is = refl; quiet_is = refl; due_is = refl; right_is = refl; sure_is = λ none. refl; handed_is = refl; told_is = sym (append-nil (told events)); written_is = sym (append-nil (bytes_written events)); appended_is = refl; prompt_is = refl; begun_is = refl; gone_on_is = refl; late_is = λ on. refl }
 
 or_false : (a b : Bool) → (a || b) ≡ false → (a ≡ false) × (b ≡ false)
 or_false true b e = absurd cc
@@ -40,11 +40,11 @@ lacks_less (x ∷ xs) ys e =
     (ap (λ b. b || lacks_memory xs) (begins_less short (x ∷ xs) ys both.0) ∙ rest.0, rest.1)
 
 -- one part more
-writes_part : (kind : ℕ) (f part : List ℕ) (old mid : List Event) → (kind ≡ RESUMED) ⊎ (kind ≡ SHOWN) → WritesAndTells (shown_by kind f) f old mid → WritesAndTells (shown_by kind (f ++ part)) (f ++ part) old ((kind, 0, true, part) ∷ mid)
-writes_part kind f part old mid (inl is) so = subst (λ k. WritesAndTells (shown_by k (f ++ part)) (f ++ part) old ((k, 0, true, part) ∷ mid)) (sym is) (record {
+writes_part : (kind : ℕ) (f part : List ℕ) (old mid : List Event) → (kind ≡ RESUMED) ⊎ (kind ≡ SHOWN) → WritesAndTells (shown_answers kind f) f old mid → WritesAndTells (shown_answers kind (f ++ part)) (f ++ part) old ((kind, 0, true, part) ∷ mid)
+writes_part kind f part old mid (inl is) so = subst (λ k. WritesAndTells (shown_answers k (f ++ part)) (f ++ part) old ((k, 0, true, part) ∷ mid)) (sym is) (record {
   handed_is = so.handed_is;
-  told_is = so.told_is ∙ ap (λ k. told old ++ shown_by k f) is;
-  written_is = ap (λ l. l ++ part) so.written_is ∙ append_assoc (written old) f part;
+  told_is = so.told_is ∙ ap (λ k. told old ++ shown_answers k f) is;
+  written_is = ap (λ l. l ++ part) so.written_is ∙ append_assoc (bytes_written old) f part;
   appended_is = so.appended_is;
   standing_is = so.standing_is;
   tried_is = so.tried_is;
@@ -57,12 +57,12 @@ writes_part kind f part old mid (inl is) so = subst (λ k. WritesAndTells (shown
   begun_is = so.begun_is;
   gone_on_is = so.gone_on_is;
   late_is = λ on. ap (λ b. b && is_late mid) (so.gone_on_is ∙ on) ∙ so.late_is on;
-  sure_is = λ none. so.sure_is (ap (λ k. lacks_memory (shown_by k f)) is);
+  sure_is = λ none. so.sure_is (ap (λ k. lacks_memory (shown_answers k f)) is);
 })
-writes_part kind f part old mid (inr is) so = subst (λ k. WritesAndTells (shown_by k (f ++ part)) (f ++ part) old ((k, 0, true, part) ∷ mid)) (sym is) (record {
+writes_part kind f part old mid (inr is) so = subst (λ k. WritesAndTells (shown_answers k (f ++ part)) (f ++ part) old ((k, 0, true, part) ∷ mid)) (sym is) (record {
   handed_is = so.handed_is;
-  told_is = ap (λ l. l ++ part) (so.told_is ∙ ap (λ k. told old ++ shown_by k f) is) ∙ append_assoc (told old) f part;
-  written_is = ap (λ l. l ++ part) so.written_is ∙ append_assoc (written old) f part;
+  told_is = ap (λ l. l ++ part) (so.told_is ∙ ap (λ k. told old ++ shown_answers k f) is) ∙ append_assoc (told old) f part;
+  written_is = ap (λ l. l ++ part) so.written_is ∙ append_assoc (bytes_written old) f part;
   appended_is = so.appended_is;
   standing_is = so.standing_is;
   tried_is = so.tried_is;
@@ -75,12 +75,12 @@ writes_part kind f part old mid (inr is) so = subst (λ k. WritesAndTells (shown
   begun_is = so.begun_is;
   gone_on_is = so.gone_on_is;
   late_is = λ on. ap (λ b. b && is_late mid) (so.gone_on_is ∙ on) ∙ so.late_is on;
-  sure_is = λ none. (let both = lacks_less f part none in ap (λ b. not b && is_sure mid) both.1 ∙ so.sure_is (ap (λ k. lacks_memory (shown_by k f)) is ∙ both.0));
+  sure_is = λ none. (let both = lacks_less f part none in ap (λ b. not b && is_sure mid) both.1 ∙ so.sure_is (ap (λ k. lacks_memory (shown_answers k f)) is ∙ both.0));
 })
 
-shown_none : (kind : ℕ) → (kind ≡ RESUMED) ⊎ (kind ≡ SHOWN) → shown_by kind [] ≡ []
-shown_none kind (inl is) = ap (λ k. shown_by k []) is
-shown_none kind (inr is) = ap (λ k. shown_by k []) is
+shown_none : (kind : ℕ) → (kind ≡ RESUMED) ⊎ (kind ≡ SHOWN) → shown_answers kind [] ≡ []
+shown_none kind (inl is) = ap (λ k. shown_answers k []) is
+shown_none kind (inr is) = ap (λ k. shown_answers k []) is
 
 module _ (kind : ℕ) (bytes : List ℕ) (a : Option (List ℕ)) (old : List Event) (ok : (kind ≡ RESUMED) ⊎ (kind ≡ SHOWN)) where
   pub so_far_none : WritesSoFar kind bytes bytes a old a old
@@ -91,7 +91,7 @@ module _ (kind : ℕ) (bytes : List ℕ) (a : Option (List ℕ)) (old : List Eve
     front = so.front ++ part;
     bytes_are = so.bytes_are ∙ (ap (λ l. so.front ++ l) are ∙ sym (append_assoc so.front part rest'));
     appends = Appends-then a b c so.front part so.appends more;
-    noted = subst (WritesAndTells (shown_by kind (so.front ++ part)) (so.front ++ part) old) (sym is) (writes_part kind so.front part old mid ok so.noted);
+    noted = subst (WritesAndTells (shown_answers kind (so.front ++ part)) (so.front ++ part) old) (sym is) (writes_part kind so.front part old mid ok so.noted);
   }
 
 -- ---- what a wire has told
@@ -106,27 +106,27 @@ pub contents_more : (a b : Option (List ℕ)) (more front : List ℕ) (old new :
 contents_more None b more front old new appends writes = tt
 contents_more (Some x) None more front old new appends writes = absurd appends
 contents_more (Some x) (Some y) more front old new appends writes =
-    let same : length y - length (written new) ≡ length x - length (written old) = omega (arith, ap length appends, length-append x front, ap length writes.written_is, length-append (written old) front) in
-    let less : length x - length (written old) ≤ length x = omega arith in
-    ap (λ n. take n y ++ told new) same ∙ (ap (λ l. take (length x - length (written old)) l ++ told new) appends ∙ (ap (λ l. l ++ told new) (take_less (length x - length (written old)) x front less) ∙ (ap (λ l. take (length x - length (written old)) x ++ l) writes.told_is ∙ sym (append_assoc (take (length x - length (written old)) x) (told old) more))))
+    let same : length y - length (bytes_written new) ≡ length x - length (bytes_written old) = omega (arith, ap length appends, length-append x front, ap length writes.written_is, length-append (bytes_written old) front) in
+    let less : length x - length (bytes_written old) ≤ length x = omega arith in
+    ap (λ n. take n y ++ told new) same ∙ (ap (λ l. take (length x - length (bytes_written old)) l ++ told new) appends ∙ (ap (λ l. l ++ told new) (take_less (length x - length (bytes_written old)) x front less) ∙ (ap (λ l. take (length x - length (bytes_written old)) x ++ l) writes.told_is ∙ sym (append_assoc (take (length x - length (bytes_written old)) x) (told old) more))))
 
 -- nothing was
-pub contents_same : (a : Option (List ℕ)) (old new : List Event) → told new ≡ told old → written new ≡ written old → Appends (contents_of old a) (contents_of new a) []
+pub contents_same : (a : Option (List ℕ)) (old new : List Event) → told new ≡ told old → bytes_written new ≡ bytes_written old → Appends (contents_of old a) (contents_of new a) []
 contents_same None old new telling writing = tt
 contents_same (Some x) old new telling writing =
-    ap (λ w. take (length x - length w) x ++ told new) writing ∙ (ap (λ t. take (length x - length (written old)) x ++ t) telling ∙ sym (append-nil _))
+    ap (λ w. take (length x - length w) x ++ told new) writing ∙ (ap (λ t. take (length x - length (bytes_written old)) x ++ t) telling ∙ sym (append-nil _))
 
 -- more was told that isn't written
-pub contents_muted : (a : Option (List ℕ)) (answers : List ℕ) (old new : List Event) → told new ≡ told old ++ answers → written new ≡ written old → Appends (contents_of old a) (contents_of new a) answers
+pub contents_muted : (a : Option (List ℕ)) (answers : List ℕ) (old new : List Event) → told new ≡ told old ++ answers → bytes_written new ≡ bytes_written old → Appends (contents_of old a) (contents_of new a) answers
 contents_muted None answers old new telling writing = tt
 contents_muted (Some x) answers old new telling writing =
-    ap (λ w. take (length x - length w) x ++ told new) writing ∙ (ap (λ t. take (length x - length (written old)) x ++ t) telling ∙ sym (append_assoc (take (length x - length (written old)) x) (told old) answers))
+    ap (λ w. take (length x - length w) x ++ told new) writing ∙ (ap (λ t. take (length x - length (bytes_written old)) x ++ t) telling ∙ sym (append_assoc (take (length x - length (bytes_written old)) x) (told old) answers))
 
 -- answers were told, and then others were written in their place
 pub contents_numbered : (a b : Option (List ℕ)) (answers text : List ℕ) (old mid new : List Event) → mid ≡ (NUMBERED, 0, true, answers) ∷ old → Appends a b text → WritesAndTells [] text mid new → Appends (contents_of old a) (contents_of new b) answers
 contents_numbered a b answers text old mid new is appends writes =
     subst (λ l. Appends (contents_of old a) (contents_of new b) l) (append-nil answers)
-    (Appends-then (contents_of old a) (contents_of mid a) (contents_of new b) answers [] (contents_muted a answers old mid (ap told is) (ap written is)) (contents_more a b [] text mid new appends writes))
+    (Appends-then (contents_of old a) (contents_of mid a) (contents_of new b) answers [] (contents_muted a answers old mid (ap told is) (ap bytes_written is)) (contents_more a b [] text mid new appends writes))
 
 -- nothing is left
 pub nothing : (xs : List ℕ) → length xs ≡ 0 → xs ≡ []

@@ -8,8 +8,8 @@ use Rattle.tp_journal.specs.Journal.{IsJournalOpen, IsJournalSettled}
 use Rattle.tp_journal.specs.Text.{HasTorn, IsAtRest, IsBatch, IsPlain, end_line, first_line, text_of, with_end}
 use Rattle.tp_journal.specs.declared.journal.Journal.{Journal}
 use Rattle.tp_journal.proofs.Crashes.{keeps_batches, keeps_text}
-use Rattle.tp_kept.specs.Kept.{IsKept, KeepsLines, lines_in, rest_of}
-use Rattle.tp_kept.specs.Lines.{AreWholeLines, Puts, before, downs, plain_line, shut}
+use Rattle.tp_kept.specs.Kept.{IsKept, KeepsLines, lines_in, coming}
+use Rattle.tp_kept.specs.Lines.{AreWholeLines, Puts, text_before, downs, plain_line, shut}
 use Rattle.tp_kept.proofs.LinesLemmas.{shut_ended}
 use Rattle.tp_kept.proofs.EventsLemmas.{nothing}
 use Rattle.tp_kept.proofs.OwnLemmas.{lines_with}
@@ -107,13 +107,13 @@ batch_of lines (plain, inr t) some = record { plain = plain; front = t.0; ends =
 
 -- ---- the bytes that are to come
 
-pub rest_none : (line : List ℕ) (rest : Option (List ℕ)) → Consumes (rest_of [] line rest) (rest_of [] line rest) []
+pub rest_none : (line : List ℕ) (rest : Option (List ℕ)) → Consumes (coming [] line rest) (coming [] line rest) []
 rest_none line None = tt
 rest_none line (Some bytes) = refl
 
 -- bytes were read, and taken behind what was there of a line
 pub rest_read : (line line' : List ℕ) (rest rest' : Option (List ℕ)) (bytes lines lines' : List ℕ) (puts : Puts bytes line lines line' lines') → Consumes rest rest' bytes → lines ≡ []
-    → Consumes (rest_of [] line rest) (rest_of lines' line' rest') []
+    → Consumes (coming [] line rest) (coming lines' line' rest') []
 rest_read line line' None rest' bytes lines lines' puts consumes none = tt
 rest_read line line' (Some xs) None bytes lines lines' puts consumes none = absurd consumes
 rest_read line line' (Some xs) (Some ys) bytes lines lines' puts consumes none =
@@ -127,19 +127,19 @@ rest_then (Some x) (Some y) None p q = absurd q
 rest_then (Some x) (Some y) (Some z) p q = p ∙ q
 
 -- at the end of the input nothing is to come behind a line that has ended
-pub rest_end : (rest : Option (List ℕ)) → IsAtEnd rest → IsAtEnd (rest_of [] [] rest)
+pub rest_end : (rest : Option (List ℕ)) → IsAtEnd rest → IsAtEnd (coming [] [] rest)
 rest_end None end = tt
 rest_end (Some bytes) end = ap (downs []) end
 
 -- a front of what is ready was given
-pub rest_given : (ready line : List ℕ) (rest : Option (List ℕ)) (at n : ℕ) → Consumes (rest_of (drop at ready) line rest) (rest_of (drop (at + n) ready) line rest) (take n (drop at ready))
+pub rest_given : (ready line : List ℕ) (rest : Option (List ℕ)) (at n : ℕ) → Consumes (coming (drop at ready) line rest) (coming (drop (at + n) ready) line rest) (take n (drop at ready))
 rest_given ready line None at n = tt
 rest_given ready line (Some bytes) at n =
     ap (λ l. l ++ downs line bytes) (sym (take-append-drop n (drop at ready))) ∙ (append_assoc (take n (drop at ready)) (drop n (drop at ready)) (downs line bytes) ∙ ap (λ l. take n (drop at ready) ++ (l ++ downs line bytes)) (drop-drop n at ready))
 
 -- where nothing is ready, and nothing is given
-pub rest_over : (ready line : List ℕ) (rest : Option (List ℕ)) → ready ≡ [] → IsAtEnd (rest_of [] line rest) → IsAtEnd (rest_of ready line rest)
-rest_over ready line rest none end = subst (λ r. IsAtEnd (rest_of r line rest)) (sym none) end
+pub rest_over : (ready line : List ℕ) (rest : Option (List ℕ)) → ready ≡ [] → IsAtEnd (coming [] line rest) → IsAtEnd (coming ready line rest)
+rest_over ready line rest none end = subst (λ r. IsAtEnd (coming r line rest)) (sym none) end
 
 -- a line with its end
 pub one_line : (lines line : List ℕ) → All IsPlain line → lines ≡ shut line → AreWholeLines lines
@@ -147,13 +147,13 @@ one_line lines line plain is = subst AreWholeLines (sym is) (shut_ended line pla
 
 -- it has one
 pub one_some : (lines line : List ℕ) → lines ≡ shut line → 1 ≤ length lines
-one_some lines line is = omega (arith, ap length is, length-append (before line ++ plain_line line) (10 ∷ []))
+one_some lines line is = omega (arith, ap length is, length-append (text_before line ++ plain_line line) (10 ∷ []))
 
 -- ---- a read
 
 module _ (ready ready' : List ℕ) (at at' n : ℕ) (line line' : List ℕ) (rest rest' : Option (List ℕ)) where
-  same_rest : ready' ≡ ready → at' ≡ at + n → line' ≡ line → rest' ≡ rest → rest_of (drop at' ready') line' rest' ≡ rest_of (drop (at + n) ready) line rest
-  same_rest r a l s = ap (λ r. rest_of (drop at' r) line' rest') r ∙ (ap (λ a. rest_of (drop a ready) line' rest') a ∙ (ap (λ l. rest_of (drop (at + n) ready) l rest') l ∙ ap (λ s. rest_of (drop (at + n) ready) line s) s))
+  same_rest : ready' ≡ ready → at' ≡ at + n → line' ≡ line → rest' ≡ rest → coming (drop at' ready') line' rest' ≡ coming (drop (at + n) ready) line rest
+  same_rest r a l s = ap (λ r. coming (drop at' r) line' rest') r ∙ (ap (λ a. coming (drop a ready) line' rest') a ∙ (ap (λ l. coming (drop (at + n) ready) l rest') l ∙ ap (λ s. coming (drop (at + n) ready) line s) s))
 
 rest_on : (a b c : Option (List ℕ)) (bytes : List ℕ) → Consumes a b [] → Consumes b c bytes → Consumes a c bytes
 rest_on None b c bytes p q = tt
@@ -162,14 +162,14 @@ rest_on (Some x) (Some y) None bytes p q = absurd q
 rest_on (Some x) (Some y) (Some z) bytes p q = p ∙ q
 
 pub given_bytes : (before : Option (List ℕ)) (ready ready' : List ℕ) (at at' n : ℕ) (line line' : List ℕ) (rest rest' : Option (List ℕ)) (got : List ℕ)
-    → Consumes before (rest_of (drop at ready) line rest) [] → ready' ≡ ready → at' ≡ at + n → line' ≡ line → rest' ≡ rest → got ≡ take n (drop at ready) → Consumes before (rest_of (drop at' ready') line' rest') got
+    → Consumes before (coming (drop at ready) line rest) [] → ready' ≡ ready → at' ≡ at + n → line' ≡ line → rest' ≡ rest → got ≡ take n (drop at ready) → Consumes before (coming (drop at' ready') line' rest') got
 given_bytes before ready ready' at at' n line line' rest rest' got so r a l s is =
-    subst (λ bs. Consumes before (rest_of (drop at' ready') line' rest') bs) (sym is)
+    subst (λ bs. Consumes before (coming (drop at' ready') line' rest') bs) (sym is)
     (subst (λ o. Consumes before o (take n (drop at ready))) (sym (same_rest ready ready' at at' n line line' rest rest' r a l s))
-    (rest_on before (rest_of (drop at ready) line rest) (rest_of (drop (at + n) ready) line rest) (take n (drop at ready)) so (rest_given ready line rest at n)))
+    (rest_on before (coming (drop at ready) line rest) (coming (drop (at + n) ready) line rest) (take n (drop at ready)) so (rest_given ready line rest at n)))
 
 pub given_end : (ready ready' : List ℕ) (at at' n : ℕ) (line line' : List ℕ) (rest rest' : Option (List ℕ)) (room : ℕ) → (0 < room → 0 < length (drop at ready) → 0 < n) → n ≡ 0 → 0 < room
-    → (drop at ready ≡ [] → IsAtEnd (rest_of [] line rest)) → ready' ≡ ready → at' ≡ at + n → line' ≡ line → rest' ≡ rest → IsAtEnd (rest_of (drop at' ready') line' rest')
+    → (drop at ready ≡ [] → IsAtEnd (coming [] line rest)) → ready' ≡ ready → at' ≡ at + n → line' ≡ line → rest' ≡ rest → IsAtEnd (coming (drop at' ready') line' rest')
 given_end ready ready' at at' n line line' rest rest' room gives none some end r a l s =
     let empty : length (drop at ready) ≡ 0 = is_none (length (drop at ready)) (gives some) in
     let over : drop at ready ≡ [] = nothing (drop at ready) empty in

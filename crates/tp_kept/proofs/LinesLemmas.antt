@@ -6,7 +6,7 @@ use Rattle.std.proofs.lemmas.List.Elements.{All-append, All-cons, All-head, All-
 use Rattle.tp_journal.specs.Text.{IsPlain}
 use Rattle.tp_session.specs.Heard.{IsInLine}
 use Rattle.tp_session.proofs.HeardLemmas.{EndsAt, ends_at, no_end}
-use Rattle.tp_kept.specs.Lines.{AreWholeLines, Puts, before, downs, given_from, given_in, is_own, longer, opens, own_dump, plain_line, shut}
+use Rattle.tp_kept.specs.Lines.{AreWholeLines, Puts, text_before, downs, given_from, given_in, is_own, longer, opens, own_dump, plain_line, shut}
 use Rattle.tp_session.specs.declared.reading.TheConstants.{MAX_KEPT}
 
 -- ---- put down
@@ -42,10 +42,10 @@ plain_if false xs ys a b = b
 
 pub shut_ended : (line : List ℕ) → All IsPlain line → AreWholeLines (shut line)
 shut_ended line plain =
-    let dumps : All IsPlain (before line) = plain_if (opens (codes "rollover") line) own_dump [] (each_plain own_dump (refl, (refl, (refl, (refl, (refl, tt)))))) (All-nil IsPlain) in
+    let dumps : All IsPlain (text_before line) = plain_if (opens (codes "rollover") line) own_dump [] (each_plain own_dump (refl, (refl, (refl, (refl, (refl, tt)))))) (All-nil IsPlain) in
     let text : All IsPlain (plain_line line) = plain_if (opens (codes "# covetrivet: ") line && nat_lt (length line) MAX_KEPT) (codes "#") line (each_plain (codes "#") (refl, tt)) plain in (
-      All-append IsPlain (before line ++ plain_line line) (10 ∷ []) (All-append IsPlain (before line) (plain_line line) dumps text) (each_plain (10 ∷ []) (refl, tt)),
-      inr (before line ++ plain_line line, refl),
+      All-append IsPlain (text_before line ++ plain_line line) (10 ∷ []) (All-append IsPlain (text_before line) (plain_line line) dumps text) (each_plain (10 ∷ []) (refl, tt)),
+      inr (text_before line ++ plain_line line, refl),
     )
 
 -- a line has ended

@@ -5,11 +5,11 @@ use Rattle.std.proofs.lemmas.List.{at_drop_more}
 use Rattle.std.proofs.lemmas.List.Elements.{All-append, All-head, All-tail}
 use Rattle.std.proofs.lemmas.Bool.Decides.{nat_tests}
 use Rattle.tp_report.specs.Answer.{line}
-use Rattle.tp_session.specs.Dump.{dump_text, quoted}
+use Rattle.tp_session.specs.Dump.{dump_text, quoted_line}
 use Rattle.tp_session.specs.Heard.{IsInLine}
 use Rattle.tp_session.proofs.HeardLemmas.{EndsAt, ends_at, no_end}
 use Rattle.tp_kept.specs.Lines.{begins}
-use Rattle.tp_kept.specs.Short.{behind_line, is_short, stands_text, unquoted, unquoted_from}
+use Rattle.tp_kept.specs.Short.{behind_line, is_dump_of, stands_text, unquoted, unquoted_from}
 use Rattle.tp_kept.proofs.OwnLemmas.{IsIn, decimal_in, each_in}
 
 behind_in : (line rest : List ℕ) → IsInLine line → behind_line (line ++ 10 ∷ rest) ≡ rest
@@ -71,16 +71,16 @@ line_kept : (l rest : List ℕ) → IsInLine l → unquoted_from 0 ((l ++ 10 ∷
 line_kept [] rest within = refl
 line_kept (x ∷ xs) rest within = rw (All-head (λ b. (b == 10) ≡ false) x xs within) (ap (λ l. x ∷ l) (line_kept xs rest (All-tail (λ b. (b == 10) ≡ false) x xs within)))
 
-lines_kept : (lines : List (List ℕ)) → All IsInLine lines → unquoted_from 2 (flat_map quoted lines) ≡ flat_map line lines
+lines_kept : (lines : List (List ℕ)) → All IsInLine lines → unquoted_from 2 (flat_map quoted_line lines) ≡ flat_map line lines
 lines_kept [] within = refl
 lines_kept (l ∷ ls) within =
-    line_kept l (flat_map quoted ls) (All-head IsInLine l ls within) ∙ ap (λ rest. line l ++ rest) (lines_kept ls (All-tail IsInLine l ls within))
+    line_kept l (flat_map quoted_line ls) (All-head IsInLine l ls within) ∙ ap (λ rest. line l ++ rest) (lines_kept ls (All-tail IsInLine l ls within))
 
 pub unquotes_dumps : (lines : List (List ℕ)) → length lines < 2 ^ 64 → All IsInLine lines → unquoted (dump_text lines) ≡ flat_map line lines
 unquotes_dumps lines few within =
     let front : List ℕ = codes "dumped " ++ decimal (length lines) in
     let in_line : All IsIn front = All-append IsIn (codes "dumped ") (decimal (length lines)) (each_in (codes "dumped ") (refl, (refl, (refl, (refl, (refl, (refl, (refl, tt)))))))) (decimal_in (length lines) few) in
-    ap (λ l. unquoted_from 2 (behind_line l)) (append_assoc front (10 ∷ []) (flat_map quoted lines)) ∙ (ap (unquoted_from 2) (behind_in front (flat_map quoted lines) in_line) ∙ lines_kept lines within)
+    ap (λ l. unquoted_from 2 (behind_line l)) (append_assoc front (10 ∷ []) (flat_map quoted_line lines)) ∙ (ap (unquoted_from 2) (behind_in front (flat_map quoted_line lines) in_line) ∙ lines_kept lines within)
 
 begins_self : (xs : List ℕ) → begins xs xs ≡ true
 begins_self [] = refl
@@ -89,7 +89,7 @@ begins_self (x ∷ xs) = rw (same x, begins_self xs) refl
     same : (x : ℕ) → (x == x) ≡ true
     same x = grind (arith, nat_tests)
 
-pub short_is : (lines counted : ℕ) (all line answer : List ℕ) → lines < 2 ^ 64 → counted < 2 ^ 64 → line ≡ stands_text lines counted → all ≡ line ++ unquoted answer → is_short all answer ≡ true
+pub short_is : (lines counted : ℕ) (all line answer : List ℕ) → lines < 2 ^ 64 → counted < 2 ^ 64 → line ≡ stands_text lines counted → all ≡ line ++ unquoted answer → is_dump_of all answer ≡ true
 short_is lines counted all line answer less short is whole =
     let text = stands_in lines counted less short in
     let rest : behind_line all ≡ unquoted answer = ap behind_line (whole ∙ (ap (λ l. l ++ unquoted answer) (is ∙ text.2) ∙ append_assoc text.0 (10 ∷ []) (unquoted answer))) ∙ behind_in text.0 (unquoted answer) text.1 in

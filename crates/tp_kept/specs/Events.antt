@@ -11,7 +11,7 @@ use Rattle.tp_report.specs.Answer.{line, refusal_text}
 use Rattle.tp_kept.specs.declared.events.TheConstants.{APPENDED, ASKED, BEGUN, HANDED, MUTED, NUMBERED}
 use Rattle.tp_kept.specs.declared.events.TheConstants.{RESUMED, ROLLED, SHORTENED, SHOWN, TAKEN, TRIED}
 use Rattle.tp_kept.specs.Lines.{begins, opens, own_dump}
-use Rattle.tp_kept.specs.Short.{is_dumped, is_rolled, is_short}
+use Rattle.tp_kept.specs.Short.{is_dumped, is_rolled, is_dump_of}
 
 -- the bytes of the events of one kind or another, in the order in which they came
 abbrev pub bytes_of : ℕ → ℕ → List Event → List ℕ
@@ -24,8 +24,8 @@ abbrev pub handed : List Event → List ℕ
 handed events = bytes_of HANDED HANDED events
 
 -- what the journal had when the session began
-abbrev pub begun : List Event → List ℕ
-begun events = bytes_of BEGUN BEGUN events
+abbrev pub kept_at_first : List Event → List ℕ
+kept_at_first events = bytes_of BEGUN BEGUN events
 
 -- nothing but this has happened
 abbrev pub only_begun : List ℕ → List Event
@@ -39,8 +39,8 @@ told ((kind, number, ok, bytes) ∷ past) =
     else told past
 
 -- what was written of it, behind how many lines were recovered
-abbrev pub written : List Event → List ℕ
-written events = bytes_of RESUMED SHOWN events
+abbrev pub bytes_written : List Event → List ℕ
+bytes_written events = bytes_of RESUMED SHOWN events
 
 -- some lines were appended
 abbrev pub has_appended : List Event → Bool
@@ -56,7 +56,7 @@ is_prompt ((kind, number, ok, bytes) ∷ past) = not ((kind == MUTED) && has_app
 abbrev pub has_gone_on : List Event → Bool
 has_gone_on [] = false
 has_gone_on ((kind, number, ok, bytes) ∷ past) =
-    ((kind == ASKED) && (length (begun past) - length (handed past) == 0)) || has_gone_on past
+    ((kind == ASKED) && (length (kept_at_first past) - length (handed past) == 0)) || has_gone_on past
 
 -- nothing was written before that
 abbrev pub is_late : List Event → Bool
@@ -96,11 +96,11 @@ has_own ((kind, number, ok, bytes) ∷ past) =
     if kind == HANDED then (number == 1) && opens own_dump bytes else has_own past
 
 -- what the last one was told
-abbrev pub taken : List Event → List ℕ
-taken [] = []
-taken ((kind, number, ok, bytes) ∷ past) =
-    if kind == TAKEN then taken past ++ bytes
-    else if (kind == HANDED) && (number == 1) then [] else taken past
+abbrev pub told_last : List Event → List ℕ
+told_last [] = []
+told_last ((kind, number, ok, bytes) ∷ past) =
+    if kind == TAKEN then told_last past ++ bytes
+    else if (kind == HANDED) && (number == 1) then [] else told_last past
 
 -- nothing else that was told was taken
 abbrev pub is_quiet : List Event → Bool
@@ -111,42 +111,42 @@ is_quiet ((kind, number, ok, bytes) ∷ past) = (not (kind == TAKEN) || has_own 
 abbrev pub is_due : List Event → Bool
 is_due [] = false
 is_due ((kind, number, ok, bytes) ∷ past) =
-    if kind == ROLLED then is_rolled bytes && is_dumped (taken past)
+    if kind == ROLLED then is_rolled bytes && is_dumped (told_last past)
     else if (kind == HANDED) || (kind == SHORTENED) then false else is_due past
 
 -- only then were lines shortened, to those of the dump
 abbrev pub is_right : List Event → Bool
 is_right [] = true
 is_right ((kind, number, ok, bytes) ∷ past) =
-    (not (kind == SHORTENED) || (is_due past && is_short bytes (taken past))) && is_right past
+    (not (kind == SHORTENED) || (is_due past && is_dump_of bytes (told_last past))) && is_right past
 
 -- What the session has told, behind what a writer had before: of what the writer has, that was written.
 abbrev pub contents_of : List Event → Option (List ℕ) → Option (List ℕ)
 contents_of events has = option_map (λ all.
-    take (length all - length (written events)) all ++ told events) has
+    take (length all - length (bytes_written events)) all ++ told events) has
 
 -- between the two this was told and that was written, and nothing else has happened
 pub record WritesAndTells (more_told more_written : List ℕ) (old new : List Event) : Type 0 where
   pub handed_is : handed new ≡ handed old
   pub told_is : told new ≡ told old ++ more_told
-  pub written_is : written new ≡ written old ++ more_written
+  pub written_is : bytes_written new ≡ bytes_written old ++ more_written
   pub appended_is : has_appended new ≡ has_appended old
   pub prompt_is : is_prompt new ≡ is_prompt old
-  pub begun_is : begun new ≡ begun old
+  pub begun_is : kept_at_first new ≡ kept_at_first old
   pub gone_on_is : has_gone_on new ≡ has_gone_on old
   pub late_is : has_gone_on old ≡ true → is_late new ≡ is_late old
   pub sure_is : lacks_memory more_told ≡ false → is_sure new ≡ is_sure old
   pub standing_is : standing new ≡ standing old
   pub tried_is : tried new ≡ tried old
   pub own_is : has_own new ≡ has_own old
-  pub taken_is : taken new ≡ taken old
+  pub taken_is : told_last new ≡ told_last old
   pub quiet_is : is_quiet new ≡ is_quiet old
   pub due_is : is_due new ≡ is_due old
   pub right_is : is_right new ≡ is_right old
 
 -- what of written bytes was told: answers are, how many lines were recovered isn't
-abbrev pub shown_by : ℕ → List ℕ → List ℕ
-shown_by kind bytes = if kind == SHOWN then bytes else []
+abbrev pub shown_answers : ℕ → List ℕ → List ℕ
+shown_answers kind bytes = if kind == SHOWN then bytes else []
 
 -- the bytes were written and noted up to this rest
 pub record WritesSoFar (kind : ℕ) (bytes rest : List ℕ) (before : Option (List ℕ)) (old : List Event)
@@ -154,7 +154,7 @@ pub record WritesSoFar (kind : ℕ) (bytes rest : List ℕ) (before : Option (Li
   pub front : List ℕ
   pub bytes_are : bytes ≡ front ++ rest
   pub appends : Appends before after front
-  pub noted : WritesAndTells (shown_by kind front) front old new
+  pub noted : WritesAndTells (shown_answers kind front) front old new
 
 -- they were written, all of them where it went well
 abbrev pub WritesNoted : ℕ → Result Unit Failed → List ℕ → Option (List ℕ) → List Event → Option (List ℕ)

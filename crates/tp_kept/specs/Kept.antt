@@ -26,5 +26,5 @@ pub record IsKept {D : Type 0} (seen : D → List ℕ) (may_leave : D → List �
 
 -- the bytes that are to come: lines that are ready, and then what a reader has as it is put down behind a
 -- line
-abbrev pub rest_of : List ℕ → List ℕ → Option (List ℕ) → Option (List ℕ)
-rest_of ready line rest = option_map (λ more. ready ++ downs line more) rest
+abbrev pub coming : List ℕ → List ℕ → Option (List ℕ) → Option (List ℕ)
+coming ready line rest = option_map (λ more. ready ++ downs line more) rest

@@ -28,8 +28,8 @@ abbrev pub own_dump : List ℕ
 own_dump = codes "dump\n"
 
 -- what stands before a line
-abbrev pub before : List ℕ → List ℕ
-before line = if opens (codes "rollover") line then own_dump else []
+abbrev pub text_before : List ℕ → List ℕ
+text_before line = if opens (codes "rollover") line then own_dump else []
 
 -- a line that would be taken for one that says how many lines a journal had has another text: both are comments
 abbrev pub plain_line : List ℕ → List ℕ
@@ -38,7 +38,7 @@ plain_line line =
 
 -- a line as it is put down, with its end
 abbrev pub shut : List ℕ → List ℕ
-shut line = before line ++ plain_line line ++ 10 ∷ []
+shut line = text_before line ++ plain_line line ++ 10 ∷ []
 
 -- a last line has an end too
 abbrev pub ended : List ℕ → List ℕ

@@ -25,14 +25,14 @@ abbrev pub refused : List ℕ
 refused = codes "refused line "
 
 -- so many lines more, and so many less
-abbrev pub moved : ℕ → ℕ → ℕ → ℕ
-moved more less n = most (n + more) - less
+abbrev pub count_moved : ℕ → ℕ → ℕ → ℕ
+count_moved more less n = most (n + more) - less
 
 -- an answer
 abbrev pub renumbered_line : ℕ → ℕ → List ℕ → List ℕ
 renumbered_line more less line =
     if opens refused line then
-    refused ++ decimal (moved more less (number_from 0 (drop (length refused) line)))
+    refused ++ decimal (count_moved more less (number_from 0 (drop (length refused) line)))
     ++ behind_number (drop (length refused) line)
     else line
 

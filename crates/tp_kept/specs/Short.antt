@@ -32,6 +32,6 @@ abbrev pub unquoted : List ℕ → List ℕ
 unquoted answer = unquoted_from 2 (behind_line answer)
 
 -- these are the lines of a dump with this answer, behind a line that says how many lines they stand for
-abbrev pub is_short : List ℕ → List ℕ → Bool
-is_short lines answer =
+abbrev pub is_dump_of : List ℕ → List ℕ → Bool
+is_dump_of lines answer =
     begins (behind_line lines) (unquoted answer) && begins (unquoted answer) (behind_line lines)

@@ -6,8 +6,8 @@ ghost use Rattle.std.specs.Io.KnownBytes.{Appends, Consumes, IsAtEnd};
 ghost use Rattle.std.specs.Option.{is_some};
 ghost use Rattle.tp_journal.specs.Journal.{IsJournalSettled};
 ghost use Rattle.tp_journal.specs.Text.{IsBatch, text_of};
-ghost use Rattle.tp_kept.specs.Events.{contents_of, has_gone_on, only_begun, told, written};
-ghost use Rattle.tp_kept.specs.Kept.{lines_in, rest_of};
+ghost use Rattle.tp_kept.specs.Events.{contents_of, has_gone_on, only_begun, told, bytes_written};
+ghost use Rattle.tp_kept.specs.Kept.{lines_in, coming};
 ghost use Rattle.tp_kept.specs.Ready.{IsReady};
 ghost use Rattle.tp_session.specs.declared.reading.TheConstants.{MAX_ASKED};
 
@@ -128,7 +128,7 @@ impl<R: Source + Drop, W: Sink + Drop, D: Device + Drop> Kept<R, W, D> {
         ensures reader { self.new.reader ≡ self.old.reader }
         ensures same { (self.new.writer ≡ self.old.writer) × (self.new.asked ≡ self.old.asked)
             × (told self.new.log.events ≡ told self.old.log.events)
-            × (written self.new.log.events ≡ written self.old.log.events) }
+            × (bytes_written self.new.log.events ≡ bytes_written self.old.log.events) }
         ensures cause { OnErr result (is_some self.new.cause ≡ true) }
     {
         let more = count(&batch);
@@ -155,14 +155,14 @@ impl<R: Source + Drop, W: Sink + Drop, D: Device + Drop> Kept<R, W, D> {
         requires fine { self.old.cause ≡ None }
         ensures is_ready { IsReady D.seen D.may_leave self.new }
         ensures rest { OnOk result (Consumes
-            (rest_of [] self.old.line.items (R.rest self.old.reader))
-            (rest_of (drop self.new.at self.new.ready.items) self.new.line.items (R.rest self.new.reader))
+            (coming [] self.old.line.items (R.rest self.old.reader))
+            (coming (drop self.new.at self.new.ready.items) self.new.line.items (R.rest self.new.reader))
             []) }
         ensures end { OnOk result (drop self.new.at self.new.ready.items ≡ []
-            → IsAtEnd (rest_of [] self.new.line.items (R.rest self.new.reader))) }
+            → IsAtEnd (coming [] self.new.line.items (R.rest self.new.reader))) }
         ensures same { (self.new.writer ≡ self.old.writer) × (self.new.asked ≡ self.old.asked)
             × (told self.new.log.events ≡ told self.old.log.events)
-            × (written self.new.log.events ≡ written self.old.log.events) }
+            × (bytes_written self.new.log.events ≡ bytes_written self.old.log.events) }
         ensures cause { OnErr result (is_some self.new.cause ≡ true) }
     {
         let mut batch = Vec::new(self.alloc);
@@ -198,14 +198,14 @@ impl<R: Source + Drop, W: Sink + Drop, D: Device + Drop> Kept<R, W, D> {
         requires end { IsAtEnd (R.rest self.old.reader) }
         ensures is_ready { IsReady D.seen D.may_leave self.new }
         ensures rest { OnOk result (Consumes
-            (rest_of [] self.old.line.items (R.rest self.old.reader))
-            (rest_of (drop self.new.at self.new.ready.items) self.new.line.items (R.rest self.new.reader))
+            (coming [] self.old.line.items (R.rest self.old.reader))
+            (coming (drop self.new.at self.new.ready.items) self.new.line.items (R.rest self.new.reader))
             []) }
         ensures end { OnOk result (drop self.new.at self.new.ready.items ≡ []
-            → IsAtEnd (rest_of [] self.new.line.items (R.rest self.new.reader))) }
+            → IsAtEnd (coming [] self.new.line.items (R.rest self.new.reader))) }
         ensures same { (self.new.writer ≡ self.old.writer) × (self.new.asked ≡ self.old.asked)
             × (told self.new.log.events ≡ told self.old.log.events)
-            × (written self.new.log.events ≡ written self.old.log.events) }
+            × (bytes_written self.new.log.events ≡ bytes_written self.old.log.events) }
         ensures cause { OnErr result (is_some self.new.cause ≡ true) }
     {
         if self.line.is_empty() {
@@ -261,11 +261,11 @@ impl<R: Source + Drop, W: Sink + Drop, D: Device + Drop> Kept<R, W, D> {
         requires gone_on { has_gone_on self.old.log.events ≡ true }
         ensures is_ready { IsReady D.seen D.may_leave self.new }
         ensures rest { OnOk result (Consumes
-            (rest_of [] self.old.line.items (R.rest self.old.reader))
-            (rest_of (drop self.new.at self.new.ready.items) self.new.line.items (R.rest self.new.reader))
+            (coming [] self.old.line.items (R.rest self.old.reader))
+            (coming (drop self.new.at self.new.ready.items) self.new.line.items (R.rest self.new.reader))
             []) }
         ensures end { OnOk result (drop self.new.at self.new.ready.items ≡ []
-            → IsAtEnd (rest_of [] self.new.line.items (R.rest self.new.reader))) }
+            → IsAtEnd (coming [] self.new.line.items (R.rest self.new.reader))) }
         ensures contents { Appends (contents_of self.old.log.events (W.contents self.old.writer))
             (contents_of self.new.log.events (W.contents self.new.writer)) [] }
         ensures same { self.new.asked ≡ self.old.asked }
@@ -281,11 +281,11 @@ impl<R: Source + Drop, W: Sink + Drop, D: Device + Drop> Kept<R, W, D> {
         requires fine { self.old.cause ≡ None }
         ensures is_ready { IsReady D.seen D.may_leave self.new }
         ensures rest { OnOk result (Consumes
-            (rest_of (drop self.old.at self.old.ready.items) self.old.line.items (R.rest self.old.reader))
-            (rest_of (drop self.new.at self.new.ready.items) self.new.line.items (R.rest self.new.reader))
+            (coming (drop self.old.at self.old.ready.items) self.old.line.items (R.rest self.old.reader))
+            (coming (drop self.new.at self.new.ready.items) self.new.line.items (R.rest self.new.reader))
             []) }
         ensures end { OnOk result (drop self.new.at self.new.ready.items ≡ []
-            → IsAtEnd (rest_of [] self.new.line.items (R.rest self.new.reader))) }
+            → IsAtEnd (coming [] self.new.line.items (R.rest self.new.reader))) }
         ensures contents { Appends (contents_of self.old.log.events (W.contents self.old.writer))
             (contents_of self.new.log.events (W.contents self.new.writer)) [] }
         ensures same { self.new.asked ≡ self.old.asked }
@@ -304,11 +304,11 @@ impl<R: Source + Drop, W: Sink + Drop, D: Device + Drop> Kept<R, W, D> {
         requires asked { self.old.asked + 1 < 2 ^ 64 }
         ensures is_ready { IsReady D.seen D.may_leave self.new }
         ensures rest { OnOk result (Consumes
-            (rest_of (drop self.old.at self.old.ready.items) self.old.line.items (R.rest self.old.reader))
-            (rest_of (drop self.new.at self.new.ready.items) self.new.line.items (R.rest self.new.reader))
+            (coming (drop self.old.at self.old.ready.items) self.old.line.items (R.rest self.old.reader))
+            (coming (drop self.new.at self.new.ready.items) self.new.line.items (R.rest self.new.reader))
             []) }
         ensures end { OnOk result (drop self.new.at self.new.ready.items ≡ []
-            → IsAtEnd (rest_of [] self.new.line.items (R.rest self.new.reader))) }
+            → IsAtEnd (coming [] self.new.line.items (R.rest self.new.reader))) }
         ensures contents { Appends (contents_of self.old.log.events (W.contents self.old.writer))
             (contents_of self.new.log.events (W.contents self.new.writer)) [] }
         ensures once { self.new.asked ≡ self.old.asked + 1 }
@@ -335,7 +335,7 @@ impl<R: Source + Drop, W: Sink + Drop, D: Device + Drop> Kept<R, W, D> {
         ensures same { (self.new.line ≡ self.old.line) × (self.new.reader ≡ self.old.reader)
             × (self.new.writer ≡ self.old.writer) × (self.new.asked ≡ self.old.asked)
             × (told self.new.log.events ≡ told self.old.log.events)
-            × (written self.new.log.events ≡ written self.old.log.events) }
+            × (bytes_written self.new.log.events ≡ bytes_written self.old.log.events) }
     {
         let room = buffer.len().min(self.ready.len() - self.at);
         let (stage, n) = next(self.stage, &self.ready[self.at..], room);

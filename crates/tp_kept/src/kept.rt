@@ -3,9 +3,9 @@ ghost use Rattle.std.specs.Prelude.{◌≡◌, ◌≤◌, ◌<◌, ◌+◌, ◌^
 ghost use Rattle.std.specs.Prelude.{drop, false, nat_lt, true, vec_len};
 ghost use Rattle.tp_journal.specs.declared.append.TheConstants.{MAX_LEN};
 ghost use Rattle.tp_kept.specs.declared.cause.Cause.TheVariants as Cause;
-ghost use Rattle.tp_kept.specs.Events.{begun, handed, has_appended, has_gone_on, written};
+ghost use Rattle.tp_kept.specs.Events.{kept_at_first, handed, has_appended, has_gone_on, bytes_written};
 ghost use Rattle.tp_kept.specs.Events.{has_own, is_due, is_late, is_prompt, is_quiet, is_right, is_sure};
-ghost use Rattle.tp_kept.specs.Events.{taken};
+ghost use Rattle.tp_kept.specs.Events.{told_last};
 ghost use Rattle.tp_kept.specs.declared.stage.Stage.TheVariants as Stage;
 ghost use Rattle.tp_session.specs.declared.reading.TheConstants.{MAX_KEPT};
 
@@ -58,14 +58,14 @@ pub struct Kept<R: Source + Drop, W: Sink + Drop, D: Device + Drop> {
     ghost few: { R.asked reader + left < 2 ^ 64 },
     ghost unread: { (recovering && has_appended log.events) ≡ false },
     ghost prompt: { is_prompt log.events ≡ true },
-    ghost silent: { recovering ≡ true → written log.events ≡ [] },
-    ghost first: { recovering ≡ true → handed log.events ++ drop at ready.items ≡ begun log.events },
+    ghost silent: { recovering ≡ true → bytes_written log.events ≡ [] },
+    ghost first: { recovering ≡ true → handed log.events ++ drop at ready.items ≡ kept_at_first log.events },
     ghost gone_on: { recovering ≡ false → has_gone_on log.events ≡ true },
     ghost late: { is_late log.events ≡ true },
     ghost sure: { is_sure log.events ≡ true },
     ghost own: { stage ≡ Stage.Dump → has_own log.events ≡ true },
     ghost quiet: { is_quiet log.events ≡ true },
-    ghost dumped: { dump.items ≡ taken log.events },
+    ghost dumped: { dump.items ≡ told_last log.events },
     ghost rolled: { due ≡ true → is_due log.events ≡ true },
     ghost right: { is_right log.events ≡ true },
     ghost read_fault: { cause ≡ Some Cause.Read → (R.has_failed reader || (left == 0)) ≡ true },

@@ -3,7 +3,7 @@
 ghost use Rattle.std.specs.Prelude.{◌≡◌, ◌++◌, ◌∷◌, ◌+◌, ◌-◌, ◌*◌, ◌^◌, [], IfOk, OnOk, decimal, min};
 ghost use Rattle.std.specs.Prelude.{string_bytes, true};
 ghost use Rattle.tp_kept.specs.Lines.{opens};
-ghost use Rattle.tp_kept.specs.Numbers.{behind_number, is_digit, moved, number_from, refused, renumbered};
+ghost use Rattle.tp_kept.specs.Numbers.{behind_number, is_digit, count_moved, number_from, refused, renumbered};
 ghost use Rattle.tp_kept.specs.Numbers.{renumbered_line};
 
 use crate::lines::line_end;
@@ -50,7 +50,7 @@ pub(crate) fn behind_number(bytes: &[u8]) -> &[u8]
 
 /// The number of a line with so many more, and so many less.
 fn moved(number: u64, more: u64, less: u64) -> u64
-    ensures { result ≡ moved more less number }
+    ensures { result ≡ count_moved more less number }
 {
     number.saturating_add(more).saturating_sub(less)
 }

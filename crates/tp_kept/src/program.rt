@@ -1,7 +1,7 @@
 //! The program of kept sessions: its journal is opened, what it has is recovered, and the session goes on.
 ghost use Rattle.std.specs.Prelude.{◌≡◌, ◌≤◌, IfSome, drop};
 ghost use Rattle.tp_kept.specs.Events.{contents_of};
-ghost use Rattle.tp_kept.specs.Kept.{rest_of};
+ghost use Rattle.tp_kept.specs.Kept.{coming};
 ghost use Rattle.tp_kept.specs.Ready.{IsReady};
 ghost use Rattle.tp_session.specs.Conversed.{Conversed, ConversedFront};
 
@@ -25,11 +25,11 @@ pub fn keep_to_end<R: Source + Drop, W: Sink + Drop, D: Device + Drop, E: Sink>(
     requires unasked { kept.old.asked ≡ 0 }
     ensures ready { IsReady D.seen D.may_leave kept.new }
     ensures whole { result ≡ 0 → IfSome
-        (rest_of (drop kept.old.at kept.old.ready.items) kept.old.line.items (R.rest kept.old.reader))
+        (coming (drop kept.old.at kept.old.ready.items) kept.old.line.items (R.rest kept.old.reader))
         (λ bytes. Conversed bytes (contents_of kept.old.log.events (W.contents kept.old.writer))
         (contents_of kept.new.log.events (W.contents kept.new.writer))) }
     ensures front { result ≡ 1 → IfSome
-        (rest_of (drop kept.old.at kept.old.ready.items) kept.old.line.items (R.rest kept.old.reader))
+        (coming (drop kept.old.at kept.old.ready.items) kept.old.line.items (R.rest kept.old.reader))
         (λ bytes. ConversedFront bytes (contents_of kept.old.log.events (W.contents kept.old.writer))
         (contents_of kept.new.log.events (W.contents kept.new.writer))) }
     ensures status { result ≤ 1 }

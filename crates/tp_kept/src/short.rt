@@ -1,7 +1,7 @@
 //! The lines of a dump, which take the place of those before it.
 ghost use Rattle.std.specs.Prelude.{◌≡◌, ◌++◌, IfOk, OnOk, codes, true};
 ghost use Rattle.tp_kept.specs.Lines.{opens};
-ghost use Rattle.tp_kept.specs.Short.{behind_line, is_dumped, is_rolled, is_short, unquoted, unquoted_from};
+ghost use Rattle.tp_kept.specs.Short.{behind_line, is_dumped, is_rolled, is_dump_of, unquoted, unquoted_from};
 
 use crate::counting::{count, stands_line};
 use crate::lines::line_end;
@@ -51,7 +51,7 @@ fn add_unquoted(lines: &mut Vec<u8>, bytes: &[u8]) -> Result<(), AllocError>
 
 /// The lines of a dump with this answer, which stand for so many, behind a line that says so.
 pub(crate) fn short(alloc: Global, answer: &[u8], counted: u64) -> Result<Vec<u8>, AllocError>
-    ensures { IfOk result (λ v. is_short v.items answer.now ≡ true) }
+    ensures { IfOk result (λ v. is_dump_of v.items answer.now ≡ true) }
 {
     let quoted = behind_line(answer);
     let line = stands_line(alloc, count(quoted), counted)?;

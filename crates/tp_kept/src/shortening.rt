@@ -4,8 +4,8 @@ ghost use Rattle.tp_kept.specs.Lines.{opens};
 ghost use Rattle.std.specs.Option.{is_some};
 ghost use Rattle.std.specs.Io.KnownBytes.{Appends};
 ghost use Rattle.tp_report.specs.Written.{AppendsFront};
-ghost use Rattle.tp_kept.specs.Events.{contents_of, lacks_memory, told, written};
-ghost use Rattle.tp_kept.specs.Kept.{rest_of};
+ghost use Rattle.tp_kept.specs.Events.{contents_of, lacks_memory, told, bytes_written};
+ghost use Rattle.tp_kept.specs.Kept.{coming};
 ghost use Rattle.tp_kept.specs.Numbers.{renumbered, shown_of};
 ghost use Rattle.tp_kept.specs.Ready.{IsReady};
 ghost use Rattle.tp_kept.specs.declared.stage.Stage.TheVariants as Stage;
@@ -43,8 +43,8 @@ impl<R: Source + Drop, W: Sink + Drop, D: Device + Drop> Kept<R, W, D> {
             (contents_of self.new.log.events (W.contents self.new.writer)) answers.now) }
         ensures front { OnErr result (AppendsFront (contents_of self.old.log.events (W.contents self.old.writer))
             (contents_of self.new.log.events (W.contents self.new.writer)) answers.now) }
-        ensures rest { rest_of (drop self.new.at self.new.ready.items) self.new.line.items (R.rest self.new.reader)
-            ≡ rest_of (drop self.old.at self.old.ready.items) self.old.line.items (R.rest self.old.reader) }
+        ensures rest { coming (drop self.new.at self.new.ready.items) self.new.line.items (R.rest self.new.reader)
+            ≡ coming (drop self.old.at self.old.ready.items) self.old.line.items (R.rest self.old.reader) }
         ensures asked { self.new.asked ≡ self.old.asked }
         ensures cause { OnErr result (is_some self.new.cause ≡ true) }
     {
@@ -64,8 +64,8 @@ impl<R: Source + Drop, W: Sink + Drop, D: Device + Drop> Kept<R, W, D> {
         ensures is_ready { IsReady D.seen D.may_leave self.new }
         ensures contents { contents_of self.new.log.events (W.contents self.new.writer)
             ≡ contents_of self.old.log.events (W.contents self.old.writer) }
-        ensures rest { rest_of (drop self.new.at self.new.ready.items) self.new.line.items (R.rest self.new.reader)
-            ≡ rest_of (drop self.old.at self.old.ready.items) self.old.line.items (R.rest self.old.reader) }
+        ensures rest { coming (drop self.new.at self.new.ready.items) self.new.line.items (R.rest self.new.reader)
+            ≡ coming (drop self.old.at self.old.ready.items) self.old.line.items (R.rest self.old.reader) }
         ensures asked { self.new.asked ≡ self.old.asked }
         ensures fine { OnOk result (self.new.cause ≡ None) }
         ensures cause { OnErr result (is_some self.new.cause ≡ true) }
@@ -89,8 +89,8 @@ impl<R: Source + Drop, W: Sink + Drop, D: Device + Drop> Kept<R, W, D> {
         ensures is_ready { IsReady D.seen D.may_leave self.new }
         ensures contents { contents_of self.new.log.events (W.contents self.new.writer)
             ≡ contents_of self.old.log.events (W.contents self.old.writer) }
-        ensures rest { rest_of (drop self.new.at self.new.ready.items) self.new.line.items (R.rest self.new.reader)
-            ≡ rest_of (drop self.old.at self.old.ready.items) self.old.line.items (R.rest self.old.reader) }
+        ensures rest { coming (drop self.new.at self.new.ready.items) self.new.line.items (R.rest self.new.reader)
+            ≡ coming (drop self.old.at self.old.ready.items) self.old.line.items (R.rest self.old.reader) }
         ensures asked { self.new.asked ≡ self.old.asked }
         ensures cause { self.new.cause ≡ self.old.cause }
     {
@@ -111,11 +111,11 @@ impl<R: Source + Drop, W: Sink + Drop, D: Device + Drop> Kept<R, W, D> {
             (contents_of self.new.log.events (W.contents self.new.writer)) answers.now) }
         ensures front { OnErr result (AppendsFront (contents_of self.old.log.events (W.contents self.old.writer))
             (contents_of self.new.log.events (W.contents self.new.writer)) answers.now) }
-        ensures rest { rest_of (drop self.new.at self.new.ready.items) self.new.line.items (R.rest self.new.reader)
-            ≡ rest_of (drop self.old.at self.old.ready.items) self.old.line.items (R.rest self.old.reader) }
+        ensures rest { coming (drop self.new.at self.new.ready.items) self.new.line.items (R.rest self.new.reader)
+            ≡ coming (drop self.old.at self.old.ready.items) self.old.line.items (R.rest self.old.reader) }
         ensures asked { self.new.asked ≡ self.old.asked }
-        ensures written { OnOk result (written self.new.log.events
-            ≡ written self.old.log.events ++ renumbered self.old.more self.old.less answers.now) }
+        ensures written { OnOk result (bytes_written self.new.log.events
+            ≡ bytes_written self.old.log.events ++ renumbered self.old.more self.old.less answers.now) }
         ensures cause { OnErr result (is_some self.new.cause ≡ true) }
     {
         let Ok(text) = numbered(self.alloc, answers, self.more, self.less) else {
@@ -142,11 +142,11 @@ impl<R: Source + Drop, W: Sink + Drop, D: Device + Drop> Kept<R, W, D> {
             (contents_of self.new.log.events (W.contents self.new.writer)) answers.now) }
         ensures front { OnErr result (AppendsFront (contents_of self.old.log.events (W.contents self.old.writer))
             (contents_of self.new.log.events (W.contents self.new.writer)) answers.now) }
-        ensures rest { rest_of (drop self.new.at self.new.ready.items) self.new.line.items (R.rest self.new.reader)
-            ≡ rest_of (drop self.old.at self.old.ready.items) self.old.line.items (R.rest self.old.reader) }
+        ensures rest { coming (drop self.new.at self.new.ready.items) self.new.line.items (R.rest self.new.reader)
+            ≡ coming (drop self.old.at self.old.ready.items) self.old.line.items (R.rest self.old.reader) }
         ensures asked { self.new.asked ≡ self.old.asked }
-        ensures written { OnOk result (written self.new.log.events
-            ≡ written self.old.log.events ++ shown_of self.old.recovering self.old.more self.old.less answers.now) }
+        ensures written { OnOk result (bytes_written self.new.log.events
+            ≡ bytes_written self.old.log.events ++ shown_of self.old.recovering self.old.more self.old.less answers.now) }
         ensures cause { OnErr result (is_some self.new.cause ≡ true) }
     {
         if self.recovering {
@@ -173,8 +173,8 @@ impl<R: Source + Drop, W: Sink + Drop, D: Device + Drop> Kept<R, W, D> {
         ensures is_ready { IsReady D.seen D.may_leave self.new }
         ensures contents { contents_of self.new.log.events (W.contents self.new.writer)
             ≡ contents_of self.old.log.events (W.contents self.old.writer) }
-        ensures rest { rest_of (drop self.new.at self.new.ready.items) self.new.line.items (R.rest self.new.reader)
-            ≡ rest_of (drop self.old.at self.old.ready.items) self.old.line.items (R.rest self.old.reader) }
+        ensures rest { coming (drop self.new.at self.new.ready.items) self.new.line.items (R.rest self.new.reader)
+            ≡ coming (drop self.old.at self.old.ready.items) self.old.line.items (R.rest self.old.reader) }
         ensures asked { self.new.asked ≡ self.old.asked }
         ensures fine { OnOk result (self.new.cause ≡ None) }
         ensures cause { OnErr result (is_some self.new.cause ≡ true) }
@@ -196,7 +196,7 @@ impl<R: Source + Drop, W: Sink + Drop, D: Device + Drop> Kept<R, W, D> {
             × (self.new.ready ≡ self.old.ready) × (self.new.at ≡ self.old.at)
             × (self.new.recovering ≡ self.old.recovering)
             × (told self.new.log.events ≡ told self.old.log.events)
-            × (written self.new.log.events ≡ written self.old.log.events) }
+            × (bytes_written self.new.log.events ≡ bytes_written self.old.log.events) }
         ensures fine { OnOk result (self.new.cause ≡ None) }
         ensures cause { OnErr result (is_some self.new.cause ≡ true) }
     {

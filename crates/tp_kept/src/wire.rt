@@ -2,7 +2,7 @@
 ghost use Rattle.std.specs.Prelude.{drop};
 ghost use Rattle.std.specs.Option.{is_some};
 ghost use Rattle.tp_kept.specs.Events.{contents_of};
-ghost use Rattle.tp_kept.specs.Kept.{rest_of};
+ghost use Rattle.tp_kept.specs.Kept.{coming};
 ghost use Rattle.tp_kept.specs.Ready.{IsReady};
 
 use crate::cause::Cause;
@@ -15,7 +15,7 @@ use tp_script::{Failed, Source};
 use tp_session::Wire;
 
 impl<R: Source + Drop, W: Sink + Drop, D: Device + Drop> Wire for Kept<R, W, D> {
-    ghost rest = { λ k. rest_of (drop k.at k.ready.items) k.line.items (R.rest k.reader) };
+    ghost rest = { λ k. coming (drop k.at k.ready.items) k.line.items (R.rest k.reader) };
 
     ghost contents = { λ k. contents_of k.log.events (W.contents k.writer) };
 

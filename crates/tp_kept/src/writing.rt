@@ -1,7 +1,7 @@
 //! What is written, and noted as it is.
 ghost use Rattle.std.specs.Prelude.{◌≡◌, ◌⊎◌, ◌++◌, OnErr, OnOk, IsTrue};
 ghost use Rattle.std.specs.Io.KnownBytes.{Appends};
-ghost use Rattle.tp_kept.specs.Events.{WritesNoted, shown_by};
+ghost use Rattle.tp_kept.specs.Events.{WritesNoted, shown_answers};
 ghost use Rattle.tp_kept.specs.declared.events.TheConstants.{RESUMED, SHOWN};
 
 use tp_journal::Record;

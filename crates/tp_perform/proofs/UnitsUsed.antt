@@ -10,7 +10,7 @@ use Rattle.tp_manager.specs.Shown.{KeeperShown, ManagerShown, PassShown}
 use Rattle.tp_desk.specs.declared.order.Order.{Order}
 use Rattle.tp_desk.specs.declared.turned.Turned.{Turned}
 use Rattle.tp_desk.specs.declared.turned.Turned.TheVariants as turneds
-use Rattle.tp_workers.specs.Tally.{claimed, turn_count}
+use Rattle.tp_workers.specs.Tally.{claimed_in_all, turn_count}
 use Rattle.tp_workers.proofs.Turns.{turn_claims, turn_room}
 use Rattle.tp_commands.specs.Acting.{PlaceShown, TurnsAt}
 use Rattle.tp_perform.specs.Drains.{Turn, TurnTaken, turn_claimed}
@@ -26,7 +26,7 @@ pub count_or : (a b : Bool) → count (a || b) ≤ count a + count b
 count_or true b = omega arith
 count_or false b = omega arith
 
-counted : (t : Turned) → count (turn_claimed t) ≡ claimed (turn_count t)
+counted : (t : Turned) → count (turn_claimed t) ≡ claimed_in_all (turn_count t)
 counted turneds.Idle = refl
 counted turneds.NoUnit = refl
 counted (turneds.Done unit element first outputs) = refl

@@ -7,7 +7,7 @@ use Rattle.tp_model.specs.declared.types.Refusal.TheVariants as refusals
 use Rattle.tp_plain.specs.OneThread.{start}
 use Rattle.tp_alone.specs.Thread.{Stays, thread_of}
 use Rattle.tp_rollover.specs.Answers.{Rolls}
-use Rattle.tp_rollover.specs.Carries.{Carries, WouldDiffer, WouldNotFit}
+use Rattle.tp_rollover.specs.Carries.{Carries, WouldNotFit}
 use Rattle.tp_rollover.specs.Faults.{AreFree}
 use Rattle.tp_rollover.specs.declared.managed.Managed.{Managed}
 use Rattle.tp_rollover.specs.declared.moved.Moved.{Moved}
@@ -83,13 +83,12 @@ pub record RollRefused (is_due : Scene → RollFault → Type 0) (old : Stand) (
   pub text_is : text ≡ line (roll_refused_text why)
 
 -- Why it was refused, of a manager with these limits and passes, of which these are the program's own: Busy where
--- one of them has a unit open, and else one of these three, Full only where what is alive finds no room in a new
--- manager, Unequal only where what is computed of it differs.
+-- one of them has a unit open, and else one of these two, Full only where what is alive finds no room in a new
+-- manager.
 abbrev pub IsUnrolledFor : Limits → List PassShown → List PassShown → RollFault → Type 0
 IsUnrolledFor l own passes faults.Busy = ¬ AreFree own
 IsUnrolledFor l own passes faults.NoMemory = AreFree own
 IsUnrolledFor l own passes faults.Full = AreFree own × WouldNotFit l passes l.parts (start l)
-IsUnrolledFor l own passes faults.Unequal = AreFree own × WouldDiffer l passes l.parts (start l)
 IsUnrolledFor l own passes other = ⊥
 
 -- the same of a scene

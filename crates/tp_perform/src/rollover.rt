@@ -108,9 +108,8 @@ fn go_on(alloc: Global, managed: &mut Managed, own: usize) -> Result<Vec<Moved>,
 /// Has what is alive, each element once, go on in a new manager with the same limits, in which the desks
 /// begin anew with the same registers. Answers what was carried over, by ascending ids. What a worker has in
 /// hand, its pass has in hand there. It is refused with `Busy` where a desk has a unit of work open, `Full`
-/// where the new manager has not the rows or the units, `NoMemory`, and with `Unequal`, which came in no test.
-/// Nothing has changed then, and all passes gather. The passes are the client's, then one for each server, then
-/// others.
+/// where the new manager has not the rows or the units, and `NoMemory`. Nothing has changed then, and all passes
+/// gather. The passes are the client's, then one for each server, then others.
 pub fn roll_over(
     alloc: Global,
     managed: &mut Managed,

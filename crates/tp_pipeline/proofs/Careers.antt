@@ -12,7 +12,7 @@ use Rattle.tp_crew.specs.CrewPasses.{desks_in}
 use Rattle.tp_crew.specs.declared.crew.Crew.{Crew}
 use Rattle.tp_crew.proofs.Careers.{career_raised, come_same, has_become, has_begun, has_rolled}
 use Rattle.tp_pipeline.specs.Books.{CrewGoesOn, HasWorked, HaveWorked, charges_in, count_in, one, takings_in}
-use Rattle.tp_pipeline.specs.Payments.{amount_of, charger, shipper, validator}
+use Rattle.tp_pipeline.specs.Payments.{payment_amount, charger, shipper, validator}
 
 module _ {X : Type 0} {F : X → Type 0} (behaviour : DynBox X Global F → Behaviour) (registers : DynBox X Global F → List ℕ) where
   -- where folds go on as they were, so does all work
@@ -27,7 +27,7 @@ module _ {X : Type 0} {F : X → Type 0} (behaviour : DynBox X Global F → Beha
   }
 
   -- what each effect adds, all of a career add up to
-  has_worked : ((ceiling : ℕ) → Raises (validator ceiling) count_in one) → Raises charger takings_in amount_of
+  has_worked : ((ceiling : ℕ) → Raises (validator ceiling) count_in one) → Raises charger takings_in payment_amount
       → Raises charger charges_in one → Raises shipper count_in one
       → (c : Crew X F) (k : ℕ) (u : DynBox X Global F) (stints : List Stint) (h : HasBecome behaviour registers k u stints c)
       → HasWorked behaviour registers u h.box
@@ -35,7 +35,7 @@ module _ {X : Type 0} {F : X → Type 0} (behaviour : DynBox X Global F → Beha
     stints = stints;
     career = h.career;
     validated = λ ceiling is. career_raised behaviour registers (validator ceiling) count_in one stints u h.box (validated ceiling) is h.career;
-    takings = λ is. career_raised behaviour registers charger takings_in amount_of stints u h.box takings is h.career;
+    takings = λ is. career_raised behaviour registers charger takings_in payment_amount stints u h.box takings is h.career;
     charges = λ is. career_raised behaviour registers charger charges_in one stints u h.box charges is h.career;
     shipped = λ is. career_raised behaviour registers shipper count_in one stints u h.box shipped is h.career;
   }
@@ -43,19 +43,19 @@ module _ {X : Type 0} {F : X → Type 0} (behaviour : DynBox X Global F → Beha
 module _ {X : Type 0} {F : X → Type 0} (behaviour : DynBox X Global F → Behaviour) (registers : DynBox X Global F → List ℕ)
     (pending : DynBox X Global F → Option Pending) where
   pub goes_rolled : (old new : Crew X F) → IsSteadyCrew behaviour registers pending old → IsSteadyCrew behaviour registers pending new
-      → new.boxes ≡ old.boxes → folds new ≡ zip (desks_in (length new.boxes.items) new.passes.items) new.boxes.items
+      → new.boxes ≡ old.boxes → folds new ≡ zip (desks_in (length new.boxes.items) new.managed.passes.items) new.boxes.items
       → CrewGoesOn behaviour registers old new
   goes_rolled old new h h' boxes begun =
       record { come = λ k u stints come. has_rolled behaviour registers pending old new k u stints h h' boxes begun come }
 
   -- from a crew that begins to one that it has become
-  pub have_worked : ((ceiling : ℕ) → Raises (validator ceiling) count_in one) → Raises charger takings_in amount_of
+  pub have_worked : ((ceiling : ℕ) → Raises (validator ceiling) count_in one) → Raises charger takings_in payment_amount
       → Raises charger charges_in one → Raises shipper count_in one
       → (us : List (DynBox X Global F)) (old new : Crew X F) → IsSteadyCrew behaviour registers pending old → IsSteadyCrew behaviour registers pending new
-      → old.boxes.items ≡ us → folds old ≡ zip (desks_in (length us) old.passes.items) us → CrewGoesOn behaviour registers old new
+      → old.boxes.items ≡ us → folds old ≡ zip (desks_in (length us) old.managed.passes.items) us → CrewGoesOn behaviour registers old new
       → HaveWorked behaviour registers us new.boxes.items
   have_worked validated takings charges shipped us old new h h' is begun goes k u at =
-      let begins = subst (λ (l : List (DynBox X Global F)). folds old ≡ zip (desks_in (length l) old.passes.items) l) (sym is) begun in
+      let begins = subst (λ (l : List (DynBox X Global F)). folds old ≡ zip (desks_in (length l) old.managed.passes.items) l) (sym is) begun in
       let stands = subst (λ (l : List (DynBox X Global F)). slice_get l k ≡ Some u) (sym is) at in
       let first = has_begun behaviour registers pending old k u h begins stands in
       let come = goes.come k u [] first in

@@ -8,7 +8,7 @@ use Rattle.tp_model.specs.declared.types.Element.{Element}
 use Rattle.tp_server.specs.Behaviour.{Behaviour}
 use Rattle.tp_crew.specs.Careers.{Career, HasCome, Stint, consumed_in}
 use Rattle.tp_crew.specs.declared.crew.Crew.{Crew}
-use Rattle.tp_pipeline.specs.Payments.{amount_of, charger, shipper, validator}
+use Rattle.tp_pipeline.specs.Payments.{payment_amount, charger, shipper, validator}
 
 -- a register: the charger's takings and its count, and the count of the others
 abbrev pub takings_in : List ℕ → ℕ
@@ -46,7 +46,7 @@ module _ {X : Type 0} {F : X → Type 0} (behaviour : DynBox X Global F → Beha
     pub validated : (ceiling : ℕ) → behaviour u ≡ validator ceiling
         → count_in (registers w) ≡ count_in (registers u) + sum_by one (consumed_in stints)
     pub takings : behaviour u ≡ charger
-        → takings_in (registers w) ≡ takings_in (registers u) + sum_by amount_of (consumed_in stints)
+        → takings_in (registers w) ≡ takings_in (registers u) + sum_by payment_amount (consumed_in stints)
     pub charges : behaviour u ≡ charger
         → charges_in (registers w) ≡ charges_in (registers u) + sum_by one (consumed_in stints)
     pub shipped : behaviour u ≡ shipper

@@ -8,8 +8,8 @@ use Rattle.tp_server.specs.Effect.{Effect}
 use Rattle.tp_server.specs.declared.recipe.Declined.{Declined}
 use Rattle.tp_server.specs.declared.recipe.Declined.TheVariants.{NoRegister, Own, TooLarge}
 
-abbrev pub amount_of : Element → ℕ
-amount_of payment = slice_index payment.body 0
+abbrev pub payment_amount : Element → ℕ
+payment_amount payment = slice_index payment.body 0
 
 -- one register, raised by one, and the payment goes on to this stage as it is
 abbrev pub counted : ℕ → ℕ → Element → Effect
@@ -26,7 +26,7 @@ count_on stage other payment = Err NoRegister
 -- own reason
 abbrev pub validated : ℕ → List ℕ → Element → Result Effect Declined
 validated ceiling registers payment =
-    if nat_le (amount_of payment) ceiling then count_on 2 registers payment else Err (Own 1)
+    if nat_le (payment_amount payment) ceiling then count_on 2 registers payment else Err (Own 1)
 
 abbrev pub validator : ℕ → Behaviour
 validator ceiling = record { stage = 1; effect = λ registers payment heard. validated ceiling registers payment }
@@ -34,10 +34,10 @@ validator ceiling = record { stage = 1; effect = λ registers payment heard. val
 -- the charge adds the amount to the takings, counts one more, and notes the bank's receipt
 abbrev pub charge : ℕ → ℕ → Element → ℕ → Effect
 charge takings n payment receipt = record {
-  registers = (takings + amount_of payment) ∷ (n + 1) ∷ [];
+  registers = (takings + payment_amount payment) ∷ (n + 1) ∷ [];
   drafts = record {
     stage = 3;
-    body = amount_of payment ∷ slice_index payment.body 1 ∷ receipt ∷ 0 ∷ [];
+    body = payment_amount payment ∷ slice_index payment.body 1 ∷ receipt ∷ 0 ∷ [];
   } ∷ [];
 }
 
@@ -54,7 +54,7 @@ answered takings n payment heard = Err (Own 2)
 -- the charger has two registers: the takings, and how many charges there were
 abbrev pub charged : List ℕ → Element → List ℕ → Result Effect Declined
 charged (takings ∷ n ∷ []) payment heard =
-    if nat_lt (takings + amount_of payment) (2 ^ 64)
+    if nat_lt (takings + payment_amount payment) (2 ^ 64)
     then (if nat_lt (n + 1) (2 ^ 64) then answered takings n payment heard else Err TooLarge)
     else Err TooLarge
 charged registers payment heard = Err NoRegister

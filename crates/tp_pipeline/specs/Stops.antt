@@ -15,7 +15,7 @@ module _ {X : Type 0} {F : X → Type 0} where
   -- note it
   abbrev pub StopsAt : Crew X F → ℕ → Crew X F → PipelineFault → Type 0
   StopsAt old number new (Refused why) =
-      OwnCall (submit_steps old.manager.limits) (λ p q. SubmitRefused 1 p q why) old new
+      OwnCall (submit_steps old.managed.manager.limits) (λ p q. SubmitRefused 1 p q why) old new
   StopsAt old number new NoMemory = SubmitsPayment old number new
   StopsAt old number new other = ⊥
 

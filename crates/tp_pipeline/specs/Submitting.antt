@@ -16,7 +16,8 @@ module _ {X : Type 0} {F : X → Type 0} where
   -- the crew's own pass has submitted the payment with this number to the validator, and done nothing else
   abbrev pub SubmitsPayment : Crew X F → ℕ → Crew X F → Type 0
   SubmitsPayment old number new =
-      OwnCall (submit_steps old.manager.limits) (λ p q. (id : ℕ) × Submits id 1 (payment number) p q) old new
+      OwnCall (submit_steps old.managed.manager.limits) (λ p q.
+      (id : ℕ) × Submits id 1 (payment number) p q) old new
 
   -- from so many payments that were submitted to so many: each one between was, once, in order
   abbrev pub SubmitsPayments : ℕ → ℕ → Crew X F → Crew X F → Type 0

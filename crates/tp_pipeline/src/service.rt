@@ -8,7 +8,7 @@ ghost use Rattle.tp_crew.specs.Crew.{IsSteadyCrew};
 ghost use Rattle.tp_pipeline.specs.Books.{CrewGoesOn, HaveWorked, IsStaffed, charges_in, count_in, one, takings_in};
 ghost use Rattle.tp_pipeline.specs.Audits.{Agree, payment};
 ghost use Rattle.tp_pipeline.specs.Ends.{AddUp, AreClosed};
-ghost use Rattle.tp_pipeline.specs.Payments.{amount_of, charger, shipper, validator};
+ghost use Rattle.tp_pipeline.specs.Payments.{payment_amount, charger, shipper, validator};
 ghost use Rattle.tp_pipeline.specs.Stops.{IsBatchFault, IsServiceFault, StopsAt, StopsBehind};
 ghost use Rattle.tp_pipeline.specs.Submitting.{SubmitsPayments, SubmitsPayment};
 
@@ -344,7 +344,7 @@ pub fn serve<R: Clock + Threads + Sync + AllocGlobal>(
 /// What each payment adds to the servers' registers.
 fn each_payment()
     ensures validated { (ceiling : ℕ) → Raises (validator ceiling) count_in one }
-    ensures takings { Raises charger takings_in amount_of }
+    ensures takings { Raises charger takings_in payment_amount }
     ensures charges { Raises charger charges_in one }
     ensures shipped { Raises shipper count_in one }
 {}

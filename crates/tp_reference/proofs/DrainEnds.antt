@@ -25,8 +25,8 @@ use Rattle.tp_desk.specs.declared.order.Order.{Order}
 use Rattle.tp_desk.specs.declared.order.Order.TheVariants.{LeastFirst, InTurn}
 use Rattle.tp_script.specs.Script.{ServerView}
 use Rattle.tp_reference.specs.declared.plain_desk.PlainDesk.{PlainDesk}
-use Rattle.tp_reference.specs.PlainDesks.{DeskAnswered, claim_by, committed_as, is_free, settle, settle_with, turn_as, turn_by}
-use Rattle.tp_reference.specs.PlainReport.{ReportState, has_claimed, most_rounds, round_below, round_of, round_turn, rounds, worker}
+use Rattle.tp_reference.specs.PlainDesks.{DeskAnswered, claim_in_order, committed_as, is_free, settle, settle_with, turn_as, turn_by}
+use Rattle.tp_reference.specs.PlainReport.{ReportState, has_claimed, most_rounds, round_below, round_of, round_turn, drain_rounds, worker}
 use Rattle.tp_reference.specs.DrainEnds.{DrainsEnd}
 
 -- how many units of work were begun
@@ -114,7 +114,7 @@ module _ (m : thread.State) (c : ℕ) (there : c < length m.passes) where
   next_spends stage None room = spends_none m
   next_spends stage (Some look) room = begins (claim_next_found m c stage (Some look)).1 _ room refl refl refl
 
-  claim_spends : (order : Order) (stage : ℕ) → let r = claim_by order m c stage in Spends (taken r.0) m r.1
+  claim_spends : (order : Order) (stage : ℕ) → let r = claim_in_order order m c stage in Spends (taken r.0) m r.1
   claim_spends LeastFirst stage = go (nat_lt (pass_at m c).claimed m.limits.units) refl
     where
       go : (b : Bool) → nat_lt (pass_at m c).claimed m.limits.units ≡ b → let r = (if b then claim_found m c (next_waiting m 0 stage) else (claimed.NoUnit, m)) in Spends (taken r.0) m r.1
@@ -166,7 +166,7 @@ module _ (m : thread.State) (c : ℕ) (there : c < length m.passes) (recipe : Re
   turn_as_spends (claimed.NoUnit, t) s = s
 
   turn_spends : (order : Order) → let done = turn_by order recipe c m d in Spends (counts (has_claimed done.answer)) m done.manager
-  turn_spends order = turn_as_spends (claim_by order m c recipe.stage) (claim_spends m c there order recipe.stage)
+  turn_spends order = turn_as_spends (claim_in_order order m c recipe.stage) (claim_spends m c there order recipe.stage)
 
 -- a round
 module _ (order : Order) (servers : List ServerView) where
@@ -197,16 +197,16 @@ module _ (order : Order) (servers : List ServerView) where
       (spends_on (counts before.0) (counts turn.0) s.manager before.1.manager turn.1.manager first (one_spends (slice_get servers i) (slice_get before.1.desks i) i before.1 at))
 
   -- rounds, one after another
-  pub no_more : (n : ℕ) (s t : ReportState) → round_of order servers s ≡ (false, t) → rounds order servers (suc n) s ≡ t
-  unfolding rounds
+  pub no_more : (n : ℕ) (s t : ReportState) → round_of order servers s ≡ (false, t) → drain_rounds order servers (suc n) s ≡ t
+  unfolding drain_rounds
   no_more n s t is = rw is refl
 
-  pub one_more : (n : ℕ) (s t : ReportState) → round_of order servers s ≡ (true, t) → rounds order servers (suc n) s ≡ rounds order servers n t
-  unfolding rounds
+  pub one_more : (n : ℕ) (s t : ReportState) → round_of order servers s ≡ (true, t) → drain_rounds order servers (suc n) s ≡ drain_rounds order servers n t
+  unfolding drain_rounds
   one_more n s t is = rw is refl
 
-  pub none_yet : (s : ReportState) → rounds order servers 0 s ≡ s
-  unfolding rounds
+  pub none_yet : (s : ReportState) → drain_rounds order servers 0 s ≡ s
+  unfolding drain_rounds
   none_yet s = refl
 
   -- no more are left than all have
@@ -227,7 +227,7 @@ module _ (order : Order) (servers : List ServerView) where
   IsEnough n s = units_left s.manager.limits.units s.manager.passes < n
 
   abbrev Ends : ℕ → ReportState → Type 0
-  Ends n s = (k : ℕ) × (k < n) × (round_of order servers (rounds order servers k s) ≡ (false, rounds order servers n s))
+  Ends n s = (k : ℕ) × (k < n) × (round_of order servers (drain_rounds order servers k s) ≡ (false, drain_rounds order servers n s))
 
   ends_by : (n : ℕ) (s : ReportState) → IsFit s → IsEnough (suc n) s → ((t : ReportState) → IsFit t → IsEnough n t → Ends n t) → (r : Bool × ReportState) → round_of order servers s ≡ r → Ends (suc n) s
   ends_by n s fit many later (false, t) is = (0, omega arith, ap (round_of order servers) (none_yet s) ∙ (is ∙ ap (λ (z : ReportState). (false, z)) (sym (no_more n s t is))))

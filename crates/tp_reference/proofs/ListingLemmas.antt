@@ -9,7 +9,7 @@ use Rattle.tp_model.specs.Accounts.{all_in, one_more}
 use Rattle.tp_plain.specs.Computed.{read_of}
 use Rattle.tp_plain.specs.OneThread as thread
 use Rattle.tp_report.specs.Looks.{with_shown}
-use Rattle.tp_reference.specs.PlainClient.{picked, picked_below, with_last, counted, counts_below}
+use Rattle.tp_reference.specs.PlainClient.{picked, picked_below, with_last, count_read, counts_below}
 
 -- nothing is picked below the first id
 pub picked_none : {A : Type 0} (pick : Look → Option A) (m : thread.State) → picked_below pick m 0 ≡ []
@@ -49,7 +49,7 @@ pub counts_none : (m : thread.State) → counts_below m 0 ≡ record { waiting =
 unfolding counts_below
 counts_none m = refl
 
-pub counts_more : (m : thread.State) (id : ℕ) → counts_below m (id + 1) ≡ counted (read_of m id) (counts_below m id)
+pub counts_more : (m : thread.State) (id : ℕ) → counts_below m (id + 1) ≡ count_read (read_of m id) (counts_below m id)
 unfolding counts_below
 counts_more m id = rw (add-one id) refl
 

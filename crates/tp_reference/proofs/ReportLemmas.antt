@@ -9,8 +9,8 @@ use Rattle.tp_script.specs.Script.{ServerView, server_view}
 use Rattle.tp_desk.specs.declared.order.Order.{Order}
 use Rattle.tp_plain.specs.OneThread as thread
 use Rattle.tp_reference.specs.declared.plain_desk.PlainDesk.{PlainDesk}
-use Rattle.tp_reference.specs.PlainDesks.{given_up}
-use Rattle.tp_reference.specs.PlainReport.{ReportState, act_step, closing, ended_below, final_line, finals_below, reports, round_below, round_of, round_turn, rounds}
+use Rattle.tp_reference.specs.PlainDesks.{after_giving_up}
+use Rattle.tp_reference.specs.PlainReport.{ReportState, act_step, closing, ended_below, final_line, finals_below, reports, round_below, round_of, round_turn, drain_rounds}
 
 pub reports_more : (servers : List ServerView) (account : Bool) (cs : List Act) (i : ℕ) (c : Act) (s next : ReportState) (line : List ℕ) → i < length cs → act_step servers (get_or cs i c) s ≡ (line, next)
     → reports servers account (drop i cs) s ≡ line ++ reports servers account (drop (i + 1) cs) next
@@ -39,22 +39,22 @@ unfolding round_below
 round_more order servers i s mid new before claimed below turn = rw (add-one i, below, turn) refl
 
 -- rounds that are left
-pub rounds_none : (order : Order) (servers : List ServerView) (s : ReportState) → rounds order servers 0 s ≡ s
-unfolding rounds
+pub rounds_none : (order : Order) (servers : List ServerView) (s : ReportState) → drain_rounds order servers 0 s ≡ s
+unfolding drain_rounds
 rounds_none order servers s = refl
 
 -- a round that claims nothing is the last one
-pub rounds_last : (order : Order) (servers : List ServerView) (n : ℕ) (s new : ReportState) → 0 < n → round_of order servers s ≡ (false, new) → rounds order servers n s ≡ new
-unfolding rounds
+pub rounds_last : (order : Order) (servers : List ServerView) (n : ℕ) (s new : ReportState) → 0 < n → round_of order servers s ≡ (false, new) → drain_rounds order servers n s ≡ new
+unfolding drain_rounds
 rounds_last order servers (suc n) s new some round = rw round refl
 rounds_last order servers zero s new some round = absurd (omega (arith, some))
 
 -- and after another one are those that are left
-pub rounds_next : (order : Order) (servers : List ServerView) (n : ℕ) (s new : ReportState) → 0 < n → round_of order servers s ≡ (true, new) → rounds order servers n s ≡ rounds order servers (n - 1) new
-unfolding rounds
+pub rounds_next : (order : Order) (servers : List ServerView) (n : ℕ) (s new : ReportState) → 0 < n → round_of order servers s ≡ (true, new) → drain_rounds order servers n s ≡ drain_rounds order servers (n - 1) new
+unfolding drain_rounds
 rounds_next order servers (suc n) s new some round =
     let less : n ≡ suc n - 1 = omega arith in
-    rw round (ap (λ k. rounds order servers k new) less)
+    rw round (ap (λ k. drain_rounds order servers k new) less)
 rounds_next order servers zero s new some round = absurd (omega (arith, some))
 
 -- the final lines, one after the other
@@ -72,6 +72,6 @@ pub ended_none : (m : thread.State) → ended_below m 0 ≡ m
 unfolding ended_below
 ended_none m = refl
 
-pub ended_more : (m : thread.State) (i : ℕ) → ended_below m (i + 1) ≡ given_up (ended_below m i) (i + 1)
+pub ended_more : (m : thread.State) (i : ℕ) → ended_below m (i + 1) ≡ after_giving_up (ended_below m i) (i + 1)
 unfolding ended_below
 ended_more m i = ap (ended_below m) (add-one i)

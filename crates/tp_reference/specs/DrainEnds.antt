@@ -2,13 +2,13 @@
 use Rattle.std.specs.Prelude.{◌≡◌, ◌≤◌, ◌<◌, ℕ, false, List, length}
 use Rattle.tp_desk.specs.declared.order.Order.{Order}
 use Rattle.tp_script.specs.Script.{ServerView}
-use Rattle.tp_reference.specs.PlainReport.{ReportState, drain_of, most_rounds, round_of, rounds}
+use Rattle.tp_reference.specs.PlainReport.{ReportState, drain_of, most_rounds, round_of, drain_rounds}
 
 -- after fewer rounds than the bound comes one that claims nothing, and with it the drain ends
 pub record EndsDry (order : Order) (servers : List ServerView) (s : ReportState) : Type 0 where
   pub before : ℕ
   pub few : before < most_rounds s.manager.limits
-  pub dry : round_of order servers (rounds order servers before s) ≡ (false, drain_of order servers s)
+  pub dry : round_of order servers (drain_rounds order servers before s) ≡ (false, drain_of order servers s)
 
 -- so it is of every drain, where there is a pass for the client and one for each server
 abbrev pub DrainsEnd : Type 0

@@ -84,8 +84,8 @@ is_reply root look = (look.element.stage == REPLY_STAGE) && (look.element.root =
     && is_waiting look.status
 
 -- the reply that it shows then
-abbrev pub reply_in : ℕ → Look → Option Element
-reply_in root look = if is_reply root look then Some look.element else None
+abbrev pub reply_shown : ℕ → Look → Option Element
+reply_shown root look = if is_reply root look then Some look.element else None
 
 -- an element of this request
 abbrev pub member_in : ℕ → Look → Option Look
@@ -110,21 +110,21 @@ depths_in m = depths_of (picked_of (λ look. Some look) m)
 
 -- the replies to a request
 abbrev pub replies_of : ℕ → thread.State → List Element
-replies_of root m = picked_of (reply_in root) m
+replies_of root m = picked_of (reply_shown root) m
 
 -- the state when the client took these replies, one after another
 abbrev pub with_collected : thread.State → List Element → thread.State
 with_collected m replies = fold (λ t e. (collect_of t client e.id).1) m replies
 
 -- these counts, and one more for what was read
-abbrev pub counted : Result Look Refusal → Counts → Counts
-counted (Ok look) c = one_more look.status c
-counted (Err why) c = c
+abbrev pub count_read : Result Look Refusal → Counts → Counts
+count_read (Ok look) c = one_more look.status c
+count_read (Err why) c = c
 
 -- how the elements with ids below a bound stand
 unfoldable pub counts_below : thread.State → ℕ → Counts
 counts_below m zero = record { waiting = 0; held = 0; consumed = 0; parked = 0; killed = 0 }
-counts_below m (suc id) = counted (read_of m id) (counts_below m id)
+counts_below m (suc id) = count_read (read_of m id) (counts_below m id)
 
 -- how many elements have each status
 abbrev pub counts_of : thread.State → Counts

@@ -42,8 +42,8 @@ abbrev pub has_open : thread.State → ℕ → Bool
 has_open m c = is_some (pass_at m c).holding
 
 -- the work that the desk took, while its pass has a unit in its hand
-abbrev pub in_hand : thread.State → ℕ → PlainDesk → Option Work
-in_hand m c d = if has_open m c then d.taken else None
+abbrev pub work_in_hand : thread.State → ℕ → PlainDesk → Option Work
+work_in_hand m c d = if has_open m c then d.taken else None
 
 -- whether it takes part in a drain: it wasn't dropped, and has nothing in hand
 abbrev pub is_free : thread.State → ℕ → PlainDesk → Bool
@@ -87,9 +87,9 @@ abbrev pub nothing_done : ServerAnswer → thread.State → PlainDesk → DeskAn
 nothing_done answer m d = record { answer = answer; manager = m; desk = d }
 
 -- a claim in this order
-abbrev pub claim_by : Order → thread.State → ℕ → ℕ → Claimed × thread.State
-claim_by LeastFirst m c stage = claim_of_stage m c stage
-claim_by InTurn m c stage = claim_next_of_stage m c stage
+abbrev pub claim_in_order : Order → thread.State → ℕ → ℕ → Claimed × thread.State
+claim_in_order LeastFirst m c stage = claim_of_stage m c stage
+claim_in_order InTurn m c stage = claim_next_of_stage m c stage
 
 -- a claim that was answered so
 abbrev pub claimed_as : Claimed × thread.State → PlainDesk → DeskAnswered
@@ -103,7 +103,7 @@ claimed_as (claimed.NoUnit, m) d = nothing_done (told.Turned turned.NoUnit) m d
 
 abbrev pub claim_step : Order → Recipe → ℕ → thread.State → PlainDesk → DeskAnswered
 claim_step order recipe c m d = if has_open m c then nothing_done told.Busy m d
-    else claimed_as (claim_by order m c recipe.stage) d
+    else claimed_as (claim_in_order order m c recipe.stage) d
 
 -- whether what was found under an id is of another stage
 abbrev pub is_of_other : ℕ → Option Element → Bool
@@ -128,8 +128,8 @@ take_step recipe id c m d =
     if has_open m c then nothing_done told.Busy m d else given_as id (claim_given recipe.stage c id m) d
 
 -- work came to this, and nothing is in hand any more
-abbrev pub settled_as : Turned → thread.State → List ℕ → PlainDesk → DeskAnswered
-settled_as turned m registers d = record {
+abbrev pub settled_desk : Turned → thread.State → List ℕ → PlainDesk → DeskAnswered
+settled_desk turned m registers d = record {
   answer = told.Turned turned;
   manager = m;
   desk = cleared registers d;
@@ -138,14 +138,14 @@ settled_as turned m registers d = record {
 -- a commit of the drafts of an effect: the registers are changed where it goes through
 abbrev pub committed_as : Work → Effect → Outcome × thread.State → PlainDesk → DeskAnswered
 committed_as work effect (outcome.Committed first count, m) d =
-    settled_as (turned.Done work.unit work.element.id first count) m effect.registers d
-committed_as work effect (outcome.Lost, m) d = settled_as (turned.Lost work.element.id) m d.registers d
-committed_as work effect (outcome.Full, m) d = settled_as (turned.Full work.element.id) m d.registers d
+    settled_desk (turned.Done work.unit work.element.id first count) m effect.registers d
+committed_as work effect (outcome.Lost, m) d = settled_desk (turned.Lost work.element.id) m d.registers d
+committed_as work effect (outcome.Full, m) d = settled_desk (turned.Full work.element.id) m d.registers d
 
 -- work is committed with the effect of the recipe, or given up where the recipe declines it
 abbrev pub settle_with : Work → Result Effect Declined → ℕ → thread.State → PlainDesk → DeskAnswered
 settle_with work (Ok effect) c m d = committed_as work effect (commit_of m c effect.drafts) d
-settle_with work (Err why) c m d = settled_as (turned.Refused work.element.id why)
+settle_with work (Err why) c m d = settled_desk (turned.Refused work.element.id why)
     (abort_of m c).1 d.registers d
 
 -- work is done, and committed. Its registers change by commits alone, so work that was prepared before has
@@ -160,7 +160,7 @@ turn_as recipe c (claimed.Idle, m) d = nothing_done (told.Turned turned.Idle) m 
 turn_as recipe c (claimed.NoUnit, m) d = nothing_done (told.Turned turned.NoUnit) m d
 
 abbrev pub turn_by : Order → Recipe → ℕ → thread.State → PlainDesk → DeskAnswered
-turn_by order recipe c m d = turn_as recipe c (claim_by order m c recipe.stage) d
+turn_by order recipe c m d = turn_as recipe c (claim_in_order order m c recipe.stage) d
 
 abbrev pub turn_step : Recipe → ℕ → thread.State → PlainDesk → DeskAnswered
 turn_step recipe c m d = if has_open m c then nothing_done told.Busy m d else turn_by LeastFirst recipe c m d
@@ -168,7 +168,7 @@ turn_step recipe c m d = if has_open m c then nothing_done told.Busy m d else tu
 -- a prepare of work with this effect, which gives up what the recipe declines
 abbrev pub prepare_with : Work → Result Effect Declined → ℕ → thread.State → PlainDesk → DeskAnswered
 prepare_with work (Ok effect) c m d = record { answer = told.Ready; manager = m; desk = with_prepared d }
-prepare_with work (Err why) c m d = settled_as (turned.Refused work.element.id why)
+prepare_with work (Err why) c m d = settled_desk (turned.Refused work.element.id why)
     (abort_of m c).1 d.registers d
 
 abbrev pub prepare_work : Recipe → Option Work → ℕ → thread.State → PlainDesk → DeskAnswered
@@ -179,7 +179,7 @@ prepare_work recipe (Some work) c m d =
     else prepare_with work (effect_of recipe d.registers work.element) c m d
 
 abbrev pub prepare_step : Recipe → ℕ → thread.State → PlainDesk → DeskAnswered
-prepare_step recipe c m d = prepare_work recipe (in_hand m c d) c m d
+prepare_step recipe c m d = prepare_work recipe (work_in_hand m c d) c m d
 
 -- a commit
 abbrev pub commit_work : Recipe → Option Work → ℕ → thread.State → PlainDesk → DeskAnswered
@@ -187,7 +187,7 @@ commit_work recipe None c m d = nothing_done told.NoneOpen m d
 commit_work recipe (Some work) c m d = settle recipe work c m d
 
 abbrev pub commit_step : Recipe → ℕ → thread.State → PlainDesk → DeskAnswered
-commit_step recipe c m d = commit_work recipe (in_hand m c d) c m d
+commit_step recipe c m d = commit_work recipe (work_in_hand m c d) c m d
 
 -- an abort
 abbrev pub aborted_as : Work → Ended × thread.State → PlainDesk → DeskAnswered
@@ -207,15 +207,15 @@ abort_work None c m d = nothing_done told.NoneOpen m d
 abort_work (Some work) c m d = aborted_as work (abort_of m c) d
 
 abbrev pub abort_step : ℕ → thread.State → PlainDesk → DeskAnswered
-abort_step c m d = abort_work (in_hand m c d) c m d
+abort_step c m d = abort_work (work_in_hand m c d) c m d
 
 -- what is in hand is given up
-abbrev pub given_up : thread.State → ℕ → thread.State
-given_up m c = if has_open m c then (abort_of m c).1 else m
+abbrev pub after_giving_up : thread.State → ℕ → thread.State
+after_giving_up m c = if has_open m c then (abort_of m c).1 else m
 
 -- a drop
 abbrev pub drop_step : ℕ → thread.State → PlainDesk → DeskAnswered
-drop_step c m d = record { answer = told.Dropped; manager = given_up m c; desk = with_drop d }
+drop_step c m d = record { answer = told.Dropped; manager = after_giving_up m c; desk = with_drop d }
 
 -- ---- what it is asked
 

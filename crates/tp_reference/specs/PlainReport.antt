@@ -24,7 +24,7 @@ use Rattle.tp_report.specs.declared.answer.ServerAnswer.TheVariants as told
 use Rattle.tp_report.specs.Answer.{account_text, answer_text, balance_text, final_text, line, named_text}
 use Rattle.tp_reference.specs.declared.plain_desk.PlainDesk.{PlainDesk}
 use Rattle.tp_reference.specs.PlainClient.{client_step, counts_of}
-use Rattle.tp_reference.specs.PlainDesks.{DeskAnswered, does_unless_dropped, given_up, is_free, turn_by}
+use Rattle.tp_reference.specs.PlainDesks.{DeskAnswered, does_unless_dropped, after_giving_up, is_free, turn_by}
 
 -- the manager of one thread, and a desk for each server
 pub record ReportState : Type 0 where
@@ -54,12 +54,12 @@ desk_step servers i act s = desk_at (slice_get servers i) (slice_get s.desks i) 
 -- ---- registers
 
 -- a register of a server, or that its desk was dropped
-abbrev pub balance_at : Option ServerView → Option PlainDesk → ℕ → List ℕ
-balance_at (Some server) (Some desk) k =
+abbrev pub balance_answer : Option ServerView → Option PlainDesk → ℕ → List ℕ
+balance_answer (Some server) (Some desk) k =
     if desk.is_dropped
     then line (named_text server.name told.Ended)
     else line (balance_text server.name k (slice_get desk.registers k))
-balance_at server desk k = []
+balance_answer server desk k = []
 
 -- what a desk adds to the sum of a register: its value, unless it was dropped or has no such register
 abbrev pub value_of : Option ℕ → ℕ
@@ -102,18 +102,18 @@ abbrev pub round_of : Order → List ServerView → ReportState → Bool × Repo
 round_of order servers s = round_below order servers (length servers) s
 
 -- rounds, one after another, until one claims nothing, and this many at most
-unfoldable pub rounds : Order → List ServerView → ℕ → ReportState → ReportState
-rounds order servers zero s = s
-rounds order servers (suc n) s =
+unfoldable pub drain_rounds : Order → List ServerView → ℕ → ReportState → ReportState
+drain_rounds order servers zero s = s
+drain_rounds order servers (suc n) s =
     let round = round_of order servers s in
-    if round.0 then rounds order servers n round.1 else round.1
+    if round.0 then drain_rounds order servers n round.1 else round.1
 
 -- a drain. A round that claims an element uses a unit of work, so there are no more such rounds than units.
 abbrev pub most_rounds : Limits → ℕ
 most_rounds l = l.parts * l.units + 1
 
 abbrev pub drain_of : Order → List ServerView → ReportState → ReportState
-drain_of order servers s = rounds order servers (most_rounds s.manager.limits) s
+drain_of order servers s = drain_rounds order servers (most_rounds s.manager.limits) s
 
 -- ---- each command: its line, and the state after it
 
@@ -126,7 +126,7 @@ abbrev pub command_step : List ServerView → Command → ReportState → List �
 command_step servers (Client act) s = with_manager s (client_step act s.manager)
 command_step servers (Desk server act) s = desk_step servers server act s
 command_step servers (Balance server k) s = (
-  balance_at (slice_get servers server)
+  balance_answer (slice_get servers server)
       (slice_get s.desks server) k,
   s,
 )
@@ -157,7 +157,7 @@ finals_below servers desks (suc i) = finals_below servers desks i ++ final_line 
 -- the manager when the desks before a place are ended: what each of them has in hand is given up
 unfoldable pub ended_below : thread.State → ℕ → thread.State
 ended_below m zero = m
-ended_below m (suc i) = given_up (ended_below m i) (worker i)
+ended_below m (suc i) = after_giving_up (ended_below m i) (worker i)
 
 -- the account of all elements when all desks are ended, if it is asked for
 abbrev pub account_line : Bool → ℕ → ReportState → List ℕ

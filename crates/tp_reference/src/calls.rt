@@ -5,7 +5,7 @@ ghost use Rattle.tp_model.specs.History.{element_of};
 ghost use Rattle.tp_model.specs.Steps.{IsServerStage};
 ghost use Rattle.tp_plain.specs.Computed.{abort_of, commit_of};
 ghost use Rattle.tp_plain.specs.OneThread.{held_after, pass_at};
-ghost use Rattle.tp_reference.specs.PlainDesks.{claim_by, claim_given, is_of_other};
+ghost use Rattle.tp_reference.specs.PlainDesks.{claim_in_order, claim_given, is_of_other};
 
 use std::alloc::AllocError;
 use tp_desk::Order;
@@ -22,7 +22,7 @@ pub(crate) fn claim_by(
     requires pass { (1 ≤ pass) × (pass < plain.old.limits.parts) }
     requires stage { IsServerStage stage }
     requires free { (pass_at plain.old pass).holding ≡ None }
-    ensures gives { IfOk result (λ a. claim_by order plain.old pass stage ≡ (a, plain.new)) }
+    ensures gives { IfOk result (λ a. claim_in_order order plain.old pass stage ≡ (a, plain.new)) }
     ensures hand { IfOk result (λ a. (pass_at plain.new pass).holding ≡ held_after a) }
     ensures client { IfOk result (λ _. (pass_at plain.new 0).holding ≡ (pass_at plain.old 0).holding) }
     ensures limits { plain.new.limits ≡ plain.old.limits }

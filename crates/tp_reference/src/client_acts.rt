@@ -5,9 +5,9 @@ ghost use Rattle.tp_model.specs.Steps.{rows_of};
 ghost use Rattle.tp_plain.specs.Computed.{cancel_of, kill_of, read_of, release_of, requeue_of, submit_of};
 ghost use Rattle.tp_plain.specs.OneThread.{pass_at};
 ghost use Rattle.tp_report.specs.Answer.{answer_text, line};
-ghost use Rattle.tp_reference.specs.PlainClient.{cancelled_as, client_step, counted, counts_of, is_reply};
+ghost use Rattle.tp_reference.specs.PlainClient.{cancelled_as, client_step, count_read, counts_of, is_reply};
 ghost use Rattle.tp_reference.specs.PlainClient.{killed_as, member_in, parked_in, picked, picked_of, read_as};
-ghost use Rattle.tp_reference.specs.PlainClient.{released_as, replies_of, reply_in, requeued_as};
+ghost use Rattle.tp_reference.specs.PlainClient.{released_as, replies_of, reply_shown, requeued_as};
 ghost use Rattle.tp_reference.specs.PlainClient.{submitted_as, with_collected, with_last};
 
 use crate::stages::{depths, waiting};
@@ -118,7 +118,7 @@ fn read(plain: &Plain, id: u32) -> Answer<'static>
 
 /// The reply to the request with this id that waits, if there is one.
 fn reply_at(plain: &Plain, root: u32, id: u32) -> Option<Element>
-    ensures { result ≡ picked (reply_in root) (read_of plain.now id) }
+    ensures { result ≡ picked (reply_shown root) (read_of plain.now id) }
 {
     match plain.read(id) {
         Ok(look) => {
@@ -256,7 +256,7 @@ pub(crate) fn counts(plain: &Plain) -> Counts
 /// These counts, and one more where there is an element with this id.
 fn counted_with(plain: &Plain, id: u32, counts: Counts) -> Counts
     requires { all_in counts < 2 ^ 32 - 1 }
-    ensures counts { result ≡ counted (read_of plain.now id) counts }
+    ensures counts { result ≡ count_read (read_of plain.now id) counts }
     ensures few { all_in result ≤ all_in counts + 1 }
 {
     match plain.read(id) {

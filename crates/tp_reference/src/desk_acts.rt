@@ -4,7 +4,7 @@ ghost use Rattle.tp_plain.specs.OneThread.{pass_at};
 ghost use Rattle.tp_server.specs.Check.{check_of};
 ghost use Rattle.tp_server.specs.Effect.{effect_of};
 ghost use Rattle.tp_reference.specs.PlainDesks.{abort_step, claim_step, cleared, commit_step, does};
-ghost use Rattle.tp_reference.specs.PlainDesks.{does_unless_dropped, drop_step, given_up, has_open, in_hand};
+ghost use Rattle.tp_reference.specs.PlainDesks.{does_unless_dropped, drop_step, after_giving_up, has_open, work_in_hand};
 ghost use Rattle.tp_reference.specs.PlainDesks.{prepare_step, settle, take_step, turn_by, turn_step};
 ghost use Rattle.tp_reference.specs.PlainDesks.{with_work};
 ghost use Rattle.tp_report.specs.declared.answer.ServerAnswer.TheVariants as told;
@@ -30,7 +30,7 @@ fn clear(desk: &mut PlainDesk)
 // The work in the desk's hand.
 fn in_hand(plain: &Plain, pass: u16, desk: &PlainDesk) -> Option<Work>
     requires { pass < plain.now.limits.parts }
-    ensures work { result ≡ in_hand plain.now pass desk.now }
+    ensures work { result ≡ work_in_hand plain.now pass desk.now }
     ensures holding { IfSome result (λ _. IsSome (pass_at plain.now pass).holding) }
 {
     if plain.has_open(pass) {
@@ -250,7 +250,7 @@ fn abort(plain: &mut Plain, pass: u16, desk: &mut PlainDesk) -> ServerAnswer
 /// Gives up the unit in the pass's hand, if there is one.
 pub(crate) fn give_up(plain: &mut Plain, pass: u16)
     requires { (1 ≤ pass) × (pass < plain.old.limits.parts) }
-    ensures gives { plain.new ≡ given_up plain.old pass }
+    ensures gives { plain.new ≡ after_giving_up plain.old pass }
     ensures client { (pass_at plain.new 0).holding ≡ (pass_at plain.old 0).holding }
     ensures limits { plain.new.limits ≡ plain.old.limits }
 {

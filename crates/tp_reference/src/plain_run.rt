@@ -3,7 +3,7 @@ ghost use Rattle.std.specs.Prelude.{◌≡◌, ◌+◌, ◌<◌, ◌≤◌, map,
 ghost use Rattle.tp_script.specs.Ranges.{IsInRange, IsScriptAct};
 ghost use Rattle.tp_script.specs.declared.script.TheConstants.{MAX_SERVERS};
 ghost use Rattle.tp_script.specs.Script.{head_view, server_view};
-ghost use Rattle.tp_reference.specs.PlainReport.{act_step, balance_at, begin, command_step, counted_value};
+ghost use Rattle.tp_reference.specs.PlainReport.{act_step, balance_answer, begin, command_step, counted_value};
 ghost use Rattle.tp_reference.specs.PlainReport.{desk_step, new_desk, register_sum, worker};
 ghost use Rattle.tp_reference.specs.PlainRunning.{state, IsSetUp};
 
@@ -108,7 +108,7 @@ impl PlainRun {
     ) -> Result<String, AllocError>
         requires ready { IsSetUp (map server_view servers.now) self.now }
         requires within { at < length servers.now }
-        ensures { IfOk result (λ text. string_bytes text ≡ balance_at (slice_get (map server_view servers.now) at)
+        ensures { IfOk result (λ text. string_bytes text ≡ balance_answer (slice_get (map server_view servers.now) at)
             (slice_get self.now.desks.items at) k) }
     {
         let name = servers[at].name.as_str();

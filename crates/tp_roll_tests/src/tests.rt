@@ -1,6 +1,7 @@
 //! Scenes of rollovers: what is carried over, how it stands in the new manager, and each fault.
 mod crews;
 mod held;
+mod lent;
 mod plays;
 mod scenes;
 

@@ -8,7 +8,7 @@ use Rattle.tp_model.specs.declared.types.Status.TheVariants.{Waiting, Held, Cons
 use Rattle.tp_model.specs.declared.event.Event.{Event}
 use Rattle.tp_model.specs.declared.event.Event.TheVariants.{Enqueue, Claim, Commit, Abort, Kill, Requeue}
 use Rattle.tp_model.specs.History.{In, IsBorn, births, element_of, first_id, here, status_after, status_of, there}
-use Rattle.tp_model.specs.Steps.{AreLimits, IsKillable, IsLegal, IsStage, Step}
+use Rattle.tp_model.specs.Steps.{IsKillable, IsLegal, IsStage, Step}
 use Rattle.tp_model.proofs.Attempts.{waiting_below}
 use Rattle.tp_model.proofs.Bridges.{born_either, find_in, found_later, in_none, in_one, is_born, outputs_place}
 use Rattle.tp_model.proofs.Histories.{by_steps, status_of-snoc}
@@ -44,15 +44,15 @@ had_after limit i (Abort c u) Killed low claims = low
 had_after limit i (Kill c j) s low claims = either_had limit (j == i) Killed s (omega arith) low
 had_after limit i (Requeue c j k) s low claims = either_had limit (j == i) (Waiting 0) s (omega arith) low
 
-module _ (l : Limits) (limits : AreLimits l) where
+module _ (l : Limits) (some : 1 ≤ l.attempts) where
   claim_within : (h : List Event) (e : Event) → IsLegal l h → Step l h e → (c u j n : ℕ) → e ≡ Claim c u j n → n ≤ l.attempts
   claim_within h e legal step c u j n is =
       let may : Step l h (Claim c u j n) = subst (Step l h) is step in
-      let below = waiting_below l h j (n - 1) legal limits.attempts.0 may.waits in
-      let some = may.attempt in
-      omega (arith, below, some)
+      let below = waiting_below l h j (n - 1) legal some may.waits in
+      let one = may.attempt in
+      omega (arith, below, one)
 
-  had_within : (h : List Event) (i : ℕ) → IsLegal l h → attempts_had (status_of l.attempts h i) ≤ l.attempts
+  pub had_within : (h : List Event) (i : ℕ) → IsLegal l h → attempts_had (status_of l.attempts h i) ≤ l.attempts
   had_within h i legal = by_steps l (λ z. attempts_had (status_of l.attempts z i) ≤ l.attempts) (omega arith) more h legal
     where
       more : (h : List Event) (e : Event) → IsLegal l h → Step l h e → attempts_had (status_of l.attempts h i) ≤ l.attempts → attempts_had (status_of l.attempts (h ++ e ∷ []) i) ≤ l.attempts
@@ -88,7 +88,7 @@ root_own l h legal = by_steps l (λ z. (x : Element) → IsBorn z x → HasOwnRo
 same_one : (x y : Element) (o : Option Element) → o ≡ Some x → o ≡ Some y → x ≡ y
 same_one x y o e f = let q : Some x ≡ Some y = sym e ∙ f in cc
 
-module _ (l k : Limits) (h : List Event) (limits : AreLimits l) (same : k.attempts ≡ l.attempts) (legal : IsLegal l h) where
+module _ (l k : Limits) (h : List Event) (some : 1 ≤ l.attempts) (same : k.attempts ≡ l.attempts) (legal : IsLegal l h) where
   alive_so : (is status : Status) (holder : Option ℕ) → IsStanding l is status holder → IsKillable status
   alive_so is status None stands = stands.1
   alive_so is status (Some c) stands = subst IsKillable (sym stands.3) tt
@@ -102,7 +102,7 @@ module _ (l k : Limits) (h : List Event) (limits : AreLimits l) (same : k.attemp
       let at = id.1 in
       let at' = request.1 in
       let had = had_so l (status_of l.attempts h s.id) s.status s.holder is.stands in
-      let within = had_within l limits h s.id legal in
+      let within = had_within l some h s.id legal in
       let few = (rounds_by_words l h s.id legal).1 in
       let rounds_are = is.rounds_are in
       record {

@@ -26,14 +26,14 @@ use Rattle.tp_rollover.specs.declared.places.Cursor.{Cursor}
 use Rattle.tp_rollover.specs.declared.survivors.Survivor.{Survivor}
 
 -- what comes of a call comes of what it was made of
-and_then_some : {A B : Type 0} (f : A → Option B) (o : Option A) (y : B) → option_and_then f o ≡ Some y → (x : A) × (o ≡ Some x) × (f x ≡ Some y)
+pub and_then_some : {A B : Type 0} (f : A → Option B) (o : Option A) (y : B) → option_and_then f o ≡ Some y → (x : A) × (o ≡ Some x) × (f x ≡ Some y)
 and_then_some f None y e = absurd cc
 and_then_some f (Some x) y e = (x, refl, e)
 
-same_some : {A : Type 0} (x y : A) → Some x ≡ Some y → x ≡ y
+pub same_some : {A : Type 0} (x y : A) → Some x ≡ Some y → x ≡ y
 same_some x y e = cc
 
-second_of : {A : Type 0} (x y : A × State) → Some x ≡ Some y → x.1 ≡ y.1
+pub second_of : {A : Type 0} (x y : A × State) → Some x ≡ Some y → x.1 ≡ y.1
 second_of x y e = ap (λ z. z.1) (same_some x y e)
 
 abbrev pub AreIdle : State → Type 0
@@ -95,7 +95,7 @@ module _ (s : State) (c : ℕ) where
   abort_end u (Some (Committed a b)) idle = set_none s.passes c _ refl idle
   abort_end u (Some Aborted) idle = set_none s.passes c _ refl idle
 
-  submit_idle : (stage : ℕ) (body : List ℕ) (id : ℕ) (t : State) → submitted c stage body s ≡ Some (id, t) → AreIdle s → AreIdle t
+  pub submit_idle : (stage : ℕ) (body : List ℕ) (id : ℕ) (t : State) → submitted c stage body s ≡ Some (id, t) → AreIdle s → AreIdle t
   submit_idle stage body id t is idle = go (is_server_stage stage) (has_room s c 1) is
     where
       go : (a b : Bool) → given (cond a (cond b (Ok (next_row s c 1), with_request s c stage body) (Err refusal.Full, s)) (Err refusal.BadStage, s)) ≡ Some (id, t) → AreIdle t
@@ -103,24 +103,24 @@ module _ (s : State) (c : ℕ) where
       go true false is = absurd cc
       go false b is = absurd cc
 
-free_made : {A : Type 0} (s : State) (c : ℕ) (made : Option A) (y : A) → if_free c s made ≡ Some y → made ≡ Some y
+pub free_made : {A : Type 0} (s : State) (c : ℕ) (made : Option A) (y : A) → if_free c s made ≡ Some y → made ≡ Some y
 free_made s c made y is = go (pass_at s c).holding is
   where
     go : (o : Option ℕ) → (if is_none o then made else None) ≡ Some y → made ≡ Some y
     go None is = is
     go (Some u) is = absurd cc
 
-born_idle : (s : State) (c carrier : ℕ) (drafts : List DraftView) (first : ℕ) (t : State) → born_by c carrier drafts s ≡ Some (first, t) → AreIdle s → AreIdle t
+pub born_idle : (s : State) (c carrier : ℕ) (drafts : List DraftView) (first : ℕ) (t : State) → born_by c carrier drafts s ≡ Some (first, t) → AreIdle s → AreIdle t
 born_idle s c carrier drafts first t is idle =
     let x = and_then_some (λ (claimed : Work × State). first_given (commit_of claimed.1 c drafts)) (given (claim_id_of s c carrier)) (first, t) (free_made s c _ (first, t) is) in
     commit_idle x.0.1 c drafts first t x.2 (claim_idle s c carrier x.0.0 x.0.1 x.1 idle)
 
-attempt_idle : (s : State) (c id : ℕ) (t : State) → attempted c id s ≡ Some t → AreIdle s → AreIdle t
+pub attempt_idle : (s : State) (c id : ℕ) (t : State) → attempted c id s ≡ Some t → AreIdle s → AreIdle t
 attempt_idle s c id t is idle =
     let x = and_then_some (λ (claimed : Work × State). Some (abort_of claimed.1 c).1) (given (claim_id_of s c id)) t (free_made s c _ t is) in
     subst AreIdle (same_some (abort_of x.0.1 c).1 t x.2) (abort_end x.0.1 c (unit_in_hand x.0.1 c) (end_of x.0.1.history (unit_in_hand x.0.1 c)) (claim_idle s c id x.0.0 x.0.1 x.1 idle))
 
-requeue_idle : (s : State) (c id : ℕ) (t : State) → requeued c id s ≡ Some t → AreIdle s → AreIdle t
+pub requeue_idle : (s : State) (c id : ℕ) (t : State) → requeued c id s ≡ Some t → AreIdle s → AreIdle t
 requeue_idle s c id t is idle =
     let x = and_then_some (λ (done : ℕ × State). Some done.1) (given (requeue_of s c id)) t is in
     subst AreIdle (same_some x.0.1 t x.2) (found (element_of s.history id) x.0 x.1)
@@ -225,7 +225,7 @@ module _ (p : ℕ) (kept : List Bool) where
 
 -- ---- all of it
 
-start_idle : (l : Limits) → AreIdle (start l)
+pub start_idle : (l : Limits) → AreIdle (start l)
 start_idle l c = go (range_with_len 0 l.parts) c
   where
     go : (xs : List ℕ) (c : ℕ) → (slice_index_or (map (fresh_pass l.rows) xs) c no_pass).holding ≡ None

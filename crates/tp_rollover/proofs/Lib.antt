@@ -39,3 +39,18 @@ pub mod FoundFit
 pub mod BirthsAll
 pub mod Running
 pub mod BirthsRuns
+mod Acts
+mod Endings
+mod Climbing
+mod Trying
+mod Bearing
+mod Grouping
+mod OfFamily
+mod Sound
+mod NextBorn
+mod Birthing
+mod FoundSound
+mod HeldAll
+mod StandsAnew
+pub mod Roots
+pub mod Lasting

@@ -1,13 +1,15 @@
 -- What is made anew in a manager in which nothing has happened.
-use Rattle.std.proofs.Common.{◌≡◌, ℕ, ◌*◌, All, Option, Some, None, List, length, slice_index, sym, ◌∙◌, ap, subst, Result, Ok, Err, IfOk, OnOk}
+use Rattle.std.proofs.Common.{◌≡◌, ℕ, ◌*◌, ◌<◌, ◌≤◌, All, arith, inl, inr, Option, Some, None, List, length, slice_index, sym, ◌∙◌, ap, subst, Result, Ok, Err, IfOk, OnOk}
 use Rattle.std.specs.List.{AllZip}
 use Rattle.std.specs.Option.{option_and_then}
 use Rattle.tp_model.specs.declared.types.Limits.{Limits}
 use Rattle.tp_plain.specs.OneThread.{State, start}
 use Rattle.tp_manager.specs.Accounts.{AreAll, Gathers}
 use Rattle.tp_manager.specs.Shown.{IsKeptBy, IsOf, KeeperShown, ManagerShown, PassShown}
-use Rattle.tp_alone.specs.Thread.{IsFresh, Stays}
-use Rattle.tp_alone.proofs.Apart.{zip_long, zip_right}
+use Rattle.tp_model.specs.declared.event.Event.{Event}
+use Rattle.std.proofs.lemmas.Bool.Decides.{leb_tells}
+use Rattle.tp_alone.specs.Thread.{AreTogether, IsFresh, Stays}
+use Rattle.tp_alone.proofs.Apart.{numbered, zip_long, zip_right}
 use Rattle.tp_alone.proofs.Idle.{alone_idle}
 use Rattle.tp_alone.proofs.Starts.{alone_start}
 use Rattle.tp_rollover.specs.Anew.{all_born, all_held, all_replayed, kept_for, made_anew, made_unheld}
@@ -92,3 +94,15 @@ module _ (l : Limits) (p q : ℕ) (survivors : List Survivor) (s t : State) (mov
 
   pub made_so_far : (end : State) → all_held q survivors moved t ≡ Some end → made_anew l p survivors s ≡ Some (moved, end)
   made_so_far end held = made_held ∙ ap (option_and_then (λ done. Some (moved, done))) held
+
+-- no more passes are given out than a manager has
+pub few_parts : (l : Limits) (keeper : KeeperShown) (passes : List PassShown) (h : List Event) → AreTogether l keeper passes h → length passes ≤ l.parts
+few_parts l keeper passes h together = elim (leb_tells (length passes) l.parts) [
+  | inl q ↦ q.1
+  | inr q ↦
+      let over : l.parts < length passes = q.1 in
+      let t = numbered 0 l.parts passes together.all.1 (omega arith) (omega arith) in
+      let given = (together.each t.0 t.1).shows.given in
+      let at = t.2 in
+      absurd (omega arith)
+]

@@ -11,11 +11,11 @@ use Rattle.tp_alone.specs.Thread.{IsFresh, thread_of}
 use Rattle.tp_rollover.specs.Anew.{made_anew}
 use Rattle.tp_rollover.specs.Answers.{Rolls}
 use Rattle.tp_rollover.specs.Survivors.{Restores}
-use Rattle.tp_rollover.specs.Carries.{AreFresh, Carries, DiffersAnew, IsAsComputed, WouldDiffer, WouldNotFit}
+use Rattle.tp_rollover.specs.Carries.{AreFresh, Carries, DiffersAnew, IsAsComputed, IsUncomputed, WouldNotFit}
 use Rattle.tp_rollover.specs.Faults.{AreFree, IsDue, IsLate, IsRestoreDue, MayBegin}
 use Rattle.tp_rollover.specs.Lone.{lone}
 use Rattle.tp_rollover.specs.Survivors.{AreUnheld}
-use Rattle.tp_rollover.specs.Managed.{IsManaged, IsNewPass, IsRefusedFor, IsUnrestored}
+use Rattle.tp_rollover.specs.Managed.{FindsRoom, fault_anew, IsManaged, IsNewPass, IsRefusedFor, IsUnrestored}
 use Rattle.tp_rollover.specs.declared.managed.Managed.{Managed}
 use Rattle.tp_rollover.specs.declared.moved.Moved.{Moved}
 use Rattle.tp_rollover.specs.declared.moved.RollFault.{RollFault}
@@ -38,13 +38,22 @@ not_empty : (ps : List PassShown) → 1 ≤ length ps → ps ≡ [] → ⊥
 not_empty ps some none = let e = ap length none in omega (arith, some, e)
 
 pub refused_for : (l k : Limits) (olds news news' : List PassShown) (fault : RollFault) → k.attempts ≡ l.attempts → 1 ≤ length olds → 1 ≤ length news
-    → (fault ≡ Full → WouldNotFit l olds l.parts (start l)) → (fault ≡ Unequal → WouldDiffer l olds l.parts (start l)) → IsDue l k olds news news' fault → IsRefusedFor l olds fault
+    → (fault ≡ Full → WouldNotFit l olds l.parts (start l)) → (fault ≡ Unequal → WouldNotFit l olds l.parts (start l)) → IsDue l k olds news news' fault → IsRefusedFor l olds (fault_anew fault)
 refused_for l k olds news news' NoMemory same some some' short differs due = tt
 refused_for l k olds news news' BadLimits same some some' short differs due = due same
 refused_for l k olds news news' NoPass same some some' short differs due = ⊎_elim (λ none. not_empty olds some none) (λ none. not_empty news some' none) due.1
 refused_for l k olds news news' Busy same some some' short differs due = due
 refused_for l k olds news news' Full same some some' short differs due = short refl
 refused_for l k olds news news' Unequal same some some' short differs due = differs refl
+
+-- none of these, where there is room and memory
+pub not_refused : (l : Limits) (passes : List PassShown) (fault : RollFault) → (fault ≡ NoMemory → ⊥) → FindsRoom l passes → IsRefusedFor l passes fault → ⊥
+not_refused l passes NoMemory memory room due = memory refl
+not_refused l passes BadLimits memory room due = due
+not_refused l passes NoPass memory room due = due
+not_refused l passes Busy memory room due = due
+not_refused l passes Full memory room due = room due
+not_refused l passes Unequal memory room due = due
 
 -- and those that none of descriptions can be made for
 pub unrestored_for : (l k : Limits) (survivors : List Survivor) (news news' : List PassShown) (fault : RollFault) → AreLimits l → 1 ≤ length news → IsRestoreDue k survivors news news' fault → IsUnrestored l fault
@@ -59,16 +68,16 @@ unrestored_for l k survivors news news' Unequal limits some due = limits
 pub unfit_same : (l k : Limits) (p q : ℕ) (olds : List PassShown) → k ≡ l → q ≡ p → WouldNotFit l olds q (start k) → WouldNotFit l olds p (start l)
 unfit_same l k p q olds same long unfit = subst (λ n. WouldNotFit l olds n (start l)) long (subst (λ z. WouldNotFit l olds q (start z)) same unfit)
 
--- nor does what differs there
-pub differ_same : (l k : Limits) (p q : ℕ) (olds : List PassShown) → k ≡ l → q ≡ p → WouldDiffer l olds q (start k) → WouldDiffer l olds p (start l)
-differ_same l k p q olds same long differs = subst (λ n. WouldDiffer l olds n (start l)) long (subst (λ z. WouldDiffer l olds q (start z)) same differs)
-
+-- nor does what is described otherwise
 pub differ_anew : (l k : Limits) (p q : ℕ) (survivors : List Survivor) → k ≡ l → q ≡ p → DiffersAnew k q survivors (start k) → DiffersAnew l p survivors (start l)
 differ_anew l k p q survivors same long differs = subst (λ n. DiffersAnew l n survivors (start l)) long (subst (λ z. DiffersAnew z q survivors (start z)) same differs)
 
+pub uncomputed_anew : (l k : Limits) (p q : ℕ) (survivors : List Survivor) → k ≡ l → q ≡ p → IsUncomputed k q survivors (start k) → IsUncomputed l p survivors (start l)
+uncomputed_anew l k p q survivors same long none = subst (λ n. IsUncomputed l n survivors (start l)) long (subst (λ z. IsUncomputed z q survivors (start z)) same none)
+
 -- a fault that comes after the first calls is due
 pub late_due : (l k : Limits) (olds news news' : List PassShown) (Is : Type 0) (fault : RollFault) → MayBegin l k olds news → (Is → ¬ AreFree olds)
-    → (fault ≡ Unequal → AreLimits l → AreFresh k news → WouldDiffer l olds (length news) (start k)) → IsLate k news' Is fault → IsDue l k olds news news' fault
+    → (fault ≡ Unequal → AreLimits k → AreFresh k news → WouldNotFit l olds (length news) (start k)) → IsLate k news' Is fault → IsDue l k olds news news' fault
 late_due l k olds news news' Is NoMemory may held differs late = (may, tt)
 late_due l k olds news news' Is BadLimits may held differs late = absurd late
 late_due l k olds news news' Is NoPass may held differs late = absurd late
@@ -77,7 +86,7 @@ late_due l k olds news news' Is Full may held differs late = (may, ⊎_elim (λ 
 late_due l k olds news news' Is Unequal may held differs late = (may, differs refl)
 
 pub restore_due : (k : Limits) (survivors : List Survivor) (news news' : List PassShown) (Is : Type 0) (fault : RollFault) → (Is → ¬ AreUnheld survivors)
-    → (fault ≡ Unequal → AreFresh k news → DiffersAnew k (length news) survivors (start k)) → IsLate k news' Is fault → IsRestoreDue k survivors news news' fault
+    → (fault ≡ Unequal → AreFresh k news → DiffersAnew k (length news) survivors (start k) × (AreLimits k → IsUncomputed k (length news) survivors (start k))) → IsLate k news' Is fault → IsRestoreDue k survivors news news' fault
 restore_due k survivors news news' Is NoMemory held differs late = tt
 restore_due k survivors news news' Is BadLimits held differs late = absurd late
 restore_due k survivors news news' Is NoPass held differs late = absurd late

@@ -128,7 +128,7 @@ module _ (l : Limits) (h : List Event) (legal : IsLegal l h) (id : Moved → ℕ
           at false is = inl (ap (over one) e ∙ ap (λ c. cond c 1 0) is)
           at true is = inr (subst (λ j. IsNamed id j ms) (element_of-id h i x e) (named x (is_born h i x e) is))
 
-  counted : count_of l.attempts h (born h) test ≡ count_by (λ m. test (status_of l.attempts h (id m))) ms
+  pub counted : count_of l.attempts h (born h) test ≡ count_by (λ m. test (status_of l.attempts h (id m))) ms
   counted = sym (rows_sum l h legal one) ∙ (by_rows one h 0 (rows_of l) ∙ named_sum id at_row at_named 0 (rows_of l) ms ascend inside row_is (λ i low high. others i))
 
 -- statuses
@@ -197,7 +197,7 @@ either_counted status (m ∷ ms) alive =
     let d = sum_by-cons (λ (q : Moved). cond (is_held (status q)) 1 0) m ms in
     omega arith
 
-none_counted : (f : Moved → ℕ) (ms : List Moved) → ((m : Moved) → In m ms → f m ≡ 0) → sum_by f ms ≡ 0
+pub none_counted : (f : Moved → ℕ) (ms : List Moved) → ((m : Moved) → In m ms → f m ≡ 0) → sum_by f ms ≡ 0
 none_counted f [] zeros = refl
 none_counted f (m ∷ ms) zeros =
     let first = zeros m here in

@@ -2,7 +2,9 @@
 use Rattle.std.specs.Prelude.{◌≡◌, ℕ, List, Option, Some, None, Result, Ok, Err, length}
 use Rattle.std.specs.List.{AllZip}
 use Rattle.tp_model.specs.declared.types.Limits.{Limits}
+use Rattle.tp_model.specs.declared.event.Event.{Event}
 use Rattle.tp_model.specs.History.{In}
+use Rattle.tp_model.specs.Steps.{IsLegal}
 use Rattle.tp_model.specs.Counts.{counts}
 use Rattle.tp_plain.specs.OneThread.{State}
 use Rattle.tp_manager.specs.Shown.{KeeperShown, PassShown}
@@ -42,6 +44,17 @@ pub record IsMadeAlike (l : Limits) (p : ℕ) (survivors : List Survivor) (befor
 abbrev pub DiffersAnew : Limits → ℕ → List Survivor → State → Type 0
 DiffersAnew l p survivors before = AreFit l before.limits survivors → ¬ IsMadeAlike l p survivors before
 
+-- nothing is computed of these, where they are what was found alive in a manager with the same attempt limit,
+-- and are fit
+abbrev pub IsUncomputed : Limits → ℕ → List Survivor → State → Type 0
+IsUncomputed m p survivors before =
+    (l : Limits) (h : List Event) → before.limits.attempts ≡ l.attempts → IsLegal l h
+    → AreSurvivors l h survivors → AreFit m before.limits survivors → made_anew m p survivors before ≡ None
+
+-- both are so
+abbrev pub IsUnlike : Limits → ℕ → List Survivor → State → Type 0
+IsUnlike m p survivors before = DiffersAnew m p survivors before × IsUncomputed m p survivors before
+
 -- The passes of a manager with limits l did nothing but look, and looked together. What was alive then finds
 -- no room in a manager that was this before, by p passes.
 pub record WouldNotFit (l : Limits) (olds : List PassShown) (p : ℕ) (before : State) : Type 0 where
@@ -53,18 +66,6 @@ pub record WouldNotFit (l : Limits) (olds : List PassShown) (p : ℕ) (before : 
   pub found : AreSurvivors l keeper.seen survivors
   pub in_hand : AreInHand olds survivors
   pub full : made_anew l p survivors before ≡ None
-
--- The passes of a manager with limits l did nothing but look, and looked together. What is computed of what was
--- alive then isn't as it was, in a manager that was this before, by p passes.
-pub record WouldDiffer (l : Limits) (olds : List PassShown) (p : ℕ) (before : State) : Type 0 where
-  pub keeper : KeeperShown
-  pub looked : List PassShown
-  pub together : AreTogether l keeper looked keeper.seen
-  pub stay : AllZip Stays olds looked
-  pub survivors : List Survivor
-  pub found : AreSurvivors l keeper.seen survivors
-  pub in_hand : AreInHand olds survivors
-  pub differs : ¬ IsMadeAlike l p survivors before
 
 -- The passes of a manager with limits l did nothing but look, and looked together. What was alive then was
 -- made anew in a manager that was this before and is that then, by p passes.

@@ -6,7 +6,7 @@ use Rattle.tp_model.specs.Steps.{AreLimits}
 use Rattle.tp_plain.specs.OneThread.{start}
 use Rattle.tp_manager.specs.Calls.{claims_in}
 use Rattle.tp_manager.specs.Shown.{PassShown}
-use Rattle.tp_rollover.specs.Carries.{AreFresh, DiffersAnew, WouldDiffer}
+use Rattle.tp_rollover.specs.Carries.{AreFresh, DiffersAnew, IsUncomputed, WouldNotFit}
 use Rattle.tp_rollover.specs.Survivors.{AreUnheld}
 use Rattle.tp_rollover.specs.declared.moved.RollFault.{RollFault}
 use Rattle.tp_rollover.specs.declared.moved.RollFault.TheVariants.{NoMemory, BadLimits, NoPass, Busy, Full}
@@ -51,13 +51,13 @@ abbrev pub MayBegin : Limits → Limits → List PassShown → List PassShown �
 MayBegin l k olds news = (k.attempts ≡ l.attempts) × (¬ LacksPass olds news)
 
 -- When each fault comes: the first two before any call, in this order; Unequal, where nothing had happened in
--- the new manager, only where what is computed isn't as it was.
+-- the new manager, only where what was alive finds no room in it.
 abbrev pub IsDue : Limits → Limits → List PassShown → List PassShown → List PassShown → RollFault → Type 0
 IsDue l k olds news news' BadLimits = k.attempts ≢ l.attempts
 IsDue l k olds news news' NoPass = (k.attempts ≡ l.attempts) × LacksPass olds news
 IsDue l k olds news news' Busy = ⊥
 IsDue l k olds news news' Unequal = MayBegin l k olds news
-    × (AreLimits l → AreFresh k news → WouldDiffer l olds (length news) (start k))
+    × (AreLimits k → AreFresh k news → WouldNotFit l olds (length news) (start k))
 IsDue l k olds news news' late = MayBegin l k olds news × IsLate k news' (¬ AreFree olds) late
 
 -- when each fault of a survey comes: the first one before any call
@@ -67,9 +67,11 @@ IsSurveyDue passes NoMemory = Unit {0}
 IsSurveyDue passes other = ⊥
 
 -- When each fault of a restoration comes: the first one before any call; Unequal, where nothing had happened in
--- the manager, only of descriptions that aren't fit, or of which what is computed isn't as they say.
+-- the manager, only of descriptions that aren't fit, or of which what is computed isn't as they say: of what
+-- was found alive, and is fit, only where nothing is computed.
 abbrev pub IsRestoreDue : Limits → List Survivor → List PassShown → List PassShown → RollFault → Type 0
 IsRestoreDue k survivors passes passes' NoPass = passes ≡ []
 IsRestoreDue k survivors passes passes' Unequal = AreFresh k passes
     → DiffersAnew k (length passes) survivors (start k)
+    × (AreLimits k → IsUncomputed k (length passes) survivors (start k))
 IsRestoreDue k survivors passes passes' late = IsLate k passes' (¬ AreUnheld survivors) late

@@ -1,5 +1,5 @@
 -- The laws over the pair of managers.
-use Rattle.std.specs.Prelude.{◌≡◌, ◌≢◌, ℕ, ◌+◌, ◌++◌, List, length, map}
+use Rattle.std.specs.Prelude.{◌≡◌, ◌≢◌, ℕ, ◌+◌, ◌<◌, ◌≤◌, ◌++◌, List, Some, length, map}
 use mathlib.Core.List.{IsPrefix}
 use Rattle.tp_model.specs.declared.types.Element.{Element}
 use Rattle.tp_model.specs.declared.types.Limits.{Limits}
@@ -10,9 +10,15 @@ use Rattle.tp_model.specs.Counts.{counts}
 use Rattle.tp_model.specs.Families.{IsSettledFamily}
 use Rattle.tp_model.specs.History.{In, IsBorn, IsSettled, born, status_of}
 use Rattle.tp_model.specs.Steps.{AreLimits, IsLegal}
+use Rattle.tp_plain.specs.OneThread.{State, start}
 use Rattle.tp_manager.specs.Shown.{KeeperShown, PassShown}
+use Rattle.tp_rollover.specs.Alike.{StandAlike}
+use Rattle.tp_rollover.specs.Anew.{all_held, made_anew, made_unheld}
 use Rattle.tp_rollover.specs.Answers.{Rolls}
+use Rattle.tp_rollover.specs.Carries.{IsMadeAlike}
+use Rattle.tp_rollover.specs.Checks.{CountsOnly}
 use Rattle.tp_rollover.specs.Faults.{AreFree}
+use Rattle.tp_rollover.specs.Fits.{AreFit}
 use Rattle.tp_rollover.specs.Rolls.{RollsOver, kills}
 use Rattle.tp_rollover.specs.Survivors.{AreSurvivors, StandAgain}
 use Rattle.tp_rollover.specs.declared.moved.Moved.{Moved}
@@ -83,3 +89,32 @@ FreeIsPlain =
     (l k : Limits) (old' new' : KeeperShown) (olds olds' news' : List PassShown) (moved : List Moved)
     → (r : Rolls l k old' new' olds olds' news' moved) → AreFree olds
     → RollsPlainly l k r.before old'.seen new'.seen moved × AreFree news'
+
+-- What is computed of what was found alive, and is fit, stands as it was, before any of it is held, and
+-- nothing else is alive: in a manager with the same attempt limit in which nothing had happened, by p of its
+-- passes. m are the limits of the manager by whose parts it goes on.
+abbrev pub ComputedStands : Type 0
+ComputedStands =
+    (l m k : Limits) (h : List Event) (p : ℕ) (survivors : List Survivor) (moved : List Moved) (t : State)
+    → AreLimits k → k.attempts ≡ l.attempts → p ≤ k.parts → IsLegal l h → AreSurvivors l h survivors
+    → AreFit m k survivors → made_unheld m p survivors (start k) ≡ Some (moved, t)
+    → StandAlike k.attempts t.history survivors moved
+    × CountsOnly (length moved) (counts k.attempts t.history)
+
+-- So it is as it was wherever anything is computed of it.
+abbrev pub ComputedIsAlike : Type 0
+ComputedIsAlike =
+    (l m k : Limits) (h : List Event) (p : ℕ) (survivors : List Survivor) (made : List Moved × State)
+    → AreLimits k → k.attempts ≡ l.attempts → p ≤ k.parts → IsLegal l h → AreSurvivors l h survivors
+    → AreFit m k survivors → made_anew m p survivors (start k) ≡ Some made
+    → IsMadeAlike m p survivors (start k)
+
+-- And once it is there each that was held can be claimed by its pass, where the manager has one of that
+-- number: it waits, and the pass has kept a unit for it.
+abbrev pub ComputedIsHeld : Type 0
+ComputedIsHeld =
+    (l m k : Limits) (h : List Event) (p : ℕ) (survivors : List Survivor) (moved : List Moved) (t : State)
+    → AreLimits k → k.attempts ≡ l.attempts → p ≤ k.parts → IsLegal l h → AreSurvivors l h survivors
+    → AreFit m k survivors → ((s : Survivor) → In s survivors → (c : ℕ) → s.holder ≡ Some c → c < p)
+    → made_unheld m p survivors (start k) ≡ Some (moved, t)
+    → (after : State) × (all_held p survivors moved t ≡ Some after)

@@ -20,3 +20,4 @@ pub mod Anew
 pub mod Fits
 pub mod Carries
 pub mod Runs
+pub mod Space

@@ -9,7 +9,8 @@ use Rattle.tp_manager.specs.Shown.{IsKeptBy, IsOf, KeeperShown, PassShown, low_o
 use Rattle.tp_plain.specs.OneThread.{start}
 use Rattle.tp_alone.specs.Thread.{Stays, thread_of}
 use Rattle.tp_rollover.specs.Answers.{Rolls}
-use Rattle.tp_rollover.specs.Carries.{Carries, WouldDiffer, WouldNotFit}
+use Rattle.tp_rollover.specs.Bounds.{made_by_all}
+use Rattle.tp_rollover.specs.Carries.{Carries, WouldNotFit}
 use Rattle.tp_rollover.specs.declared.managed.Managed.{Managed}
 use Rattle.tp_rollover.specs.declared.moved.Moved.{Moved}
 use Rattle.tp_rollover.specs.declared.moved.RollFault.{RollFault}
@@ -37,6 +38,13 @@ pub record IsManaged (m : Managed) : Type 0 where
   pub all : AreAll m.keeper m.passes.items
   pub parts : length m.passes.items ≡ m.manager.limits.parts
 
+-- it is one with these limits, and its passes have done nothing but being given out
+pub record IsNewManaged (l : Limits) (m : Managed) : Type 0 where
+  pub managed : IsManaged m
+  pub limits : m.manager.limits ≡ l
+  pub new : All IsNewPass m.passes.items
+  pub steps : made_by_all m.keeper m.passes.items ≡ l.parts
+
 -- It has gone on in another manager, of the same limits. From what the old passes had done before the
 -- rollover went to what the new ones have seen, and what was alive was made anew as it is computed. The old
 -- manager's keeper and passes showed these at the last.
@@ -56,13 +64,22 @@ pub record StaysManaged (old new : Managed) : Type 0 where
   pub given : new.keeper.given ≡ old.keeper.given
   pub passes : AllZip Stays old.passes.items new.passes.items
 
--- Which fault a manager with these limits and passes is refused with: one of these three, Full only where
--- what is alive finds no room in a new manager, Unequal only where what is computed differs from it.
+-- What a rollover into a new manager is refused with. Unequal comes only where nothing is computed, and that
+-- is where what is alive finds no room.
+abbrev pub fault_anew : RollFault → RollFault
+fault_anew Unequal = Full
+fault_anew other = other
+
+-- Which fault a manager with these limits and passes is refused with: one of these two, Full only where what
+-- is alive finds no room in a new manager.
 abbrev pub IsRefusedFor : Limits → List PassShown → RollFault → Type 0
 IsRefusedFor l passes NoMemory = Unit {0}
 IsRefusedFor l passes Full = WouldNotFit l passes l.parts (start l)
-IsRefusedFor l passes Unequal = WouldDiffer l passes l.parts (start l)
 IsRefusedFor l passes other = ⊥
+
+-- what is alive in it finds room in a new manager with the same limits
+abbrev pub FindsRoom : Limits → List PassShown → Type 0
+FindsRoom l passes = ¬ WouldNotFit l passes l.parts (start l)
 
 -- why it isn't surveyed: for want of memory alone
 abbrev pub IsUnsurveyed : RollFault → Type 0

@@ -1,5 +1,7 @@
 //! What is alive in a manager.
-ghost use Rattle.std.specs.Prelude.{◌≡◌, ◌≤◌, ◌++◌, IfErr, IfOk, IfSome, OnOk, length};
+ghost use Rattle.std.specs.Prelude.{◌≡◌, ◌<◌, ◌≤◌, ◌++◌, IfErr, IfSome, OnErr, OnOk, length};
+ghost use Rattle.std.specs.Prelude.{vec_capacity, vec_len};
+ghost use Rattle.tp_model.specs.Steps.{rows_of};
 ghost use Rattle.tp_rollover.specs.declared.stops.Stop.TheVariants as stops;
 ghost use Rattle.tp_manager.specs.Bounds.{read_steps};
 ghost use Rattle.tp_manager.specs.Shown.{IsOf};
@@ -11,7 +13,6 @@ ghost use Rattle.tp_rollover.specs.Told.{HoldsAsSeen};
 
 use crate::looks::look;
 use crate::stops::Stop;
-use std::alloc::Global;
 use tp_manager::{Manager, Pass};
 use tp_model::types::{Account, Status};
 
@@ -43,6 +44,8 @@ fn alive_at(manager: &Manager, pass: &mut Pass, row: u32) -> Option<u32>
 fn keep(found: &mut Vec<u32>, one: Option<u32>) -> Result<(), Stop>
     ensures kept { OnOk result (found.new.items ≡ found.old.items ++ listed one) }
     ensures memory { IfErr result (λ stop. stop ≡ stops.NoMemory) }
+    ensures full { OnErr result (vec_capacity found.old ≤ vec_len found.old) }
+    ensures space { vec_capacity found.old ≤ vec_capacity found.new }
 {
     match one {
         None => Ok(()),
@@ -61,33 +64,36 @@ pub(crate) fn alive_in(account: &Account) -> usize
     total.waiting as usize + total.parked as usize + total.held as usize
 }
 
-/// The ids of all elements that are alive, ascending, where there are so many. The search ends with the last
-/// one.
+/// The ids of all elements that are alive, ascending, where there are so many, and no others. The search ends
+/// with the last one.
 pub(crate) fn find_alive(
-    alloc: Global,
+    found: &mut Vec<u32>,
     manager: &Manager,
     pass: &mut Pass,
     count: usize,
-) -> Result<Vec<u32>, Stop>
+) -> Result<(), Stop>
     requires own { IsOf manager.now pass.old }
     ensures own { IsOf manager.now pass.new }
     ensures stays { Stays pass.old pass.new }
     ensures steps { PassMakes (search_steps manager.now.limits count) pass.old pass.new }
-    ensures few { IfOk result (λ found. length found.items ≤ count) }
+    ensures few { OnOk result (length found.new.items ≤ count) }
+    ensures rows { OnOk result (length found.new.items ≤ rows_of manager.now.limits) }
     ensures memory { IfErr result (λ stop. stop ≡ stops.NoMemory) }
-    ensures once { IfOk result (λ found. Ascending 0 found.items) }
-    ensures told { IfOk result (λ found.
-        HoldsAsSeen pass.old pass.new (AreAliveOf manager.now.limits count found.items)) }
-    ensures living { IfOk result (λ found.
-        HoldsAsSeen pass.old pass.new (AreLiving manager.now.limits.attempts found.items)) }
+    ensures full { OnErr result (vec_capacity found.old < rows_of manager.now.limits) }
+    ensures space { vec_capacity found.old ≤ vec_capacity found.new }
+    ensures once { OnOk result (Ascending 0 found.new.items) }
+    ensures told { OnOk result
+        (HoldsAsSeen pass.old pass.new (AreAliveOf manager.now.limits count found.new.items)) }
+    ensures living { OnOk result
+        (HoldsAsSeen pass.old pass.new (AreLiving manager.now.limits.attempts found.new.items)) }
 {
-    let mut found = Vec::new(alloc);
+    found.clear();
     for row in 0..manager.capacity() {
         if found.len() >= count {
-            return Ok(found);
+            return Ok(());
         }
         let one = alive_at(manager, pass, row);
-        keep(&mut found, one)?;
+        keep(found, one)?;
     }
-    Ok(found)
+    Ok(())
 }

@@ -1,6 +1,7 @@
 //! What was described is born in a manager, in whose passes' order, by groups.
-ghost use Rattle.std.specs.Prelude.{◌≡◌, ◌+◌, ◌-◌, ◌*◌, ◌<◌, ◌≤◌, ◌++◌, All, IfOk, OnOk, length, map};
-ghost use Rattle.std.specs.Prelude.{List, None, Some, nat_lt, replicate, take, true};
+ghost use Rattle.std.specs.Prelude.{◌≡◌, ◌≢◌, ◌+◌, ◌-◌, ◌*◌, ◌<◌, ◌≤◌, ◌++◌, All, IfErr, IfOk, OnOk};
+ghost use Rattle.std.specs.Prelude.{List, None, Some, length, map, nat_lt, replicate, take, true};
+ghost use Rattle.std.specs.Prelude.{vec_capacity};
 ghost use Rattle.tp_model.specs.declared.event.Event.{Event};
 ghost use Rattle.tp_model.specs.Steps.{IsStage, rows_of};
 ghost use Rattle.tp_plain.specs.OneThread.{pass_at};
@@ -15,6 +16,7 @@ ghost use Rattle.tp_rollover.specs.Births.{born_of};
 ghost use Rattle.tp_rollover.specs.Fits.{AreFit, IsFit, MayBeBorn};
 ghost use Rattle.tp_rollover.specs.Lone.{Agrees, AgreesUnless, AreLone, bearing, lone, placing};
 ghost use Rattle.tp_rollover.specs.Runs.{BearsOn, StaysInPart, newly};
+ghost use Rattle.tp_rollover.specs.declared.stops.Stop.TheVariants as stops;
 
 use crate::calls::{bear_by, submit_by, submit_run};
 use crate::fitting::families_for;
@@ -22,7 +24,6 @@ use crate::moved::Moved;
 use crate::places::{Cursor, begin, kept_for};
 use crate::stops::Stop;
 use crate::survivors::Survivor;
-use std::alloc::Global;
 use tp_manager::{Keeper, Manager, Pass};
 use tp_model::types::{Body, Draft, Limits};
 
@@ -126,6 +127,7 @@ fn submit_root(
     ensures gives { Agrees result (λ id. (id, placing manager.now keeper.new passes.new cursor.new))
         (submitted_next (length passes.old) one.root_stage one.root_body home
         (placing manager.now keeper.old passes.old cursor.old)) }
+    ensures memory { IfErr result (λ stop. stop ≢ stops.NoMemory) }
 {
     let at = cursor.next(manager, passes, home, 1, 0)?;
     submit_by(manager, keeper, passes, at, one.root_stage, one.root_body)
@@ -149,6 +151,7 @@ fn carrier_of(
     ensures gives { Agrees result (λ has. (has, placing manager.now keeper.new passes.new cursor.new))
         (carrier_by (length passes.old) one home carrier
         (placing manager.now keeper.old passes.old cursor.old)) }
+    ensures memory { IfErr result (λ stop. stop ≢ stops.NoMemory) }
 {
     match carrier {
         Some(carrier) => Ok(carrier),
@@ -206,6 +209,7 @@ fn bear_group(
     ensures gives { Agrees result (λ first. (first, placing manager.now keeper.new passes.new cursor.new))
         (born_next (length passes.old) (drafts_of birth.now.group.now birth.now.more) birth.now.carrier birth.now.home
         (placing manager.now keeper.old passes.old cursor.old)) }
+    ensures memory { IfErr result (λ stop. stop ≢ stops.NoMemory) }
 {
     let drafts = drafts_of(birth.group);
     let alone = birth.group.len();
@@ -239,6 +243,7 @@ fn bear_next(
         (λ group. (group, bearing manager.now keeper.new passes.new cursor.new families.new))
         (next_born unborn.now.limits (length passes.old) unborn.now.rest.now
         (bearing manager.now keeper.old passes.old cursor.old families.old)) }
+    ensures memory { IfErr result (λ stop. stop ≢ stops.NoMemory) }
 {
     let next = unborn.rest[0];
     let place = next.root as usize;
@@ -292,6 +297,9 @@ fn name(
     requires rows { 2 ≤ group.count → group.first + group.count ≤ rows_of manager.now.limits }
     ensures named { Agrees result (λ _. moved.new.items) (Some (moved.old.items ++ named_in group rest.now)) }
     ensures many { OnOk result (length moved.new.items ≡ length moved.old.items + group.count) }
+    ensures memory { IfErr result (λ stop. stop ≡ stops.NoMemory
+        → vec_capacity moved.old < length moved.old.items + length rest.now) }
+    ensures space { vec_capacity moved.old ≤ vec_capacity moved.new }
 {
     for place in 0..group.count {
         let one = Moved {
@@ -376,6 +384,9 @@ fn bear_turn(
     ensures on { BearsOn unborn.now.limits (length passes.old) unborn.now.rest.now moved.old.items moved.new.items
         (bearing manager.now keeper.old passes.old cursor.old families.old)
         (bearing manager.now keeper.new passes.new cursor.new families.new) result }
+    ensures memory { IfErr result (λ stop. stop ≡ stops.NoMemory
+        → vec_capacity moved.old < length moved.old.items + length unborn.now.rest.now) }
+    ensures space { vec_capacity moved.old ≤ vec_capacity moved.new }
 {
     let at = cursor.at;
     if at < passes.len() {
@@ -388,19 +399,24 @@ fn bear_turn(
     name(manager, moved, unborn.rest, group)
 }
 
-/// All these are born in a manager, in their order. What they are there. `of` is the manager in which they
-/// are, by whose parts each goes on as an element of the pass of the same number.
+/// All these are born in a manager, in their order. `moved` is what they are there. `of` is the manager in
+/// which they are, by whose parts each goes on as an element of the pass of the same number.
 pub(crate) fn bear_all(
-    alloc: Global,
+    moved: &mut Vec<Moved>,
+    families: &mut Vec<Family>,
     of: &Manager,
     survivors: &[Survivor],
     manager: &Manager,
     keeper: &mut Keeper,
     passes: &mut [Pass],
-) -> Result<Vec<Moved>, Stop>
+) -> Result<(), Stop>
     requires lone { AreLone manager.now keeper.old passes.old }
     ensures lone { AreLone manager.now keeper.new passes.new × (keeper.new.given ≡ keeper.old.given) }
-    ensures many { IfOk result (λ moved. length moved.items ≡ length survivors.now) }
+    ensures many { OnOk result (length moved.new.items ≡ length survivors.now) }
+    ensures memory { IfErr result (λ stop. stop ≡ stops.NoMemory
+        → length survivors.now ≤ vec_capacity moved.old → vec_capacity families.old < rows_of of.now.limits) }
+    ensures space { vec_capacity moved.old ≤ vec_capacity moved.new }
+    ensures families { vec_capacity families.old ≤ vec_capacity families.new }
     ensures fit { OnOk result (All (IsFit of.now.limits manager.now.limits) survivors.now) }
     ensures steps { let n = length survivors.now in
         AllMake (n * bear_steps manager.now.limits keeper.old.given 1)
@@ -408,15 +424,16 @@ pub(crate) fn bear_all(
     ensures gives { let l = of.now.limits in
         let computed = all_born l (length passes.old) survivors.now (lone manager.now keeper.old passes.old) in
         AgreesUnless (AreFit l manager.now.limits survivors.now → computed ≡ None) result
-        (λ moved. (moved.items, lone manager.now keeper.new passes.new)) computed }
+        (λ _. (moved.new.items, lone manager.now keeper.new passes.new)) computed }
 {
+    moved.clear();
     if survivors.is_empty() {
-        return Ok(Vec::new(alloc));
+        return Ok(());
     }
-    let Ok(mut moved) = Vec::with_capacity(alloc, survivors.len()) else {
+    if moved.reserve_exact(survivors.len()).is_err() {
         return Err(Stop::NoMemory);
-    };
-    let mut families = families_for(alloc, of, manager, survivors)?;
+    }
+    families_for(families, of, manager, survivors)?;
     let mut cursor = Cursor::start(kept_for(survivors));
     for _turn in 0..survivors.len() {
         let from = moved.len();
@@ -432,10 +449,10 @@ pub(crate) fn bear_all(
             manager,
             keeper,
             passes,
-            &mut families,
+            families,
             &mut cursor,
-            &mut moved,
+            moved,
         )?;
     }
-    Ok(moved)
+    Ok(())
 }

@@ -1,7 +1,8 @@
 //! The calls on the new manager, each by the pass with an index. After each of them, or each run of requests
 //! by one pass, all passes look together, so that what it answers and leaves is what the manager of one
 //! thread answers and is then.
-ghost use Rattle.std.specs.Prelude.{◌≡◌, ◌+◌, ◌*◌, ◌<◌, ◌≤◌, IfOk, IsSome, None, OnOk, Some, length};
+ghost use Rattle.std.specs.Prelude.{◌≡◌, ◌+◌, ◌*◌, ◌<◌, ◌≤◌, ◌≢◌, IfErr, IfOk, IsSome, None, OnOk, Some};
+ghost use Rattle.std.specs.Prelude.{length, vec_capacity};
 ghost use Rattle.tp_model.specs.Steps.{rows_of};
 ghost use Rattle.tp_plain.specs.Computed.{abort_of, claim_id_of, commit_of};
 ghost use Rattle.tp_plain.specs.OneThread.{pass_at};
@@ -15,6 +16,7 @@ ghost use Rattle.tp_rollover.specs.Bounds.{give_up_steps, hold_steps};
 ghost use Rattle.tp_rollover.specs.Closing.{hand_given_up};
 ghost use Rattle.tp_rollover.specs.Lone.{Agrees, AreLone, lone};
 ghost use Rattle.tp_rollover.specs.Runs.{SubmitsRun, roots_born};
+ghost use Rattle.tp_rollover.specs.declared.stops.Stop.TheVariants as stops;
 
 use crate::moved::Moved;
 use crate::stops::Stop;
@@ -23,7 +25,9 @@ use tp_manager::{Keeper, Manager, Pass};
 use tp_model::types::{Body, Draft, Outcome, Refusal, Work};
 
 /// What a claim or another call was refused for.
-fn stop_for(refusal: Refusal) -> Stop {
+fn stop_for(refusal: Refusal) -> Stop
+    ensures { result ≢ stops.NoMemory }
+{
     match refusal {
         Refusal::NoUnit => Stop::Full,
         Refusal::Full => Stop::Full,
@@ -49,6 +53,7 @@ pub(crate) fn submit_by(
     ensures rows { IfOk result (λ id. id < rows_of manager.now.limits) }
     ensures gives { Agrees result (λ id. (id, lone manager.now keeper.new passes.new))
         (submitted at stage body (lone manager.now keeper.old passes.old)) }
+    ensures memory { IfErr result (λ stop. stop ≢ stops.NoMemory) }
 {
     let answer = manager.submit(&mut passes[at], stage, body);
     keeper.gather(manager, passes);
@@ -71,6 +76,9 @@ fn submit_each(
     ensures steps { PassMakes (length roots.now * submit_steps manager.now.limits) pass.old pass.new }
     ensures runs { let l = manager.now.limits in
         SubmitsRun l roots.now moved.old.items moved.new.items pass.old pass.new result }
+    ensures memory { IfErr result (λ stop. stop ≡ stops.NoMemory
+        → vec_capacity moved.old < length moved.old.items + length roots.now) }
+    ensures space { vec_capacity moved.old ≤ vec_capacity moved.new }
 {
     for place in 0..roots.len() {
         let one = roots[place];
@@ -110,6 +118,9 @@ pub(crate) fn submit_run(
         keeper.old passes.old keeper.new passes.new }
     ensures gives { Agrees result (λ _. (moved.new.items, lone manager.now keeper.new passes.new))
         (roots_born at roots.now (moved.old.items, lone manager.now keeper.old passes.old)) }
+    ensures memory { IfErr result (λ stop. stop ≡ stops.NoMemory
+        → vec_capacity moved.old < length moved.old.items + length roots.now) }
+    ensures space { vec_capacity moved.old ≤ vec_capacity moved.new }
 {
     let result = submit_each(manager, &mut passes[at], roots, moved);
     keeper.gather(manager, passes);
@@ -134,6 +145,7 @@ fn claim_by(
         keeper.old passes.old keeper.new passes.new }
     ensures gives { Agrees result (λ work. (work, lone manager.now keeper.new passes.new))
         (given (claim_id_of (lone manager.now keeper.old passes.old) at id)) }
+    ensures memory { IfErr result (λ stop. stop ≢ stops.NoMemory) }
 {
     let answer = manager.claim_id(&mut passes[at], id);
     keeper.gather(manager, passes);
@@ -163,6 +175,7 @@ fn commit_by(
     ensures rows { let n = length drafts.now in IfOk result (λ first. first + n ≤ rows_of manager.now.limits) }
     ensures gives { Agrees result (λ first. (first, lone manager.now keeper.new passes.new))
         (first_given (commit_of (lone manager.now keeper.old passes.old) at drafts.now)) }
+    ensures memory { IfErr result (λ stop. stop ≢ stops.NoMemory) }
 {
     let outcome = manager.commit(&mut passes[at], drafts);
     keeper.gather(manager, passes);
@@ -189,6 +202,7 @@ fn abort_by(
         keeper.old passes.old keeper.new passes.new }
     ensures gives { Agrees result (λ _. lone manager.now keeper.new passes.new)
         (Some (abort_of (lone manager.now keeper.old passes.old) at).1) }
+    ensures memory { IfErr result (λ stop. stop ≢ stops.NoMemory) }
 {
     let _ = manager.abort(&mut passes[at]);
     keeper.gather(manager, passes);
@@ -211,6 +225,7 @@ pub(crate) fn requeue_by(
         keeper.old passes.old keeper.new passes.new }
     ensures gives { Agrees result (λ _. lone manager.now keeper.new passes.new)
         (requeued at id (lone manager.now keeper.old passes.old)) }
+    ensures memory { IfErr result (λ stop. stop ≢ stops.NoMemory) }
 {
     let answer = manager.requeue(&mut passes[at], id);
     keeper.gather(manager, passes);
@@ -239,6 +254,7 @@ pub(crate) fn bear_by(
         keeper.old passes.old keeper.new passes.new }
     ensures gives { Agrees result (λ first. (first, lone manager.now keeper.new passes.new))
         (born_by at carrier drafts.now (lone manager.now keeper.old passes.old)) }
+    ensures memory { IfErr result (λ stop. stop ≢ stops.NoMemory) }
 {
     if passes[at].has_open() {
         return Err(Stop::Unequal);
@@ -262,6 +278,7 @@ pub(crate) fn attempt_by(
         keeper.old passes.old keeper.new passes.new }
     ensures gives { Agrees result (λ _. lone manager.now keeper.new passes.new)
         (attempted at id (lone manager.now keeper.old passes.old)) }
+    ensures memory { IfErr result (λ stop. stop ≢ stops.NoMemory) }
 {
     if passes[at].has_open() {
         return Err(Stop::Unequal);
@@ -285,6 +302,7 @@ pub(crate) fn take_by(
         AllMake (hold_steps l keeper.old.given) keeper.old passes.old keeper.new passes.new }
     ensures gives { Agrees result (λ _. lone manager.now keeper.new passes.new)
         (held_by (length passes.old) (Some at) id (lone manager.now keeper.old passes.old)) }
+    ensures memory { IfErr result (λ stop. stop ≢ stops.NoMemory) }
 {
     if passes[at].has_open() {
         return Err(Stop::Unequal);

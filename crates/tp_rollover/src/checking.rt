@@ -1,10 +1,12 @@
 //! What was born is held against what was described.
 ghost use Rattle.std.specs.Prelude.{◌≡◌, ◌*◌, false, true, length};
+ghost use Rattle.tp_model.specs.Steps.{rows_of};
 ghost use Rattle.tp_manager.specs.Shown.{IsOf};
 ghost use Rattle.tp_alone.specs.Thread.{Stays};
 ghost use Rattle.tp_rollover.specs.Bounds.{PassMakes, compare_steps};
 ghost use Rattle.tp_rollover.specs.Alike.{AllStandUnheld, IsAlike, IsRootAlike, StandsUnheld};
 ghost use Rattle.tp_rollover.specs.Checks.{CountsOnly, MovedAscend};
+ghost use Rattle.tp_rollover.specs.Space.{AreWithin};
 ghost use Rattle.tp_rollover.specs.Told.{HoldsAsSeen};
 
 use crate::looks::{is_alive, look, rounds_had};
@@ -114,6 +116,22 @@ pub(crate) fn counts_only(account: &Account, moved: &[Moved]) -> bool
     let total = account.total;
     let alive = total.waiting as usize + total.parked as usize;
     alive == moved.len() && total.held == 0 && total.killed == 0
+}
+
+/// Whether the roots of all these are among the rows of the two managers.
+pub(crate) fn are_within(old: &Manager, new: &Manager, moved: &[Moved]) -> bool
+    ensures within { result ≡ true → AreWithin (rows_of old.now.limits) (rows_of new.now.limits) moved.now }
+    ensures other { result ≡ false → ¬ AreWithin (rows_of old.now.limits) (rows_of new.now.limits) moved.now }
+{
+    for place in 0..moved.len() {
+        if moved[place].old_root >= old.capacity() {
+            return false;
+        }
+        if moved[place].new_root >= new.capacity() {
+            return false;
+        }
+    }
+    true
 }
 
 /// Whether the ids ascend in both managers.

@@ -1,9 +1,12 @@
 //! Whether families stay families.
-ghost use Rattle.std.specs.Prelude.{◌≡◌, ◌<◌, ◌≤◌, All, IfOk, None, false, length, true};
+ghost use Rattle.std.specs.Prelude.{◌≡◌, ◌<◌, ◌≤◌, ℕ, All, IfOk, None, OnErr, false, length, true};
+ghost use Rattle.std.specs.Prelude.{vec_capacity};
 ghost use Rattle.tp_rollover.specs.Checks.{AreFamilies, HasOther, HasPut};
+ghost use Rattle.tp_rollover.specs.Space.{AreWithin};
 
 use crate::moved::Moved;
-use std::alloc::{AllocError, Global};
+use crate::space::refill;
+use std::alloc::AllocError;
 
 /// Whether the place is free or has this value, which it has then. The others stay.
 fn takes(places: &mut [Option<u32>], at: u32, value: u32) -> bool
@@ -45,7 +48,9 @@ fn put_all(moved: &[Moved], new_roots: &mut [Option<u32>], old_roots: &mut [Opti
 
 /// The highest root of these in the old manager, and the highest in the new one.
 fn highest_roots(moved: &[Moved]) -> (u32, u32)
-    ensures { All (λ m. (m.old_root ≤ result.0) × (m.new_root ≤ result.1)) moved.now }
+    ensures highest { All (λ m. (m.old_root ≤ result.0) × (m.new_root ≤ result.1)) moved.now }
+    ensures least { (n n' : ℕ) → 1 ≤ n → 1 ≤ n' → AreWithin n n' moved.now
+        → (result.0 < n) × (result.1 < n') }
 {
     let mut old_root = 0;
     let mut new_root = 0;
@@ -56,8 +61,17 @@ fn highest_roots(moved: &[Moved]) -> (u32, u32)
     (old_root, new_root)
 }
 
-/// Whether two of these are of one family in the new manager exactly where they were in the old one.
-pub(crate) fn are_families(alloc: Global, moved: &[Moved]) -> Result<bool, AllocError>
+/// Whether two of these are of one family in the new manager exactly where they were in the old one. Both
+/// tables are filled anew.
+pub(crate) fn are_families(
+    moved: &[Moved],
+    new_roots: &mut Vec<Option<u32>>,
+    old_roots: &mut Vec<Option<u32>>,
+) -> Result<bool, AllocError>
+    ensures memory { OnErr result
+        (¬ AreWithin (vec_capacity new_roots.old) (vec_capacity old_roots.old) moved.now) }
+    ensures new_space { vec_capacity new_roots.old ≤ vec_capacity new_roots.new }
+    ensures old_space { vec_capacity old_roots.old ≤ vec_capacity old_roots.new }
     ensures families { IfOk result (λ yes. yes ≡ true → AreFamilies moved.now) }
     ensures other { IfOk result (λ yes. yes ≡ false → ¬ AreFamilies moved.now) }
 {
@@ -65,7 +79,7 @@ pub(crate) fn are_families(alloc: Global, moved: &[Moved]) -> Result<bool, Alloc
         return Ok(true);
     }
     let (old_root, new_root) = highest_roots(moved);
-    let mut new_roots = Vec::from_elem(alloc, None, old_root as usize + 1)?;
-    let mut old_roots = Vec::from_elem(alloc, None, new_root as usize + 1)?;
-    Ok(put_all(moved, &mut new_roots, &mut old_roots))
+    refill(new_roots, None, old_root as usize + 1)?;
+    refill(old_roots, None, new_root as usize + 1)?;
+    Ok(put_all(moved, new_roots, old_roots))
 }

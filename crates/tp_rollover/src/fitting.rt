@@ -1,15 +1,18 @@
 //! Whether what was described can be alive in one manager at once, and go on in another one; and the families
 //! of what is.
-ghost use Rattle.std.specs.Prelude.{◌≡◌, ◌<◌, ◌≤◌, All, IfErr, IfOk, IfSome, None, OnOk, false, length, true};
+ghost use Rattle.std.specs.Prelude.{◌≡◌, ◌<◌, ◌≤◌, All, IfErr, IfSome, None, OnErr, OnOk, false, length};
+ghost use Rattle.std.specs.Prelude.{true, vec_capacity};
 ghost use Rattle.tp_model.specs.Steps.{IsKillable, rows_of};
 ghost use Rattle.tp_rollover.specs.Anew.{families_of, highest_root};
 ghost use Rattle.tp_rollover.specs.Bounds.{IsWithinLimits, attempts_had};
+ghost use Rattle.tp_rollover.specs.declared.stops.Stop.TheVariants as stops;
 ghost use Rattle.tp_rollover.specs.Fits.{AreApart, AreFit, IsFit, MayBeBorn, StopsUnfit};
 
 use crate::births::Family;
+use crate::space::refill;
 use crate::stops::Stop;
 use crate::survivors::Survivor;
-use std::alloc::{AllocError, Global};
+use std::alloc::AllocError;
 use tp_manager::Manager;
 use tp_model::types::{Limits, MAX_ROUNDS, REPLY_STAGE, Status};
 
@@ -95,20 +98,22 @@ fn highest_root(survivors: &[Survivor]) -> u32
 /// A place for the family of each root up to the highest of these, with how many of its elements are alive.
 /// The manager in which they are says how many there can be.
 fn count_families(
-    alloc: Global,
+    families: &mut Vec<Family>,
     of: &Manager,
     survivors: &[Survivor],
-) -> Result<Vec<Family>, AllocError>
+) -> Result<(), AllocError>
     requires roots { All (λ s. s.root < rows_of of.now.limits) survivors.now }
-    ensures counted { IfOk result (λ families. families.items ≡ families_of of.now.limits survivors.now) }
-    ensures places { IfOk result (λ families. All (λ s. s.root < length families.items) survivors.now) }
+    ensures counted { OnOk result (families.new.items ≡ families_of of.now.limits survivors.now) }
+    ensures places { OnOk result (All (λ s. s.root < length families.new.items) survivors.now) }
+    ensures memory { OnErr result (vec_capacity families.old < rows_of of.now.limits) }
+    ensures space { vec_capacity families.old ≤ vec_capacity families.new }
 {
     let places = highest_root(survivors).saturating_add(1).min(of.capacity());
     let none = Family {
         carrier: None,
         left: 0,
     };
-    let mut families = Vec::from_elem(alloc, none, places as usize)?;
+    refill(families, none, places as usize)?;
     for place in 0..survivors.len() {
         let root = survivors[place].root as usize;
         families[root] = Family {
@@ -116,7 +121,7 @@ fn count_families(
             left: families[root].left + 1,
         };
     }
-    Ok(families)
+    Ok(())
 }
 
 /// Whether no element of a family is the root of another one.
@@ -137,24 +142,27 @@ fn are_apart(limits: Limits, survivors: &[Survivor], families: &[Family]) -> boo
 /// The families of these, where they are fit to be made alive in this manager. `Unequal` where they aren't. `of`
 /// is the manager in which they are.
 pub(crate) fn families_for(
-    alloc: Global,
+    families: &mut Vec<Family>,
     of: &Manager,
     manager: &Manager,
     survivors: &[Survivor],
-) -> Result<Vec<Family>, Stop>
-    ensures counted { IfOk result (λ families. families.items ≡ families_of of.now.limits survivors.now) }
-    ensures may { IfOk result (λ families. All (MayBeBorn families.items) survivors.now) }
+) -> Result<(), Stop>
+    ensures counted { OnOk result (families.new.items ≡ families_of of.now.limits survivors.now) }
+    ensures may { OnOk result (All (MayBeBorn families.new.items) survivors.now) }
+    ensures memory { IfErr result (λ stop. stop ≡ stops.NoMemory
+        → vec_capacity families.old < rows_of of.now.limits) }
+    ensures space { vec_capacity families.old ≤ vec_capacity families.new }
     ensures fit { OnOk result (All (IsFit of.now.limits manager.now.limits) survivors.now) }
     ensures stops { IfErr result (StopsUnfit of.now.limits manager.now.limits survivors.now) }
 {
     if !are_fit(of, manager.limits(), survivors) {
         return Err(Stop::Unequal);
     }
-    let Ok(families) = count_families(alloc, of, survivors) else {
+    let Ok(()) = count_families(families, of, survivors) else {
         return Err(Stop::NoMemory);
     };
-    if !are_apart(of.limits(), survivors, &families) {
+    if !are_apart(of.limits(), survivors, families) {
         return Err(Stop::Unequal);
     }
-    Ok(families)
+    Ok(())
 }

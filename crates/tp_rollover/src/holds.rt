@@ -1,8 +1,9 @@
 //! Elements that stand anew are claimed by the passes that are to hold them.
-ghost use Rattle.std.specs.Prelude.{◌≡◌, length};
+ghost use Rattle.std.specs.Prelude.{◌≡◌, ◌≢◌, IfErr, length};
 ghost use Rattle.tp_rollover.specs.Anew.{all_held, held_by};
 ghost use Rattle.tp_rollover.specs.Bounds.{AllMake, hold_of, holds_for};
 ghost use Rattle.tp_rollover.specs.Lone.{Agrees, AreLone, lone};
+ghost use Rattle.tp_rollover.specs.declared.stops.Stop.TheVariants as stops;
 
 use crate::calls::take_by;
 use crate::moved::Moved;
@@ -24,6 +25,7 @@ fn hold_one(
         AllMake (hold_of l keeper.old.given one) keeper.old passes.old keeper.new passes.new }
     ensures gives { Agrees result (λ _. lone manager.now keeper.new passes.new)
         (held_by (length passes.old) one.holder id (lone manager.now keeper.old passes.old)) }
+    ensures memory { IfErr result (λ stop. stop ≢ stops.NoMemory) }
 {
     let Some(holder) = one.holder else {
         return Ok(());
@@ -50,6 +52,7 @@ pub(crate) fn hold_all(
         AllMake (holds_for l keeper.old.given survivors.now) keeper.old passes.old keeper.new passes.new }
     ensures gives { Agrees result (λ _. lone manager.now keeper.new passes.new)
         (all_held (length passes.old) survivors.now moved.now (lone manager.now keeper.old passes.old)) }
+    ensures memory { IfErr result (λ stop. stop ≢ stops.NoMemory) }
 {
     for place in 0..survivors.len() {
         hold_one(manager, keeper, passes, survivors[place], moved[place].new)?;

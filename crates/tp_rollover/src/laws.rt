@@ -3,8 +3,10 @@
 ghost use Rattle.std.specs.Prelude.{ℕ};
 ghost use Rattle.tp_model.specs.declared.types.Limits.{Limits};
 ghost use Rattle.tp_rollover.specs.Bounds.{PerElement};
-ghost use Rattle.tp_rollover.specs.Laws.{CancelledStays, ConsumedInOne, FreeIsPlain, OldIsOver};
+ghost use Rattle.tp_rollover.specs.Laws.{CancelledStays, ComputedIsAlike, ComputedIsHeld, ComputedStands};
+ghost use Rattle.tp_rollover.specs.Laws.{ConsumedInOne, FreeIsPlain, OldIsOver};
 ghost use Rattle.tp_rollover.specs.Laws.{RestoredIsRolledOver, RolloverAddsUp, SettledNotCarried};
+ghost use Rattle.tp_rollover.specs.Space.{SpaceLasts};
 ghost use Rattle.tp_rollover.specs.Worked.{HeldPair, WorkedAlike, WorkedPair};
 
 /// A family that was cancelled in the old manager is settled in the new one.
@@ -43,9 +45,23 @@ pub fn worked_pair()
     ensures alike { WorkedAlike }
 {}
 
+/// What is computed of what was found alive in one manager stands as it was in another one with the same
+/// attempt limit, in which nothing had happened, and nothing else is alive there. Then each that was held can
+/// be claimed by its pass.
+pub fn computed_stands()
+    ensures stands { ComputedStands }
+    ensures alike { ComputedIsAlike }
+    ensures held { ComputedIsHeld }
+{}
+
 /// How many steps a rollover makes for each element, in round numbers.
 pub fn steps_of_one()
     ensures { (l : Limits) (q : ℕ) → PerElement l q }
+{}
+
+/// A space that was enough for a rollover is enough for the next one between managers with these limits.
+pub fn space_lasts()
+    ensures { SpaceLasts }
 {}
 
 /// Where no pass of the old manager has a unit open, what was carried over stands with the status that it

@@ -1,5 +1,5 @@
 //! A manager with its keeper and all its passes, which goes on in a new one by itself.
-ghost use Rattle.std.specs.Prelude.{◌≡◌, ◌↔◌, ◌+◌, ◌≤◌, All, Err, IfErr, IfOk, OnOk, [], length};
+ghost use Rattle.std.specs.Prelude.{◌≡◌, ◌↔◌, ◌+◌, ◌≤◌, All, Err, IfErr, IfOk, IsOk, OnOk, [], length};
 ghost use Rattle.std.specs.List.{AllZip};
 ghost use Rattle.tp_model.specs.Steps.{AreLimits};
 ghost use Rattle.tp_manager.specs.Accounts.{AreAll};
@@ -12,16 +12,18 @@ ghost use Rattle.tp_rollover.specs.Anew.{made_anew};
 ghost use Rattle.tp_rollover.specs.Answers.{IsHistoryOf, Rolls};
 ghost use Rattle.tp_rollover.specs.Bounds.{AllMake, alive_after, give_up_steps, made_by_all};
 ghost use Rattle.tp_rollover.specs.Bounds.{most_successor_steps, old_steps, survey_steps, successor_steps};
-ghost use Rattle.tp_rollover.specs.Carries.{Carries, DiffersAnew, IsAsComputed};
+ghost use Rattle.tp_rollover.specs.Carries.{Carries, IsAsComputed, IsUnlike};
 ghost use Rattle.tp_rollover.specs.Faults.{AreFree};
-ghost use Rattle.tp_rollover.specs.Managed.{GoesOnAnew, IsManaged, IsNewPass, IsRefusedFor, IsUnrestored};
-ghost use Rattle.tp_rollover.specs.Managed.{IsUnsurveyed, StaysManaged};
+ghost use Rattle.tp_rollover.specs.Managed.{GoesOnAnew, IsManaged, IsNewManaged, IsNewPass, IsRefusedFor};
+ghost use Rattle.tp_rollover.specs.Managed.{fault_anew, FindsRoom, IsUnrestored, IsUnsurveyed, StaysManaged};
+ghost use Rattle.tp_rollover.specs.Space.{HasSpace, HasSurveySpace, KeepsSpace, KeepsSurveySpace};
 ghost use Rattle.tp_rollover.specs.Survivors.{AreInHand, AreSurvivors, Restores};
 
 use crate::moved::{Moved, RollFault};
 use crate::restoring::restore;
-use crate::rolling::roll_over;
-use crate::surveying::survey;
+use crate::rolling::roll_over_in;
+use crate::space::{Space, SurveySpace};
+use crate::surveying::{survey, survey_in};
 use crate::survivors::Survivor;
 use std::alloc::{AllocError, Global};
 use tp_manager::{Keeper, MakeFault, Manager, Pass};
@@ -65,6 +67,72 @@ fn all_passes(
     Ok(passes)
 }
 
+/// What a rollover into a new manager is refused with: where it isn't alike nothing is computed, and so what
+/// is alive finds no room.
+fn fault_anew(fault: RollFault) -> RollFault
+    ensures { result ≡ fault_anew fault }
+{
+    match fault {
+        RollFault::Unequal => RollFault::Full,
+        other => other,
+    }
+}
+
+/// What `succeed` does, in a space that is lent (`roll_over_in`), and into `next`, a new manager of the same
+/// limits, which is used up.
+pub fn succeed_in(
+    space: &mut Space,
+    old: &Manager,
+    old_keeper: &mut Keeper,
+    old_passes: &mut [Pass],
+    next: Managed,
+) -> Result<Managed, RollFault>
+    requires keeper { IsKeptBy old.now old_keeper.old }
+    requires limits { AreLimits old.now.limits }
+    requires own { All (IsOf old.now) old_passes.old }
+    requires all { AreAll old_keeper.old old_passes.old }
+    requires parts { length old_passes.old ≡ old.now.limits.parts }
+    requires next { IsNewManaged old.now.limits next }
+    ensures keeper { IsKeptBy old.now old_keeper.new × (old_keeper.new.given ≡ old_keeper.old.given) }
+    ensures own { All (IsOf old.now) old_passes.new }
+    ensures all { AreAll old_keeper.new old_passes.new }
+    ensures managed { IfOk result IsManaged }
+    ensures limits { IfOk result (λ next. next.manager.limits ≡ old.now.limits) }
+    ensures rolls { IfOk result (λ next. Rolls old.now.limits next.manager.limits old_keeper.new next.keeper
+        old_passes.old old_passes.new next.passes.items space.new.restore.moved.items) }
+    ensures carries { IfOk result (λ next. let l = old.now.limits in
+        Carries l old_passes.old l.parts (start l) space.new.restore.moved.items
+        (thread_of l next.passes.items next.keeper.seen)) }
+    ensures stays { IfErr result (λ fault. AllZip Stays old_passes.old old_passes.new) }
+    ensures fault { IfErr result (IsRefusedFor old.now.limits old_passes.old) }
+    ensures memory { result ≡ Err refusals.NoMemory → ¬ HasSpace old.now.limits old.now.limits space.old }
+    ensures space { KeepsSpace space.old space.new }
+    ensures steps { IfOk result (λ next. let n = length space.new.restore.moved.items in
+        let l = old.now.limits in
+        AllMake (old_steps l l.parts n + give_up_steps l l.parts old_passes.old)
+        old_keeper.old old_passes.old old_keeper.new old_passes.new
+        × (made_by_all next.keeper next.passes.items ≤ most_successor_steps l n)) }
+    ensures replayed { IfOk result (λ next. made_by_all next.keeper next.passes.items
+        ≤ successor_steps old.now.limits next.keeper.seen space.new.restore.moved.items) }
+    ensures refused_steps { IfErr result (λ fault. let l = old.now.limits in
+        let n = alive_after l.attempts old_keeper.new.seen in
+        AllMake (survey_steps l l.parts n) old_keeper.old old_passes.old old_keeper.new old_passes.new) }
+{
+    let mut new = next;
+    match roll_over_in(
+        space,
+        old,
+        old_keeper,
+        old_passes,
+        &new.manager,
+        &mut new.keeper,
+        &mut new.passes,
+    ) {
+        Ok(()) => Ok(new),
+        Err(fault) => Err(fault_anew(fault)),
+    }
+}
+
 /// What is alive in this manager goes on in a new one with the same limits (`roll_over`). Where it is
 /// refused, the old passes have done nothing but look. The caller lends all of them, in order of number.
 pub fn succeed(
@@ -100,21 +168,14 @@ pub fn succeed(
         let n = alive_after l.attempts old_keeper.new.seen in
         AllMake (survey_steps l l.parts n) old_keeper.old old_passes.old old_keeper.new old_passes.new) }
 {
-    let Ok(mut new) = Managed::new(alloc, old.limits()) else {
+    let Ok(new) = Managed::new(alloc, old.limits()) else {
         return Err(RollFault::NoMemory);
     };
-    match roll_over(
-        alloc,
-        old,
-        old_keeper,
-        old_passes,
-        &new.manager,
-        &mut new.keeper,
-        &mut new.passes,
-    ) {
-        Ok(moved) => Ok(Successor {
-            managed: new,
-            moved,
+    let mut space = Space::empty(alloc);
+    match succeed_in(&mut space, old, old_keeper, old_passes, new) {
+        Ok(managed) => Ok(Successor {
+            managed,
+            moved: space.into_moved(),
         }),
         Err(fault) => Err(fault),
     }
@@ -175,6 +236,70 @@ impl Managed {
         }
     }
 
+    /// What `roll_over` does, in a space that is lent, and into `next`, a new manager of the same limits,
+    /// which is used up. `NoMemory` only where the space is too small, and more couldn't be had: never in one
+    /// that `Space::new` made for these limits, however often it was lent. So it succeeds where what is alive
+    /// finds room (`succeeds`).
+    pub fn roll_over_into(&mut self, space: &mut Space, next: Managed) -> Result<(), RollFault>
+        requires managed { IsManaged self.old }
+        requires next { IsNewManaged self.old.manager.limits next }
+        ensures managed { IsManaged self.new }
+        ensures limits { self.new.manager.limits ≡ self.old.manager.limits }
+        ensures moved { OnOk result (GoesOnAnew self.old self.new space.new.restore.moved.items) }
+        ensures refused { IfErr result (λ fault. StaysManaged self.old self.new) }
+        ensures fault { IfErr result (IsRefusedFor self.old.manager.limits self.old.passes.items) }
+        ensures memory { result ≡ Err refusals.NoMemory → let l = self.old.manager.limits in
+            ¬ HasSpace l l space.old }
+        ensures succeeds { let l = self.old.manager.limits in
+            HasSpace l l space.old → FindsRoom l self.old.passes.items → IsOk result }
+        ensures space { KeepsSpace space.old space.new }
+        ensures steps { OnOk result (made_by_all self.new.keeper self.new.passes.items
+            ≤ most_successor_steps self.old.manager.limits (length space.new.restore.moved.items)) }
+        ensures replayed { OnOk result (made_by_all self.new.keeper self.new.passes.items
+            ≤ successor_steps self.old.manager.limits self.new.keeper.seen space.new.restore.moved.items) }
+        ensures refused_steps { IfErr result (λ fault. let l = self.old.manager.limits in
+            let n = alive_after l.attempts self.new.keeper.seen in
+            AllMake (survey_steps l l.parts n)
+            self.old.keeper self.old.passes.items self.new.keeper self.new.passes.items) }
+    {
+        let answer = succeed_in(
+            space,
+            &self.manager,
+            &mut self.keeper,
+            &mut self.passes,
+            next,
+        );
+        match answer {
+            Ok(next) => {
+                *self = next;
+                Ok(())
+            }
+            Err(fault) => Err(fault),
+        }
+    }
+
+    /// What `survey` finds, in a space that is lent (`survey_in`).
+    pub fn survey_in(&mut self, space: &mut SurveySpace) -> Result<(), RollFault>
+        requires managed { IsManaged self.old }
+        ensures managed { IsManaged self.new }
+        ensures stays { StaysManaged self.old self.new }
+        ensures found { OnOk result
+            (AreSurvivors self.old.manager.limits self.new.keeper.seen space.new.found.items) }
+        ensures in_hand { OnOk result (AreInHand self.old.passes.items space.new.found.items) }
+        ensures history { OnOk result
+            (IsHistoryOf self.new.keeper self.old.passes.items self.new.keeper.seen) }
+        ensures together { OnOk result (AreTogether self.old.manager.limits
+            self.new.keeper self.new.passes.items self.new.keeper.seen) }
+        ensures fault { IfErr result IsUnsurveyed }
+        ensures memory { IfErr result (λ fault. ¬ HasSurveySpace self.old.manager.limits space.old) }
+        ensures space { KeepsSurveySpace space.old space.new }
+        ensures steps { let l = self.old.manager.limits in
+            AllMake (survey_steps l l.parts (alive_after l.attempts self.new.keeper.seen))
+            self.old.keeper self.old.passes.items self.new.keeper self.new.passes.items }
+    {
+        survey_in(space, &self.manager, &mut self.keeper, &mut self.passes)
+    }
+
     /// All that is alive, each element once, by ascending ids, with all that another manager needs to go on
     /// with it (`restored`), and with the number of the pass that has it in hand, if one has. The passes have
     /// done nothing but look, and have gathered. `NoMemory`.
@@ -214,7 +339,7 @@ impl Managed {
             (λ next. (next.moved.items, thread_of limits next.managed.passes.items next.managed.keeper.seen))
             (made_anew limits limits.parts survivors.now (start limits)) }
         ensures unlike { result ≡ Err refusals.Unequal
-            → DiffersAnew limits limits.parts survivors.now (start limits) }
+            → IsUnlike limits limits.parts survivors.now (start limits) }
         ensures fault { IfErr result (IsUnrestored limits) }
         ensures bad { (result ≡ Err refusals.BadLimits) ↔ (¬ AreLimits limits) }
         ensures steps { IfOk result (λ next. made_by_all next.managed.keeper next.managed.passes.items

@@ -1,11 +1,12 @@
 //! Which pass of the new manager makes the next elements.
-ghost use Rattle.std.specs.Prelude.{◌≡◌, ◌-◌, ◌<◌, ◌≤◌, All, IfOk, IfSome, List, None, length};
+ghost use Rattle.std.specs.Prelude.{◌≡◌, ◌≢◌, ◌-◌, ◌<◌, ◌≤◌, All, IfErr, IfOk, IfSome, List, None, length};
 ghost use Rattle.tp_model.specs.declared.event.Event.{Event};
 ghost use Rattle.tp_manager.specs.Shown.{IsOf};
 ghost use Rattle.tp_alone.specs.Thread.{thread_of};
 ghost use Rattle.tp_rollover.specs.Anew.{drawer, first_from, has_left, last_below, next_pass, start_at};
 ghost use Rattle.tp_rollover.specs.Anew.{kept_for, least_units, with_holder, would_draw};
 ghost use Rattle.tp_rollover.specs.Lone.{Agrees};
+ghost use Rattle.tp_rollover.specs.declared.stops.Stop.TheVariants as stops;
 
 use crate::stops::Stop;
 use crate::survivors::Survivor;
@@ -189,6 +190,7 @@ impl Cursor {
         ensures gives { (h : List Event) → Agrees result (λ at. (at, self.new))
             (next_pass (length passes.now) (thread_of manager.now.limits passes.now h) home rows units
             self.old) }
+        ensures memory { IfErr result (λ stop. stop ≢ stops.NoMemory) }
     {
         let from = begin(passes.len(), self.at, home);
         match first_with(manager, passes, &self.kept, from, rows, units) {

@@ -1,10 +1,11 @@
 //! Elements that are born anew are given the attempts and rounds that were described.
-ghost use Rattle.std.specs.Prelude.{◌≡◌, ◌*◌, ◌≤◌, All, OnOk, length};
+ghost use Rattle.std.specs.Prelude.{◌≡◌, ◌≢◌, ◌*◌, ◌≤◌, All, IfErr, OnOk, length};
 ghost use Rattle.tp_model.specs.Steps.{IsKillable};
 ghost use Rattle.tp_rollover.specs.Anew.{all_replayed, kept_for, renewed, replayed, attempts_made};
 ghost use Rattle.tp_rollover.specs.Bounds.{AllMake, attempt_steps, attempts_had, most_replay_steps};
 ghost use Rattle.tp_rollover.specs.Bounds.{IsWithinLimits, replay_of, replay_steps, replays_for};
 ghost use Rattle.tp_rollover.specs.Lone.{Agrees, AreLone, lone};
+ghost use Rattle.tp_rollover.specs.declared.stops.Stop.TheVariants as stops;
 
 use crate::calls::{attempt_by, requeue_by};
 use crate::moved::Moved;
@@ -30,6 +31,7 @@ fn attempts(
         keeper.old passes.old keeper.new passes.new }
     ensures gives { Agrees result (λ _. (from.new, lone manager.now keeper.new passes.new))
         (attempts_made (length passes.old) kept.now id times (from.old, lone manager.now keeper.old passes.old)) }
+    ensures memory { IfErr result (λ stop. stop ≢ stops.NoMemory) }
 {
     for _time in 0..times {
         let Some(at) = first_with(manager, passes, kept, *from, 0, 1) else {
@@ -60,6 +62,7 @@ fn rounds(
     ensures gives { Agrees result (λ _. (from.new, lone manager.now keeper.new passes.new))
         (renewed (length passes.old) kept.now id manager.now.limits.attempts times
         (from.old, lone manager.now keeper.old passes.old)) }
+    ensures memory { IfErr result (λ stop. stop ≢ stops.NoMemory) }
 {
     for _round in 0..times {
         attempts(
@@ -115,6 +118,7 @@ fn replay(
     ensures gives { Agrees result (λ _. (from.new, lone manager.now keeper.new passes.new))
         (replayed (length passes.old) kept.now manager.now.limits.attempts one id
         (from.old, lone manager.now keeper.old passes.old)) }
+    ensures memory { IfErr result (λ stop. stop ≢ stops.NoMemory) }
 {
     rounds(manager, keeper, passes, kept, from, id, one.rounds)?;
     let times = attempts_of(one.status);
@@ -143,6 +147,7 @@ pub(crate) fn replay_all(
     ensures gives { Agrees result (λ _. lone manager.now keeper.new passes.new)
         (all_replayed (length passes.old) (kept_for survivors.now) manager.now.limits.attempts survivors.now
         moved.now (0, lone manager.now keeper.old passes.old)) }
+    ensures memory { IfErr result (λ stop. stop ≢ stops.NoMemory) }
 {
     let kept = kept_for(survivors);
     let mut from = 0;

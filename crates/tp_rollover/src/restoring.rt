@@ -1,5 +1,6 @@
 //! What was described is made alive in a manager in which nothing has happened.
 ghost use Rattle.std.specs.Prelude.{◌≡◌, ◌↔◌, ◌+◌, ◌*◌, ◌≤◌, [], All, Err, IfErr, IfOk, OnOk, length};
+ghost use Rattle.std.specs.Prelude.{vec_capacity};
 ghost use Rattle.std.specs.List.{AllZip};
 ghost use Rattle.tp_manager.specs.Accounts.{AreAll};
 ghost use Rattle.tp_manager.specs.Shown.{IsKeptBy, IsOf};
@@ -13,17 +14,20 @@ ghost use Rattle.tp_rollover.specs.Bounds.{IsWithinLimits, new_steps, unheld_ste
 ghost use Rattle.tp_rollover.specs.Carries.{AreFresh, DiffersAnew, IsAsComputed};
 ghost use Rattle.tp_rollover.specs.Faults.{IsRestoreDue};
 ghost use Rattle.tp_rollover.specs.Lone.{AgreesUnless, lone};
+ghost use Rattle.tp_rollover.specs.Space.{AreWithin, HasRestoreSpace, KeepsRestoreSpace};
 ghost use Rattle.tp_rollover.specs.Survivors.{Restores};
 ghost use Rattle.tp_rollover.specs.Told.{HoldsAsSeen, ToldFirst};
 ghost use Rattle.tp_rollover.specs.declared.moved.RollFault.TheVariants as faults;
+ghost use Rattle.tp_rollover.specs.declared.stops.Stop.TheVariants as stops;
 
 use crate::births::bear_all;
-use crate::checking::{all_stand_again, ascend, counts_only};
+use crate::checking::{all_stand_again, are_within, ascend, counts_only};
 use crate::families::are_families;
 use crate::holds::hold_all;
 use crate::moved::{Moved, RollFault};
 use crate::passes::has_open;
 use crate::replays::replay_all;
+use crate::space::RestoreSpace;
 use crate::stops::{Stop, fault_after};
 use crate::survivors::{Survivor, are_held};
 use std::alloc::Global;
@@ -31,31 +35,34 @@ use tp_manager::{Keeper, Manager, Pass};
 
 /// Whether all stand as they were described. `Unequal` where not.
 fn hold_by(
-    alloc: Global,
+    space: &mut RestoreSpace,
     survivors: &[Survivor],
     manager: &Manager,
     pass: &mut Pass,
-    moved: &[Moved],
 ) -> Result<(), Stop>
     requires own { IsOf manager.now pass.old }
     ensures own { IsOf manager.now pass.new }
     ensures stays { Stays pass.old pass.new }
     ensures steps { PassMakes (length survivors.now * compare_steps manager.now.limits) pass.old pass.new }
     ensures told { OnOk result (HoldsAsSeen pass.old pass.new
-        (λ g. StandAlike manager.now.limits.attempts g survivors.now moved.now)) }
+        (λ g. StandAlike manager.now.limits.attempts g survivors.now space.new.moved.items)) }
     ensures stops { IfErr result (StopsLooking pass.old pass.new
-        (λ g. StandAlike manager.now.limits.attempts g survivors.now moved.now)) }
+        (λ g. StandAlike manager.now.limits.attempts g survivors.now space.new.moved.items)) }
+    ensures memory { IfErr result (λ stop. stop ≡ stops.NoMemory → ¬ AreWithin
+        (vec_capacity space.old.new_roots) (vec_capacity space.old.old_roots) space.old.moved.items) }
+    ensures space { KeepsRestoreSpace space.old space.new }
+    ensures moved { space.new.moved.items ≡ space.old.moved.items }
 {
-    if !ascend(moved) {
+    if !ascend(&space.moved) {
         return Err(Stop::Unequal);
     }
-    let Ok(families) = are_families(alloc, moved) else {
+    let Ok(families) = are_families(&space.moved, &mut space.new_roots, &mut space.old_roots) else {
         return Err(Stop::NoMemory);
     };
     if !families {
         return Err(Stop::Unequal);
     }
-    if !all_stand_again(manager, pass, survivors, moved) {
+    if !all_stand_again(manager, pass, survivors, &space.moved) {
         return Err(Stop::Unequal);
     }
     Ok(())
@@ -63,11 +70,10 @@ fn hold_by(
 
 /// The same, by the first of the passes.
 fn hold(
-    alloc: Global,
+    space: &mut RestoreSpace,
     survivors: &[Survivor],
     manager: &Manager,
     passes: &mut [Pass],
-    moved: &[Moved],
 ) -> Result<(), Stop>
     requires own { All (IsOf manager.now) passes.old }
     requires some { 1 ≤ length passes.old }
@@ -76,26 +82,30 @@ fn hold(
     ensures steps { let n = length survivors.now in
         PassesMake (n * compare_steps manager.now.limits) passes.old passes.new }
     ensures told { OnOk result (ToldFirst passes.old passes.new
-        (λ g. StandAlike manager.now.limits.attempts g survivors.now moved.now)) }
+        (λ g. StandAlike manager.now.limits.attempts g survivors.now space.new.moved.items)) }
     ensures stops { IfErr result (StopsFirst passes.old passes.new
-        (λ g. StandAlike manager.now.limits.attempts g survivors.now moved.now)) }
+        (λ g. StandAlike manager.now.limits.attempts g survivors.now space.new.moved.items)) }
+    ensures memory { IfErr result (λ stop. stop ≡ stops.NoMemory → ¬ AreWithin
+        (vec_capacity space.old.new_roots) (vec_capacity space.old.old_roots) space.old.moved.items) }
+    ensures space { KeepsRestoreSpace space.old space.new }
+    ensures moved { space.new.moved.items ≡ space.old.moved.items }
 {
     let Some((first, _rest)) = passes.split_first_mut() else {
         unreachable!();
     };
-    hold_by(alloc, survivors, manager, first, moved)
+    hold_by(space, survivors, manager, first)
 }
 
 /// All that was described, each element once, stands in this manager as it did in `of`, but that what was
-/// held waits as it did before. What each is there.
+/// held waits as it did before. `space.moved` is what each is there.
 fn stand_unheld(
-    alloc: Global,
+    space: &mut RestoreSpace,
     of: &Manager,
     survivors: &[Survivor],
     manager: &Manager,
     keeper: &mut Keeper,
     passes: &mut [Pass],
-) -> Result<Vec<Moved>, Stop>
+) -> Result<(), Stop>
     requires keeper { IsKeptBy manager.now keeper.old }
     requires own { All (IsOf manager.now) passes.old }
     requires all { AreAll keeper.old passes.old }
@@ -103,12 +113,16 @@ fn stand_unheld(
     ensures keeper { IsKeptBy manager.now keeper.new × (keeper.new.given ≡ keeper.old.given) }
     ensures own { All (IsOf manager.now) passes.new }
     ensures all { AreAll keeper.new passes.new }
+    ensures parts { length passes.old ≤ manager.now.limits.parts }
     ensures together { OnOk result (AreTogether manager.now.limits keeper.new passes.new keeper.new.seen) }
-    ensures restored { IfOk result (λ moved.
-        StandUnheld manager.now.limits keeper.new.seen survivors.now moved.items) }
+    ensures memory { IfErr result (λ stop. stop ≡ stops.NoMemory
+        → ¬ HasRestoreSpace of.now.limits manager.now.limits (length survivors.now) space.old) }
+    ensures space { KeepsRestoreSpace space.old space.new }
+    ensures restored { OnOk result
+        (StandUnheld manager.now.limits keeper.new.seen survivors.now space.new.moved.items) }
     ensures computed { AreFresh manager.now.limits passes.old → AgreesUnless
         (DiffersAnew of.now.limits (length passes.old) survivors.now (start manager.now.limits)) result
-        (λ moved. (moved.items, lone manager.now keeper.new passes.new))
+        (λ _. (space.new.moved.items, lone manager.now keeper.new passes.new))
         (made_unheld of.now.limits (length passes.old) survivors.now (start manager.now.limits)) }
     ensures within { OnOk result (All (IsWithinLimits manager.now.limits) survivors.now) }
     ensures steps { AllMake (most_new_steps manager.now.limits keeper.old.given (length survivors.now))
@@ -118,30 +132,41 @@ fn stand_unheld(
         keeper.old passes.old keeper.new passes.new) }
 {
     keeper.gather(manager, passes);
-    let moved = bear_all(alloc, of, survivors, manager, keeper, passes)?;
-    replay_all(manager, keeper, passes, survivors, &moved)?;
+    bear_all(
+        &mut space.moved,
+        &mut space.families,
+        of,
+        survivors,
+        manager,
+        keeper,
+        passes,
+    )?;
+    replay_all(manager, keeper, passes, survivors, &space.moved)?;
     let account = keeper.account(manager, passes);
-    if !counts_only(&account, &moved) {
+    if !counts_only(&account, &space.moved) {
         return Err(Stop::Unequal);
     }
-    let held = hold(alloc, survivors, manager, passes, &moved);
+    if !are_within(of, manager, &space.moved) {
+        return Err(Stop::Unequal);
+    }
+    let held = hold(space, survivors, manager, passes);
     keeper.gather(manager, passes);
     match held {
-        Ok(()) => Ok(moved),
+        Ok(()) => Ok(()),
         Err(stop) => Err(stop),
     }
 }
 
 /// All that was described, each element once, stands in this manager as it did in `of`, each that was held in
-/// the hand of the pass of the same number. What each is there.
+/// the hand of the pass of the same number. `space.moved` is what each is there.
 pub(crate) fn stand_again(
-    alloc: Global,
+    space: &mut RestoreSpace,
     of: &Manager,
     survivors: &[Survivor],
     manager: &Manager,
     keeper: &mut Keeper,
     passes: &mut [Pass],
-) -> Result<Vec<Moved>, Stop>
+) -> Result<(), Stop>
     requires keeper { IsKeptBy manager.now keeper.old }
     requires own { All (IsOf manager.now) passes.old }
     requires all { AreAll keeper.old passes.old }
@@ -149,24 +174,70 @@ pub(crate) fn stand_again(
     ensures keeper { IsKeptBy manager.now keeper.new × (keeper.new.given ≡ keeper.old.given) }
     ensures own { All (IsOf manager.now) passes.new }
     ensures all { AreAll keeper.new passes.new }
-    ensures restored { IfOk result (λ moved.
-        Restores manager.now.limits keeper.new passes.new survivors.now moved.items) }
+    ensures parts { length passes.old ≤ manager.now.limits.parts }
+    ensures memory { IfErr result (λ stop. stop ≡ stops.NoMemory
+        → ¬ HasRestoreSpace of.now.limits manager.now.limits (length survivors.now) space.old) }
+    ensures space { KeepsRestoreSpace space.old space.new }
+    ensures restored { OnOk result
+        (Restores manager.now.limits keeper.new passes.new survivors.now space.new.moved.items) }
     ensures computed { AreFresh manager.now.limits passes.old → AgreesUnless
         (DiffersAnew of.now.limits (length passes.old) survivors.now (start manager.now.limits)) result
-        (λ moved. (moved.items, lone manager.now keeper.new passes.new))
+        (λ _. (space.new.moved.items, lone manager.now keeper.new passes.new))
         (made_anew of.now.limits (length passes.old) survivors.now (start manager.now.limits)) }
     ensures steps { AllMake (most_new_steps manager.now.limits keeper.old.given (length survivors.now))
         keeper.old passes.old keeper.new passes.new }
-    ensures replayed { IfOk result (λ moved.
-        AllMake (new_steps manager.now.limits keeper.old.given keeper.new.seen moved.items)
+    ensures replayed { OnOk result
+        (AllMake (new_steps manager.now.limits keeper.old.given keeper.new.seen space.new.moved.items)
         keeper.old passes.old keeper.new passes.new) }
 {
-    let moved = stand_unheld(alloc, of, survivors, manager, keeper, passes)?;
+    stand_unheld(space, of, survivors, manager, keeper, passes)?;
     if has_open(passes) {
         return Err(Stop::Unequal);
     }
-    hold_all(manager, keeper, passes, survivors, &moved)?;
-    Ok(moved)
+    hold_all(manager, keeper, passes, survivors, &space.moved)?;
+    Ok(())
+}
+
+/// What `restore` makes, in a space that is lent: what each is there stands in `space.moved` then. `NoMemory`
+/// only where the space is too small for so many elements and this manager, and more couldn't be had. It has
+/// no less memory then.
+pub fn restore_in(
+    space: &mut RestoreSpace,
+    manager: &Manager,
+    keeper: &mut Keeper,
+    passes: &mut [Pass],
+    survivors: &[Survivor],
+) -> Result<(), RollFault>
+    requires keeper { IsKeptBy manager.now keeper.old }
+    requires own { All (IsOf manager.now) passes.old }
+    requires all { AreAll keeper.old passes.old }
+    ensures keeper { IsKeptBy manager.now keeper.new × (keeper.new.given ≡ keeper.old.given) }
+    ensures own { All (IsOf manager.now) passes.new }
+    ensures all { AreAll keeper.new passes.new }
+    ensures restored { OnOk result
+        (Restores manager.now.limits keeper.new passes.new survivors.now space.new.moved.items) }
+    ensures computed { AreFresh manager.now.limits passes.old → IsAsComputed result
+        (λ _. (space.new.moved.items, lone manager.now keeper.new passes.new))
+        (made_anew manager.now.limits (length passes.old) survivors.now (start manager.now.limits)) }
+    ensures due { IfErr result
+        (IsRestoreDue manager.now.limits survivors.now passes.old passes.new) }
+    ensures no_pass { (result ≡ Err faults.NoPass) ↔ (passes.old ≡ []) }
+    ensures memory { result ≡ Err faults.NoMemory → let k = manager.now.limits in
+        ¬ HasRestoreSpace k k (length survivors.now) space.old }
+    ensures space { KeepsRestoreSpace space.old space.new }
+    ensures steps { AllMake (most_new_steps manager.now.limits keeper.old.given (length survivors.now))
+        keeper.old passes.old keeper.new passes.new }
+    ensures replayed { OnOk result
+        (AllMake (new_steps manager.now.limits keeper.old.given keeper.new.seen space.new.moved.items)
+        keeper.old passes.old keeper.new passes.new) }
+{
+    if passes.len() == 0 {
+        return Err(RollFault::NoPass);
+    }
+    match stand_again(space, manager, survivors, manager, keeper, passes) {
+        Ok(()) => Ok(()),
+        Err(stop) => Err(fault_after(stop, manager, passes, are_held(survivors))),
+    }
 }
 
 /// What was described (`survey`), each element once, is made alive in this manager, and nothing else is. What
@@ -204,11 +275,9 @@ pub fn restore(
         AllMake (new_steps manager.now.limits keeper.old.given keeper.new.seen moved.items)
         keeper.old passes.old keeper.new passes.new) }
 {
-    if passes.len() == 0 {
-        return Err(RollFault::NoPass);
-    }
-    match stand_again(alloc, manager, survivors, manager, keeper, passes) {
-        Ok(moved) => Ok(moved),
-        Err(stop) => Err(fault_after(stop, manager, passes, are_held(survivors))),
+    let mut space = RestoreSpace::empty(alloc);
+    match restore_in(&mut space, manager, keeper, passes, survivors) {
+        Ok(()) => Ok(space.into_moved()),
+        Err(fault) => Err(fault),
     }
 }

@@ -9,16 +9,18 @@ ghost use Rattle.tp_alone.specs.Thread.{Stays};
 ghost use Rattle.tp_rollover.specs.Answers.{IsReadyToKill, Rolls};
 ghost use Rattle.tp_rollover.specs.Bounds.{AllMake, alive_after, give_up_steps, most_new_steps};
 ghost use Rattle.tp_rollover.specs.Bounds.{new_steps, old_steps, survey_steps};
-ghost use Rattle.tp_rollover.specs.Carries.{AreFresh, Carries, WouldDiffer, WouldNotFit};
+ghost use Rattle.tp_rollover.specs.Carries.{AreFresh, Carries, WouldNotFit};
 ghost use Rattle.tp_rollover.specs.declared.stops.Stop.TheVariants as stops;
 ghost use Rattle.tp_rollover.specs.Lone.{AreLone, lone};
 ghost use Rattle.tp_rollover.specs.declared.moved.RollFault.TheVariants as faults;
 ghost use Rattle.tp_rollover.specs.Faults.{IsDue, LacksPass};
+ghost use Rattle.tp_rollover.specs.Space.{HasSpace, KeepsSpace};
 
 use crate::closing::bury;
 use crate::moved::{Moved, RollFault};
 use crate::passes::{has_open, lacks_pass};
 use crate::restoring::stand_again;
+use crate::space::Space;
 use crate::stops::{Stop, fault_after};
 use crate::surveying::find_all;
 use std::alloc::Global;
@@ -35,14 +37,14 @@ fn are_alike(old: &Manager, new: &Manager) -> bool
 /// All up to the kills: what is alive has been born in the new manager, and was found to stand there as it
 /// does in the old one, in which nothing has happened.
 fn prepare(
-    alloc: Global,
+    space: &mut Space,
     old: &Manager,
     old_keeper: &mut Keeper,
     old_passes: &mut [Pass],
     new: &Manager,
     new_keeper: &mut Keeper,
     new_passes: &mut [Pass],
-) -> Result<Vec<Moved>, Stop>
+) -> Result<(), Stop>
     requires old_keeper { IsKeptBy old.now old_keeper.old }
     requires new_keeper { IsKeptBy new.now new_keeper.old }
     requires own { All (IsOf old.now) old_passes.old × All (IsOf new.now) new_passes.old }
@@ -62,23 +64,103 @@ fn prepare(
         old_keeper.old old_passes.old old_keeper.new old_passes.new
         × AllMake (most_new_steps new.now.limits new_keeper.old.given n)
         new_keeper.old new_passes.old new_keeper.new new_passes.new }
-    ensures replayed { IfOk result (λ moved.
-        AllMake (new_steps new.now.limits new_keeper.old.given new_keeper.new.seen moved.items)
+    ensures replayed { OnOk result (AllMake
+        (new_steps new.now.limits new_keeper.old.given new_keeper.new.seen space.new.restore.moved.items)
         new_keeper.old new_passes.old new_keeper.new new_passes.new) }
-    ensures computed { AreFresh new.now.limits new_passes.old → IfOk result (λ moved.
-        Carries old.now.limits old_passes.old (length new_passes.old) (start new.now.limits) moved.items
-        (lone new.now new_keeper.new new_passes.new)) }
+    ensures computed { AreFresh new.now.limits new_passes.old → OnOk result
+        (Carries old.now.limits old_passes.old (length new_passes.old) (start new.now.limits)
+        space.new.restore.moved.items (lone new.now new_keeper.new new_passes.new)) }
+    ensures memory { IfErr result (λ stop. stop ≡ stops.NoMemory
+        → ¬ HasSpace old.now.limits new.now.limits space.old) }
+    ensures space { KeepsSpace space.old space.new }
     ensures would_not_fit { AreFresh new.now.limits new_passes.old → result ≡ Err stops.Full
         → WouldNotFit old.now.limits old_passes.old (length new_passes.old) (start new.now.limits) }
-    ensures would_differ { AreLimits old.now.limits → AreFresh new.now.limits new_passes.old
+    ensures unequal { AreLimits new.now.limits → AreFresh new.now.limits new_passes.old
         → IfErr result (λ stop. stop ≢ stops.NoMemory
-        → WouldDiffer old.now.limits old_passes.old (length new_passes.old) (start new.now.limits)) }
-    ensures ready { IfOk result (λ moved.
-        IsReadyToKill old.now.limits new.now.limits old_keeper.new new_keeper.new
-        old_passes.old old_passes.new new_passes.new moved.items) }
+        → WouldNotFit old.now.limits old_passes.old (length new_passes.old) (start new.now.limits)) }
+    ensures ready { OnOk result
+        (IsReadyToKill old.now.limits new.now.limits old_keeper.new new_keeper.new
+        old_passes.old old_passes.new new_passes.new space.new.restore.moved.items) }
 {
-    let alive = find_all(alloc, old, old_keeper, old_passes)?;
-    stand_again(alloc, old, &alive, new, new_keeper, new_passes)
+    find_all(&mut space.survey, old, old_keeper, old_passes)?;
+    stand_again(
+        &mut space.restore,
+        old,
+        &space.survey.found,
+        new,
+        new_keeper,
+        new_passes,
+    )
+}
+
+/// What `roll_over` does, in a space that is lent: what was carried over stands there then (`Space::moved`).
+/// `NoMemory` only where the space is too small for these two managers, and more couldn't be had. It has no
+/// less memory then.
+pub fn roll_over_in(
+    space: &mut Space,
+    old: &Manager,
+    old_keeper: &mut Keeper,
+    old_passes: &mut [Pass],
+    new: &Manager,
+    new_keeper: &mut Keeper,
+    new_passes: &mut [Pass],
+) -> Result<(), RollFault>
+    requires old_keeper { IsKeptBy old.now old_keeper.old }
+    requires new_keeper { IsKeptBy new.now new_keeper.old }
+    requires own { All (IsOf old.now) old_passes.old × All (IsOf new.now) new_passes.old }
+    requires all { AreAll old_keeper.old old_passes.old × AreAll new_keeper.old new_passes.old }
+    ensures old_keeper { IsKeptBy old.now old_keeper.new × (old_keeper.new.given ≡ old_keeper.old.given) }
+    ensures new_keeper { IsKeptBy new.now new_keeper.new × (new_keeper.new.given ≡ new_keeper.old.given) }
+    ensures own { All (IsOf old.now) old_passes.new × All (IsOf new.now) new_passes.new }
+    ensures all { AreAll old_keeper.new old_passes.new × AreAll new_keeper.new new_passes.new }
+    ensures moved { OnOk result (Rolls old.now.limits new.now.limits old_keeper.new new_keeper.new
+        old_passes.old old_passes.new new_passes.new space.new.restore.moved.items) }
+    ensures computed { AreFresh new.now.limits new_passes.old → OnOk result
+        (Carries old.now.limits old_passes.old (length new_passes.old) (start new.now.limits)
+        space.new.restore.moved.items (lone new.now new_keeper.new new_passes.new)) }
+    ensures would_not_fit { AreFresh new.now.limits new_passes.old → result ≡ Err faults.Full
+        → WouldNotFit old.now.limits old_passes.old (length new_passes.old) (start new.now.limits) }
+    ensures refused { IfErr result (λ fault. AllZip Stays old_passes.old old_passes.new) }
+    ensures due { IfErr result (λ fault. IsDue old.now.limits new.now.limits old_passes.old new_passes.old
+        new_passes.new fault) }
+    ensures bad_limits { new.now.limits.attempts ≢ old.now.limits.attempts → result ≡ Err faults.BadLimits }
+    ensures no_pass { new.now.limits.attempts ≡ old.now.limits.attempts
+        → LacksPass old_passes.old new_passes.old
+        → result ≡ Err faults.NoPass }
+    ensures memory { result ≡ Err faults.NoMemory → ¬ HasSpace old.now.limits new.now.limits space.old }
+    ensures space { KeepsSpace space.old space.new }
+    ensures steps { OnOk result (let n = length space.new.restore.moved.items in
+        AllMake (old_steps old.now.limits old_keeper.old.given n
+        + give_up_steps old.now.limits old_keeper.old.given old_passes.old)
+        old_keeper.old old_passes.old old_keeper.new old_passes.new
+        × AllMake (most_new_steps new.now.limits new_keeper.old.given n)
+        new_keeper.old new_passes.old new_keeper.new new_passes.new) }
+    ensures replayed { OnOk result (AllMake
+        (new_steps new.now.limits new_keeper.old.given new_keeper.new.seen space.new.restore.moved.items)
+        new_keeper.old new_passes.old new_keeper.new new_passes.new) }
+    ensures refused_steps { IfErr result (λ fault.
+        let n = alive_after old.now.limits.attempts old_keeper.new.seen in
+        AllMake (survey_steps old.now.limits old_keeper.old.given n)
+        old_keeper.old old_passes.old old_keeper.new old_passes.new
+        × AllMake (most_new_steps new.now.limits new_keeper.old.given n)
+        new_keeper.old new_passes.old new_keeper.new new_passes.new) }
+{
+    if !are_alike(old, new) {
+        return Err(RollFault::BadLimits);
+    }
+    if lacks_pass(old_passes, new_passes) {
+        return Err(RollFault::NoPass);
+    }
+    let is_held = has_open(old_passes);
+    match prepare(
+        space, old, old_keeper, old_passes, new, new_keeper, new_passes,
+    ) {
+        Ok(()) => {
+            bury(old, old_keeper, old_passes, &space.restore.moved);
+            Ok(())
+        }
+        Err(stop) => Err(fault_after(stop, new, new_passes, is_held)),
+    }
 }
 
 /// All that is alive in the old manager, each element once, goes on in the new one, and nothing else does.
@@ -136,19 +218,11 @@ pub fn roll_over(
         × AllMake (most_new_steps new.now.limits new_keeper.old.given n)
         new_keeper.old new_passes.old new_keeper.new new_passes.new) }
 {
-    if !are_alike(old, new) {
-        return Err(RollFault::BadLimits);
-    }
-    if lacks_pass(old_passes, new_passes) {
-        return Err(RollFault::NoPass);
-    }
-    let is_held = has_open(old_passes);
-    let moved = match prepare(
-        alloc, old, old_keeper, old_passes, new, new_keeper, new_passes,
+    let mut space = Space::empty(alloc);
+    match roll_over_in(
+        &mut space, old, old_keeper, old_passes, new, new_keeper, new_passes,
     ) {
-        Ok(moved) => moved,
-        Err(stop) => return Err(fault_after(stop, new, new_passes, is_held)),
-    };
-    bury(old, old_keeper, old_passes, &moved);
-    Ok(moved)
+        Ok(()) => Ok(space.into_moved()),
+        Err(fault) => Err(fault),
+    }
 }

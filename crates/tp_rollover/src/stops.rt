@@ -75,6 +75,7 @@ pub(crate) fn fault_after(
     ensures late { IsLate manager.now.limits passes.now (is_held ≡ true) result }
     ensures full { result ≡ faults.Full → stop ≡ stops.Full }
     ensures unequal { result ≡ faults.Unequal → stop ≢ stops.NoMemory }
+    ensures memory { result ≡ faults.NoMemory → stop ≡ stops.NoMemory }
 {
     match stop {
         Stop::NoMemory => RollFault::NoMemory,

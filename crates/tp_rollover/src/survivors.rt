@@ -1,5 +1,6 @@
 //! What is alive, described so that another manager can go on with it.
-ghost use Rattle.std.specs.Prelude.{◌≡◌, ◌*◌, IfErr, IfOk, IfSome, None, false, length, true};
+ghost use Rattle.std.specs.Prelude.{◌≡◌, ◌≢◌, ◌*◌, ◌<◌, ◌≤◌, IfErr, IfOk, IfSome, None, OnOk, false, length};
+ghost use Rattle.std.specs.Prelude.{true, vec_capacity};
 ghost use Rattle.tp_model.specs.Steps.{IsLegal};
 ghost use Rattle.tp_manager.specs.Shown.{IsOf};
 ghost use Rattle.tp_alone.specs.Thread.{Stays};
@@ -7,10 +8,10 @@ ghost use Rattle.tp_rollover.specs.Bounds.{PassMakes, describe_steps};
 ghost use Rattle.tp_rollover.specs.Finding.{AreDescribed, AreLiving, IsDescribed, StandsLiving, StopsLooking};
 ghost use Rattle.tp_rollover.specs.Survivors.{AreUnheld, HasNoAttempt, IsLiving, IsStanding};
 ghost use Rattle.tp_rollover.specs.Told.{HoldsAsSeen};
+ghost use Rattle.tp_rollover.specs.declared.stops.Stop.TheVariants as stops;
 
 use crate::looks::{look, rounds_had};
 use crate::stops::Stop;
-use std::alloc::Global;
 use tp_manager::{Manager, Pass};
 use tp_model::types::{Body, Limits, Status};
 
@@ -82,6 +83,7 @@ fn describe(manager: &Manager, pass: &mut Pass, id: u32) -> Result<Survivor, Sto
         IfErr result (StopsLooking pass.old pass.new (λ h. IsLegal l h × StandsLiving l.attempts id h)) }
     ensures told { IfOk result (λ found.
         HoldsAsSeen pass.old pass.new (λ h. IsDescribed manager.now.limits h id found)) }
+    ensures memory { IfErr result (λ stop. stop ≢ stops.NoMemory) }
 {
     let Some(found) = look(manager, pass, id) else {
         return Err(Stop::Unequal);
@@ -110,31 +112,35 @@ fn describe(manager: &Manager, pass: &mut Pass, id: u32) -> Result<Survivor, Sto
     })
 }
 
-/// Describes the elements with these ids, which were found alive, in their order.
+/// Describes the elements with these ids, which were found alive, in their order, and no others.
 pub(crate) fn describe_all(
-    alloc: Global,
+    found: &mut Vec<Survivor>,
     manager: &Manager,
     pass: &mut Pass,
     ids: &[u32],
-) -> Result<Vec<Survivor>, Stop>
+) -> Result<(), Stop>
     requires own { IsOf manager.now pass.old }
     ensures own { IsOf manager.now pass.new }
     ensures stays { Stays pass.old pass.new }
     ensures steps { PassMakes (length ids.now * describe_steps manager.now.limits) pass.old pass.new }
-    ensures many { IfOk result (λ found. length found.items ≡ length ids.now) }
+    ensures many { OnOk result (length found.new.items ≡ length ids.now) }
+    ensures full { IfErr result (λ stop. stop ≡ stops.NoMemory
+        → vec_capacity found.old < length ids.now) }
+    ensures space { vec_capacity found.old ≤ vec_capacity found.new }
     ensures stops { let l = manager.now.limits in
         IfErr result (StopsLooking pass.old pass.new (λ h. IsLegal l h × AreLiving l.attempts ids.now h)) }
-    ensures told { IfOk result (λ found. HoldsAsSeen pass.old pass.new
-        (λ h. AreDescribed manager.now.limits h ids.now found.items)) }
+    ensures told { OnOk result (HoldsAsSeen pass.old pass.new
+        (λ h. AreDescribed manager.now.limits h ids.now found.new.items)) }
 {
-    let Ok(mut found) = Vec::with_capacity(alloc, ids.len()) else {
+    found.clear();
+    if found.reserve_exact(ids.len()).is_err() {
         return Err(Stop::NoMemory);
-    };
+    }
     for place in 0..ids.len() {
         let one = describe(manager, pass, ids[place])?;
         if found.push(one).is_err() {
             return Err(Stop::NoMemory);
         }
     }
-    Ok(found)
+    Ok(())
 }

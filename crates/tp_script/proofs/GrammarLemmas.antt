@@ -24,7 +24,7 @@ use Rattle.std.proofs.lemmas.Option.{slice_get-map, slice_get_read}
 use Rattle.tp_script.specs.Script.{SettingsView, ServerView, HeadView, WorkerView, server_view}
 use Rattle.tp_script.specs.LineWords.{◌>>=◌, output_at, outputs_at, is_name}
 use Rattle.tp_script.specs.Reading.{Fails, Gives}
-use Rattle.tp_script.specs.ServerLines.{begun, begin_at}
+use Rattle.tp_script.specs.ServerLines.{with_start, begin_at}
 
 -- the place is that of the server as it lies in memory
 pub position-map : {A B : Type 0} (f : A → B) (p : B → Bool) (xs : List A) → position p (map f xs) ≡ position (λ x. p (f x)) xs
@@ -83,7 +83,7 @@ text_is_ok w (Err e) h text = absurd (h text)
 -- ---- a register that begins with a value
 
 pub begins_at : (settings : SettingsView) (items : List ScriptServer) (workers : List WorkerView) (alive : List AliveLine) (lost : List LostLine) (clients : List ClientNote) (requests : List RequestNote) (ends : List EndLine) (place k v : ℕ) (old new : ScriptServer) (r : Result (Unit {0}) LineError) → place < length items → old ≡ get_or items place old
-    → Gives (λ _. server_view new) r (begun k v (server_view old))
+    → Gives (λ _. server_view new) r (with_start k v (server_view old))
     → Gives {X = Unit {0}} {Y = HeadView} (λ _. record { settings = settings; servers = map server_view (set items place new); workers = workers; alive = alive; lost = lost; clients = clients; requests = requests; ends = ends }) r (begin_at place k v (record { settings = settings; servers = map server_view items; workers = workers; alive = alive; lost = lost; clients = clients; requests = requests; ends = ends }))
 unfolding begin_at
 begins_at settings items workers alive lost clients requests ends place k v old new (Ok u) lt at given =

@@ -14,7 +14,7 @@ use Rattle.tp_script.specs.declared.notes.RequestNote.{RequestNote}
 use Rattle.tp_script.specs.declared.notes.TheConstants.{MAX_CLIENTS}
 use Rattle.tp_script.specs.Commands.{SubmitWords, submit_body, submit_words}
 use Rattle.tp_script.specs.Drafts.{colons}
-use Rattle.tp_script.specs.LineWords.{◌>>=◌, require, one, number_at, ordinal_at, id_or_gone, body_at}
+use Rattle.tp_script.specs.LineWords.{◌>>=◌, require, one_word, number_at, ordinal_at, id_or_gone, body_at}
 use Rattle.tp_script.specs.LineWords.{is_name}
 use Rattle.tp_script.specs.Notes.{NameView}
 use Rattle.tp_script.specs.Once.{is_request_of}
@@ -121,8 +121,8 @@ abbrev pub has_request : ℕ → HeadView → Bool
 has_request root h = list_any (is_request_of root) h.requests
 
 -- the head with one request more
-abbrev pub with_request : RequestNote → HeadView → HeadView
-with_request request h = record h { requests = h.requests ++ request ∷ [] }
+abbrev pub with_one_request : RequestNote → HeadView → HeadView
+with_one_request request h = record h { requests = h.requests ++ request ∷ [] }
 
 -- `request NAME ROOT`
 unfoldable pub request_line : List ℕ × List ℕ → HeadView → Result HeadView LineFault
@@ -130,14 +130,14 @@ request_line (name, root) h = do
   client ← known_client name h
   root ← number_at (2 ^ 32 - 1) root
   _ ← require (not (has_request root h)) BadNumber
-  Ok (with_request (record { root = root; client = client }) h)
+  Ok (with_one_request (record { root = root; client = client }) h)
 
 -- ---- commands
 
 -- `register NAME` behind the head
 unfoldable pub register_at : List (List ℕ) → HeadView → Result Act LineFault
 register_at ws h = do
-  name ← one ws
+  name ← one_word ws
   name ← free_name name h
   Ok (act.Noted name asks.Register)
 
@@ -181,12 +181,12 @@ last_by (Some worker) name h = Ok (act.Last worker)
 last_by None name h = free_name name h >>= λ free. Ok (act.Noted free asks.Last)
 
 unfoldable pub last_at : List (List ℕ) → HeadView → Result Act LineFault
-last_at ws h = one ws >>= λ name. last_by (worker_at name h) name h
+last_at ws h = one_word ws >>= λ name. last_by (worker_at name h) name h
 
 -- `forget NAME`
 unfoldable pub forget_at : List (List ℕ) → HeadView → Result Act LineFault
 forget_at ws h = do
-  name ← one ws
+  name ← one_word ws
   name ← free_name name h
   Ok (act.Noted name asks.Forget)
 

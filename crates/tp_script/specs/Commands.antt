@@ -14,21 +14,21 @@ use Rattle.tp_script.specs.declared.script.DeskAct.TheVariants as desk
 use Rattle.tp_model.specs.declared.types.TheConstants.{MAX_PART_ROWS, MAX_PASSES, MAX_STAGE}
 use Rattle.tp_script.specs.Script.{HeadView}
 use Rattle.tp_script.specs.ServerLines.{server_at}
-use Rattle.tp_script.specs.LineWords.{◌>>=◌, require, none, one, two, number_at, any_stage_at, body_of, is_name}
+use Rattle.tp_script.specs.LineWords.{◌>>=◌, require, no_word, one_word, two, number_at, any_stage_at, body_numbers, is_name}
 
 -- the server of this name
-unfoldable pub named : List ℕ → HeadView → Result ℕ LineFault
-named name s = do
+unfoldable pub server_named : List ℕ → HeadView → Result ℕ LineFault
+server_named name s = do
   _ ← require (is_name name) BadName
   server_at name s
 
 -- a server as the one word
 unfoldable pub one_server : List (List ℕ) → HeadView → Result ℕ LineFault
-one_server ws s = one ws >>= λ name. named name s
+one_server ws s = one_word ws >>= λ name. server_named name s
 
 -- an id as the one word
 unfoldable pub one_id : List (List ℕ) → Result ℕ LineFault
-one_id ws = one ws >>= λ id. number_at (2 ^ 32 - 1) id
+one_id ws = one_word ws >>= λ id. number_at (2 ^ 32 - 1) id
 
 -- the words of a submit line, each in its place
 pub record SubmitWords : Type 0 where
@@ -50,7 +50,7 @@ submit_words ws = Err Syntax
 
 -- the body that they say
 abbrev pub submit_body : SubmitWords → Result (List ℕ) LineFault
-submit_body w = body_of (w.key, w.amount, w.word_two, w.word_three)
+submit_body w = body_numbers (w.key, w.amount, w.word_two, w.word_three)
 
 -- `submit STAGE KEY AMOUNT W2 W3`
 unfoldable pub submit_at : SubmitWords → Result Command LineFault
@@ -75,14 +75,14 @@ list_at (stage, from) = do
 -- `take NAME ID`
 unfoldable pub take_at : List ℕ × List ℕ → HeadView → Result Command LineFault
 take_at (name, id) s = do
-  server ← named name s
+  server ← server_named name s
   id ← number_at (2 ^ 32 - 1) id
   Ok (Desk server (desk.Take id))
 
 -- `balance NAME K`
 unfoldable pub balance_at : List ℕ × List ℕ → HeadView → Result Command LineFault
 balance_at (name, k) s = do
-  server ← named name s
+  server ← server_named name s
   k ← number_at (2 ^ 64 - 1) k
   Ok (Balance server k)
 
@@ -154,14 +154,14 @@ command_at verb.Read ws s = one_id ws >>= λ id. Ok (Client (client.Read id))
 command_at verb.Reply ws s = one_id ws >>= λ root. Ok (Client (client.Reply root))
 command_at verb.Collect ws s = one_id ws >>= λ root. Ok (Client (client.Collect root))
 command_at verb.Family ws s = one_id ws >>= λ root. Ok (Client (client.Family root))
-command_at verb.Errors ws s = none ws >>= λ _. Ok (Client client.Errors)
-command_at verb.Count ws s = none ws >>= λ _. Ok (Client client.Count)
-command_at verb.Depth ws s = none ws >>= λ _. Ok (Client client.Depth)
+command_at verb.Errors ws s = no_word ws >>= λ _. Ok (Client client.Errors)
+command_at verb.Count ws s = no_word ws >>= λ _. Ok (Client client.Count)
+command_at verb.Depth ws s = no_word ws >>= λ _. Ok (Client client.Depth)
 command_at verb.List ws s = list_words ws >>= λ w. list_at w
 command_at (verb.Desk act) ws s = one_server ws s >>= λ server. Ok (Desk server act)
 command_at verb.Take ws s = two ws >>= λ w. take_at w s
 command_at verb.Balance ws s = two ws >>= λ w. balance_at w s
-command_at verb.Sum ws s = one ws >>= λ w. number_at (2 ^ 64 - 1) w >>= λ k. Ok (Sum k)
+command_at verb.Sum ws s = one_word ws >>= λ w. number_at (2 ^ 64 - 1) w >>= λ k. Ok (Sum k)
 command_at verb.Race ws s = race_words ws >>= λ w. race_at w
 command_at verb.Drain ws s = drain_at ws
-command_at verb.Rollover ws s = none ws >>= λ _. Ok Rollover
+command_at verb.Rollover ws s = no_word ws >>= λ _. Ok Rollover

@@ -17,15 +17,15 @@ abbrev pub is_draft : List ℕ → Bool
 is_draft w = nat_le 2 (colons w) && nat_le (colons w) 4
 
 -- the numbers of a draft
-unfoldable pub draft_of : SubmitWords → Result DraftView LineFault
-draft_of w = do
+unfoldable pub draft_numbers : SubmitWords → Result DraftView LineFault
+draft_numbers w = do
   stage ← any_stage_at w.stage
   body ← submit_body w
   Ok (record { stage = stage; body = body })
 
 -- STAGE:W0:W1, with words 2 and 3 of the body after; missing ones are 0
 unfoldable pub draft_at : List ℕ → Result DraftView LineFault
-draft_at w = submit_words (slice_split (λ b. b == 58) w) >>= λ ws. draft_of ws
+draft_at w = submit_words (slice_split (λ b. b == 58) w) >>= λ ws. draft_numbers ws
 
 -- one draft after the other
 unfoldable pub drafts_at : List (List ℕ) → Result (List DraftView) LineFault

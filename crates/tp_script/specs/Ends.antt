@@ -70,8 +70,8 @@ unit_end ending.Lost element unit first count = ends.Lost element
 unit_end ending.Full element unit first count = ends.Full element
 
 -- how a unit ended, by these words
-unfoldable pub end_of : EndWords → Result UnitEnd LineFault
-end_of w = do
+unfoldable pub end_said : EndWords → Result UnitEnd LineFault
+end_said w = do
   element ← id_or_gone w.element
   unit ← number_at (2 ^ 16 - 1) w.unit
   first ← id_or_gone w.first
@@ -92,8 +92,8 @@ unended_worker name h = do
   Ok worker
 
 -- the head with the end of one worker more
-abbrev pub with_end : EndLine → HeadView → HeadView
-with_end line h = record h { ends = h.ends ++ line ∷ [] }
+abbrev pub with_end_line : EndLine → HeadView → HeadView
+with_end_line line h = record h { ends = h.ends ++ line ∷ [] }
 
 -- `ended NAME done E U F C`, `ended NAME aborted E`, `ended NAME lost E` or `ended NAME full E`: the words come
 -- first, then the name, then the numbers
@@ -101,5 +101,5 @@ unfoldable pub ended_line : List (List ℕ) → HeadView → Result HeadView Lin
 ended_line ws h = do
   w ← ended_words ws
   worker ← unended_worker w.0 h
-  end ← end_of w.1
-  Ok (with_end (record { worker = worker; end = end }) h)
+  end ← end_said w.1
+  Ok (with_end_line (record { worker = worker; end = end }) h)

@@ -31,9 +31,9 @@ abbrev pub ◌<>◌ : List ℕ → List ℕ → List ℕ
 xs <> ys = xs ++ ys
 
 -- the text of a fault: its number and its name
-abbrev pub fault_text : LineFault → List ℕ
-fault_text fault = decimal (number_of fault) <> codes " " <> fault_name fault
+abbrev pub line_fault_text : LineFault → List ℕ
+line_fault_text fault = decimal (number_of fault) <> codes " " <> fault_name fault
 
 -- the text of a refused script
 abbrev pub refused_text : Refused → List ℕ
-refused_text r = codes "refused line " <> decimal r.line <> codes ": " <> fault_text r.fault
+refused_text r = codes "refused line " <> decimal r.line <> codes ": " <> line_fault_text r.fault

@@ -36,7 +36,7 @@ use Rattle.tp_script.specs.Places.{join_line, leave_line, worker_name, workers_l
 use Rattle.tp_script.specs.Script.{HeadView}
 use Rattle.tp_script.specs.ServerLines.{server_line, shape_at, start_line, worker_at}
 use Rattle.tp_script.specs.Text.{words}
-use Rattle.tp_script.specs.LineWords.{◌>>=◌, require, known, none, one, two, three, number_at, is_name}
+use Rattle.tp_script.specs.LineWords.{◌>>=◌, require, known, no_word, one_word, two, three, number_at, is_name}
 
 -- ---- words
 
@@ -116,15 +116,15 @@ held_line ws h = do
   with_alive line h
 
 -- the head with one line more of what was lost
-abbrev pub with_lost : LostLine → HeadView → HeadView
-with_lost line h = record h { lost = h.lost ++ line ∷ [] }
+abbrev pub with_lost_line : LostLine → HeadView → HeadView
+with_lost_line line h = record h { lost = h.lost ++ line ∷ [] }
 
 -- `lost NAME ID`: the name first, then the number
 unfoldable pub lost_line : List ℕ × List ℕ → HeadView → Result HeadView LineFault
 lost_line (name, id) h = do
   worker ← free_worker name h
   element ← number_at (2 ^ 32 - 1) id
-  Ok (with_lost (record { worker = worker; element = element }) h)
+  Ok (with_lost_line (record { worker = worker; element = element }) h)
 
 -- ---- commands
 
@@ -141,11 +141,11 @@ worker_commit ws = do
 
 -- what a worker is asked by a line of this first word; its name is the first of the words after
 unfoldable pub worker_act : Verb → List (List ℕ) → Result WorkerAct LineFault
-worker_act (verb.Desk desk.Claim) ws = one ws >>= λ _. Ok does.Claim
-worker_act (verb.Desk desk.Next) ws = one ws >>= λ _. Ok does.Next
+worker_act (verb.Desk desk.Claim) ws = one_word ws >>= λ _. Ok does.Claim
+worker_act (verb.Desk desk.Next) ws = one_word ws >>= λ _. Ok does.Next
 worker_act (verb.Desk desk.Commit) ws = worker_commit ws
-worker_act (verb.Desk desk.Abort) ws = one ws >>= λ _. Ok does.Abort
-worker_act (verb.Desk other) ws = one ws >>= λ _. Err BadName
+worker_act (verb.Desk desk.Abort) ws = one_word ws >>= λ _. Ok does.Abort
+worker_act (verb.Desk other) ws = one_word ws >>= λ _. Err BadName
 worker_act verb.Take ws = worker_take ws
 worker_act verb.Balance ws = two ws >>= λ _. Err BadName
 worker_act other ws = Err Syntax
@@ -172,24 +172,24 @@ abbrev pub act_by : Driver → Option ℕ → Verb → List (List ℕ) → HeadV
 act_by driver None v ws h = command_at v ws h >>= λ c. given_by driver c
 act_by driver (Some worker) v ws h = worker_act v ws >>= λ a. Ok (act.Worker worker a)
 
-unfoldable pub act_at : Driver → Verb → List (List ℕ) → HeadView → Result Act LineFault
-act_at driver v ws h = act_by driver (worker_of v ws h) v ws h
+unfoldable pub act_said : Driver → Verb → List (List ℕ) → HeadView → Result Act LineFault
+act_said driver v ws h = act_by driver (worker_of v ws h) v ws h
 
 -- `account`
 abbrev pub account_at : List (List ℕ) → Result Act LineFault
-account_at ws = none ws >>= λ _. Ok act.Account
+account_at ws = no_word ws >>= λ _. Ok act.Account
 
 -- `dump`
 abbrev pub dump_at : List (List ℕ) → Result Act LineFault
-dump_at ws = none ws >>= λ _. Ok act.Dump
+dump_at ws = no_word ws >>= λ _. Ok act.Dump
 
 -- `room` or `holds`
 abbrev pub overview_at : Overview → List (List ℕ) → Result Act LineFault
-overview_at what ws = none ws >>= λ _. Ok (act.Overview what)
+overview_at what ws = no_word ws >>= λ _. Ok (act.Overview what)
 
 -- `restore`
 abbrev pub restore_at : List (List ℕ) → Result Act LineFault
-restore_at ws = none ws >>= λ _. Ok act.Restore
+restore_at ws = no_word ws >>= λ _. Ok act.Restore
 
 -- ---- a line of the head
 
@@ -222,24 +222,24 @@ unless_waiting true said = Err Order
 -- a line of the head of this first word: what the head is then, and the command that ends it, if it is one
 unfoldable pub head_keyword : Driver → Keyword → List (List ℕ) → HeadView
     → Result (HeadView × Option Act) LineFault
-head_keyword driver first.Rows ws h = in_head (one ws >>= λ w. rows_line w h)
-head_keyword driver first.Units ws h = in_head (one ws >>= λ w. units_line w h)
-head_keyword driver first.Limit ws h = in_head (one ws >>= λ w. limit_line w h)
-head_keyword driver first.Spare ws h = in_head (one ws >>= λ w. spare_line w h)
+head_keyword driver first.Rows ws h = in_head (one_word ws >>= λ w. rows_line w h)
+head_keyword driver first.Units ws h = in_head (one_word ws >>= λ w. units_line w h)
+head_keyword driver first.Limit ws h = in_head (one_word ws >>= λ w. limit_line w h)
+head_keyword driver first.Spare ws h = in_head (one_word ws >>= λ w. spare_line w h)
 head_keyword driver first.Server ws h = in_head (server_line ws h)
 head_keyword driver first.Start ws h = in_head (three ws >>= λ w. start_line w h)
 head_keyword driver first.Worker ws h = in_head (two ws >>= λ w. worker_line w h)
-head_keyword driver first.Workers ws h = in_head (one ws >>= λ w. workers_line w h)
-head_keyword driver first.Leave ws h = in_head (one ws >>= λ _. Err Order)
+head_keyword driver first.Workers ws h = in_head (one_word ws >>= λ w. workers_line w h)
+head_keyword driver first.Leave ws h = in_head (one_word ws >>= λ _. Err Order)
 head_keyword driver first.Alive ws h = in_head (alive_line ws h)
 head_keyword driver first.Held ws h = in_head (held_line ws h)
 head_keyword driver first.Lost ws h = in_head (two ws >>= λ w. lost_line w h)
 head_keyword driver first.Client ws h = in_head (client_line ws h)
 head_keyword driver first.Request ws h = in_head (two ws >>= λ w. request_line w h)
 head_keyword driver first.Ended ws h = in_head (ended_line ws h)
-head_keyword driver first.Register ws h = in_head (one ws >>= λ w. register_line w h)
+head_keyword driver first.Register ws h = in_head (one_word ws >>= λ w. register_line w h)
 head_keyword driver (first.Noted v) ws h = ends_head h (unless_waiting (waits_for_restore h) (noted_at v ws h))
-head_keyword driver (first.Do v) ws h = ends_head h (unless_waiting (waits_for_restore h) (act_at driver v ws h))
+head_keyword driver (first.Do v) ws h = ends_head h (unless_waiting (waits_for_restore h) (act_said driver v ws h))
 head_keyword driver first.Dump ws h = ends_head h (unless_waiting (waits_for_restore h) (dump_at ws))
 head_keyword driver first.Account ws h = ends_head h (unless_waiting (waits_for_restore h) (account_at ws))
 head_keyword driver (first.Overview what) ws h = ends_head h (unless_waiting (waits_for_restore h) (overview_at what ws))
@@ -263,15 +263,15 @@ out_of_order (Err fault) = Err fault
 
 -- what a line of this first word asks for
 unfoldable pub body_keyword : Driver → Keyword → List (List ℕ) → HeadView → Result Act LineFault
-body_keyword driver first.Rows ws h = out_of_order (one ws)
-body_keyword driver first.Units ws h = out_of_order (one ws)
-body_keyword driver first.Limit ws h = out_of_order (one ws)
-body_keyword driver first.Spare ws h = out_of_order (one ws)
+body_keyword driver first.Rows ws h = out_of_order (one_word ws)
+body_keyword driver first.Units ws h = out_of_order (one_word ws)
+body_keyword driver first.Limit ws h = out_of_order (one_word ws)
+body_keyword driver first.Spare ws h = out_of_order (one_word ws)
 body_keyword driver first.Server ws h = out_of_order (shape_at ws)
 body_keyword driver first.Start ws h = out_of_order (three ws)
 body_keyword driver first.Worker ws h = out_of_order (two ws)
-body_keyword driver first.Workers ws h = out_of_order (one ws)
-body_keyword driver first.Leave ws h = out_of_order (one ws)
+body_keyword driver first.Workers ws h = out_of_order (one_word ws)
+body_keyword driver first.Leave ws h = out_of_order (one_word ws)
 body_keyword driver first.Alive ws h = out_of_order (alive_words ws)
 body_keyword driver first.Held ws h = out_of_order (held_words ws)
 body_keyword driver first.Lost ws h = out_of_order (two ws)
@@ -280,11 +280,11 @@ body_keyword driver first.Request ws h = out_of_order (two ws)
 body_keyword driver first.Ended ws h = out_of_order (ended_words ws)
 body_keyword driver first.Register ws h = register_at ws h
 body_keyword driver (first.Noted v) ws h = noted_at v ws h
-body_keyword driver first.Restore ws h = out_of_order (none ws)
+body_keyword driver first.Restore ws h = out_of_order (no_word ws)
 body_keyword driver first.Dump ws h = dump_at ws
 body_keyword driver first.Account ws h = account_at ws
 body_keyword driver (first.Overview what) ws h = overview_at what ws
-body_keyword driver (first.Do v) ws h = act_at driver v ws h
+body_keyword driver (first.Do v) ws h = act_said driver v ws h
 
 -- the words of such a line, which asks for nothing where there are none
 unfoldable pub body_words : Driver → List (List ℕ) → HeadView → Result (Option Act) LineFault
@@ -301,7 +301,7 @@ with_head read = read >>= λ said. Ok (said.0, Some said.1)
 unfoldable pub late_keyword : Keyword → List (List ℕ) → List ClientNote → HeadView
     → Result (HeadView × Option Act) LineFault
 late_keyword first.Worker ws clients h = with_head (two ws >>= λ w. join_line w clients h)
-late_keyword first.Leave ws clients h = with_head (one ws >>= λ w. leave_line w h)
+late_keyword first.Leave ws clients h = with_head (one_word ws >>= λ w. leave_line w h)
 late_keyword k ws clients h = ends_head h (body_keyword drivers.Session k ws h)
 
 -- the words of such a line, which asks for nothing where there are none

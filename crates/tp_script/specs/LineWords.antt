@@ -34,14 +34,14 @@ known (Some x) fault = Ok x
 known None fault = Err fault
 
 -- no word after the first
-abbrev pub none : List (List ℕ) → Result (Unit {0}) LineFault
-none [] = Ok tt
-none ws = Err Syntax
+abbrev pub no_word : List (List ℕ) → Result (Unit {0}) LineFault
+no_word [] = Ok tt
+no_word ws = Err Syntax
 
 -- the one word after the first
-abbrev pub one : List (List ℕ) → Result (List ℕ) LineFault
-one (a ∷ []) = Ok a
-one ws = Err Syntax
+abbrev pub one_word : List (List ℕ) → Result (List ℕ) LineFault
+one_word (a ∷ []) = Ok a
+one_word ws = Err Syntax
 
 -- the two words after the first
 abbrev pub two : List (List ℕ) → Result (List ℕ × List ℕ) LineFault
@@ -83,8 +83,8 @@ id_or_gone w = if bytes_eq w (codes "gone") then Ok None else do
   Ok (Some id)
 
 -- the four words of a body
-unfoldable pub body_of : List ℕ × List ℕ × List ℕ × List ℕ → Result (List ℕ) LineFault
-body_of (key, amount, word_two, word_three) = do
+unfoldable pub body_numbers : List ℕ × List ℕ × List ℕ × List ℕ → Result (List ℕ) LineFault
+body_numbers (key, amount, word_two, word_three) = do
   key ← number_at (2 ^ 64 - 1) key
   amount ← number_at (2 ^ 64 - 1) amount
   word_two ← number_at (2 ^ 64 - 1) word_two
@@ -93,7 +93,7 @@ body_of (key, amount, word_two, word_three) = do
 
 -- W0:W1:W2:W3
 unfoldable pub body_at : List ℕ → Result (List ℕ) LineFault
-body_at w = four (slice_split (λ b. b == 58) w) >>= λ ws. body_of ws
+body_at w = four (slice_split (λ b. b == 58) w) >>= λ ws. body_numbers ws
 
 -- a name is 1 to 8 small letters
 abbrev pub is_name : List ℕ → Bool
@@ -118,8 +118,8 @@ act_words (act ∷ place ∷ []) = Ok (act, place)
 act_words ws = Err Syntax
 
 -- ACT or ACT:PLACE
-unfoldable pub act_at : List ℕ → Result (Act × ℕ) LineFault
-act_at w = do
+unfoldable pub act_and_place : List ℕ → Result (Act × ℕ) LineFault
+act_and_place w = do
   parts ← act_words (slice_split (λ b. b == 58) w)
   act ← act_named parts.0
   place ← place_at parts.1
@@ -138,8 +138,8 @@ amount_at w = if bytes_eq w (codes "same") then Ok amounts.Same else if bytes_eq
   Ok (amounts.Fixed n)
 
 -- an output has exactly two colons
-abbrev pub is_output : List ℕ → Bool
-is_output w = count_by (λ b. b == 58) w == 2
+abbrev pub has_two_colons : List ℕ → Bool
+has_two_colons w = count_by (λ b. b == 58) w == 2
 
 -- STAGE:KEY:AMOUNT
 unfoldable pub output_at : List ℕ → Result Output LineFault

@@ -11,7 +11,7 @@ use Rattle.tp_script.specs.declared.fault.LineFault.{LineFault}
 use Rattle.tp_script.specs.declared.fault.LineFault.TheVariants.{Syntax, BadLimits, BadRecipe, BadName}
 use Rattle.tp_script.specs.declared.script.Kind.{Kind}
 use Rattle.tp_script.specs.declared.script.TheConstants.{MAX_SERVERS}
-use Rattle.tp_script.specs.LineWords.{◌>>=◌, require, known, number_at, is_name, kind_at, act_at, is_output}
+use Rattle.tp_script.specs.LineWords.{◌>>=◌, require, known, number_at, is_name, kind_at, act_and_place, has_two_colons}
 use Rattle.tp_script.specs.LineWords.{outputs_at}
 use Rattle.tp_script.specs.Notes.{NameView}
 use Rattle.tp_script.specs.Once.{is_note_of}
@@ -36,8 +36,8 @@ pub record Shape : Type 0 where
 unfoldable pub shape_at : List (List ℕ) → Result Shape LineFault
 shape_at (name ∷ kind ∷ stage ∷ registers ∷ act ∷ outputs) = do
   kind ← kind_at kind
-  deed ← act_at act
-  _ ← require (nat_le (length outputs) MAX_OUTPUTS && list_all is_output outputs) Syntax
+  deed ← act_and_place act
+  _ ← require (nat_le (length outputs) MAX_OUTPUTS && list_all has_two_colons outputs) Syntax
   Ok (record {
     name = name;
     kind = kind;
@@ -106,8 +106,8 @@ server_line ws h = do
   Ok (with_server (record { name = name.letters; kind = shape.kind; recipe = recipe; registers = registers }) h)
 
 -- register k of a server begins with v
-unfoldable pub begun : ℕ → ℕ → ServerView → Result ServerView LineFault
-begun k v server = do
+unfoldable pub with_start : ℕ → ℕ → ServerView → Result ServerView LineFault
+with_start k v server = do
   _ ← require (nat_lt k (length server.registers)) BadRecipe
   Ok (record server { registers = slice_set server.registers k v })
 
@@ -115,7 +115,7 @@ begun k v server = do
 unfoldable pub begin_at : ℕ → ℕ → ℕ → HeadView → Result HeadView LineFault
 begin_at place k v h = do
   server ← known (slice_get h.servers place) BadName
-  server ← begun k v server
+  server ← with_start k v server
   Ok (record h { servers = slice_set h.servers place server })
 
 -- `start NAME K V`

@@ -5,7 +5,7 @@ ghost use Rattle.std.specs.Str.{bytes_eq};
 ghost use Rattle.tp_script.specs.Clients.{client_line, client_places, client_words, has_request};
 ghost use Rattle.tp_script.specs.Clients.{known_client};
 ghost use Rattle.tp_script.specs.Clients.{note_of, nothing_noted, register_line, request_line, with_client};
-ghost use Rattle.tp_script.specs.Clients.{with_registered, with_request};
+ghost use Rattle.tp_script.specs.Clients.{with_registered, with_one_request};
 ghost use Rattle.tp_script.specs.Grammar.{names_an_id};
 ghost use Rattle.tp_script.specs.Once.{IsOfOne, is_note_of, is_request_of};
 ghost use Rattle.tp_script.specs.Reading.{Gives, client_view};
@@ -206,7 +206,7 @@ impl Head {
         requires of_client { IsOfOne self.old.clients.items request }
         requires fresh { has_request request.root (head_view self.old) ≡ false }
         ensures gives { Gives (λ _. head_view self.new) result
-            (Ok (with_request request (head_view self.old))) }
+            (Ok (with_one_request request (head_view self.old))) }
         ensures kept { OnErr result (head_view self.new ≡ head_view self.old) }
     {
         self.requests.push(request)?;

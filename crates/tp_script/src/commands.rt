@@ -1,7 +1,7 @@
 //! The command lines.
 ghost use Rattle.std.specs.Prelude.{◌<◌, ◌≤◌, ℕ, map, vec_len, IfOk};
 ghost use Rattle.tp_model.specs.declared.types.TheConstants.{MAX_STAGE};
-ghost use Rattle.tp_script.specs.Commands.{named, one_server, one_id, submit_at, submit_body, submit_words};
+ghost use Rattle.tp_script.specs.Commands.{server_named, one_server, one_id, submit_at, submit_body, submit_words};
 ghost use Rattle.tp_script.specs.Commands.{balance_at, command_at, drain_at, list_at, list_words, race_at};
 ghost use Rattle.tp_script.specs.Commands.{race_words, stage_at, take_at};
 ghost use Rattle.tp_script.specs.Ranges.{IsInRange};
@@ -182,9 +182,9 @@ fn drain_at(words: &[&[u8]]) -> Result<Command, LineError>
 
 impl Head {
     // The server of this name.
-    #[tactic(auto, unfolding(crate::specs::Commands::named))]
+    #[tactic(auto, unfolding(crate::specs::Commands::server_named))]
     fn named(&self, name: &[u8]) -> Result<usize, LineError>
-        ensures gives { Gives (λ n. n) result (named name.now (head_view self.now)) }
+        ensures gives { Gives (λ n. n) result (server_named name.now (head_view self.now)) }
         ensures within { IfOk result (λ n. n < vec_len self.now.servers) }
     {
         if !is_name(name) {

@@ -3,7 +3,7 @@ ghost use Rattle.tp_model.specs.declared.types.TheConstants.{MAX_OUTPUTS};
 ghost use Rattle.std.specs.Prelude.{◌≡◌, ◌≤◌, ◌&&◌, map, length, IfOk, nat_le};
 ghost use Rattle.std.specs.List.{list_all};
 ghost use Rattle.tp_script.specs.Reading.{Gives, submit_view};
-ghost use Rattle.tp_script.specs.Drafts.{colons, draft_at, draft_of, draft_words, drafts_at, is_draft};
+ghost use Rattle.tp_script.specs.Drafts.{colons, draft_at, draft_numbers, draft_words, drafts_at, is_draft};
 
 use crate::commands::{SubmitWords, submit_words};
 use crate::fault::{LineError, LineFault};
@@ -50,9 +50,9 @@ pub(crate) fn draft_words<'a>(words: &'a [&'a [u8]]) -> Result<&'a [&'a [u8]], L
 }
 
 // The numbers of a draft.
-#[tactic(auto, unfolding(crate::specs::Drafts::draft_of))]
+#[tactic(auto, unfolding(crate::specs::Drafts::draft_numbers))]
 fn draft_of(words: SubmitWords<'_>) -> Result<Draft, LineError>
-    ensures { Gives (λ d. d) result (draft_of (submit_view words.entry)) }
+    ensures { Gives (λ d. d) result (draft_numbers (submit_view words.entry)) }
 {
     let stage = any_stage_at(words.stage)?;
     let body = words.body()?;

@@ -1,7 +1,7 @@
 //! The lines of a head that say how workers' last units of work ended.
 ghost use Rattle.std.specs.Prelude.{◌≡◌, ◌<◌, false, map, IfOk, Ok, OnErr, vec_len};
-ghost use Rattle.tp_script.specs.Ends.{done_at, done_words, end_of, end_words, ended_line, ended_words};
-ghost use Rattle.tp_script.specs.Ends.{has_ended, undone_at, undone_words, unended_worker, with_end};
+ghost use Rattle.tp_script.specs.Ends.{done_at, done_words, end_said, end_words, ended_line, ended_words};
+ghost use Rattle.tp_script.specs.Ends.{has_ended, undone_at, undone_words, unended_worker, with_end_line};
 ghost use Rattle.tp_script.specs.Reading.{Gives, end_view};
 ghost use Rattle.tp_script.specs.Script.{head_view};
 
@@ -119,9 +119,9 @@ pub(crate) fn ended_words<'a>(words: &[&'a [u8]]) -> Result<(&'a [u8], EndWords<
 }
 
 // How a unit ended, by these words.
-#[tactic(auto, unfolding(crate::specs::Ends::end_of))]
+#[tactic(auto, unfolding(crate::specs::Ends::end_said))]
 fn end_of(words: EndWords<'_>) -> Result<UnitEnd, LineError>
-    ensures { Gives (λ end. end) result (end_of (end_view words.entry)) }
+    ensures { Gives (λ end. end) result (end_said (end_view words.entry)) }
 {
     let element = id_or_gone(words.element)?;
     let unit = number_at(words.unit, u64::from(u16::MAX))? as u16;
@@ -168,7 +168,7 @@ impl Head {
     fn with_end(&mut self, line: EndLine) -> Result<(), LineError>
         requires by { line.worker < vec_len self.old.workers }
         requires fresh { has_ended line.worker (head_view self.old) ≡ false }
-        ensures gives { Gives (λ _. head_view self.new) result (Ok (with_end line (head_view self.old))) }
+        ensures gives { Gives (λ _. head_view self.new) result (Ok (with_end_line line (head_view self.old))) }
         ensures kept { OnErr result (head_view self.new ≡ head_view self.old) }
     {
         self.ends.push(line)?;

@@ -1,6 +1,6 @@
 //! What can go wrong with a script, and with reading it.
 ghost use Rattle.std.specs.Prelude.{◌≡◌, Some};
-ghost use Rattle.tp_script.specs.Fault.{fault_name, fault_text, number_of, refused_text};
+ghost use Rattle.tp_script.specs.Fault.{fault_name, line_fault_text, number_of, refused_text};
 
 use crate::source::Failed;
 use std::alloc::{AllocError, AllocFailed};
@@ -80,7 +80,7 @@ impl LineFault {
 }
 
 impl fmt::Display for LineFault {
-    ghost output = { λ fault. Some (fault_text fault) };
+    ghost output = { λ fault. Some (line_fault_text fault) };
 
     fn fmt<W: fmt::Write>(&self, f: &mut fmt::Formatter<W>) -> fmt::Result {
         let number = self.number();

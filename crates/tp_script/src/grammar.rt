@@ -5,12 +5,12 @@ ghost use Rattle.std.specs.List.{list_all, list_any};
 ghost use Rattle.tp_script.specs.declared.fault.LineFault.{LineFault};
 ghost use Rattle.tp_script.specs.declared.fault.LineFault.TheVariants.{Syntax};
 ghost use Rattle.tp_script.specs.declared.head.Act.{Act};
-ghost use Rattle.tp_script.specs.Grammar.{account_at, act_at, body_keyword, body_words, dump_at, given_by};
+ghost use Rattle.tp_script.specs.Grammar.{account_at, act_said, body_keyword, body_words, dump_at, given_by};
 ghost use Rattle.tp_script.specs.Grammar.{head_at, head_keyword, head_words, is_comment, limit_line, line_words};
 ghost use Rattle.tp_script.specs.Grammar.{out_of_order, restore_at, rows_line, setting_at, spare_line, units_line};
 ghost use Rattle.tp_script.specs.Grammar.{names_an_id, overview_at, unless_waiting, waits_for_restore};
 ghost use Rattle.tp_script.specs.Keyword.{keyword};
-ghost use Rattle.tp_script.specs.LineWords.{known, one};
+ghost use Rattle.tp_script.specs.LineWords.{known, one_word};
 ghost use Rattle.tp_script.specs.Ranges.{IsActInRange, IsActOf, IsInRange};
 ghost use Rattle.tp_script.specs.Reading.{Gives, GivesHead};
 ghost use Rattle.tp_script.specs.Script.{head_view};
@@ -134,7 +134,7 @@ fn restore_at(words: &[&[u8]]) -> Result<Act, LineError>
 
 // A setting behind the head.
 fn late_setting(words: &[&[u8]]) -> Result<Act, LineError>
-    ensures gives { Gives (λ a. a) result (out_of_order (one (map (λ x. x.now) words.now))) }
+    ensures gives { Gives (λ a. a) result (out_of_order (one_word (map (λ x. x.now) words.now))) }
     ensures refused { IfOk result (λ _. ⊥) }
 {
     one(words)?;
@@ -203,7 +203,7 @@ impl Head {
     // ---- commands
 
     // The command of this first word, with the words after it.
-    #[tactic(auto, unfolding(crate::specs::Grammar::act_at))]
+    #[tactic(auto, unfolding(crate::specs::Grammar::act_said))]
     fn act_at(
         &self,
         alloc: Global,
@@ -212,7 +212,7 @@ impl Head {
         words: &[&[u8]],
     ) -> Result<Act, LineError>
         ensures gives { Gives (λ a. a) result
-            (act_at driver verb (map (λ x. x.now) words.now) (head_view self.now)) }
+            (act_said driver verb (map (λ x. x.now) words.now) (head_view self.now)) }
         ensures in_range { IfOk result (λ a.
             IsActOf driver (vec_len self.now.servers) (vec_len self.now.workers) a) }
     {

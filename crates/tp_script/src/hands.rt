@@ -5,7 +5,7 @@ ghost use Rattle.tp_script.specs.Rounds.{IsAliveInRange};
 ghost use Rattle.tp_script.specs.Holders.{IsLostBy, is_holder};
 ghost use Rattle.tp_script.specs.Hands.{free_worker, has_in_hand, held_of, held_words};
 ghost use Rattle.tp_script.specs.Reading.{Gives, alive_view};
-ghost use Rattle.tp_script.specs.Grammar.{held_line, lost_line, with_lost};
+ghost use Rattle.tp_script.specs.Grammar.{held_line, lost_line, with_lost_line};
 ghost use Rattle.tp_script.specs.Script.{head_view};
 
 use crate::alive::{AliveWords, alive_of, alive_words};
@@ -111,7 +111,7 @@ impl Head {
     fn with_lost(&mut self, line: LostLine) -> Result<(), LineError>
         requires by { IsLostBy (vec_len self.old.workers) line }
         requires free { has_in_hand line.worker (head_view self.old) ≡ false }
-        ensures gives { Gives (λ _. head_view self.new) result (Ok (with_lost line (head_view self.old))) }
+        ensures gives { Gives (λ _. head_view self.new) result (Ok (with_lost_line line (head_view self.old))) }
         ensures kept { OnErr result (head_view self.new ≡ head_view self.old) }
     {
         self.lost.push(line)?;

@@ -4,9 +4,9 @@ ghost use Rattle.std.specs.Prelude.{◌≡◌, ◌≤◌, ◌-◌, ◌^◌, ◌&
 ghost use Rattle.std.specs.List.{list_all};
 ghost use Rattle.std.specs.Str.{bytes_eq};
 ghost use Rattle.tp_script.specs.Reading.{Gives};
-ghost use Rattle.tp_script.specs.LineWords.{none, one, two, three, number_at, is_name, kind_at, act_named};
-ghost use Rattle.tp_script.specs.LineWords.{place_at, act_words, act_at, key_at, amount_at, is_output};
-ghost use Rattle.tp_script.specs.LineWords.{any_stage_at, body_at, body_of, four, id_or_gone, ordinal_at};
+ghost use Rattle.tp_script.specs.LineWords.{no_word, one_word, two, three, number_at, is_name, kind_at, act_named};
+ghost use Rattle.tp_script.specs.LineWords.{place_at, act_words, act_and_place, key_at, amount_at, has_two_colons};
+ghost use Rattle.tp_script.specs.LineWords.{any_stage_at, body_at, body_numbers, four, id_or_gone, ordinal_at};
 ghost use Rattle.tp_script.specs.LineWords.{output_at, outputs_at};
 
 use crate::fault::{LineError, LineFault};
@@ -19,7 +19,7 @@ use tp_server::{Act, AmountFrom, KeyFrom, Output};
 
 /// No word of a line after the first.
 pub(crate) fn none(words: &[&[u8]]) -> Result<(), LineError>
-    ensures { Gives (λ x. x) result (none (map (λ x. x.now) words.now)) }
+    ensures { Gives (λ x. x) result (no_word (map (λ x. x.now) words.now)) }
 {
     match words {
         [] => Ok(()),
@@ -29,7 +29,7 @@ pub(crate) fn none(words: &[&[u8]]) -> Result<(), LineError>
 
 /// The one word of a line after the first.
 pub(crate) fn one<'a>(words: &[&'a [u8]]) -> Result<&'a [u8], LineError>
-    ensures { Gives (λ x. x.now) result (one (map (λ x. x.now) words.now)) }
+    ensures { Gives (λ x. x.now) result (one_word (map (λ x. x.now) words.now)) }
 {
     match words {
         [a] => Ok(*a),
@@ -116,9 +116,9 @@ pub(crate) fn id_or_gone(word: &[u8]) -> Result<Option<u32>, LineError>
 }
 
 /// The four words of a body.
-#[tactic(auto, unfolding(crate::specs::LineWords::body_of))]
+#[tactic(auto, unfolding(crate::specs::LineWords::body_numbers))]
 pub(crate) fn body_of(words: (&[u8], &[u8], &[u8], &[u8])) -> Result<Body, LineError>
-    ensures { Gives (λ body. body) result (body_of
+    ensures { Gives (λ body. body) result (body_numbers
         (words.entry.0.now, words.entry.1.now, words.entry.2.now, words.entry.3.now)) }
 {
     Ok([
@@ -225,9 +225,9 @@ fn act_words<'a>(parts: &[&'a [u8]]) -> Result<(&'a [u8], &'a [u8]), LineError>
 }
 
 /// `ACT` or `ACT:PLACE`.
-#[tactic(auto, unfolding(crate::specs::LineWords::act_at))]
+#[tactic(auto, unfolding(crate::specs::LineWords::act_and_place))]
 pub(crate) fn act_at(alloc: Global, word: &[u8]) -> Result<(Act, u8), LineError>
-    ensures { Gives (λ x. x) result (act_at word.now) }
+    ensures { Gives (λ x. x) result (act_and_place word.now) }
 {
     let parts = parts(alloc, word, b':')?;
     let (act, place) = act_words(parts.as_slice())?;
@@ -262,7 +262,7 @@ fn amount_at(word: &[u8]) -> Result<AmountFrom, LineError>
 
 // Whether a word has exactly two colons.
 fn is_output(word: &[u8]) -> bool
-    ensures { result ≡ is_output word.now }
+    ensures { result ≡ has_two_colons word.now }
 {
     word.iter().filter(|byte| **byte == b':').count() == 2
 }
@@ -282,7 +282,7 @@ fn output_at(alloc: Global, word: &[u8]) -> Result<Output, LineError>
 
 /// Whether each word has exactly two colons.
 pub(crate) fn all_outputs(words: &[&[u8]]) -> bool
-    ensures { result ≡ list_all is_output (map (λ x. x.now) words.now) }
+    ensures { result ≡ list_all has_two_colons (map (λ x. x.now) words.now) }
 {
     words.iter().all(|word| is_output(word))
 }

@@ -8,7 +8,7 @@ ghost use Rattle.tp_script.specs.Reading.{Gives, GivesHead, shape_view};
 ghost use Rattle.tp_script.specs.Script.{head_view, server_view};
 ghost use Rattle.tp_script.specs.ServerLines.{free_name, has_client, new_name, server_at, shape_at};
 ghost use Rattle.tp_script.specs.ServerLines.{recipe_at, registers_for};
-ghost use Rattle.tp_script.specs.ServerLines.{server_line, begun, begin_at, start_line};
+ghost use Rattle.tp_script.specs.ServerLines.{server_line, with_start, begin_at, start_line};
 
 use crate::fault::{LineError, LineFault};
 use crate::head::Head;
@@ -205,9 +205,9 @@ impl Head {
 
 impl ScriptServer {
     // Register k begins with v.
-    #[tactic(auto, unfolding(crate::specs::ServerLines::begun))]
+    #[tactic(auto, unfolding(crate::specs::ServerLines::with_start))]
     fn begin(&mut self, k: u64, v: u64) -> Result<(), LineError>
-        ensures gives { Gives (λ _. server_view self.new) result (begun k v (server_view self.old)) }
+        ensures gives { Gives (λ _. server_view self.new) result (with_start k v (server_view self.old)) }
         ensures kept { OnErr result (server_view self.new ≡ server_view self.old) }
     {
         if k >= u64::from(self.registers.len()) {

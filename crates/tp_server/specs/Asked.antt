@@ -15,9 +15,9 @@ abbrev pub Asks : List Asked → (List Asked → Bool) → (List Asked → Bool)
 Asks since before after = (all : List Asked) → before all ≡ true → after (since ++ all) ≡ true
 
 -- the commit of prepared work
-abbrev pub commit_of : Option Pending → List Asked
-commit_of None = []
-commit_of (Some p) = Commit p ∷ []
+abbrev pub commit_asked : Option Pending → List Asked
+commit_asked None = []
+commit_asked (Some p) = Commit p ∷ []
 
 -- what the handler of a server is asked that was asked these: the effect at each prepare, to take note at each
 -- commit, and nothing at an undo

@@ -28,7 +28,7 @@ use tp_model::types::{Draft, Element};
 /// - No call takes memory. This is the one point that the contracts below can't say: keep no allocator in a
 /// server.
 pub trait Server: Drop {
-    ghost use Rattle.tp_server.specs.Asked.{Asked, Asks, Prepare, Undo, commit_of};
+    ghost use Rattle.tp_server.specs.Asked.{Asked, Asks, Prepare, Undo, commit_asked};
     ghost use Rattle.tp_server.specs.Behaviour.{Allows, Behaviour, IsMade};
     ghost use Rattle.tp_server.specs.Pending.{Pending, registers_of};
 
@@ -88,7 +88,7 @@ pub trait Server: Drop {
         ensures behaviour { behaviour self.new ≡ behaviour self.old }
         ensures registers { Some (registers self.new) ≡ registers_of (pending self.old) }
         ensures pending { pending self.new ≡ None }
-        ensures asked { Asks (commit_of (pending self.old)) (asked self.old) (asked self.new) };
+        ensures asked { Asks (commit_asked (pending self.old)) (asked self.old) (asked self.new) };
 
     /// Calls the prepared work off.
     fn undo(&mut self)

@@ -1,12 +1,12 @@
 -- The first command of a session leaves its head as it is, and says the same behind it.
 use Rattle.std.proofs.Common.{◌≡◌, ℕ, Bool, true, false, List, [], ◌∷◌, Option, Some, None, Result, Ok, Err, ◌∙◌, sym, ap}
 use Rattle.std.proofs.lemmas.Option.{none-some}
-use Rattle.tp_script.specs.Grammar.{account_at, act_at, alive_line, body_keyword, body_words, dump_at, ends_head, head_at, head_keyword, head_words, held_line, in_head, limit_line, line_words, lost_line, overview_at, restore_at, rows_line, spare_line, units_line, unless_waiting, waits_for_restore, worker_line}
+use Rattle.tp_script.specs.Grammar.{account_at, act_said, alive_line, body_keyword, body_words, dump_at, ends_head, head_at, head_keyword, head_words, held_line, in_head, limit_line, line_words, lost_line, overview_at, restore_at, rows_line, spare_line, units_line, unless_waiting, waits_for_restore, worker_line}
 use Rattle.tp_script.specs.Clients.{client_line, noted_at, register_line, request_line}
 use Rattle.tp_script.specs.Ends.{ended_line}
 use Rattle.tp_script.specs.Keyword.{keyword}
 use Rattle.tp_script.specs.Places.{workers_line}
-use Rattle.tp_script.specs.LineWords.{◌>>=◌, known, one, three, two}
+use Rattle.tp_script.specs.LineWords.{◌>>=◌, known, one_word, three, two}
 use Rattle.tp_script.specs.Script.{HeadView}
 use Rattle.tp_script.specs.ServerLines.{server_line, start_line}
 use Rattle.tp_script.specs.declared.fault.LineFault.{LineFault}
@@ -56,26 +56,26 @@ ended h said = after h said (λ a. Ok (h, Some a)) (λ a. same h a)
 
 keywords : (h : HeadView) (k : Keyword) (ws : List (List ℕ)) → Commands h (head_keyword drivers.Session k ws h)
 unfolding head_keyword
-keywords h first.Rows ws = in_it h (one ws >>= λ w. rows_line w h)
-keywords h first.Units ws = in_it h (one ws >>= λ w. units_line w h)
-keywords h first.Limit ws = in_it h (one ws >>= λ w. limit_line w h)
-keywords h first.Spare ws = in_it h (one ws >>= λ w. spare_line w h)
+keywords h first.Rows ws = in_it h (one_word ws >>= λ w. rows_line w h)
+keywords h first.Units ws = in_it h (one_word ws >>= λ w. units_line w h)
+keywords h first.Limit ws = in_it h (one_word ws >>= λ w. limit_line w h)
+keywords h first.Spare ws = in_it h (one_word ws >>= λ w. spare_line w h)
 keywords h first.Server ws = in_it h (server_line ws h)
 keywords h first.Start ws = in_it h (three ws >>= λ w. start_line w h)
 keywords h first.Worker ws = in_it h (two ws >>= λ w. worker_line w h)
-keywords h first.Workers ws = in_it h (one ws >>= λ w. workers_line w h)
-keywords h first.Leave ws = in_it h (one ws >>= λ _. Err faults.Order)
+keywords h first.Workers ws = in_it h (one_word ws >>= λ w. workers_line w h)
+keywords h first.Leave ws = in_it h (one_word ws >>= λ _. Err faults.Order)
 keywords h first.Alive ws = in_it h (alive_line ws h)
 keywords h first.Held ws = in_it h (held_line ws h)
 keywords h first.Lost ws = in_it h (two ws >>= λ w. lost_line w h)
-keywords h (first.Do v) ws = ended h (unless_waiting (waits_for_restore h) (act_at drivers.Session v ws h))
+keywords h (first.Do v) ws = ended h (unless_waiting (waits_for_restore h) (act_said drivers.Session v ws h))
 keywords h first.Dump ws = ended h (unless_waiting (waits_for_restore h) (dump_at ws))
 keywords h first.Account ws = ended h (unless_waiting (waits_for_restore h) (account_at ws))
 keywords h (first.Overview what) ws = ended h (unless_waiting (waits_for_restore h) (overview_at what ws))
 keywords h first.Client ws = in_it h (client_line ws h)
 keywords h first.Request ws = in_it h (two ws >>= λ w. request_line w h)
 keywords h first.Ended ws = in_it h (ended_line ws h)
-keywords h first.Register ws = in_it h (one ws >>= λ w. register_line w h)
+keywords h first.Register ws = in_it h (one_word ws >>= λ w. register_line w h)
 keywords h (first.Noted v) ws = ended h (unless_waiting (waits_for_restore h) (noted_at v ws h))
 keywords h first.Restore ws = ended h (restore_at ws)
 
@@ -156,26 +156,26 @@ said_behind h k ws = body_keyword drivers.Session k ws h >>= λ a. Ok (Some a)
 
 keyword_meets : (h : HeadView) (k : Keyword) (ws : List (List ℕ)) → Meets (head_keyword drivers.Session k ws h) (said_behind h k ws)
 unfolding head_keyword body_keyword
-keyword_meets h first.Rows ws = in_meets h (one ws >>= λ w. rows_line w h) (said_behind h first.Rows ws)
-keyword_meets h first.Units ws = in_meets h (one ws >>= λ w. units_line w h) (said_behind h first.Units ws)
-keyword_meets h first.Limit ws = in_meets h (one ws >>= λ w. limit_line w h) (said_behind h first.Limit ws)
-keyword_meets h first.Spare ws = in_meets h (one ws >>= λ w. spare_line w h) (said_behind h first.Spare ws)
+keyword_meets h first.Rows ws = in_meets h (one_word ws >>= λ w. rows_line w h) (said_behind h first.Rows ws)
+keyword_meets h first.Units ws = in_meets h (one_word ws >>= λ w. units_line w h) (said_behind h first.Units ws)
+keyword_meets h first.Limit ws = in_meets h (one_word ws >>= λ w. limit_line w h) (said_behind h first.Limit ws)
+keyword_meets h first.Spare ws = in_meets h (one_word ws >>= λ w. spare_line w h) (said_behind h first.Spare ws)
 keyword_meets h first.Server ws = in_meets h (server_line ws h) (said_behind h first.Server ws)
 keyword_meets h first.Start ws = in_meets h (three ws >>= λ w. start_line w h) (said_behind h first.Start ws)
 keyword_meets h first.Worker ws = in_meets h (two ws >>= λ w. worker_line w h) (said_behind h first.Worker ws)
-keyword_meets h first.Workers ws = in_meets h (one ws >>= λ w. workers_line w h) (said_behind h first.Workers ws)
-keyword_meets h first.Leave ws = in_meets h (one ws >>= λ _. Err faults.Order) (said_behind h first.Leave ws)
+keyword_meets h first.Workers ws = in_meets h (one_word ws >>= λ w. workers_line w h) (said_behind h first.Workers ws)
+keyword_meets h first.Leave ws = in_meets h (one_word ws >>= λ _. Err faults.Order) (said_behind h first.Leave ws)
 keyword_meets h first.Alive ws = in_meets h (alive_line ws h) (said_behind h first.Alive ws)
 keyword_meets h first.Held ws = in_meets h (held_line ws h) (said_behind h first.Held ws)
 keyword_meets h first.Lost ws = in_meets h (two ws >>= λ w. lost_line w h) (said_behind h first.Lost ws)
-keyword_meets h (first.Do v) ws = first_meets h (waits_for_restore h) (act_at drivers.Session v ws h)
+keyword_meets h (first.Do v) ws = first_meets h (waits_for_restore h) (act_said drivers.Session v ws h)
 keyword_meets h first.Dump ws = first_meets h (waits_for_restore h) (dump_at ws)
 keyword_meets h first.Account ws = first_meets h (waits_for_restore h) (account_at ws)
 keyword_meets h (first.Overview what) ws = first_meets h (waits_for_restore h) (overview_at what ws)
 keyword_meets h first.Client ws = in_meets h (client_line ws h) (said_behind h first.Client ws)
 keyword_meets h first.Request ws = in_meets h (two ws >>= λ w. request_line w h) (said_behind h first.Request ws)
 keyword_meets h first.Ended ws = in_meets h (ended_line ws h) (said_behind h first.Ended ws)
-keyword_meets h first.Register ws = in_meets h (one ws >>= λ w. register_line w h) (said_behind h first.Register ws)
+keyword_meets h first.Register ws = in_meets h (one_word ws >>= λ w. register_line w h) (said_behind h first.Register ws)
 keyword_meets h (first.Noted v) ws = first_meets h (waits_for_restore h) (noted_at v ws h)
 keyword_meets h first.Restore ws = restore_meets h ws (said_behind h first.Restore ws)
 

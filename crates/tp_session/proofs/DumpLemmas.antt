@@ -9,7 +9,7 @@ use Rattle.std.specs.List.{flat_map}
 use Rattle.tp_report.specs.Answer.{line}
 use Rattle.tp_script.specs.Fault.{◌<>◌}
 use Rattle.tp_script.specs.Script.{ServerView, WorkerView}
-use Rattle.tp_session.specs.Dump.{drop_of, dump_by, dump_text, lost_element, lost_line, lost_of, quoted, start_lines, starts_of}
+use Rattle.tp_session.specs.Dump.{drop_of, dump_by, dump_text, lost_element, lost_dump_line, lost_of, quoted_line, start_lines, starts_of}
 use Rattle.tp_session.specs.declared.hand.Holding.{Holding}
 
 -- what is seen at a place
@@ -47,17 +47,17 @@ drop_one server dropped view text before after there is same one =
 -- the lines by their texts
 pub dump_told : {A : Type 0} (text : A → List ℕ) (lines : List A) → dump_by text lines ≡ dump_text (map text lines)
 dump_told text lines =
-    ap (λ n. line (codes "dumped " <> decimal n) <> flat_map (λ l. quoted (text l)) lines) (sym (length-map lines text))
-    ∙ ap (λ t. line (codes "dumped " <> decimal (length (map text lines))) <> t) (sym (flat_map-map quoted text lines))
+    ap (λ n. line (codes "dumped " <> decimal n) <> flat_map (λ l. quoted_line (text l)) lines) (sym (length-map lines text))
+    ∙ ap (λ t. line (codes "dumped " <> decimal (length (map text lines))) <> t) (sym (flat_map-map quoted_line text lines))
 
 -- ---- what was lost
 
 pub lost_none : (worker : Option WorkerView) (holds holds' : Bool) (work : Option Holding) (lines : List (List ℕ)) (w : WorkerView) (k : Holding) → worker ≡ Some w → work ≡ Some k → holds ≡ holds' → lost_element holds k ≡ None → lines ≡ lines ++ lost_of worker holds' work
 lost_none worker holds holds' work lines w k there has same none =
-    sym (append-nil lines) ∙ ap (λ ls. lines ++ ls) (sym (ap (λ x. lost_of x holds' work) there ∙ (ap (λ x. lost_of (Some w) holds' x) has ∙ (ap (λ b. lost_line w (lost_element b k)) (sym same) ∙ ap (lost_line w) none))))
+    sym (append-nil lines) ∙ ap (λ ls. lines ++ ls) (sym (ap (λ x. lost_of x holds' work) there ∙ (ap (λ x. lost_of (Some w) holds' x) has ∙ (ap (λ b. lost_dump_line w (lost_element b k)) (sym same) ∙ ap (lost_dump_line w) none))))
 
 pub lost_one : (worker : Option WorkerView) (holds holds' : Bool) (work : Option Holding) (w : WorkerView) (k : Holding) (element : ℕ) (text : List ℕ) (before after : List (List ℕ)) → worker ≡ Some w → work ≡ Some k → holds ≡ holds' → lost_element holds k ≡ Some element
     → text ≡ codes "lost " <> w.name <> codes " " <> decimal element → after ≡ before ++ text ∷ [] → after ≡ before ++ lost_of worker holds' work
 lost_one worker holds holds' work w k element text before after there has same some is one =
     one ∙ ap (λ ls. before ++ ls) (ap (λ t. t ∷ []) is
-    ∙ sym (ap (λ x. lost_of x holds' work) there ∙ (ap (λ x. lost_of (Some w) holds' x) has ∙ (ap (λ b. lost_line w (lost_element b k)) (sym same) ∙ ap (lost_line w) some))))
+    ∙ sym (ap (λ x. lost_of x holds' work) there ∙ (ap (λ x. lost_of (Some w) holds' x) has ∙ (ap (λ b. lost_dump_line w (lost_element b k)) (sym same) ∙ ap (lost_dump_line w) some))))

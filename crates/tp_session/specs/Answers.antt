@@ -6,7 +6,7 @@ use Rattle.tp_model.specs.declared.types.Work.{Work}
 use Rattle.tp_report.specs.Answer.{line, named_text, renamed_text}
 use Rattle.tp_report.specs.declared.answer.Renamed.{Renamed}
 use Rattle.tp_script.specs.declared.fault.LineFault.{LineFault}
-use Rattle.tp_script.specs.Fault.{◌<>◌, fault_text}
+use Rattle.tp_script.specs.Fault.{◌<>◌, line_fault_text}
 use Rattle.tp_script.specs.Notes.{NameView}
 use Rattle.tp_script.specs.Script.{WorkerView}
 use Rattle.tp_session.specs.declared.hand.Holding.{Holding}
@@ -16,7 +16,7 @@ use Rattle.tp_session.specs.declared.hand.WorkerAnswer.TheVariants.{Took, Told}
 
 -- the line of a faulty line, by its number among all lines
 abbrev pub refused_line : ℕ → LineFault → List ℕ
-refused_line number fault = codes "refused line " <> decimal number <> codes ": " <> fault_text fault <> codes "\n"
+refused_line number fault = codes "refused line " <> decimal number <> codes ": " <> line_fault_text fault <> codes "\n"
 
 -- all words of a body
 abbrev pub body_text : List ℕ → List ℕ
@@ -27,9 +27,9 @@ abbrev pub took_line : List ℕ → Work → List ℕ
 took_line name w = name <> codes " work " <> decimal w.element.id <> codes " unit " <> decimal w.unit <> codes " attempt " <> decimal w.attempt <> codes " root " <> decimal w.element.root <> codes " body " <> body_text w.element.body <> codes "\n"
 
 -- the line of what a worker is answered
-abbrev pub worker_line : List ℕ → WorkerAnswer → List ℕ
-worker_line name (Took work) = took_line name work
-worker_line name (Told answer) = line (named_text name answer)
+abbrev pub worker_answer_line : List ℕ → WorkerAnswer → List ℕ
+worker_answer_line name (Took work) = took_line name work
+worker_answer_line name (Told answer) = line (named_text name answer)
 
 -- the line of a worker that has come
 abbrev pub joined_line : NameView → List ℕ
@@ -37,7 +37,7 @@ joined_line name = codes "joined " <> name.letters <> codes "\n"
 
 -- the line of one that has left, with the answer to its abort
 abbrev pub left_line : NameView → WorkerAnswer → List ℕ
-left_line name answer = codes "left " <> worker_line name.letters answer
+left_line name answer = codes "left " <> worker_answer_line name.letters answer
 
 -- how many elements are alive again, and each of them: its id in its line, and its id from now on
 abbrev pub restored_text : List Renamed → List ℕ

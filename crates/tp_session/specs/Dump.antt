@@ -68,8 +68,8 @@ recipe_text kind r =
     <> codes " " <> act_text r.act <> word_text r.word
 
 -- `server NAME KIND STAGE REGISTERS ACT OUT..`
-abbrev pub server_line : ServerView → List ℕ
-server_line s =
+abbrev pub server_dump_line : ServerView → List ℕ
+server_dump_line s =
     (codes "server " <> s.name <> codes " " <> recipe_text s.kind s.recipe)
     <> flat_map output_text s.recipe.outputs.items
 
@@ -123,18 +123,18 @@ root_text s =
     else codes " " <> decimal s.root <> codes " " <> draft_text s.root_stage s.root_body
 
 -- ID ATTEMPTS ROUNDS OUT or ID ATTEMPTS ROUNDS OUT ROOT OUT, of one that was tried so often
-abbrev pub element_text : Survivor → ℕ → List ℕ
-element_text s attempts =
+abbrev pub survivor_text : Survivor → ℕ → List ℕ
+survivor_text s attempts =
     decimal s.id <> codes " " <> decimal attempts <> codes " " <> decimal s.rounds
     <> codes " " <> draft_text s.stage s.body <> root_text s
 
 -- `alive ..`
 abbrev pub alive_text : Survivor → List ℕ
-alive_text s = codes "alive " <> element_text s (attempts_of s.status)
+alive_text s = codes "alive " <> survivor_text s (attempts_of s.status)
 
 -- `held NAME ..`, where the attempt in hand counts
 abbrev pub held_text : List ℕ → Survivor → List ℕ
-held_text name s = codes "held " <> name <> codes " " <> element_text s (attempts_of s.status + 1)
+held_text name s = codes "held " <> name <> codes " " <> survivor_text s (attempts_of s.status + 1)
 
 -- the worker that has it in hand, if one has; the first one's pass has this number
 abbrev pub holder_in : List WorkerView → ℕ → Option ℕ → Option WorkerView
@@ -158,12 +158,12 @@ lost_element false (Open unit element) = Some element
 lost_element holds other = None
 
 -- `lost NAME ID`, where a unit was lost
-abbrev pub lost_line : WorkerView → Option ℕ → List (List ℕ)
-lost_line worker None = []
-lost_line worker (Some element) = (codes "lost " <> worker.name <> codes " " <> decimal element) ∷ []
+abbrev pub lost_dump_line : WorkerView → Option ℕ → List (List ℕ)
+lost_dump_line worker None = []
+lost_dump_line worker (Some element) = (codes "lost " <> worker.name <> codes " " <> decimal element) ∷ []
 
 abbrev pub lost_of : Option WorkerView → Bool → Option Holding → List (List ℕ)
-lost_of (Some worker) holds (Some work) = lost_line worker (lost_element holds work)
+lost_of (Some worker) holds (Some work) = lost_dump_line worker (lost_element holds work)
 lost_of worker holds work = []
 
 -- whether pass c holds one of these
@@ -198,19 +198,19 @@ abbrev pub dump_lines : HeadView → List (List ℕ) → List Bool → List Hold
 dump_lines h registers dropped works notes survivors =
     let servers = h.servers in
     let first = 1 + length servers in
-    settings_lines h.settings ++ map server_line servers
+    settings_lines h.settings ++ map server_dump_line servers
     ++ all_starts servers registers (length servers) ++ map worker_text h.workers
     ++ map (life_text h.workers first) survivors ++ lost_lines h.workers first works survivors (length h.workers)
     ++ note_lines h.workers notes survivors
     ++ (codes "restore" ∷ drop_lines servers dropped (length servers))
 
 -- a line of a session in an answer
-abbrev pub quoted : List ℕ → List ℕ
-quoted text = codes "> " <> line text
+abbrev pub quoted_line : List ℕ → List ℕ
+quoted_line text = codes "> " <> line text
 
 -- how many lines there are, each with a text, and each of them
 abbrev pub dump_by : {A : Type 0} → (A → List ℕ) → List A → List ℕ
-dump_by text lines = line (codes "dumped " <> decimal (length lines)) <> flat_map (λ l. quoted (text l)) lines
+dump_by text lines = line (codes "dumped " <> decimal (length lines)) <> flat_map (λ l. quoted_line (text l)) lines
 
 -- the lines of a dump
 abbrev pub dump_text : List (List ℕ) → List ℕ

@@ -43,7 +43,7 @@ use Rattle.tp_perform.specs.Rollover.{IsUnrolled, OnlyLooked, RollRefused, Rolle
 use Rattle.tp_perform.specs.Rollover.{roll_refused_text}
 use Rattle.tp_perform.specs.Scenes.{Gathered, Scene, Stand, passes_in}
 use Rattle.tp_perform.specs.Told.{AreReady, IsScene, PerformsAll, units_held}
-use Rattle.tp_session.specs.Answers.{joined_line, left_line, restored_text, units_text, worker_line}
+use Rattle.tp_session.specs.Answers.{joined_line, left_line, restored_text, units_text, worker_answer_line}
 use Rattle.tp_session.specs.Carried.{lost_works, works_after}
 use Rattle.tp_session.specs.Clients.{NotedDoes, noting}
 use Rattle.tp_session.specs.Dump.{dump_lines, dump_text}
@@ -159,7 +159,7 @@ pub record WorkerTold (workers : List WorkerLine) (act : WorkerAct) (at : ℕ) (
   pub answer : WorkerAnswer
   pub done : Live
   pub did : WorkerDid it act at old answer done
-  pub text_is : text ≡ worker_line (string_bytes it.name) answer
+  pub text_is : text ≡ worker_answer_line (string_bytes it.name) answer
   pub gathers : LiveGathers done new
 
 -- The worker whose place is free now has given up what it had in hand, and nothing is noted any more of its last

@@ -96,12 +96,12 @@ ended_text (Aborted element) = codes "aborted " <> id_text element
 ended_text (Lost element) = codes "lost " <> id_text element
 ended_text (Full element) = codes "full " <> id_text element
 
-abbrev pub ended_line : WorkerView → Option UnitEnd → List (List ℕ)
-ended_line worker None = []
-ended_line worker (Some how) = (codes "ended " <> worker.name <> codes " " <> ended_text how) ∷ []
+abbrev pub ended_dump_line : WorkerView → Option UnitEnd → List (List ℕ)
+ended_dump_line worker None = []
+ended_dump_line worker (Some how) = (codes "ended " <> worker.name <> codes " " <> ended_text how) ∷ []
 
 abbrev pub ended_lines : List WorkerView → List (Option UnitEnd) → List (List ℕ)
-ended_lines (worker ∷ workers) (how ∷ ends) = ended_line worker how ++ ended_lines workers ends
+ended_lines (worker ∷ workers) (how ∷ ends) = ended_dump_line worker how ++ ended_lines workers ends
 ended_lines workers ends = []
 
 -- all of them, where this is alive

@@ -6,7 +6,7 @@ ghost use Rattle.tp_script.specs.Fault.{◌<>◌};
 ghost use Rattle.tp_script.specs.Script.{worker_view};
 ghost use Rattle.tp_perform.specs.Rollover.{renamed};
 ghost use Rattle.tp_session.specs.Answers.{body_text, refused_line, restored_text, took_line, unit_text};
-ghost use Rattle.tp_session.specs.Answers.{unit_texts, units_text, worker_line};
+ghost use Rattle.tp_session.specs.Answers.{unit_texts, units_text, worker_answer_line};
 ghost use Rattle.tp_session.specs.Roots.{roots_of, roots_text};
 
 use crate::hand::{Holding, WorkerAnswer};
@@ -50,7 +50,7 @@ fn took_line(alloc: Global, name: &str, work: &Work) -> Result<String, AllocErro
 
 /// The line of what the worker of this name is answered.
 pub fn worker_line(alloc: Global, name: &str, answer: WorkerAnswer) -> Result<String, AllocError>
-    ensures { IfOk result (λ s. string_bytes s ≡ worker_line name.now answer) }
+    ensures { IfOk result (λ s. string_bytes s ≡ worker_answer_line name.now answer) }
 {
     match answer {
         WorkerAnswer::Took(work) => took_line(alloc, name, &work),

@@ -5,7 +5,7 @@ ghost use Rattle.std.specs.Fmt.{WritesOnOk};
 ghost use Rattle.tp_script.specs.Script.{head_view, settings_view};
 ghost use Rattle.tp_script.specs.Script.{worker_view};
 ghost use Rattle.tp_session.specs.Dump.{alive_text, all_starts, attempts_of, draft_text, drop_lines, drop_of};
-ghost use Rattle.tp_session.specs.Dump.{dump_by, dump_text, element_text, held_text, life_text, root_text};
+ghost use Rattle.tp_session.specs.Dump.{dump_by, dump_text, survivor_text, held_text, life_text, root_text};
 ghost use Rattle.tp_session.specs.Dump.{server_starts, settings_lines, start_lines, starts_of, worker_text};
 
 use crate::answers::body_text;
@@ -186,7 +186,7 @@ fn root_text(alloc: Global, survivor: &Survivor) -> Result<String, AllocError>
 
 /// What stands behind the first word, or the first two, of the line of an element that was tried so often.
 fn element_text(alloc: Global, survivor: &Survivor, attempts: u16) -> Result<String, AllocError>
-    ensures { IfOk result (λ s. string_bytes s ≡ element_text survivor.now attempts) }
+    ensures { IfOk result (λ s. string_bytes s ≡ survivor_text survivor.now attempts) }
 {
     let id = survivor.id;
     let rounds = survivor.rounds;

@@ -3,7 +3,7 @@ ghost use Rattle.std.specs.Prelude.{◌≡◌, ◌++◌, IfOk, OnOk, Some, map, 
 ghost use Rattle.std.specs.List.{list_any};
 ghost use Rattle.tp_script.specs.Script.{head_view, worker_view};
 ghost use Rattle.tp_script.specs.declared.notes.UnitEnd.TheVariants.{Done};
-ghost use Rattle.tp_session.specs.NoteTexts.{client_text, ended_line, ended_lines, ended_text, is_root};
+ghost use Rattle.tp_session.specs.NoteTexts.{client_text, ended_dump_line, ended_lines, ended_text, is_root};
 ghost use Rattle.tp_session.specs.NoteTexts.{note_lines};
 ghost use Rattle.tp_session.specs.NoteTexts.{request_lines, request_text};
 ghost use Rattle.tp_session.specs.Notes.{notes_view};
@@ -133,7 +133,7 @@ fn add_end(
     lines: &mut Vec<String>,
 ) -> Result<(), AllocError>
     ensures { OnOk result (map string_bytes lines.new.items ≡ map string_bytes lines.old.items
-        ++ ended_line (worker_view worker.now) how) }
+        ++ ended_dump_line (worker_view worker.now) how) }
 {
     let Some(how) = how else {
         return Ok(());

@@ -4,7 +4,7 @@ ghost use Rattle.std.specs.Fmt.{WritesOnOk};
 ghost use Rattle.std.specs.List.{flat_map};
 ghost use Rattle.tp_script.specs.Script.{server_view};
 ghost use Rattle.tp_session.specs.Dump.{act_text, amount_text, key_text, kind_text, output_text, recipe_text};
-ghost use Rattle.tp_session.specs.Dump.{server_line, word_text};
+ghost use Rattle.tp_session.specs.Dump.{server_dump_line, word_text};
 
 use std::alloc::{AllocError, Global};
 use std::fmt;
@@ -108,7 +108,7 @@ struct ServerText<'a> {
 }
 
 impl fmt::Display for ServerText<'_> {
-    ghost output = { λ text. Some (server_line (server_view text.server.now)) };
+    ghost output = { λ text. Some (server_dump_line (server_view text.server.now)) };
 
     fn fmt<W: fmt::Write>(&self, f: &mut fmt::Formatter<W>) -> fmt::Result {
         let name = self.server.name.as_str();
@@ -125,7 +125,7 @@ pub(crate) fn add_servers(
     lines: &mut Vec<String>,
 ) -> Result<(), AllocError>
     ensures { OnOk result (map string_bytes lines.new.items
-        ≡ map string_bytes lines.old.items ++ map server_line (map server_view servers.now)) }
+        ≡ map string_bytes lines.old.items ++ map server_dump_line (map server_view servers.now)) }
 {
     for server in servers {
         let text = ServerText { server };

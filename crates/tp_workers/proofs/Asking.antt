@@ -20,9 +20,9 @@ use Rattle.tp_desk.specs.Turns.{EndsOpen}
 use Rattle.tp_workers.specs.declared.tally.Shift.{Shift}
 use Rattle.tp_workers.specs.Asking.{AsksTurns, TurnAsks}
 use Rattle.tp_workers.specs.Calling.{Chain, MadeCalls}
-use Rattle.tp_workers.specs.Desks.{IsResting, Place, TakesTurn, place, place_of}
+use Rattle.tp_workers.specs.Desks.{IsResting, Place, TakesTurn, place, desk_place}
 use Rattle.tp_workers.specs.Ran.{RanAll, RanEach}
-use Rattle.tp_workers.specs.Tally.{none, plus, turn_count}
+use Rattle.tp_workers.specs.Tally.{empty_shift, plus, turn_count}
 use Rattle.tp_workers.proofs.Calling.{called_none, called_one, called_then}
 use Rattle.tp_workers.proofs.Drains.{ran_then}
 use Rattle.tp_workers.proofs.Turns.{left_as}
@@ -48,7 +48,7 @@ module _ {B : Type 0} (behaviour : B → Behaviour) (registers : B → List ℕ)
   abbrev Asking : PassShown × B → Shift → PassShown × B → Type 0
   Asking x s y = AsksTurns behaviour registers pending asked m order x s y
 
-  pub asks_nothing : (x : PassShown × B) → Asking x none x
+  pub asks_nothing : (x : PassShown × B) → Asking x empty_shift x
   asks_nothing x = record { taken = 0; since = []; calls = called_none (TurnAsks order m.limits) turn_count (at x, []); asks = λ all is. is }
 
   pub asks_turn : (t : Turned) (x y : PassShown × B) → TakesTurn order m.limits (at x) t (at y) → Asks (turn_asks t y.0.seen (registers x.1) (registers y.1)) (asked x.1) (asked y.1) → Asking x (turn_count t) y
@@ -82,11 +82,11 @@ module _ {B : Type 0} (behaviour : B → Behaviour) (registers : B → List ℕ)
     asks = asks_then h.since [] (asked x.1) (asked y.1) (asked z.1) h.asks asks;
   }
 
-  nothing_all : (xs : List (PassShown × B)) → RanAll Asking xs none xs
+  nothing_all : (xs : List (PassShown × B)) → RanAll Asking xs empty_shift xs
   nothing_all [] = refl
-  nothing_all (x ∷ xs) = (none, none, asks_nothing x, nothing_all xs, refl)
+  nothing_all (x ∷ xs) = (empty_shift, empty_shift, asks_nothing x, nothing_all xs, refl)
 
-  pub each_nothing : (xs : List PassShown) (us : List B) → RanEach Asking xs us none xs us
+  pub each_nothing : (xs : List PassShown) (us : List B) → RanEach Asking xs us empty_shift xs us
   each_nothing xs us = record { ran = nothing_all (zip xs us); on_kept = refl; by_kept = refl }
 
   pub each_on : (xs : List PassShown) (us : List B) (ys : List PassShown) (vs : List B) (zs : List PassShown) (ws : List B) (s t : Shift) → RanEach Asking xs us s ys vs → RanEach Asking ys vs t zs ws → RanEach Asking xs us (plus s t) zs ws
@@ -104,12 +104,12 @@ module _ {X : Type 0} {F : X → Type 0} (behaviour : (x : X) × F x → Behavio
 
   -- a turn more of the same desk
   pub desk_asks_more : (order : Order) (t : Turned) (x y z : Desk X F) (s u v : Shift) → IsSameDesk x y → Asking_by x.manager.now order (lent x) s (lent y)
-      → TakesTurn order y.manager.now.limits (place_of behaviour registers pending y) t (place_of behaviour registers pending z)
+      → TakesTurn order y.manager.now.limits (desk_place behaviour registers pending y) t (desk_place behaviour registers pending z)
       → Asks (turn_asks t z.pass.now.seen (shown registers y.server.now) (shown registers z.server.now)) (shown asked y.server.now) (shown asked z.server.now)
       → u ≡ turn_count t → v ≡ plus s u → Asking_by x.manager.now order (lent x) v (lent z)
   desk_asks_more order t x y z s u v same h turn asks one both =
       asks_more (shown behaviour) (shown registers) (shown pending) (shown asked) x.manager.now order t (lent x) (lent y) (lent z) s u v h
-      (subst (λ k. TakesTurn order k.now.limits (place_of behaviour registers pending y) t (place_of behaviour registers pending z)) same.manager turn) asks one both
+      (subst (λ k. TakesTurn order k.now.limits (desk_place behaviour registers pending y) t (desk_place behaviour registers pending z)) same.manager turn) asks one both
 
   unprepared : (pend : Option Pending) (w : Option Work) (drafts : List DraftView) (f p : PassShown) (r : Behaviour) (rs : List ℕ) → w ≡ None → InHand r rs pend w drafts f p → pend ≡ None
   unprepared pend w drafts f p r rs none h = (subst (λ (o : Option Work). InHand r rs pend o drafts f p) none h).unprepared
@@ -127,7 +127,7 @@ module _ {X : Type 0} {F : X → Type 0} (behaviour : (x : X) × F x → Behavio
       (subst (λ (o : Option Pending). Asks (undo_of o) (shown asked e.server.now) (shown asked y.1)) clear asks)
 
   -- of one turn
-  pub took_asks : (order : Order) (t : Turned) (d e : Desk X F) (counts : Shift) → TakesTurn order d.manager.now.limits (place_of behaviour registers pending d) t (place_of behaviour registers pending e)
+  pub took_asks : (order : Order) (t : Turned) (d e : Desk X F) (counts : Shift) → TakesTurn order d.manager.now.limits (desk_place behaviour registers pending d) t (desk_place behaviour registers pending e)
       → Asks (turn_asks t e.pass.now.seen (shown registers d.server.now) (shown registers e.server.now)) (shown asked d.server.now) (shown asked e.server.now)
       → counts ≡ turn_count t → Asking_by d.manager.now order (lent d) counts (lent e)
   took_asks order t d e counts turn asks counted =

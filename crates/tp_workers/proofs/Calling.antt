@@ -3,7 +3,7 @@ use Rattle.std.proofs.Common.{◌≡◌, All, ℕ, ◌+◌, List, [], ◌∷◌,
 use Rattle.std.proofs.lemmas.List.Elements.{All-cons, All-head, All-nil, All-tail}
 use Rattle.tp_workers.specs.declared.tally.Shift.{Shift}
 use Rattle.tp_workers.specs.Calling.{AllButLast, MadeCalls, Chain, tally}
-use Rattle.tp_workers.specs.Tally.{none, plus, total}
+use Rattle.tp_workers.specs.Tally.{empty_shift, plus, total}
 use Rattle.tp_workers.proofs.Counts.{none_plus, plus_assoc, plus_none, total_plus}
 
 module _ {S A : Type 0} (R : S → A → S → Type 0) (count : A → Shift) where
@@ -15,7 +15,7 @@ module _ {S A : Type 0} (R : S → A → S → Type 0) (count : A → Shift) whe
   tally_append [] ys = sym (none_plus (tally count ys))
   tally_append (a ∷ xs) ys = ap (λ (s : Shift). plus (count a) s) (tally_append xs ys) ∙ sym (plus_assoc (count a) (tally count xs) (tally count ys))
 
-  pub called_none : (x : S) → MadeCalls R count 0 x none x
+  pub called_none : (x : S) → MadeCalls R count 0 x empty_shift x
   called_none x = record { answers = []; each = refl; made = refl; counted = refl }
 
   pub called_one : (a : A) (x y : S) → R x a y → MadeCalls R count 1 x (count a) y
@@ -70,14 +70,14 @@ module _ {S A : Type 0} (R : S → A → S → Type 0) (count : A → Shift) whe
   pub called_total : ((a : A) → total (count a) ≡ 1) → (n : ℕ) (x y : S) (s : Shift) → MadeCalls R count n x s y → total s ≡ n
   called_total one n x y s h = ap total h.counted ∙ total_tally one h.answers ∙ h.made
 
-  chain_gains : (f : Shift → ℕ) (measure : S → ℕ) → f none ≡ 0 → ((a b : Shift) → f (plus a b) ≡ f a + f b) → ((x : S) (a : A) (y : S) → R x a y → f (count a) + measure x ≡ measure y)
+  chain_gains : (f : Shift → ℕ) (measure : S → ℕ) → f empty_shift ≡ 0 → ((a b : Shift) → f (plus a b) ≡ f a + f b) → ((x : S) (a : A) (y : S) → R x a y → f (count a) + measure x ≡ measure y)
       → (xs : List A) (x y : S) → Chain R x xs y → f (tally count xs) + measure x ≡ measure y
   chain_gains f measure zero sums each [] x y h = ap (λ (n : ℕ). n + measure x) zero ∙ (zero-add (measure x) ∙ ap measure (sym h))
   chain_gains f measure zero sums each (a ∷ xs) x y h =
       omega (arith, sums (count a) (tally count xs), each x a h.0 h.1, chain_gains f measure zero sums each xs h.0 y h.2)
 
   -- what each call adds to a measure, all calls add to it
-  pub called_gains : (f : Shift → ℕ) (measure : S → ℕ) → f none ≡ 0 → ((a b : Shift) → f (plus a b) ≡ f a + f b) → ((x : S) (a : A) (y : S) → R x a y → f (count a) + measure x ≡ measure y)
+  pub called_gains : (f : Shift → ℕ) (measure : S → ℕ) → f empty_shift ≡ 0 → ((a b : Shift) → f (plus a b) ≡ f a + f b) → ((x : S) (a : A) (y : S) → R x a y → f (count a) + measure x ≡ measure y)
       → (n : ℕ) (x y : S) (s : Shift) → MadeCalls R count n x s y → f s + measure x ≡ measure y
   called_gains f measure zero sums each n x y s h =
       ap (λ (c : Shift). f c + measure x) h.counted ∙ chain_gains f measure zero sums each h.answers x y h.each
@@ -90,10 +90,10 @@ module _ {S A : Type 0} (R : S → A → S → Type 0) (count : A → Shift) whe
   pub called_keeps : (P : S → S → Type 0) → ((x : S) → P x x) → ((x y z : S) → P x y → P y z → P x z) → ((x : S) (a : A) (y : S) → R x a y → P x y) → (n : ℕ) (x y : S) (s : Shift) → MadeCalls R count n x s y → P x y
   called_keeps P same then each n x y s h = chain_keeps P same then each h.answers x y h.each
 
-  tally_keeps : (P : Shift → Type 0) → P none → ((a b : Shift) → P a → P b → P (plus a b)) → ((a : A) → P (count a)) → (xs : List A) → P (tally count xs)
+  tally_keeps : (P : Shift → Type 0) → P empty_shift → ((a b : Shift) → P a → P b → P (plus a b)) → ((a : A) → P (count a)) → (xs : List A) → P (tally count xs)
   tally_keeps P zero sums each [] = zero
   tally_keeps P zero sums each (a ∷ xs) = sums (count a) (tally count xs) (each a) (tally_keeps P zero sums each xs)
 
   -- what holds of each call's count, and of sums, holds of all counts
-  pub called_counts : (P : Shift → Type 0) → P none → ((a b : Shift) → P a → P b → P (plus a b)) → ((a : A) → P (count a)) → (n : ℕ) (x y : S) (s : Shift) → MadeCalls R count n x s y → P s
+  pub called_counts : (P : Shift → Type 0) → P empty_shift → ((a b : Shift) → P a → P b → P (plus a b)) → ((a : A) → P (count a)) → (n : ℕ) (x y : S) (s : Shift) → MadeCalls R count n x s y → P s
   called_counts P zero sums each n x y s h = subst P (sym h.counted) (tally_keeps P zero sums each h.answers)

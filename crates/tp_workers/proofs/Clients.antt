@@ -11,7 +11,7 @@ use Rattle.tp_manager.specs.Shown.{PassShown}
 use Rattle.tp_model.specs.Births.{request}
 use Rattle.tp_workers.specs.declared.tally.Shift.{Shift}
 use Rattle.tp_workers.specs.Calling.{MadeCalls}
-use Rattle.tp_workers.specs.Clients.{IsSubmitOf, Submitting, SubmitsPayments, SubmitsOnce, submitting}
+use Rattle.tp_workers.specs.Clients.{IsSubmitOf, Submitting, SubmitsFirst, SubmitsOnce, submitting}
 use Rattle.tp_workers.specs.Gains.{GainsOnly, enqueues_in, is_enqueue}
 use Rattle.tp_workers.specs.Tally.{plus, submit_count, total}
 use Rattle.tp_workers.proofs.Calling.{called_gains, called_keeps, called_more, called_total}
@@ -61,33 +61,33 @@ module _ (l : Limits) (stage : ℕ) where
         gains = gains_then Both x.pass y.pass z.pass one two;
       }
 
-  did_once : (x : Submitting) (r : Result ℕ Refusal) (y : Submitting) → SubmitsPayments l stage x r y → Did x y
+  did_once : (x : Submitting) (r : Result ℕ Refusal) (y : Submitting) → SubmitsFirst l stage x r y → Did x y
   did_once x r y h = record { bodies = h.body ∷ []; left = h.first; number = h.call.follows.number; open_unit = h.call.open_unit; gains = gained_once h.body x.pass r y.pass h.call }
 
-  pub total_submits : (n : ℕ) (x y : Submitting) (s : Shift) → MadeCalls (SubmitsPayments l stage) submit_count n x s y → total s ≡ n
-  total_submits n x y s h = called_total (SubmitsPayments l stage) submit_count one_submit n x y s h
+  pub total_submits : (n : ℕ) (x y : Submitting) (s : Shift) → MadeCalls (SubmitsFirst l stage) submit_count n x s y → total s ≡ n
+  total_submits n x y s h = called_total (SubmitsFirst l stage) submit_count one_submit n x y s h
 
-  pub submits_counted : (n : ℕ) (x y : Submitting) (s : Shift) → MadeCalls (SubmitsPayments l stage) submit_count n x s y → s.submitted + enqueues_in x.pass ≡ enqueues_in y.pass
+  pub submits_counted : (n : ℕ) (x y : Submitting) (s : Shift) → MadeCalls (SubmitsFirst l stage) submit_count n x s y → s.submitted + enqueues_in x.pass ≡ enqueues_in y.pass
   submits_counted n x y s h =
-      called_gains (SubmitsPayments l stage) submit_count (λ (c : Shift). c.submitted) (λ (z : Submitting). enqueues_in z.pass) refl (λ a b. refl)
+      called_gains (SubmitsFirst l stage) submit_count (λ (c : Shift). c.submitted) (λ (z : Submitting). enqueues_in z.pass) refl (λ a b. refl)
       (λ x r y one. submitted_once one.body x.pass r y.pass one.call) n x y s h
 
-  pub submits_did : (n : ℕ) (x y : Submitting) (s : Shift) → MadeCalls (SubmitsPayments l stage) submit_count n x s y → Did x y
-  submits_did n x y s h = called_keeps (SubmitsPayments l stage) submit_count Did did_none did_then did_once n x y s h
+  pub submits_did : (n : ℕ) (x y : Submitting) (s : Shift) → MadeCalls (SubmitsFirst l stage) submit_count n x s y → Did x y
+  submits_did n x y s h = called_keeps (SubmitsFirst l stage) submit_count Did did_none did_then did_once n x y s h
 
   -- all bodies were submitted
-  pub submits_gained : (n : ℕ) (bodies : List (List ℕ)) (p q : PassShown) (s : Shift) → MadeCalls (SubmitsPayments l stage) submit_count n (submitting bodies p) s (submitting [] q) → GainsOnly (IsSubmitOf stage bodies) p q
+  pub submits_gained : (n : ℕ) (bodies : List (List ℕ)) (p q : PassShown) (s : Shift) → MadeCalls (SubmitsFirst l stage) submit_count n (submitting bodies p) s (submitting [] q) → GainsOnly (IsSubmitOf stage bodies) p q
   submits_gained n bodies p q s h =
       let did : Did (submitting bodies p) (submitting [] q) = submits_did n (submitting bodies p) (submitting [] q) s h in
       subst (λ (xs : List (List ℕ)). GainsOnly (IsSubmitOf stage xs) p q) (sym (did.left ∙ append-nil did.bodies)) did.gains
 
   -- one body more: k of them were submitted, and now the next
   pub submits_more : (bodies : List (List ℕ)) (k : ℕ) (d : List ℕ) (p q q' : PassShown) (r : Result ℕ Refusal) (s t u : Shift) → k < length bodies
-      → MadeCalls (SubmitsPayments l stage) submit_count k (submitting bodies p) s (submitting (drop k bodies) q)
+      → MadeCalls (SubmitsFirst l stage) submit_count k (submitting bodies p) s (submitting (drop k bodies) q)
       → SubmitsOnce l stage (get_or bodies k d) q r q' → t ≡ submit_count r → u ≡ plus s t
-      → MadeCalls (SubmitsPayments l stage) submit_count (k + 1) (submitting bodies p) u (submitting (drop (k + 1) bodies) q')
+      → MadeCalls (SubmitsFirst l stage) submit_count (k + 1) (submitting bodies p) u (submitting (drop (k + 1) bodies) q')
   submits_more bodies k d p q q' r s t u inside h call is both =
       let after : ◌≡◌ {A = ℕ} (suc k) (k + 1) = omega arith in
       let next : drop k bodies ≡ get_or bodies k d ∷ drop (k + 1) bodies = subst (λ (n : ℕ). drop k bodies ≡ get_or bodies k d ∷ drop n bodies) after (drop-cons bodies k d inside) in
-      called_more (SubmitsPayments l stage) submit_count k r (submitting bodies p) (submitting (drop k bodies) q) (submitting (drop (k + 1) bodies) q') s t u h
+      called_more (SubmitsFirst l stage) submit_count k r (submitting bodies p) (submitting (drop k bodies) q) (submitting (drop (k + 1) bodies) q') s t u h
       (record { body = get_or bodies k d; first = next; call = call }) is both

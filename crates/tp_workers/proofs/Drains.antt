@@ -18,7 +18,7 @@ use Rattle.tp_workers.specs.Drained.{DeskDrained, EndsIdle, LastTurn, TookTurn}
 use Rattle.tp_workers.specs.Free.{IsFreePass, numbers}
 use Rattle.tp_workers.specs.Gains.{commits_in}
 use Rattle.tp_workers.specs.Ran.{RanAll, RanEach}
-use Rattle.tp_workers.specs.Tally.{claimed, none, plus, turn_count}
+use Rattle.tp_workers.specs.Tally.{claimed_in_all, empty_shift, plus, turn_count}
 use Rattle.tp_workers.proofs.Calling.{called_more, called_none, called_then}
 use Rattle.tp_workers.proofs.Shifts.{desks_ready, each_gains, each_paired, passes_free, same_numbers, servers_clear, sum_first, zip_length}
 use Rattle.tp_workers.proofs.Turns.{turn_claims, turn_room, turns_claim, turns_commit, turns_room}
@@ -77,10 +77,10 @@ module _ {B : Type 0} (behaviour : B → Behaviour) (registers : B → List ℕ)
     pub behaviour_is : behaviour new.1 ≡ behaviour old.1
     pub ready : IsDeskOf behaviour registers pending m new
 
-  going_all : (xs : List (PassShown × B)) → All Ready xs → RanAll Going xs none xs
+  going_all : (xs : List (PassShown × B)) → All Ready xs → RanAll Going xs empty_shift xs
   going_all [] ready = refl
   going_all (x ∷ xs) ready =
-      (none, none, record { taken = 0; calls = called_none (TakesTurn order m.limits) turn_count (at x); few = omega arith; serves = serves_none (behaviour x.1) (registers x.1) x.0; ended = ended_none x.0; behaviour_is = refl; ready = All-head Ready x xs ready }, going_all xs (All-tail Ready x xs ready), refl)
+      (empty_shift, empty_shift, record { taken = 0; calls = called_none (TakesTurn order m.limits) turn_count (at x); few = omega arith; serves = serves_none (behaviour x.1) (registers x.1) x.0; ended = ended_none x.0; behaviour_is = refl; ready = All-head Ready x xs ready }, going_all xs (All-tail Ready x xs ready), refl)
 
   few_more : (x y z : PassShown × B) (s t : Shift) → Going x s y → Took y t z → s.done + t.done ≤ 1024
   few_more x y z s t h k =
@@ -111,7 +111,7 @@ module _ {B : Type 0} (behaviour : B → Behaviour) (registers : B → List ℕ)
   works_on : (plan : Plan) → plan.order ≡ order → (x y : PassShown × B) (s : Shift) (h : Worked plan x s y) → MadeCalls (TakesTurn order m.limits) turn_count h.turns_taken.taken (at x) s (at y)
   works_on plan is x y s h = subst (λ (o : Order). MadeCalls (TakesTurn o m.limits) turn_count h.turns_taken.taken (at x) s (at y)) is h.turns_taken.calls
 
-  few_claimed : (units a b : ℕ) (s : Shift) → units ≤ 1024 → claimed s + a ≡ b → (b ≤ units) ⊎ (b ≡ a) → s.done ≤ 1024
+  few_claimed : (units a b : ℕ) (s : Shift) → units ≤ 1024 → claimed_in_all s + a ≡ b → (b ≤ units) ⊎ (b ≡ a) → s.done ≤ 1024
   few_claimed units a b s most claims (inl few) = omega (arith, most, claims, few)
   few_claimed units a b s most claims (inr same) = omega (arith, most, claims, same)
 
@@ -164,41 +164,41 @@ module _ {B : Type 0} (behaviour : B → Behaviour) (registers : B → List ℕ)
   few_all (x ∷ xs) s [] h = absurd h
   few_all (x ∷ xs) s (y ∷ ys) h = omega (arith, ap (λ (u : Shift). u.done) h.4, h.2.few, few_all xs h.1 ys h.3)
 
-  claimed_plus : (a b : Shift) → claimed (plus a b) ≡ claimed a + claimed b
+  claimed_plus : (a b : Shift) → claimed_in_all (plus a b) ≡ claimed_in_all a + claimed_in_all b
   claimed_plus a b = omega arith
 
-  turn_left : (x : PassShown × B) (s : Shift) (y : PassShown × B) → Took x s y → claimed s + left_of y.0 ≡ left_of x.0
+  turn_left : (x : PassShown × B) (s : Shift) (y : PassShown × B) → Took x s y → claimed_in_all s + left_of y.0 ≡ left_of x.0
   turn_left x s y k =
-      let same : claimed s ≡ claimed (turn_count k.turned) = ap claimed k.counted in
+      let same : claimed_in_all s ≡ claimed_in_all (turn_count k.turned) = ap claimed_in_all k.counted in
       omega (arith, same, turn_claims order m.limits (behaviour x.1) (registers x.1) x.0 y.0 k.turned (registers y.1) k.turn.answer, turn_room order m.limits (behaviour x.1) (registers x.1) x.0 y.0 k.turned (registers y.1) k.turn.answer)
 
-  round_left : (xs : List (PassShown × B)) (s : Shift) (ys : List (PassShown × B)) → RanAll Took xs s ys → claimed s + sum_by (λ (x : PassShown × B). left_of x.0) ys ≡ sum_by (λ (x : PassShown × B). left_of x.0) xs
-  round_left [] s [] h = omega (arith, ap claimed h)
+  round_left : (xs : List (PassShown × B)) (s : Shift) (ys : List (PassShown × B)) → RanAll Took xs s ys → claimed_in_all s + sum_by (λ (x : PassShown × B). left_of x.0) ys ≡ sum_by (λ (x : PassShown × B). left_of x.0) xs
+  round_left [] s [] h = omega (arith, ap claimed_in_all h)
   round_left [] s (y ∷ ys) h = absurd h
   round_left (x ∷ xs) s [] h = absurd h
   round_left (x ∷ xs) s (y ∷ ys) h =
       let f : PassShown × B → ℕ = λ z. left_of z.0 in
-      omega (arith, ap claimed h.4, claimed_plus h.0 h.1, turn_left x h.0 y h.2, round_left xs h.1 ys h.3, sum_by-cons f x xs, sum_by-cons f y ys)
+      omega (arith, ap claimed_in_all h.4, claimed_plus h.0 h.1, turn_left x h.0 y h.2, round_left xs h.1 ys h.3, sum_by-cons f x xs, sum_by-cons f y ys)
 
-  idles : (x y z : PassShown × B) (s t : Shift) → Going x s y → Took y t z → claimed t ≡ 0 → EndsIdle order m.limits (at x) (at z)
+  idles : (x y z : PassShown × B) (s t : Shift) → Going x s y → Took y t z → claimed_in_all t ≡ 0 → EndsIdle order m.limits (at x) (at z)
   idles x y z s t h k idle =
-      record { taken = h.taken; counts = s; before = at y; calls = h.calls; last = k.turned; turn = k.turn; idle = sym (ap claimed k.counted) ∙ idle }
+      record { taken = h.taken; counts = s; before = at y; calls = h.calls; last = k.turned; turn = k.turn; idle = sym (ap claimed_in_all k.counted) ∙ idle }
 
-  last_turn : (x y z : PassShown × B) (s t : Shift) → Going x s y → Took y t z → claimed t ≡ 0 → LastTurn behaviour registers pending m order x t z
+  last_turn : (x y z : PassShown × B) (s t : Shift) → Going x s y → Took y t z → claimed_in_all t ≡ 0 → LastTurn behaviour registers pending m order x t z
   unfolding idles
   last_turn x y z s t h k idle = record { ends = idles x y z s t h k idle; counted = k.counted }
 
-  last_all : (xs ys zs : List (PassShown × B)) (s t : Shift) → RanAll Going xs s ys → RanAll Took ys t zs → claimed t ≡ 0 → RanAll (LastTurn behaviour registers pending m order) xs t zs
+  last_all : (xs ys zs : List (PassShown × B)) (s t : Shift) → RanAll Going xs s ys → RanAll Took ys t zs → claimed_in_all t ≡ 0 → RanAll (LastTurn behaviour registers pending m order) xs t zs
   last_all [] [] [] s t h k idle = k
   last_all [] [] (z ∷ zs) s t h k idle = absurd k
   last_all [] (y ∷ ys) zs s t h k idle = absurd h
   last_all (x ∷ xs) [] zs s t h k idle = absurd h
   last_all (x ∷ xs) (y ∷ ys) [] s t h k idle = absurd k
   last_all (x ∷ xs) (y ∷ ys) (z ∷ zs) s t h k idle =
-      let both : claimed t ≡ claimed k.0 + claimed k.1 = ap claimed k.4 ∙ claimed_plus k.0 k.1 in
+      let both : claimed_in_all t ≡ claimed_in_all k.0 + claimed_in_all k.1 = ap claimed_in_all k.4 ∙ claimed_plus k.0 k.1 in
       (k.0, k.1, last_turn x y z h.0 k.0 h.2 k.2 (omega (arith, both)), last_all xs ys zs h.1 k.1 h.3 k.3 (omega (arith, both)), k.4)
 
-  ends : (x y z : PassShown × B) (s t : Shift) → Going x s y → Took y t z → claimed t ≡ 0 → DeskDrained behaviour registers pending m order x (plus s t) z
+  ends : (x y z : PassShown × B) (s t : Shift) → Going x s y → Took y t z → claimed_in_all t ≡ 0 → DeskDrained behaviour registers pending m order x (plus s t) z
   ends x y z s t h k idle =
       let now : Going x (plus s t) z = one_round x y z s t h k in
       record {
@@ -212,14 +212,14 @@ module _ {B : Type 0} (behaviour : B → Behaviour) (registers : B → List ℕ)
         ready = now.ready;
       }
 
-  ends_all : (xs ys zs : List (PassShown × B)) (s t : Shift) → RanAll Going xs s ys → RanAll Took ys t zs → claimed t ≡ 0 → RanAll (DeskDrained behaviour registers pending m order) xs (plus s t) zs
+  ends_all : (xs ys zs : List (PassShown × B)) (s t : Shift) → RanAll Going xs s ys → RanAll Took ys t zs → claimed_in_all t ≡ 0 → RanAll (DeskDrained behaviour registers pending m order) xs (plus s t) zs
   ends_all [] [] [] s t h k idle = ap₂ plus h k
   ends_all [] [] (z ∷ zs) s t h k idle = absurd k
   ends_all [] (y ∷ ys) zs s t h k idle = absurd h
   ends_all (x ∷ xs) [] zs s t h k idle = absurd h
   ends_all (x ∷ xs) (y ∷ ys) [] s t h k idle = absurd k
   ends_all (x ∷ xs) (y ∷ ys) (z ∷ zs) s t h k idle =
-      let both : claimed t ≡ claimed k.0 + claimed k.1 = ap claimed k.4 ∙ claimed_plus k.0 k.1 in
+      let both : claimed_in_all t ≡ claimed_in_all k.0 + claimed_in_all k.1 = ap claimed_in_all k.4 ∙ claimed_plus k.0 k.1 in
       (plus h.0 k.0, plus h.1 k.1, ends x y z h.0 k.0 h.2 k.2 (omega (arith, both)), ends_all xs ys zs h.1 k.1 h.3 k.3 (omega (arith, both)), ap₂ plus h.4 k.4 ∙ plus_swap h.0 h.1 k.0 k.1)
 
   module _ (xs : List PassShown) (us : List B) (s : Shift) (ys : List PassShown) (vs : List B) where
@@ -232,7 +232,7 @@ module _ {B : Type 0} (behaviour : B → Behaviour) (registers : B → List ℕ)
     pub going_clear : length xs ≡ length us → RanEach Going xs us s ys vs → All (λ b. pending b ≡ None) vs
     going_clear e h = servers_clear m behaviour registers pending Going (λ x t y r. r.ready) xs us s ys vs e h
 
-    pub round_smaller : length xs ≡ length us → RanEach Took xs us s ys vs → 0 < claimed s → sum_by left_of ys < sum_by left_of xs
+    pub round_smaller : length xs ≡ length us → RanEach Took xs us s ys vs → 0 < claimed_in_all s → sum_by left_of ys < sum_by left_of xs
     round_smaller e h some =
         omega (arith, round_left (zip xs us) s (zip ys vs) h.ran, some, sum_first left_of xs us e, sum_first left_of ys vs (each_paired Took xs us s ys vs e h))
 
@@ -248,7 +248,7 @@ module _ {B : Type 0} (behaviour : B → Behaviour) (registers : B → List ℕ)
     pub drained_clear : length xs ≡ length us → RanEach (DeskDrained behaviour registers pending m order) xs us s ys vs → All (λ b. pending b ≡ None) vs
     drained_clear e h = servers_clear m behaviour registers pending (DeskDrained behaviour registers pending m order) (λ x t y r. r.ready) xs us s ys vs e h
 
-  pub going_none : (xs : List PassShown) (us : List B) → length xs ≡ length us → All (IsFreePass m) xs → All (λ b. pending b ≡ None) us → RanEach Going xs us none xs us
+  pub going_none : (xs : List PassShown) (us : List B) → length xs ≡ length us → All (IsFreePass m) xs → All (λ b. pending b ≡ None) us → RanEach Going xs us empty_shift xs us
   going_none xs us e free clear = record { ran = going_all (zip xs us) (desks_ready m behaviour registers pending xs us e free clear); on_kept = refl; by_kept = refl }
 
   pub going_on : (xs : List PassShown) (us : List B) (ys : List PassShown) (vs : List B) (zs : List PassShown) (ws : List B) (s t : Shift) → RanEach Going xs us s ys vs → RanEach Took ys vs t zs ws → RanEach Going xs us (plus s t) zs ws
@@ -269,8 +269,8 @@ module _ {B : Type 0} (behaviour : B → Behaviour) (registers : B → List ℕ)
       omega (arith, more_left plan is (zip xs us) s (zip ys vs) h.ran, sum_first left_of xs us e, sum_first left_of ys vs (each_paired (Worked plan) xs us s ys vs e h))
 
   -- the last round claimed nothing
-  pub all_end : (xs : List PassShown) (us : List B) (ys : List PassShown) (vs : List B) (zs : List PassShown) (ws : List B) (s t : Shift) → RanEach Going xs us s ys vs → RanEach Took ys vs t zs ws → claimed t ≡ 0 → RanEach (DeskDrained behaviour registers pending m order) xs us (plus s t) zs ws
+  pub all_end : (xs : List PassShown) (us : List B) (ys : List PassShown) (vs : List B) (zs : List PassShown) (ws : List B) (s t : Shift) → RanEach Going xs us s ys vs → RanEach Took ys vs t zs ws → claimed_in_all t ≡ 0 → RanEach (DeskDrained behaviour registers pending m order) xs us (plus s t) zs ws
   all_end xs us ys vs zs ws s t h k idle = record { ran = ends_all (zip xs us) (zip ys vs) (zip zs ws) s t h.ran k.ran idle; on_kept = k.on_kept ∙ h.on_kept; by_kept = k.by_kept ∙ h.by_kept }
 
-  pub all_last : (xs : List PassShown) (us : List B) (ys : List PassShown) (vs : List B) (zs : List PassShown) (ws : List B) (s t : Shift) → RanEach Going xs us s ys vs → RanEach Took ys vs t zs ws → claimed t ≡ 0 → RanEach (LastTurn behaviour registers pending m order) xs us t zs ws
+  pub all_last : (xs : List PassShown) (us : List B) (ys : List PassShown) (vs : List B) (zs : List PassShown) (ws : List B) (s t : Shift) → RanEach Going xs us s ys vs → RanEach Took ys vs t zs ws → claimed_in_all t ≡ 0 → RanEach (LastTurn behaviour registers pending m order) xs us t zs ws
   all_last xs us ys vs zs ws s t h k idle = record { ran = last_all (zip xs us) (zip ys vs) (zip zs ws) s t h.ran k.ran idle; on_kept = k.on_kept ∙ h.on_kept; by_kept = k.by_kept ∙ h.by_kept }

@@ -17,7 +17,7 @@ use Rattle.tp_workers.specs.declared.tally.Shift.{Shift}
 use Rattle.tp_workers.specs.Calling.{MadeCalls}
 use Rattle.tp_workers.specs.Gains.{GainsOnly, is_kill, kills_in}
 use Rattle.tp_workers.specs.Killers.{IsKillWork, Killing, KillsNext, KillsOnce}
-use Rattle.tp_workers.specs.Tally.{kill_count, none, plus, refusal_count, total}
+use Rattle.tp_workers.specs.Tally.{kill_count, empty_shift, plus, refusal_count, total}
 use Rattle.tp_workers.proofs.Calling.{called_gains, called_keeps, called_more, called_none, called_total}
 use Rattle.tp_workers.proofs.Events.{counted_more, counted_one}
 use Rattle.tp_workers.proofs.Gains.{gains_none, gains_then, gains_weaker}
@@ -173,9 +173,9 @@ module _ (l : Limits) where
   pub kills_gained : (n : ℕ) (x y : Killing) (s : Shift) → MadeCalls (KillsNext l) kill_count n x s y → Did x y
   kills_gained n x y s h = called_keeps (KillsNext l) kill_count Did did_none did_then did_once n x y s h
 
-  pub kills_none : (first : ℕ) (p : PassShown) → MadeCalls (KillsNext l) kill_count (first - first) (record { id = first; pass = p }) none (record { id = first; pass = p })
+  pub kills_none : (first : ℕ) (p : PassShown) → MadeCalls (KillsNext l) kill_count (first - first) (record { id = first; pass = p }) empty_shift (record { id = first; pass = p })
   kills_none first p =
-      subst (λ (n : ℕ). MadeCalls (KillsNext l) kill_count n (record { id = first; pass = p }) none (record { id = first; pass = p })) (omega arith) (called_none (KillsNext l) kill_count (record { id = first; pass = p }))
+      subst (λ (n : ℕ). MadeCalls (KillsNext l) kill_count n (record { id = first; pass = p }) empty_shift (record { id = first; pass = p })) (omega arith) (called_none (KillsNext l) kill_count (record { id = first; pass = p }))
 
   -- one id more
   pub kills_more : (first id : ℕ) (p q q' : PassShown) (r : Result Killed Refusal) (s t u : Shift) → first ≤ id → MadeCalls (KillsNext l) kill_count (id - first) (record { id = first; pass = p }) s (record { id = id; pass = q })

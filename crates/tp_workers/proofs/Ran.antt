@@ -5,12 +5,12 @@ use denote.Param.Members.{Shared}
 use Rattle.std.proofs.lemmas.List.Sums.{sum_by-cons, sum_by-append}
 use Rattle.std.proofs.lemmas.List.Elements.{All-cons, All-head, All-nil, All-tail, All-weaker}
 use Rattle.tp_workers.specs.declared.tally.Shift.{Shift}
-use Rattle.tp_workers.specs.Tally.{none, plus, total}
+use Rattle.tp_workers.specs.Tally.{empty_shift, plus, total}
 use Rattle.tp_workers.specs.Ran.{Accepts, MayRun, RanAll, RanEach, Runs}
 use Rattle.tp_workers.proofs.Counts.{none_plus, plus_assoc, plus_none, total_plus}
 
 pub RanAll-one : {T : Type 0} (R : T → Shift → T → Type 0) (x y : T) (s : Shift) → R x s y → RanAll R (x ∷ []) s (y ∷ [])
-RanAll-one R x y s h = (s, none, h, refl, sym (plus_none s))
+RanAll-one R x y s h = (s, empty_shift, h, refl, sym (plus_none s))
 
 pub RanAll-append : {T : Type 0} (R : T → Shift → T → Type 0) (xs : List T) (s : Shift) (ys : List T) (xs' : List T) (t : Shift) (ys' : List T) → RanAll R xs s ys → RanAll R xs' t ys' → RanAll R (xs ++ xs') (plus s t) (ys ++ ys')
 RanAll-append R [] s [] xs' t ys' h k = subst (λ u. RanAll R xs' u ys') (sym (ap (λ v. plus v t) h ∙ none_plus t)) k
@@ -44,7 +44,7 @@ zip_append (x ∷ xs) us [] vs e = absurd (omega (arith, e))
 zip_append (x ∷ xs) us (y ∷ ys) vs e = ap (λ l. (x, y) ∷ l) (zip_append xs us ys vs (omega (arith, e)))
 
 module _ {T U : Type 0} (R : T × U → Shift → T × U → Type 0) where
-  pub each_none : (xs : List T) (ys : List U) (s : Shift) → length xs ≡ 0 → length xs ≡ length ys → s ≡ none → RanEach R xs ys s xs ys
+  pub each_none : (xs : List T) (ys : List U) (s : Shift) → length xs ≡ 0 → length xs ≡ length ys → s ≡ empty_shift → RanEach R xs ys s xs ys
   each_none [] [] s z e n = record { ran = n; on_kept = refl; by_kept = refl }
   each_none [] (y ∷ ys) s z e n = absurd (omega (arith, e))
   each_none (x ∷ xs) ys s z e n = absurd (omega (arith, z))

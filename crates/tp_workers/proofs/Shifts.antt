@@ -19,7 +19,7 @@ use Rattle.tp_workers.specs.Killers.{IsKillJob, IsKillerOf, KillerRan}
 use Rattle.tp_workers.specs.Free.{IsFreePass, numbers}
 use Rattle.tp_workers.specs.Ran.{AreTold, RanAll, RanEach}
 use Rattle.tp_workers.specs.Sums.{calls_of, client_part, desk_part, killer_part, size_of_range}
-use Rattle.tp_workers.specs.Tally.{kill_count, none, plus, refusal_count, submit_count, total, turn_count}
+use Rattle.tp_workers.specs.Tally.{kill_count, empty_shift, plus, refusal_count, submit_count, total, turn_count}
 use Rattle.tp_workers.proofs.Calling.{called_counts, called_total}
 use Rattle.tp_workers.proofs.Clients.{one_submit}
 use Rattle.tp_workers.proofs.Counts.{total_plus}
@@ -238,7 +238,7 @@ module _ {T U : Type 0} (R : T × U → Shift → T × U → Type 0) (xs : List 
       ran_left Q P each (a ∷ ws) t (b ∷ bs) h = All-cons P b bs (each a h.0 b h.2) (ran_left Q P each ws h.1 bs h.3)
 
   -- what each counts of its pass, all count
-  pub each_gains : (f : Shift → ℕ) (g : T → ℕ) → f none ≡ 0 → ((a b : Shift) → f (plus a b) ≡ f a + f b) → ((x : T × U) (t : Shift) (y : T × U) → R x t y → f t + g x.0 ≡ g y.0)
+  pub each_gains : (f : Shift → ℕ) (g : T → ℕ) → f empty_shift ≡ 0 → ((a b : Shift) → f (plus a b) ≡ f a + f b) → ((x : T × U) (t : Shift) (y : T × U) → R x t y → f t + g x.0 ≡ g y.0)
       → length xs ≡ length us → RanEach R xs us s ys vs → f s + sum_by g xs ≡ sum_by g ys
   each_gains f g zero sums each e r =
       omega (arith, ran_gains R f (λ (x : T × U). g x.0) zero sums each (zip xs us) s (zip ys vs) r.ran, sum_first g xs us e, sum_first g ys vs (each_paired e r))

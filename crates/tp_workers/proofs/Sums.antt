@@ -3,7 +3,7 @@ use Rattle.std.proofs.Common.{◌≡◌, ℕ, ◌+◌, ◌*◌, suc, List, [], �
 use Rattle.std.proofs.lemmas.List.Elements.{All-cons, All-head, All-nil, All-tail}
 use Rattle.std.proofs.lemmas.List.Sums.{sum_by-cons}
 use Rattle.tp_workers.specs.declared.tally.Shift.{Shift}
-use Rattle.tp_workers.specs.Tally.{none, plus}
+use Rattle.tp_workers.specs.Tally.{empty_shift, plus}
 use Rattle.tp_workers.specs.Ran.{RanAll}
 
 -- a weaker relation
@@ -28,14 +28,14 @@ ran_length R (x ∷ xs) s [] h = absurd h
 ran_length R (x ∷ xs) s (y ∷ ys) h = ap suc (ran_length R xs h.1 ys h.3)
 
 -- what holds of each worker's counts, and of sums, holds of the sum
-pub ran_keeps : {T : Type 0} (R : T → Shift → T → Type 0) (P : Shift → Type 0) → P none → ((a b : Shift) → P a → P b → P (plus a b)) → ((x : T) (s : Shift) (y : T) → R x s y → P s) → (xs : List T) (s : Shift) (ys : List T) → RanAll R xs s ys → P s
+pub ran_keeps : {T : Type 0} (R : T → Shift → T → Type 0) (P : Shift → Type 0) → P empty_shift → ((a b : Shift) → P a → P b → P (plus a b)) → ((x : T) (s : Shift) (y : T) → R x s y → P s) → (xs : List T) (s : Shift) (ys : List T) → RanAll R xs s ys → P s
 ran_keeps R P z p r [] s [] h = subst P (sym h) z
 ran_keeps R P z p r [] s (y ∷ ys) h = absurd h
 ran_keeps R P z p r (x ∷ xs) s [] h = absurd h
 ran_keeps R P z p r (x ∷ xs) s (y ∷ ys) h = subst P (sym h.4) (p h.0 h.1 (r x h.0 y h.2) (ran_keeps R P z p r xs h.1 ys h.3))
 
 -- what each worker counts more, all count more
-pub ran_gains : {T : Type 0} (R : T → Shift → T → Type 0) (f : Shift → ℕ) (g : T → ℕ) → f none ≡ 0 → ((a b : Shift) → f (plus a b) ≡ f a + f b) → ((x : T) (s : Shift) (y : T) → R x s y → f s + g x ≡ g y) → (xs : List T) (s : Shift) (ys : List T) → RanAll R xs s ys → f s + sum_by g xs ≡ sum_by g ys
+pub ran_gains : {T : Type 0} (R : T → Shift → T → Type 0) (f : Shift → ℕ) (g : T → ℕ) → f empty_shift ≡ 0 → ((a b : Shift) → f (plus a b) ≡ f a + f b) → ((x : T) (s : Shift) (y : T) → R x s y → f s + g x ≡ g y) → (xs : List T) (s : Shift) (ys : List T) → RanAll R xs s ys → f s + sum_by g xs ≡ sum_by g ys
 ran_gains R f g z p r [] s [] h = ap (λ (n : ℕ). n + 0) (ap f h ∙ z)
 ran_gains R f g z p r [] s (y ∷ ys) h = absurd h
 ran_gains R f g z p r (x ∷ xs) s [] h = absurd h
@@ -44,7 +44,7 @@ ran_gains R f g z p r (x ∷ xs) s (y ∷ ys) h =
     omega (arith, r x h.0 y h.2, ran_gains R f g z p r xs h.1 ys h.3, sum_by-cons g x xs, sum_by-cons g y ys)
 
 -- what each worker was asked, all were asked
-pub ran_asked : {T : Type 0} (R : T → Shift → T → Type 0) (f : Shift → ℕ) (w : T → ℕ) → f none ≡ 0 → ((a b : Shift) → f (plus a b) ≡ f a + f b) → ((x : T) (s : Shift) (y : T) → R x s y → f s ≡ w x) → (xs : List T) (s : Shift) (ys : List T) → RanAll R xs s ys → f s ≡ sum_by w xs
+pub ran_asked : {T : Type 0} (R : T → Shift → T → Type 0) (f : Shift → ℕ) (w : T → ℕ) → f empty_shift ≡ 0 → ((a b : Shift) → f (plus a b) ≡ f a + f b) → ((x : T) (s : Shift) (y : T) → R x s y → f s ≡ w x) → (xs : List T) (s : Shift) (ys : List T) → RanAll R xs s ys → f s ≡ sum_by w xs
 ran_asked R f w z p r [] s [] h = ap f h ∙ z
 ran_asked R f w z p r [] s (y ∷ ys) h = absurd h
 ran_asked R f w z p r (x ∷ xs) s [] h = absurd h

@@ -1,7 +1,7 @@
 -- What workers of a list were told, place by place.
 use Rattle.std.proofs.Common.{◌≡◌, ◌+◌, List, [], ◌∷◌, ◌++◌, refl, sym, ◌∙◌, ap, ap₂, subst, arith, length, length-append, get_or, slice_set, zip}
 use Rattle.tp_workers.specs.declared.tally.Shift.{Shift}
-use Rattle.tp_workers.specs.Tally.{none, plus, sum_of}
+use Rattle.tp_workers.specs.Tally.{empty_shift, plus, sum_of}
 use Rattle.tp_workers.specs.Ran.{AreTold, RanEach, RanList}
 use Rattle.tp_workers.proofs.Counts.{none_plus, plus_assoc, plus_none}
 use Rattle.tp_workers.proofs.Ran.{zip_append}
@@ -31,7 +31,7 @@ list_weaker R Q w (x ∷ xs) (s ∷ a) (y ∷ ys) h = (w x s y h.0, list_weaker 
 
 module _ {T U : Type 0} (R : T × U → Shift → T × U → Type 0) where
   -- no worker, one, and those of two parts
-  pub told_none : (xs : List T) (ys : List U) (places : List Shift) (s : Shift) → length xs ≡ 0 → length xs ≡ length ys → s ≡ none
+  pub told_none : (xs : List T) (ys : List U) (places : List Shift) (s : Shift) → length xs ≡ 0 → length xs ≡ length ys → s ≡ empty_shift
       → AreTold R xs ys places s xs ys places
   told_none [] [] [] s z e n = record { kept = refl; each = λ long. tt; sum = λ long. n }
   told_none [] [] (p ∷ places) s z e n =

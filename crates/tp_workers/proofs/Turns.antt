@@ -26,10 +26,10 @@ use Rattle.tp_desk.specs.Turns.{EndsOpen, Turns, Works, WorksOff}
 use Rattle.tp_workers.specs.declared.plan.Plan.{Plan}
 use Rattle.tp_workers.specs.declared.tally.Shift.{Shift}
 use Rattle.tp_workers.specs.Calling.{AllButLast, MadeCalls, Chain}
-use Rattle.tp_workers.specs.Desks.{DeskRan, DeskWorked, HadUnit, HadWork, IsDeskOf, IsResting, Place, TakesTurn, TakesTurns, DeskWorksOn, place, place_of}
+use Rattle.tp_workers.specs.Desks.{DeskRan, DeskWorked, HadUnit, HadWork, IsDeskOf, IsResting, Place, TakesTurn, TakesTurns, DeskWorksOn, place, desk_place}
 use Rattle.tp_workers.specs.Drained.{TookTurn}
 use Rattle.tp_workers.specs.Gains.{commits_in, is_commit}
-use Rattle.tp_workers.specs.Tally.{claimed, none, plus, total, turn_count}
+use Rattle.tp_workers.specs.Tally.{claimed_in_all, empty_shift, plus, total, turn_count}
 use Rattle.tp_workers.proofs.Calling.{called_gains, called_keeps, called_last, called_more, called_none, called_total, called_zero}
 use Rattle.tp_workers.proofs.Events.{claims_one, counted_one}
 
@@ -65,7 +65,7 @@ works_adds : (order : Order) (l : Limits) (behaviour : Behaviour) (registers : L
 works_adds order l behaviour registers p q t left h =
     then 0 1 (turn_count t).done 0 p h.between q (one p h.between _ 0 1 (opens_by order l behaviour.stage h.work p h.between h.takes).adds.mine refl refl) (work_adds behaviour registers h.work h.between q t left h.off)
 
-turn_adds : (order : Order) (l : Limits) (behaviour : Behaviour) (registers : List ℕ) (p q : PassShown) (t : Turned) (left : List ℕ) → Turns order l behaviour registers p q t left → Adds (turn_count t).done (claimed (turn_count t)) p q
+turn_adds : (order : Order) (l : Limits) (behaviour : Behaviour) (registers : List ℕ) (p q : PassShown) (t : Turned) (left : List ℕ) → Turns order l behaviour registers p q t left → Adds (turn_count t).done (claimed_in_all (turn_count t)) p q
 turn_adds order l behaviour registers p q turneds.Idle left h = quiet p q (idle_by order l behaviour.stage p q h.0).1.mine
 turn_adds order l behaviour registers p q turneds.NoUnit left h = quiet p q (ap (λ (s : PassShown). s.mine) (nounit_by order l behaviour.stage p q h.0).1)
 turn_adds order l behaviour registers p q (turneds.Done unit element first count) left h = works_adds order l behaviour registers p q (turneds.Done unit element first count) left h
@@ -74,11 +74,11 @@ turn_adds order l behaviour registers p q (turneds.Lost element) left h = works_
 turn_adds order l behaviour registers p q (turneds.Full element) left h = works_adds order l behaviour registers p q (turneds.Full element) left h
 
 -- a turn uses up the units that it claims
-pub turn_claims : (order : Order) (l : Limits) (behaviour : Behaviour) (registers : List ℕ) (p q : PassShown) (t : Turned) (left : List ℕ) → Turns order l behaviour registers p q t left → claimed (turn_count t) + claims_in p.mine ≡ claims_in q.mine
+pub turn_claims : (order : Order) (l : Limits) (behaviour : Behaviour) (registers : List ℕ) (p q : PassShown) (t : Turned) (left : List ℕ) → Turns order l behaviour registers p q t left → claimed_in_all (turn_count t) + claims_in p.mine ≡ claims_in q.mine
 turn_claims order l behaviour registers p q t left h = (turn_adds order l behaviour registers p q t left h).taken_is
 
 -- a turn claims an element only where a unit is left
-pub turn_room : (order : Order) (l : Limits) (behaviour : Behaviour) (registers : List ℕ) (p q : PassShown) (t : Turned) (left : List ℕ) → Turns order l behaviour registers p q t left → claimed (turn_count t) + claims_in p.mine ≤ l.units
+pub turn_room : (order : Order) (l : Limits) (behaviour : Behaviour) (registers : List ℕ) (p q : PassShown) (t : Turned) (left : List ℕ) → Turns order l behaviour registers p q t left → claimed_in_all (turn_count t) + claims_in p.mine ≤ l.units
 turn_room order l behaviour registers p q turneds.Idle left h = omega (arith, (idle_by order l behaviour.stage p q h.0).0)
 turn_room order l behaviour registers p q turneds.NoUnit left h = omega (arith, (nounit_by order l behaviour.stage p q h.0).0)
 turn_room order l behaviour registers p q (turneds.Done unit element first count) left h = omega (arith, (opens_by order l behaviour.stage h.work p h.between h.takes).room)
@@ -106,9 +106,9 @@ module _ (order : Order) (l : Limits) (n : ℕ) (x y : Place) (s : Shift) (h : M
       called_gains (TakesTurn order l) turn_count (λ (c : Shift). c.done) (λ (p : Place). commits_in p.pass) refl (λ a b. refl)
       (λ p t q r. (turn_adds order l p.behaviour p.registers p.pass q.pass t q.registers r.answer).done_is) n x y s h
 
-  pub turns_claim : claimed s + claims_in x.pass.mine ≡ claims_in y.pass.mine
+  pub turns_claim : claimed_in_all s + claims_in x.pass.mine ≡ claims_in y.pass.mine
   turns_claim =
-      called_gains (TakesTurn order l) turn_count claimed (λ (p : Place). claims_in p.pass.mine) refl (λ a b. omega arith)
+      called_gains (TakesTurn order l) turn_count claimed_in_all (λ (p : Place). claims_in p.pass.mine) refl (λ a b. omega arith)
       (λ p t q r. turn_claims order l p.behaviour p.registers p.pass q.pass t q.registers r.answer) n x y s h
 
   -- no more units are used up than there are, where any is
@@ -129,7 +129,7 @@ module _ {X : Type 0} {F : X → Type 0} (behaviour : (x : X) × F x → Behavio
   at x = place (shown behaviour) (shown registers) (shown pending) x
 
   abbrev of_desk : Desk X F → Place
-  of_desk d = place_of behaviour registers pending d
+  of_desk d = desk_place behaviour registers pending d
 
   -- the desk took n turns so far
   pub record SoFar (order : Order) (n : ℕ) (old : Desk X F) (counts : Shift) (new : Desk X F) : Type 0 where
@@ -137,7 +137,7 @@ module _ {X : Type 0} {F : X → Type 0} (behaviour : (x : X) × F x → Behavio
     pub same : IsSameDesk old new
     pub resting : IsResting behaviour registers pending new
 
-  pub none_so_far : (order : Order) (d : Desk X F) → IsResting behaviour registers pending d → SoFar order 0 d none d
+  pub none_so_far : (order : Order) (d : Desk X F) → IsResting behaviour registers pending d → SoFar order 0 d empty_shift d
   none_so_far order d resting = record {
     calls = called_none (TakesTurn order d.manager.now.limits) turn_count (of_desk d);
     same = record { manager = refl; pass = refl; server = refl; first_pass = refl; first_server = refl };

@@ -1,7 +1,7 @@
 -- Calls of one worker, one after another.
 use Rattle.std.specs.Prelude.{◌≡◌, ⊤, ℕ, List, [], ◌∷◌, length}
 use Rattle.tp_workers.specs.declared.tally.Shift.{Shift}
-use Rattle.tp_workers.specs.Tally.{none, plus}
+use Rattle.tp_workers.specs.Tally.{empty_shift, plus}
 
 -- calls with these answers lead from one state to the other
 abbrev pub Chain : {S A : Type 0} → (S → A → S → Type 0) → S → List A → S → Type 0
@@ -16,7 +16,7 @@ AllButLast P (a ∷ b ∷ rest) = P a × AllButLast P (b ∷ rest)
 
 -- these answers, as counts
 abbrev pub tally : {A : Type 0} → (A → Shift) → List A → Shift
-tally count [] = none
+tally count [] = empty_shift
 tally count (a ∷ rest) = plus (count a) (tally count rest)
 
 -- n calls lead from one state to the other, and their answers are counted so

@@ -49,7 +49,7 @@ abbrev pub submitting : List (List ℕ) → PassShown → Submitting
 submitting left pass = record { left = left; pass = pass }
 
 -- the client submitted the first of the bodies that were left to it, or was refused, and the others are left
-pub record SubmitsPayments (l : Limits) (stage : ℕ) (old : Submitting) (answer : Result ℕ Refusal)
+pub record SubmitsFirst (l : Limits) (stage : ℕ) (old : Submitting) (answer : Result ℕ Refusal)
     (new : Submitting) : Type 0 where
   pub body : List ℕ
   pub first : old.left ≡ body ∷ new.left
@@ -65,7 +65,7 @@ IsSubmitOf stage bodies e = (body : List ℕ) × Contains bodies body × (c : �
 pub record ClientRan (m : ManagerShown) (old : PassShown × JobShown) (counts : Shift) (new : PassShown
     × JobShown)
     : Type 0 where
-  pub calls : MadeCalls (SubmitsPayments m.limits old.1.stage) submit_count (length old.1.bodies)
+  pub calls : MadeCalls (SubmitsFirst m.limits old.1.stage) submit_count (length old.1.bodies)
       (submitting old.1.bodies old.0) counts (submitting [] new.0)
   pub gains : GainsOnly (IsSubmitOf old.1.stage old.1.bodies) old.0 new.0
   pub submitted : counts.submitted + enqueues_in old.0 ≡ enqueues_in new.0

@@ -92,8 +92,8 @@ module _ {X : Type 0} {F : X → Type 0} (behaviour : (x : X) × F x → Behavio
     → List ℕ)
     (pending : (x : X) × F x → Option Pending) where
   -- what the pass and the server of a desk show
-  abbrev pub place_of : Desk X F → Place
-  place_of d = place (shown behaviour) (shown registers) (shown pending) (d.pass.now, d.server.now)
+  abbrev pub desk_place : Desk X F → Place
+  desk_place d = place (shown behaviour) (shown registers) (shown pending) (d.pass.now, d.server.now)
 
   -- the desk is steady, and has no work in hand
   pub record IsResting (d : Desk X F) : Type 0 where

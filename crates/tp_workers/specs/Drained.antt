@@ -12,7 +12,7 @@ use Rattle.tp_workers.specs.declared.tally.Shift.{Shift}
 use Rattle.tp_workers.specs.Calling.{MadeCalls}
 use Rattle.tp_workers.specs.Desks.{IsDeskOf, Place, TakesTurn, place}
 use Rattle.tp_workers.specs.Gains.{commits_in}
-use Rattle.tp_workers.specs.Tally.{claimed, turn_count}
+use Rattle.tp_workers.specs.Tally.{claimed_in_all, turn_count}
 use Rattle.tp_model.specs.declared.types.TheConstants.{MAX_UNITS}
 
 -- turns were taken there, whose claims were in this order, and the last found nothing to claim
@@ -23,7 +23,7 @@ pub record EndsIdle (order : Order) (l : Limits) (old new : Place) : Type 0 wher
   pub calls : MadeCalls (TakesTurn order l) turn_count taken old counts before
   pub last : Turned
   pub turn : TakesTurn order l before last new
-  pub idle : claimed (turn_count last) ≡ 0
+  pub idle : claimed_in_all (turn_count last) ≡ 0
 
 module _ {B : Type 0} (behaviour : B → Behaviour) (registers : B → List ℕ) (pending : B → Option Pending)
     (m : ManagerShown)

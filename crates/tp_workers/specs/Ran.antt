@@ -3,12 +3,12 @@ use Rattle.std.specs.Prelude.{◌≡◌, ⊤, ℕ, ◌≤◌, ◌<◌, ◌^◌, 
 use denote.Ref.{MutBor}
 use denote.Param.Members.{Shared}
 use Rattle.tp_workers.specs.declared.tally.Shift.{Shift}
-use Rattle.tp_workers.specs.Tally.{none, plus, sum_of, total}
+use Rattle.tp_workers.specs.Tally.{empty_shift, plus, sum_of, total}
 
 -- Each worker of the first list ran, with counts of its own, and became the one at its place in the second
 -- list. The counts add up to these.
 abbrev pub RanAll : {T : Type 0} → (T → Shift → T → Type 0) → List T → Shift → List T → Type 0
-RanAll R [] s [] = s ≡ none
+RanAll R [] s [] = s ≡ empty_shift
 RanAll R [] s (y ∷ ys) = ⊥
 RanAll R (x ∷ xs) s [] = ⊥
 RanAll R (x ∷ xs) s (y ∷ ys) = (a : Shift) × (b : Shift) × R x a y × RanAll R xs b ys × (s ≡ plus a b)

@@ -8,8 +8,8 @@ use Rattle.tp_desk.specs.declared.turned.Turned.TheVariants as turneds
 use Rattle.tp_workers.specs.declared.tally.Shift.{Shift}
 
 -- nothing was done
-abbrev pub none : Shift
-none = record {
+abbrev pub empty_shift : Shift
+empty_shift = record {
   done = 0;
   refused = 0;
   lost = 0;
@@ -43,7 +43,7 @@ plus a b = record {
 
 -- what all workers of a list did together
 abbrev pub sum_of : List Shift → Shift
-sum_of [] = none
+sum_of [] = empty_shift
 sum_of (s ∷ ss) = plus s (sum_of ss)
 
 -- all counts together
@@ -54,38 +54,38 @@ total a =
 
 -- a turn with this answer
 abbrev pub turn_count : Turned → Shift
-turn_count turneds.Idle = record none { idle = 1 }
-turn_count turneds.NoUnit = record none { nounit = 1 }
-turn_count (turneds.Done unit element first outputs) = record none { done = 1 }
-turn_count (turneds.Refused element why) = record none { refused = 1 }
-turn_count (turneds.Lost element) = record none { lost = 1 }
-turn_count (turneds.Full element) = record none { full = 1 }
+turn_count turneds.Idle = record empty_shift { idle = 1 }
+turn_count turneds.NoUnit = record empty_shift { nounit = 1 }
+turn_count (turneds.Done unit element first outputs) = record empty_shift { done = 1 }
+turn_count (turneds.Refused element why) = record empty_shift { refused = 1 }
+turn_count (turneds.Lost element) = record empty_shift { lost = 1 }
+turn_count (turneds.Full element) = record empty_shift { full = 1 }
 
 -- a submit with this answer: a client's stage is a good one, so it is refused as Full alone
 abbrev pub submit_count : Result ℕ Refusal → Shift
-submit_count (Ok id) = record none { submitted = 1 }
-submit_count (Err why) = record none { submit_full = 1 }
+submit_count (Ok id) = record empty_shift { submitted = 1 }
+submit_count (Err why) = record empty_shift { submit_full = 1 }
 
 -- a kill that was refused so: as Consumed, AlreadyKilled, or NotThere
 abbrev pub refusal_count : Refusal → Shift
-refusal_count refusals.NoMemory = record none { missing = 1 }
-refusal_count refusals.BadLimits = record none { missing = 1 }
-refusal_count refusals.BadStage = record none { missing = 1 }
-refusal_count refusals.NotThere = record none { missing = 1 }
-refusal_count (refusals.Consumed unit) = record none { late = 1 }
-refusal_count refusals.AlreadyKilled = record none { already = 1 }
-refusal_count refusals.Full = record none { missing = 1 }
-refusal_count refusals.NotParked = record none { missing = 1 }
-refusal_count refusals.NoRound = record none { missing = 1 }
-refusal_count refusals.NotHeld = record none { missing = 1 }
-refusal_count refusals.NotWaiting = record none { missing = 1 }
-refusal_count refusals.NoUnit = record none { missing = 1 }
+refusal_count refusals.NoMemory = record empty_shift { missing = 1 }
+refusal_count refusals.BadLimits = record empty_shift { missing = 1 }
+refusal_count refusals.BadStage = record empty_shift { missing = 1 }
+refusal_count refusals.NotThere = record empty_shift { missing = 1 }
+refusal_count (refusals.Consumed unit) = record empty_shift { late = 1 }
+refusal_count refusals.AlreadyKilled = record empty_shift { already = 1 }
+refusal_count refusals.Full = record empty_shift { missing = 1 }
+refusal_count refusals.NotParked = record empty_shift { missing = 1 }
+refusal_count refusals.NoRound = record empty_shift { missing = 1 }
+refusal_count refusals.NotHeld = record empty_shift { missing = 1 }
+refusal_count refusals.NotWaiting = record empty_shift { missing = 1 }
+refusal_count refusals.NoUnit = record empty_shift { missing = 1 }
 
 -- a kill with this answer
 abbrev pub kill_count : Result Killed Refusal → Shift
-kill_count (Ok killed) = record none { killed = 1 }
+kill_count (Ok killed) = record empty_shift { killed = 1 }
 kill_count (Err why) = refusal_count why
 
 -- how many elements were claimed
-abbrev pub claimed : Shift → ℕ
-claimed s = s.done + s.refused + s.lost + s.full
+abbrev pub claimed_in_all : Shift → ℕ
+claimed_in_all s = s.done + s.refused + s.lost + s.full

@@ -2,7 +2,7 @@
 ghost use Rattle.std.specs.Prelude.{◌≤◌};
 ghost use Rattle.tp_desk.specs.Steady.{IsSameDesk, shown};
 ghost use Rattle.tp_workers.specs.Asking.{AsksTurns};
-ghost use Rattle.tp_workers.specs.Desks.{DeskWorked, IsDeskOf, IsResting, DeskWorksOn, place_of};
+ghost use Rattle.tp_workers.specs.Desks.{DeskWorked, IsDeskOf, IsResting, DeskWorksOn, desk_place};
 
 use crate::desks::turn_at;
 use crate::gate::NoGate;
@@ -36,7 +36,7 @@ fn turns_until_idle(desk: &mut Desk, plan: Plan) -> Shift
     requires resting { IsResting behaviour registers pending desk.old }
     ensures same { IsSameDesk desk.old desk.new }
     ensures turns { DeskWorksOn plan desk.old.manager.now.limits
-        (place_of behaviour registers pending desk.old) result (place_of behaviour registers pending desk.new) }
+        (desk_place behaviour registers pending desk.old) result (desk_place behaviour registers pending desk.new) }
     ensures asked { AsksTurns (shown behaviour) (shown registers) (shown pending) (shown asked) desk.old.manager.now
         plan.order (desk.old.pass.now, desk.old.server.now) result (desk.new.pass.now, desk.new.server.now) }
     ensures resting { IsResting behaviour registers pending desk.new }

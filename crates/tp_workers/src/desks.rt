@@ -9,7 +9,7 @@ ghost use Rattle.tp_desk.specs.Orders.{KeepsTurn};
 ghost use Rattle.tp_desk.specs.Steady.{IsSameDesk, SteadyDesk, shown};
 ghost use Rattle.tp_desk.specs.Turns.{Turns, WorksOff, turn_steps};
 ghost use Rattle.tp_workers.specs.Asking.{AsksTurns};
-ghost use Rattle.tp_workers.specs.Desks.{DeskRan, IsDeskOf, IsResting, TakesTurn, TakesTurns, place_of};
+ghost use Rattle.tp_workers.specs.Desks.{DeskRan, IsDeskOf, IsResting, TakesTurn, TakesTurns, desk_place};
 ghost use Rattle.tp_workers.specs.Drained.{TookTurn};
 ghost use Rattle.tp_workers.specs.Tally.{total};
 
@@ -64,7 +64,7 @@ fn take_turns<G: Gate>(desk: &mut Desk, plan: Plan, worker: u32, gate: &G) -> Sh
     requires resting { IsResting behaviour registers pending desk.old }
     ensures same { IsSameDesk desk.old desk.new }
     ensures turns { TakesTurns plan desk.old.manager.now.limits
-        (place_of behaviour registers pending desk.old) result (place_of behaviour registers pending desk.new) }
+        (desk_place behaviour registers pending desk.old) result (desk_place behaviour registers pending desk.new) }
     ensures asked { AsksTurns (shown behaviour) (shown registers) (shown pending) (shown asked) desk.old.manager.now
         plan.order (desk.old.pass.now, desk.old.server.now) result (desk.new.pass.now, desk.new.server.now) }
     ensures resting { IsResting behaviour registers pending desk.new }
@@ -86,7 +86,7 @@ pub(crate) fn turn_at<G: Gate>(desk: &mut Desk, order: Order, worker: u32, gate:
     requires resting { IsResting behaviour registers pending desk.old }
     ensures same { IsSameDesk desk.old desk.new }
     ensures turn { TakesTurn order desk.old.manager.now.limits
-        (place_of behaviour registers pending desk.old) result (place_of behaviour registers pending desk.new) }
+        (desk_place behaviour registers pending desk.old) result (desk_place behaviour registers pending desk.new) }
     ensures asked { Asks (turn_asks result desk.new.pass.now.seen (shown registers desk.old.server.now)
         (shown registers desk.new.server.now)) (shown asked desk.old.server.now) (shown asked desk.new.server.now) }
     ensures resting { IsResting behaviour registers pending desk.new }

@@ -2,7 +2,7 @@
 ghost use Rattle.std.specs.Prelude.{◌≡◌, ◌+◌, ◌<◌, ◌^◌, true, false};
 ghost use Rattle.std.specs.Bool.{OnTrue, OnFalse};
 ghost use Rattle.tp_workers.specs.Sums.{client_part, desk_part, killer_part};
-ghost use Rattle.tp_workers.specs.Tally.{claimed, kill_count, none, plus, submit_count, total, turn_count};
+ghost use Rattle.tp_workers.specs.Tally.{claimed_in_all, kill_count, empty_shift, plus, submit_count, total, turn_count};
 
 use tp_desk::Turned;
 use tp_model::types::{Killed, Refusal};
@@ -39,7 +39,7 @@ pub struct Shift {
 impl Shift {
     /// Nothing was done.
     pub(crate) fn none() -> Shift
-        ensures { result ≡ none }
+        ensures { result ≡ empty_shift }
     {
         Shift {
             done: 0,
@@ -144,8 +144,8 @@ impl Shift {
 
     /// Whether a desk has claimed an element.
     pub(crate) fn has_claimed(&self) -> bool
-        ensures claimed { OnTrue result (0 < claimed self.now) }
-        ensures unclaimed { OnFalse result (claimed self.now ≡ 0) }
+        ensures claimed { OnTrue result (0 < claimed_in_all self.now) }
+        ensures unclaimed { OnFalse result (claimed_in_all self.now ≡ 0) }
     {
         self.done > 0 || self.refused > 0 || self.lost > 0 || self.full > 0
     }

@@ -1,6 +1,6 @@
 use Rattle.tp_manager.specs.Shown.{IsKeptBy}
-use Rattle.tp_bench.specs.Pipelines.{AreReady}
+use Rattle.tp_bench.specs.Pipelines.{AreRolesReady}
 use Rattle.tp_bench.proofs.pipeline.stage_by_stage.Given as goal
 
 abbrev pub invariant-loop-i : goal.invariant-loop-i
-invariant-loop-i l = IsKeptBy l.manager l.keeper × AreReady l.manager l.roles
+invariant-loop-i l = IsKeptBy l.manager l.keeper × AreRolesReady l.manager l.roles

@@ -16,6 +16,8 @@ loop-row-preserved c =
           (found_then c.args.manager.now.limits.attempts c.loop-row.row c.loop-row.found.items c.alive_at-one.result c.args.pass.now c.loop-row.pass c.alive_at-one.new.pass c.alive_at-one.ensures.itself i.stays c.alive_at-one.ensures.stays i.told c.alive_at-one.ensures.told);
       up = up_next c.loop-row.row c.loop-row.found.items c.keep.new.found.items c.alive_at-one.result i.up c.alive_at-one.ensures.itself c.in_ok-keep.ensures.kept;
       few = one_kept c.loop-row.found.items c.keep.new.found.items c.alive_at-one.result c.args.count c.in_ok-keep.ensures.kept (let short = c.if-len-count.false in let len = c.len.ensures in omega (arith, short, len));
+      below = one_kept c.loop-row.found.items c.keep.new.found.items c.alive_at-one.result (c.loop-row.row + 1) c.in_ok-keep.ensures.kept (let below = i.below in omega (arith, below));
+      space = (let more = c.keep.ensures.space in let so_far = i.space in omega (arith, more, so_far));
       none = λ zero. (let short = c.if-len-count.false in absurd (omega (arith, short, zero)));
       made = (let more = once_more c.loop-row.row (read_steps c.args.manager.now.limits) in omega (arith, more, i.made, c.alive_at-one.ensures.steps));
     }

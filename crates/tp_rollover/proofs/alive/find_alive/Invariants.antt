@@ -1,7 +1,7 @@
 use Rattle.tp_manager.specs.Shown.{IsOf}
 use Rattle.tp_alone.specs.Thread.{Stays}
 use Rattle.tp_rollover.specs.Told.{HoldsAsSeen}
-use Rattle.std.proofs.Common.{◌≡◌, ◌*◌, ◌≤◌, length}
+use Rattle.std.proofs.Common.{◌≡◌, ◌*◌, ◌≤◌, length, vec_capacity}
 use Rattle.tp_manager.specs.Bounds.{read_steps}
 use Rattle.tp_rollover.specs.Bounds.{PassMakes}
 use Rattle.tp_rollover.proofs.Founds.{FoundBelow, IsUpTo}
@@ -14,6 +14,8 @@ invariant-loop-row l = record {
   told : HoldsAsSeen l.initial.pass l.pass (FoundBelow l.manager.limits.attempts l.row l.found.items);
   up : IsUpTo l.row l.found.items;
   few : length l.found.items ≤ l.count;
+  below : length l.found.items ≤ l.row;
+  space : vec_capacity l.initial.found ≤ vec_capacity l.found;
   none : l.count ≡ 0 → l.row ≡ 0;
   made : PassMakes (l.row * read_steps l.manager.limits) l.initial.pass l.pass;
 }

@@ -1,14 +1,13 @@
-use Rattle.std.proofs.Common.{All, ◌≡◌, ◌-◌, ◌*◌, ◌≤◌, ◌++◌, ◌∙◌, Ok, Err, Result, ap, drop, length, refl, subst, sym, take, arith}
+use Rattle.std.proofs.Common.{All, None, ◌≡◌, ◌-◌, ◌*◌, ◌≤◌, ◌++◌, ◌∙◌, Ok, Err, Result, ap, drop, length, refl, subst, sym, take, arith}
 use Rattle.std.proofs.lemmas.List.Elements.{All-drop, All-take}
 use Rattle.tp_rollover.specs.Bounds.{AllMake, bear_steps}
 use Rattle.tp_rollover.specs.Fits.{AreFit, MayBeBorn}
-use Rattle.tp_rollover.specs.Lone.{bearing, placing}
+use Rattle.tp_rollover.specs.Lone.{bearing, lone, placing}
 use Rattle.tp_rollover.specs.Runs.{GoesFurther}
 use Rattle.tp_rollover.specs.declared.stops.Stop.{Stop}
-use Rattle.tp_rollover.proofs.BirthsAll.{all_there, left_of, not_past, one_on, put_back, same_turn, stops_fit, stops_unfit}
+use Rattle.tp_rollover.proofs.BirthsAll.{all_start, all_there, left_of, not_past, one_on, put_back, same_turn, stops_fit, stops_unfit}
 use Rattle.tp_rollover.proofs.BirthsSteps.{born_of_all, born_on}
 use Rattle.tp_rollover.proofs.Kinships.{may_still}
-use Rattle.tp_rollover.proofs.births.bear_all.Goals.{else-loop-turn-test, then-loop-turn-test+then-from-survivors}
 use Rattle.tp_rollover.proofs.births.bear_all.Goals as goal
 
 pub returns-in_err-bear_turn-clause-steps : goal.returns-in_err-bear_turn-clause-steps
@@ -38,6 +37,23 @@ returns-in_err-bear_turn-clause-gives c =
     stops_fit l p c.args.survivors.now c.len-from.result moved (record { placing = at; families = fs }) _ i.so_far (c.len-from.ensures ∙ c.loop-turn.moved.ok.0) c.if-from-survivors.false (Unit {0}) (AreFit l c.args.manager.now.limits c.args.survivors.now) c.from_residual-in_err-bear_turn.result c.in_err-bear_turn.field-0.0 _ moved'
     (record { placing = at'; families = c.bear_turn.new.families }) c.from_residual-in_err-bear_turn.ensures.1 on
 
+pub loop-turn-init : goal.loop-turn-init
+loop-turn-init c =
+    let m = c.args.manager.now in
+    let none = c.reserve_exact.ensures.items ∙ c.clear.ensures.items in
+    let zero = ap length none in
+    record {
+      alone = (c.requires.lone, refl);
+      few = omega (arith, zero);
+      space = omega arith;
+      families = omega arith;
+      turns = omega arith;
+      made = subst (λ ms. AllMake (length ms * bear_steps m.limits c.args.keeper.now.given 1) c.args.keeper.now c.args.passes.now c.args.keeper.now c.args.passes.now) (sym none) (omega arith);
+      may = c.in_ok-families_for.ensures.may;
+      so_far = all_start c.args.of.now.limits (length c.args.passes.now) c.args.survivors.now (lone m c.args.keeper.now c.args.passes.now) c.reserve_exact.new.self.items c.start-cursor.result c.families_for.new.families.items none
+          (c.start-cursor.ensures ∙ ap (λ kept. record { at = 0; block = None; kept = kept }) c.kept_for.ensures) c.in_ok-families_for.ensures.counted;
+    }
+
 pub loop-turn-preserved : goal.loop-turn-preserved
 loop-turn-preserved c =
     let i = c.loop-turn.invariant in
@@ -66,40 +82,42 @@ loop-turn-preserved c =
     record {
       alone = (c.bear_turn.ensures.lone.0, c.bear_turn.ensures.lone.1 ∙ i.alone.1);
       few = subst (λ z. z ≤ length c.args.survivors.now) (sym many) few;
+      space = (let more = c.bear_turn.ensures.space in let so_far = i.space in omega (arith, more, so_far));
+      families = i.families;
       turns = (let e = i.turns in omega (arith, e, many, some));
       made = subst (λ z. AllMake (z * bear_steps l q 1) c.args.keeper.now c.args.passes.now c.bear_turn.new.keeper c.bear_turn.new.passes) (sym many) made;
       may = may_still c.args.survivors.now fs all i.may (ap length back ∙ (c.bear_turn.ensures.long ∙ ap length c.deref_mut.ensures.value));
       so_far = one_on of p c.args.survivors.now c.len-from.result moved (record { placing = at; families = fs }) _ i.so_far (c.len-from.ensures ∙ c.loop-turn.moved.ok.0) c.if-from-survivors.false moved' (record { placing = at'; families = all }) on;
     }
 
-pub returns-clause-gives : goal.returns-clause-gives
-returns-clause-gives c =
+pub returns-after-loop-turn-clause-gives : goal.returns-after-loop-turn-clause-gives
+returns-after-loop-turn-clause-gives c =
     let i = c.loop-turn.invariant in
-    let l = c.args.of.now.limits in
-    let p = length c.args.passes.now in
-    let b = bearing c.args.manager.now c.loop-turn.keeper c.loop-turn.passes c.loop-turn.cursor c.loop-turn.families.items in
-    elim c.loop-turn-test.branch [
-      | else-loop-turn-test w ↦
-          let past = w.loop-turn-test.false in
-          let e = i.turns in
-          all_there l p c.args.survivors.now (length c.loop-turn.moved.items) c.loop-turn.moved.items b _ i.so_far refl (omega (arith, past, e))
-      | then-loop-turn-test+then-from-survivors w ↦
-          all_there l p c.args.survivors.now w.len-from.result c.loop-turn.moved.items b _ i.so_far (w.len-from.ensures ∙ c.loop-turn.moved.ok.0) w.if-from-survivors.true
-    ]
+    let past = c.loop-turn-test.false in
+    let e = i.turns in
+    all_there c.args.of.now.limits (length c.args.passes.now) c.args.survivors.now (length c.loop-turn.moved.items) c.loop-turn.moved.items (bearing c.args.manager.now c.loop-turn.keeper c.loop-turn.passes c.loop-turn.cursor c.loop-turn.families.items) _ i.so_far refl (omega (arith, past, e))
 
-pub returns-clause-many : goal.returns-clause-many
-returns-clause-many c =
+pub returns-then-from-survivors-clause-gives : goal.returns-then-from-survivors-clause-gives
+returns-then-from-survivors-clause-gives c =
+    all_there c.args.of.now.limits (length c.args.passes.now) c.args.survivors.now c.len-from.result c.loop-turn.moved.items (bearing c.args.manager.now c.loop-turn.keeper c.loop-turn.passes c.loop-turn.cursor c.loop-turn.families.items) _ c.loop-turn.invariant.so_far (c.len-from.ensures ∙ c.loop-turn.moved.ok.0) c.if-from-survivors.true
+
+pub returns-after-loop-turn-clause-many : goal.returns-after-loop-turn-clause-many
+returns-after-loop-turn-clause-many c =
     let i = c.loop-turn.invariant in
-    let few = i.few in
-    elim c.loop-turn-test.branch [
-      | else-loop-turn-test w ↦ let past = w.loop-turn-test.false in let e = i.turns in omega (arith, past, e, few)
-      | then-loop-turn-test+then-from-survivors w ↦ let past = w.if-from-survivors.true in let long = w.len-from.ensures in let len = c.loop-turn.moved.ok.0 in omega (arith, past, long, len, few)
-    ]
+    let past = c.loop-turn-test.false in
+    omega (arith, past, i.turns, i.few)
 
-pub returns-in_err-families-clause-gives : goal.returns-in_err-families-clause-gives
-returns-in_err-families-clause-gives c =
-    stops_unfit c.args.of.now.limits c.args.manager.now.limits c.args.survivors.now c.from_residual.result c.in_err-families.field-0.0 _ _ c.from_residual.ensures.1
-    c.in_err-families.ensures.stops
+pub returns-then-from-survivors-clause-many : goal.returns-then-from-survivors-clause-many
+returns-then-from-survivors-clause-many c =
+    let past = c.if-from-survivors.true in
+    let long = c.len-from.ensures in
+    let len = c.loop-turn.moved.ok.0 in
+    omega (arith, past, long, len, c.loop-turn.invariant.few)
+
+pub returns-in_err-families_for-clause-gives : goal.returns-in_err-families_for-clause-gives
+returns-in_err-families_for-clause-gives c =
+    stops_unfit c.args.of.now.limits c.args.manager.now.limits c.args.survivors.now c.from_residual.result c.in_err-families_for.field-0.0 _ _ c.from_residual.ensures.1
+    c.in_err-families_for.ensures.stops
 
 pub bear_turn-requires-clause-may : goal.bear_turn-requires-clause-may
 bear_turn-requires-clause-may c =

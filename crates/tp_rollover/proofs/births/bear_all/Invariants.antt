@@ -1,4 +1,4 @@
-use Rattle.std.proofs.Common.{◌≡◌, ◌*◌, ◌≤◌, All, length}
+use Rattle.std.proofs.Common.{◌≡◌, ◌*◌, ◌≤◌, All, length, vec_capacity}
 use Rattle.tp_rollover.specs.Anew.{all_born}
 use Rattle.tp_rollover.specs.Bounds.{AllMake, bear_steps}
 use Rattle.tp_rollover.specs.Fits.{MayBeBorn}
@@ -10,6 +10,8 @@ abbrev pub invariant-loop-turn : goal.invariant-loop-turn
 invariant-loop-turn l = record {
   alone : AreLone l.manager l.keeper l.passes × (l.keeper.given ≡ l.initial.keeper.given);
   few : length l.moved.items ≤ length l.survivors;
+  space : vec_capacity l.initial.moved ≤ vec_capacity l.moved;
+  families : vec_capacity l.initial.families ≤ vec_capacity l.families;
   turns : l._turn ≤ length l.moved.items;
   made : AllMake (length l.moved.items * bear_steps l.manager.limits l.initial.keeper.given 1) l.initial.keeper l.initial.passes l.keeper l.passes;
   may : All (MayBeBorn l.families.items) l.survivors;

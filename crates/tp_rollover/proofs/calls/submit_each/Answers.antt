@@ -1,4 +1,4 @@
-use Rattle.std.proofs.Common.{◌≡◌, ◌+◌, ◌++◌, ◌∷◌, ◌∙◌, [], get_or, take, arith, rules}
+use Rattle.std.proofs.Common.{◌≡◌, ◌+◌, ◌++◌, ◌∷◌, ◌∙◌, [], ap, get_or, length, length-append, take, arith, rules}
 use Rattle.tp_rollover.specs.Runs.{named_root}
 use Rattle.tp_rollover.specs.declared.survivors.Survivor.{Survivor}
 use Rattle.tp_rollover.proofs.BirthsGroups.{blank}
@@ -32,6 +32,8 @@ loop-place-preserved c =
     let pushed : c.push.new.self.items ≡ c.loop-place.moved.items ++ named_root one c.in-Ok.id ∷ [] = search rules in
     record {
       own = (c.submit.ensures.own, c.submit.ensures.follows.number ∙ was.own.1);
+      many = (let long = length-append c.loop-place.moved.items (named_root one c.in-Ok.id ∷ []) in let so_far = was.many in ap length pushed ∙ omega (arith, long, so_far));
+      space = (let more = c.push.ensures.capacity in let so_far = was.space in omega (arith, more, so_far));
       made = makes_more i (i + 1) _ c.args.pass.now c.loop-place.pass c.submit.new.pass (omega arith) was.made c.submit.ensures.follows;
       ran = runs_on l (take i c.args.roots.now) (take (i + 1) c.args.roots.now) c.args.moved.now.items c.loop-place.moved.items c.push.new.self.items one c.in-Ok.id c.args.pass.now c.loop-place.pass c.submit.new.pass
           (take_more c.args.roots.now i blank (omega arith)) pushed was.ran

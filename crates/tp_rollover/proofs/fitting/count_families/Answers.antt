@@ -9,10 +9,11 @@ use Rattle.tp_rollover.proofs.fitting.count_families.Goals as goal
 
 pub loop-place-init : goal.loop-place-init
 loop-place-init c =
-    let is : c.in_ok-families.families.items ≡ replicate c.min-places.result (unborn 0) = search rules in
-    let long : length c.in_ok-families.families.items ≡ c.min-places.result = ap length is ∙ length-replicate c.min-places.result (unborn 0) in
+    let is : c.refill.new.places.items ≡ replicate c.min-places.result (unborn 0) = search rules in
+    let long : length c.refill.new.places.items ≡ c.min-places.result = ap length is ∙ length-replicate c.min-places.result (unborn 0) in
     record {
       counted = refl;
+      space = omega arith;
       places = λ k d less. (let low = has_place c.args.of.now.limits c.args.survivors.now c.min-places.result (search rules) c.requires.roots k d less in omega (arith, low, long));
       few = subst (All (λ (f : Family). f.left ≤ 0)) (sym is) (none_counted c.min-places.result);
     }
@@ -27,5 +28,6 @@ loop-place-preserved c =
     record {
       counted = counted_on fs c.args.survivors.now c.loop-place.place c.index.result.now c.loop-place-test.true is _ i.counted;
       places = λ k d less. (let low = i.places k d less in let long = length-set fs root (unborn (c.index.result.now.left + 1)) in omega (arith, low, long));
+      space = i.space;
       few = few_more fs root c.loop-place.place (c.loop-place.place + 1) (unborn (c.index.result.now.left + 1)) (omega arith) (omega (arith, few)) i.few;
     }

@@ -12,8 +12,8 @@ returns-clause-stays c = stays_again c.args.passes.now c.in-Some._rest.now c.in-
 
 pub returns-clause-told : goal.returns-clause-told
 returns-clause-told c =
-    first_done c.hold_by.result (λ g. StandAlike c.args.manager.now.limits.attempts g c.args.survivors.now c.args.moved.now) c.args.passes.now c.in-Some._rest.now c.in-Some.first.now c.hold_by.new.pass c.in-Some.ensures.cases.0 c.hold_by.ensures.told
+    first_done c.hold_by.result (λ g. StandAlike c.args.manager.now.limits.attempts g c.args.survivors.now c.hold_by.new.space.moved.items) c.args.passes.now c.in-Some._rest.now c.in-Some.first.now c.hold_by.new.pass c.in-Some.ensures.cases.0 c.hold_by.ensures.told
 
 pub returns-clause-stops : goal.returns-clause-stops
 returns-clause-stops c =
-    first_stops c.hold_by.result (λ g. StandAlike c.args.manager.now.limits.attempts g c.args.survivors.now c.args.moved.now) c.args.passes.now c.in-Some._rest.now c.in-Some.first.now c.hold_by.new.pass c.in-Some.ensures.cases.0 c.hold_by.ensures.stops
+    first_stops c.hold_by.result (λ g. StandAlike c.args.manager.now.limits.attempts g c.args.survivors.now c.hold_by.new.space.moved.items) c.args.passes.now c.in-Some._rest.now c.in-Some.first.now c.hold_by.new.pass c.in-Some.ensures.cases.0 c.hold_by.ensures.stops

@@ -17,17 +17,17 @@ use Rattle.tp_rollover.proofs.Sums.{held_by, held_within}
 use Rattle.tp_rollover.proofs.restoring.stand_again.Goals as goal
 
 pub hold_all-requires : goal.hold_all-requires
-hold_all-requires c = record { lone = record { kept = c.stand_unheld.ensures.keeper.0; own = c.stand_unheld.ensures.own; together = c.in_ok-moved.ensures.together }; many = ap length c.deref.ensures.value ∙ zip_as_many (StandsUnheld c.args.manager.now.limits.attempts c.stand_unheld.new.keeper.seen) c.args.survivors.now c.in_ok-moved.moved.items c.in_ok-moved.ensures.restored.each }
+hold_all-requires c = record { lone = record { kept = c.stand_unheld.ensures.keeper.0; own = c.stand_unheld.ensures.own; together = c.in_ok-stand_unheld.ensures.together }; many = ap length c.deref.ensures.value ∙ zip_as_many (StandsUnheld c.args.manager.now.limits.attempts c.stand_unheld.new.keeper.seen) c.args.survivors.now c.stand_unheld.new.space.moved.items c.in_ok-stand_unheld.ensures.restored.each }
 
-pub returns-in_err-moved-clause-computed : goal.returns-in_err-moved-clause-computed
-returns-in_err-moved-clause-computed c fresh =
+pub returns-in_err-stand_unheld-clause-computed : goal.returns-in_err-stand_unheld-clause-computed
+returns-in_err-stand_unheld-clause-computed c fresh =
     let l = c.args.of.now.limits in
     let p = length c.args.passes.now in
     let ss = c.args.survivors.now in
     let s = start c.args.manager.now.limits in
     let rest : List Moved × State → Option (List Moved × State) = λ x. option_and_then (λ done. Some (x.0, done)) (all_held p ss x.0 x.1) in
-    unless_first _ _ (made_unheld l p ss s) (made_anew l p ss s) (DiffersAnew l p ss s) (λ none. ap (option_and_then rest) none) (DiffersAnew l p ss s) c.from_residual.result c.in_err-moved.field-0.0 c.from_residual.ensures.1
-    (λ w. w) (c.in_err-moved.ensures.computed fresh)
+    unless_first _ _ (made_unheld l p ss s) (made_anew l p ss s) (DiffersAnew l p ss s) (λ none. ap (option_and_then rest) none) (DiffersAnew l p ss s) c.from_residual.result c.in_err-stand_unheld.field-0.0 c.from_residual.ensures.1
+    (λ w. w) (c.in_err-stand_unheld.ensures.computed fresh)
 
 pub returns-in_err-hold_all-clause-computed : goal.returns-in_err-hold_all-clause-computed
 returns-in_err-hold_all-clause-computed c fresh =
@@ -40,7 +40,7 @@ returns-in_err-hold_all-clause-computed c fresh =
     let q = length c.stand_unheld.new.passes in
     let moved = c.deref.result.now in
     let long = c.stand_unheld.ensures.all.0 ∙ (c.stand_unheld.ensures.keeper.1 ∙ sym c.requires.all.0) in
-    let made = subst (λ ms. made_unheld l p ss s ≡ Some (ms, t)) (sym c.deref.ensures.value) (c.in_ok-moved.ensures.computed fresh) in
+    let made = subst (λ ms. made_unheld l p ss s ≡ Some (ms, t)) (sym c.deref.ensures.value) (c.in_ok-stand_unheld.ensures.computed fresh) in
     let none : all_held q ss moved t ≡ None → made_anew l p ss s ≡ None = λ x. made_held l p q ss s t moved long made ∙ ap (option_and_then (λ done. Some (moved, done))) x in
     none_first _ _ (all_held q ss moved t) (made_anew l p ss s) (DiffersAnew l p ss s) none c.from_residual-in_err-hold_all.result c.in_err-hold_all.field-0.0 c.from_residual-in_err-hold_all.ensures.1 (none_anew l p ss s) c.in_err-hold_all.ensures.gives
 
@@ -49,7 +49,7 @@ returns-then-has_open-clause-computed c fresh fit alike =
     let k = c.args.manager.now.limits in
     let t = lone c.args.manager.now c.stand_unheld.new.keeper c.stand_unheld.new.passes in
     c.if-has_open.ensures.busy refl (all_free k c.stand_unheld.new.passes c.stand_unheld.new.keeper.seen
-    (λ i less. unheld_idle c.args.of.now.limits k (length c.args.passes.now) c.args.survivors.now c.in_ok-moved.moved.items t (c.in_ok-moved.ensures.computed fresh) i))
+    (λ i less. unheld_idle c.args.of.now.limits k (length c.args.passes.now) c.args.survivors.now c.stand_unheld.new.space.moved.items t (c.in_ok-stand_unheld.ensures.computed fresh) i))
 
 pub returns-clause-computed : goal.returns-clause-computed
 returns-clause-computed c fresh =
@@ -58,28 +58,28 @@ returns-clause-computed c fresh =
     let t = lone m c.stand_unheld.new.keeper c.stand_unheld.new.passes in
     let done = lone m c.hold_all.new.keeper c.hold_all.new.passes in
     let long = c.stand_unheld.ensures.all.0 ∙ (c.stand_unheld.ensures.keeper.1 ∙ sym c.requires.all.0) in
-    made_so_far c.args.of.now.limits p (length c.stand_unheld.new.passes) c.args.survivors.now (start m.limits) t c.in_ok-moved.moved.items long (c.in_ok-moved.ensures.computed fresh) done
+    made_so_far c.args.of.now.limits p (length c.stand_unheld.new.passes) c.args.survivors.now (start m.limits) t c.stand_unheld.new.space.moved.items long (c.in_ok-stand_unheld.ensures.computed fresh) done
     (subst (λ (ms : List Moved). all_held (length c.stand_unheld.new.passes) c.args.survivors.now ms t ≡ Some done) c.deref.ensures.value c.in_ok-hold_all.ensures.gives)
 
 pub returns-in_err-hold_all-clause-steps : goal.returns-in_err-hold_all-clause-steps
 returns-in_err-hold_all-clause-steps c =
     held_within c.args.manager.now.limits c.args.keeper.now.given c.args.survivors.now c.args.keeper.now c.stand_unheld.new.keeper c.hold_all.new.keeper c.args.passes.now c.stand_unheld.new.passes c.hold_all.new.passes
-    c.in_ok-moved.ensures.replayed c.stand_unheld.ensures.keeper.1 c.hold_all.ensures.steps c.in_ok-moved.ensures.within
+    c.in_ok-stand_unheld.ensures.replayed c.stand_unheld.ensures.keeper.1 c.hold_all.ensures.steps c.in_ok-stand_unheld.ensures.within
 
 pub returns-clause-steps : goal.returns-clause-steps
 returns-clause-steps c =
     held_within c.args.manager.now.limits c.args.keeper.now.given c.args.survivors.now c.args.keeper.now c.stand_unheld.new.keeper c.hold_all.new.keeper c.args.passes.now c.stand_unheld.new.passes c.hold_all.new.passes
-    c.in_ok-moved.ensures.replayed c.stand_unheld.ensures.keeper.1 c.hold_all.ensures.steps c.in_ok-moved.ensures.within
+    c.in_ok-stand_unheld.ensures.replayed c.stand_unheld.ensures.keeper.1 c.hold_all.ensures.steps c.in_ok-stand_unheld.ensures.within
 
 pub returns-clause-restored : goal.returns-clause-restored
 returns-clause-restored c =
     let m = c.args.manager.now in
     let ps = c.stand_unheld.new.passes in
     let qs = c.hold_all.new.passes in
-    let moved = c.in_ok-moved.moved.items in
+    let moved = c.stand_unheld.new.space.moved.items in
     let free = lone m c.stand_unheld.new.keeper ps in
     let done = lone m c.hold_all.new.keeper qs in
-    let unheld = c.in_ok-moved.ensures.restored in
+    let unheld = c.in_ok-stand_unheld.ensures.restored in
     let all = c.hold_all.ensures.lone.0.together.all in
     let long = all.0 ∙ (c.hold_all.ensures.lone.1 ∙ sym c.stand_unheld.ensures.all.0) in
     let held = subst (λ (ms : List Moved). all_held (length ps) c.args.survivors.now ms free ≡ Some done) c.deref.ensures.value c.in_ok-hold_all.ensures.gives in
@@ -99,4 +99,4 @@ returns-clause-restored c =
 pub returns-clause-replayed : goal.returns-clause-replayed
 returns-clause-replayed c =
     held_by c.args.manager.now.limits c.args.keeper.now.given c.args.survivors.now c.args.keeper.now c.stand_unheld.new.keeper c.hold_all.new.keeper c.args.passes.now c.stand_unheld.new.passes c.hold_all.new.passes
-    c.in_ok-moved.ensures.replayed c.stand_unheld.ensures.keeper.1 c.hold_all.ensures.steps c.hold_all.new.keeper.seen c.in_ok-moved.moved.items (returns-clause-restored c).again.each
+    c.in_ok-stand_unheld.ensures.replayed c.stand_unheld.ensures.keeper.1 c.hold_all.ensures.steps c.hold_all.new.keeper.seen c.stand_unheld.new.space.moved.items (returns-clause-restored c).again.each

@@ -13,7 +13,7 @@ returns-clause-stays c = stays_again c.args.passes.now c.in-Some._rest.now c.in-
 
 pub returns-clause-told : goal.returns-clause-told
 returns-clause-told c =
-    first_told c.find_by.result (λ found h. AreSurvivorsOf c.args.manager.now.limits c.args.count h found.items) c.args.passes.now c.in-Some._rest.now c.in-Some.first.now c.find_by.new.pass c.in-Some.ensures.cases.0 c.find_by.ensures.told
+    first_told c.find_by.result (λ _ h. AreSurvivorsOf c.args.manager.now.limits c.args.count h c.find_by.new.space.found.items) c.args.passes.now c.in-Some._rest.now c.in-Some.first.now c.find_by.new.pass c.in-Some.ensures.cases.0 c.find_by.ensures.told
 
 pub returns-clause-stops : goal.returns-clause-stops
 returns-clause-stops c =

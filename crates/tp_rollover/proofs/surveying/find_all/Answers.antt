@@ -53,8 +53,8 @@ returns-clause-together c = (between (goal.at.returns-clause-together c).After-g
 pub returns-clause-found : goal.returns-clause-found
 returns-clause-found c =
     let at = (goal.at.returns-clause-found c).After-gather in
-    if_ok c.find-found.result _ _ (λ found told.
-    surveyed c.args.manager.now c.alive_in-count.result _ _ c.args.keeper.now c.account-account.new.self c.gather.new.self c.args.passes.now c.account-account.new.passes c.find-found.new.passes c.gather.new.passes found.items
+    if_ok c.find-found.result _ _ (λ _ told.
+    surveyed c.args.manager.now c.alive_in-count.result _ _ c.args.keeper.now c.account-account.new.self c.gather.new.self c.args.passes.now c.account-account.new.passes c.find-found.new.passes c.gather.new.passes c.find-found.new.space.found.items
     c.account-account.ensures.account.gathers c.account-account.ensures.all c.account-account.ensures.keeper.1 c.account-account.ensures.own c.find-found.ensures.stays told
     (subst (λ (a : Account). CountsAlive c.alive_in-count.result a.total) c.account-account.ensures.account.account_is c.alive_in-count.ensures) (some at)
     c.gather.ensures.gathers c.gather.ensures.all c.gather.ensures.keeper.1 c.gather.ensures.own) c.find-found.ensures.told
@@ -62,23 +62,23 @@ returns-clause-found c =
 pub returns-clause-in_hand : goal.returns-clause-in_hand
 returns-clause-in_hand c =
     let at = (goal.at.returns-clause-in_hand c).After-gather in
-    if_ok c.find-found.result _ _ (λ found told.
-    in_hand_stays c.args.passes.now c.gather.new.passes found.items (stayed at)
-    (found_in_hand c.args.manager.now.limits c.gather.new.self c.gather.new.passes c.gather.new.self.seen (between at).4 found.items
-    (surveyed c.args.manager.now c.alive_in-count.result _ _ c.args.keeper.now c.account-account.new.self c.gather.new.self c.args.passes.now c.account-account.new.passes c.find-found.new.passes c.gather.new.passes found.items
+    if_ok c.find-found.result _ _ (λ _ told.
+    in_hand_stays c.args.passes.now c.gather.new.passes c.find-found.new.space.found.items (stayed at)
+    (found_in_hand c.args.manager.now.limits c.gather.new.self c.gather.new.passes c.gather.new.self.seen (between at).4 c.find-found.new.space.found.items
+    (surveyed c.args.manager.now c.alive_in-count.result _ _ c.args.keeper.now c.account-account.new.self c.gather.new.self c.args.passes.now c.account-account.new.passes c.find-found.new.passes c.gather.new.passes c.find-found.new.space.found.items
     c.account-account.ensures.account.gathers c.account-account.ensures.all c.account-account.ensures.keeper.1 c.account-account.ensures.own c.find-found.ensures.stays told
     (subst (λ (a : Account). CountsAlive c.alive_in-count.result a.total) c.account-account.ensures.account.account_is c.alive_in-count.ensures) (some at)
     c.gather.ensures.gathers c.gather.ensures.all c.gather.ensures.keeper.1 c.gather.ensures.own))) c.find-found.ensures.told
 
-pub returns-clause-memory : goal.returns-clause-memory
-returns-clause-memory c =
-    let t = between (goal.at.returns-clause-memory c).After-gather in
+pub returns-clause-alone : goal.returns-clause-alone
+returns-clause-alone c =
+    let t = between (goal.at.returns-clause-alone c).After-gather in
     memory_alone c.find-found.result (IsLegal c.args.manager.now.limits) c.account-account.new.passes c.find-found.new.passes t.2 (subst (IsLegal c.args.manager.now.limits) (sym t.1) t.4.legal) c.find-found.ensures.stops
 
 pub returns-clause-few : goal.returns-clause-few
 returns-clause-few c =
     let is = counted (goal.at.returns-clause-few c).After-gather in
-    if_ok c.find-found.result _ _ (λ found few. omega (arith, is, few)) c.find-found.ensures.few
+    if_ok c.find-found.result _ _ (λ _ few. omega (arith, is, few)) c.find-found.ensures.few
 
 pub returns-clause-steps : goal.returns-clause-steps
 returns-clause-steps c =

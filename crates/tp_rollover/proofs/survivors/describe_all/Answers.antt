@@ -13,6 +13,7 @@ loop-place-preserved c =
       own = c.describe.ensures.own;
       stays = stays_trans c.args.pass.now c.loop-place.pass c.describe.new.pass i.stays c.describe.ensures.stays;
       many = search rules;
+      space = (let more = c.push.ensures.capacity in let so_far = i.space in omega (arith, more, so_far));
       told = described_then c.args.manager.now.limits c.args.ids.now c.loop-place.found.items c.push.new.self.items c.loop-place.place _ c.in_ok-one.one c.args.pass.now c.loop-place.pass c.describe.new.pass c.loop-place-test.true (search rules)
           i.stays c.describe.ensures.stays i.told c.in_ok-one.ensures.told;
       made = (let more = once_more c.loop-place.place (describe_steps c.args.manager.now.limits) in omega (arith, more, i.made, c.describe.ensures.steps));

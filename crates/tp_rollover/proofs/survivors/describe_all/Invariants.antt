@@ -1,4 +1,4 @@
-use Rattle.std.proofs.Common.{◌≡◌, ◌*◌, length, take}
+use Rattle.std.proofs.Common.{◌≡◌, ◌*◌, ◌≤◌, length, take, vec_capacity}
 use Rattle.tp_manager.specs.Shown.{IsOf}
 use Rattle.tp_alone.specs.Thread.{Stays}
 use Rattle.tp_rollover.specs.Bounds.{PassMakes, describe_steps}
@@ -11,6 +11,7 @@ invariant-loop-place l = record {
   own : IsOf l.manager l.pass;
   stays : Stays l.initial.pass l.pass;
   many : length l.found.items ≡ l.place;
+  space : vec_capacity l.initial.found ≤ vec_capacity l.found;
   told : HoldsAsSeen l.initial.pass l.pass (λ h. AreDescribed l.manager.limits h (take l.place l.ids) l.found.items);
   made : PassMakes (l.place * describe_steps l.manager.limits) l.initial.pass l.pass;
 }

@@ -1,7 +1,7 @@
 use Rattle.std.proofs.Common.{◌≡◌, ℕ, List, [], length, drop, arith, ap, refl, subst, ◌∙◌}
 use Rattle.std.proofs.Math.Seq.{drop-length}
 use Rattle.tp_workers.specs.Calling.{MadeCalls}
-use Rattle.tp_workers.specs.Clients.{SubmitsPayments, submitting}
+use Rattle.tp_workers.specs.Clients.{SubmitsFirst, submitting}
 use Rattle.tp_workers.specs.Sums.{calls_of}
 use Rattle.tp_workers.specs.Tally.{submit_count, total}
 use Rattle.tp_workers.proofs.Calling.{called_none}
@@ -30,7 +30,7 @@ loop-at-preserved g c = record {
 pub returns-clause-ran : goal.returns-clause-ran
 returns-clause-ran g c =
     let job = c.args.job.now in
-    let Calls : ℕ → List (List ℕ) → Type 0 = λ n left. MadeCalls (SubmitsPayments c.args.manager.now.limits job.stage) submit_count n (submitting job.bodies c.args.pass.now) c.loop-at.counts (submitting left c.loop-at.pass) in
+    let Calls : ℕ → List (List ℕ) → Type 0 = λ n left. MadeCalls (SubmitsFirst c.args.manager.now.limits job.stage) submit_count n (submitting job.bodies c.args.pass.now) c.loop-at.counts (submitting left c.loop-at.pass) in
     let many = ap calls_of c.job.view_is in
     let all : c.loop-at.at ≡ length job.bodies = omega arith in
     let none : drop c.loop-at.at job.bodies ≡ [] = ap (λ n. drop n job.bodies) all ∙ drop-length job.bodies in

@@ -1,12 +1,12 @@
 use Rattle.std.proofs.Common.{arith, refl}
-use Rattle.tp_workers.specs.Tally.{none, plus}
+use Rattle.tp_workers.specs.Tally.{empty_shift, plus}
 use Rattle.tp_workers.proofs.Asking.{each_nothing, each_on}
 use Rattle.tp_workers.proofs.Drains.{all_end, all_last, drained_clear, drained_free, drained_numbers, drained_sum, further_smaller, going_clear, going_few, going_free, going_further, going_none, going_on, round_smaller}
 use Rattle.tp_workers.proofs.Shifts.{each_paired}
 use Rattle.tp_workers.proofs.rounds.drain.Goals as goal
 
 pub rounds-init : goal.rounds-init
-rounds-init g c = record { counts = none; ran = going_none _ _ _ c.args.manager.now c.args.order _ _ c.requires.paired c.requires.free c.requires.clear; asked = each_nothing _ _ _ _ c.args.manager.now c.args.order _ _; counted = refl }
+rounds-init g c = record { counts = empty_shift; ran = going_none _ _ _ c.args.manager.now c.args.order _ _ c.requires.paired c.requires.free c.requires.clear; asked = each_nothing _ _ _ _ c.args.manager.now c.args.order _ _; counted = refl }
 
 pub round-counts-requires-clause-paired : goal.round-counts-requires-clause-paired
 round-counts-requires-clause-paired g c = each_paired _ _ _ _ _ _ c.requires.paired c.rounds.invariant.ran

@@ -3,7 +3,7 @@ use Rattle.tp_model.specs.declared.types.Limits.{Limits}
 use Rattle.tp_model.specs.Steps.{AreLimits}
 use Rattle.tp_rollover.specs.declared.moved.RollFault.TheVariants.{Unequal}
 use Rattle.tp_rollover.specs.Faults.{IsRestoreDue}
-use Rattle.tp_rollover.proofs.Managing.{all_fresh, differ_anew, fault_same, made_again, made_same, managed_again, unrestored_for}
+use Rattle.tp_rollover.proofs.Managing.{all_fresh, differ_anew, fault_same, made_again, made_same, managed_again, uncomputed_anew, unrestored_for}
 use Rattle.tp_rollover.proofs.managed.Managed.restored.Goals as goal
 
 pub returns-in-Err-clause-fault : goal.returns-in-Err-clause-fault
@@ -45,4 +45,8 @@ returns-in-Err-clause-unlike c is =
     let long = ap length c.deref_mut.ensures.value ∙ (c.in-Ok.ensures.managed.parts ∙ ap (λ (l : Limits). l.parts) same) in
     let fresh = all_fresh new.manager c.deref_mut.result.now new.passes.items c.deref_mut.ensures.value c.in-Ok.ensures.new c.in-Ok.ensures.managed.own in
     let fault : c.in-Err.fault ≡ Unequal = cc in
-    differ_anew c.args.limits new.manager.limits c.args.limits.parts (length c.deref_mut.result.now) c.args.survivors.now same long (subst (IsRestoreDue new.manager.limits c.args.survivors.now c.deref_mut.result.now c.restore.new.passes) fault c.in-Err.ensures.due fresh)
+    let n = length c.deref_mut.result.now in
+    let due = subst (IsRestoreDue new.manager.limits c.args.survivors.now c.deref_mut.result.now c.restore.new.passes) fault c.in-Err.ensures.due fresh in (
+      differ_anew c.args.limits new.manager.limits c.args.limits.parts n c.args.survivors.now same long due.0,
+      uncomputed_anew c.args.limits new.manager.limits c.args.limits.parts n c.args.survivors.now same long (due.1 c.in-Ok.ensures.managed.limits),
+    )

@@ -7,7 +7,7 @@ use Rattle.tp_rollover.proofs.Heads.{stay_same}
 use Rattle.tp_rollover.proofs.Managing.{late_due}
 use Rattle.tp_rollover.proofs.Sums.{gives_up_as, old_buried}
 use Rattle.tp_rollover.proofs.Tallies.{rollover_adds_up}
-use Rattle.tp_rollover.proofs.rolling.roll_over.Goals as goal
+use Rattle.tp_rollover.proofs.rolling.roll_over_in.Goals as goal
 
 pub returns-then-not-are_alike-clause-refused : goal.returns-then-not-are_alike-clause-refused
 returns-then-not-are_alike-clause-refused c = stay_same c.args.old_passes.now
@@ -19,24 +19,24 @@ pub bury-requires-clause-living : goal.bury-requires-clause-living
 bury-requires-clause-living c =
     let r = c.in-Ok.ensures.ready in
     subst (AreLiving c.args.old.now.limits.attempts c.prepare.new.old_keeper.seen) (sym c.deref.ensures.value)
-    (all_living c.args.old.now.limits c.args.new.now.limits c.prepare.new.old_keeper.seen c.prepare.new.new_keeper.seen r.survivors c.in-Ok.moved.items r.found r.again)
+    (all_living c.args.old.now.limits c.args.new.now.limits c.prepare.new.old_keeper.seen c.prepare.new.new_keeper.seen r.survivors c.prepare.new.space.restore.moved.items r.found r.again)
 
-pub returns-clause-moved : goal.returns-clause-moved
-returns-clause-moved c =
+pub returns-in-Ok-clause-moved : goal.returns-in-Ok-clause-moved
+returns-in-Ok-clause-moved c =
     let l = c.args.old.now.limits in
     let k2 = c.prepare.new.old_keeper in
     let k3 = c.bury.new.keeper in
-    rolls l c.args.new.now.limits k2 k3 c.prepare.new.new_keeper c.args.old_passes.now c.prepare.new.old_passes c.bury.new.passes c.prepare.new.new_passes c.in-Ok.moved.items
+    rolls l c.args.new.now.limits k2 k3 c.prepare.new.new_keeper c.args.old_passes.now c.prepare.new.old_passes c.bury.new.passes c.prepare.new.new_passes c.prepare.new.space.restore.moved.items
     (c.if-not-are_alike.ensures.alike refl) c.in-Ok.ensures.ready c.bury.ensures.lone.0.together c.bury.ensures.lone.1
     (subst (Buries l.attempts 0 k2.seen k3.seen) c.deref.ensures.value c.bury.ensures.buries)
 
-pub returns-clause-steps : goal.returns-clause-steps
-returns-clause-steps c =
+pub returns-in-Ok-clause-steps : goal.returns-in-Ok-clause-steps
+returns-in-Ok-clause-steps c =
     let l = c.args.old.now.limits in
     let k = c.args.new.now.limits in
     let p = c.args.old_keeper.now.given in
     let q = c.args.new_keeper.now.given in
-    let moved = c.in-Ok.moved.items in
+    let moved = c.prepare.new.space.restore.moved.items in
     let n = length moved in
     let k2 = c.prepare.new.old_keeper in
     let k3 = c.bury.new.keeper in
@@ -55,4 +55,4 @@ returns-clause-steps c =
 pub returns-in-Err-clause-due : goal.returns-in-Err-clause-due
 returns-in-Err-clause-due c =
     late_due c.args.old.now.limits c.args.new.now.limits c.args.old_passes.now c.args.new_passes.now c.prepare.new.new_passes (c.has_open-is_held.result ≡ true) c.fault_after.result (c.if-not-are_alike.ensures.alike refl, c.if-lacks_pass.ensures.has refl) c.has_open-is_held.ensures.busy
-    (λ unequal limits fresh. c.in-Err.ensures.would_differ limits fresh (c.fault_after.ensures.unequal unequal)) c.fault_after.ensures.late
+    (λ unequal limits fresh. c.in-Err.ensures.unequal limits fresh (c.fault_after.ensures.unequal unequal)) c.fault_after.ensures.late

@@ -1,0 +1,68 @@
+"""The examples of scripts and sessions on the pages, as the programs answer them.
+
+An example is an indented text whose first line, but for comments, is a setting, or the answer `recovered N` of a session with a journal.
+On the left is what is sent, on the right, behind two spaces at least, what is answered. What it leaves out at its end are final lines.
+"""
+import os
+import re
+import subprocess
+import tempfile
+
+TOP = os.path.dirname(os.path.dirname(os.path.realpath(__file__)))
+SETTINGS = ("rows ", "units ", "limit ", "spare ")
+# Which pages have scripts; the examples of all others are sessions.
+SCRIPTS = ("README.md", "docs/SCRIPTS.md")
+
+
+def sides(text):
+    """Returns what an indented text sends, and what it is answered, each line by line."""
+    pairs = [re.fullmatch(r"    (\S(?: ?\S)*)?(?: *(?: {2}|(?<= {6}))(\S.*))?", it) for it in text.split("\n") if it.strip()]
+    if None in pairs:
+        return [], []
+    return [it[1] for it in pairs if it[1]], [it[2] for it in pairs if it[2]]
+
+
+def examples(text):
+    """Yields of each example of a page what it sends, and what it is answered."""
+    for block in re.findall(r"(?:(?: {4}[^\n]*)\n)+", text):
+        sent, answers = sides(block.rstrip("\n"))
+        lines = [it for it in sent if not it.startswith("#")]
+        if answers and ((lines and lines[0].startswith(SETTINGS)) or answers[0].startswith("recovered ")):
+            yield sent, answers
+
+
+def differs(answers, said):
+    """Returns the first answer of an example that isn't what was said, or None: at its end final lines may be left out."""
+    for k, line in enumerate(said):
+        if k >= len(answers) and not line.startswith("final "):
+            return line
+        if k < len(answers) and answers[k] != line:
+            return answers[k]
+    return answers[len(said)] if len(answers) > len(said) else None
+
+
+def said_by(words, sent):
+    """Returns the lines that ./run writes with these words, once it was sent these lines."""
+    ran = subprocess.run([f"{TOP}/run", *words], input="".join(f"{it}\n" for it in sent), capture_output=True, text=True)
+    return ran.stdout.splitlines()
+
+
+def wrong_examples(page, text):
+    """Yields of each example of a page the answer that isn't so, or None. Those with a journal go on from one another."""
+    with tempfile.TemporaryDirectory() as room:
+        for sent, answers in examples(text):
+            words = [] if page in SCRIPTS else ["--live"]
+            if answers[0].startswith("recovered "):
+                words += ["--journal", f"{room}/journal"]
+            yield differs(answers, said_by(words, sent))
+        yield from wrong_journal(text, f"{room}/journal")
+
+
+def wrong_journal(text, path):
+    """Yields, where a page shows the text of the journal of its examples behind a rollover, what isn't so, or None."""
+    shown = re.search(r"(?m)^    # covetrivet journal \d+\n(?: {4}[^\n]*\n)+", text)
+    if shown and os.path.exists(path):
+        said_by(["--live", "--journal", path], ["rollover"])
+        with open(path, encoding="latin-1") as it:
+            kept = [line for line in it.read().replace("\0", "").split("\n") if line and "\x17" not in line]
+        yield differs([it.strip() for it in shown[0].splitlines()], kept)
