@@ -4,7 +4,8 @@ import os
 import re
 
 FUNCTION = re.compile(r"(?:^|[\s{}])fn (\w+)")
-IMPL = re.compile(r"impl\b\s*(?:<(?:[^<>]|<[^<>]*>)*>)?\s*(?:(?P<trait>[^{]*?)\s+for\s+)?(?P<type>[^{]*?)\s*(?:\bwhere\b[^{]*)?{")
+TYPE = re.compile(r"(?m)^\s*(?:pub(?:\([^)]*\))? )?(?:struct|enum|union|trait) (\w+)")
+IMPL = re.compile(r"impl\b\s*(?P<generics><(?:[^<>]|<[^<>]*>)*>)?\s*(?:(?P<trait>[^{]*?)\s+for\s+)?(?P<type>[^{]*?)\s*(?:\bwhere\b[^{]*)?{")
 
 
 class Function:
@@ -100,6 +101,52 @@ def impl_of(lines, at):
 def last_names(text):
     """Returns, of each path in this text, the last name, and each number."""
     return [it.rpartition("::")[2] for it in re.findall(r"(?<!')\b\w[\w:]*", text)]
+
+
+def lines_of_body(lines, at):
+    """Returns at which line the body begins, and at which it has ended, of the function whose head is at this line: the same of an
+    empty one, and none where it has none, or stands on the line of its head."""
+    indent = re.match(r"\s*", lines[at])[0]
+    for it in range(at, len(lines)):
+        text = lines[it].rstrip()
+        is_clause = text.lstrip().startswith(("requires", "ensures", "ghost"))
+        if text == indent + "{}":
+            return it + 1, it + 1
+        if text == indent + "{" or text.endswith(" {") and not is_clause:
+            return it + 1, next(stop for stop in range(it, len(lines)) if lines[stop] == indent + "}")
+        if text == indent + "}" or text.endswith(";") or it == at and text.endswith("}"):
+            return None
+    return None
+
+
+def module_of(path):
+    """Returns the module that a file of a crate is, as names from its root."""
+    names = path.removeprefix("src/").removesuffix(".rt").split("/")
+    return names[:-1] if names[-1] in ("lib", "main", "mod") else names
+
+
+def defined_in(folder):
+    """Returns, for each type that a crate defines, the module that it is in."""
+    homes = {}
+    for file in sorted(glob.glob(f"{folder}/src/**/*.rt", recursive=True)):
+        for it in TYPE.finditer(read(file)):
+            homes.setdefault(it[1], module_of(os.path.relpath(file, folder)))
+    return homes
+
+
+def path_of(lines, at, module, homes):
+    """Returns the path of the function whose head is at this line, by which its proof goes; none where that isn't known."""
+    name = FUNCTION.search(lines[at])[1]
+    if not lines[at][:1].isspace():
+        return [*module, name]
+    found = impl_of(lines, at)
+    if not found:
+        return None
+    # (parameters of the impl are no part of it)
+    free = {it[1] for it in re.finditer(r"[<,]\s*(?:const )?(\w+)", found["generics"] or "")}
+    type_name = last_names(found["type"])[0]
+    trait = [] if found["trait"] in (None, "Drop") else [it for it in last_names(found["trait"]) if it not in free]
+    return [*homes[type_name], "".join([type_name, *trait]), name] if type_name in homes else None
 
 
 def heads(text, begins, ends):

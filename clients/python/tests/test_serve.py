@@ -177,15 +177,15 @@ class ServeBounds(unittest.TestCase):
             self.assertEqual(server.counted('let_go_total{why="slow"}'), 1)
 
     def test_a_client_that_reads_slowly_stays(self) -> None:
-        # It has far more answers to come than may be unread, and reads them one by one, for some six seconds.
+        # It has far more answers to come than may be unread, and reads some of them each half a second, for some
+        # six seconds: always more than the system keeps for it, so that the server sees it read.
         with Serving([*WIDE], "--unread", "100000", "--slow", "2") as server:
             it = server.client()
-            sender = threading.Thread(target=lambda: it.send(*["count"] * 40000))
+            sender = threading.Thread(target=lambda: it.send(*["count"] * 72000))
             sender.start()
-            for at in range(40000):
-                if at % 200 == 0:
-                    time.sleep(0.03)
-                self.assertEqual(it.line(), COUNTED)
+            for _ in range(12):
+                time.sleep(0.5)
+                self.assertEqual({it.line() for _ in range(6000)}, {COUNTED})
             sender.join()
 
     def test_too_many_connections(self) -> None:
