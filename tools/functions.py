@@ -106,15 +106,16 @@ def last_names(text):
 def lines_of_body(lines, at):
     """Returns at which line the body begins, and at which it has ended, of the function whose head is at this line: the same of an
     empty one, and none where it has none, or stands on the line of its head."""
-    indent = re.match(r"\s*", lines[at])[0]
+    indent, has_clauses = re.match(r"\s*", lines[at])[0], False
     for it in range(at, len(lines)):
         text = lines[it].rstrip()
-        is_clause = text.lstrip().startswith(("requires", "ensures", "ghost"))
+        has_clauses = has_clauses or text.lstrip().startswith(("requires", "ensures", "ghost"))
         if text == indent + "{}":
             return it + 1, it + 1
-        if text == indent + "{" or text.endswith(" {") and not is_clause:
+        # (behind clauses the body's brace stands alone)
+        if text == indent + "{" or text.endswith(" {") and not has_clauses:
             return it + 1, next(stop for stop in range(it, len(lines)) if lines[stop] == indent + "}")
-        if text == indent + "}" or text.endswith(";") or it == at and text.endswith("}"):
+        if text == indent + "}" or text.endswith(";") and not has_clauses or it == at and text.endswith("}"):
             return None
     return None
 
