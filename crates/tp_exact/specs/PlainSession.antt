@@ -15,7 +15,7 @@ use Rattle.tp_report.specs.declared.answer.Renamed.{Renamed}
 use Rattle.tp_script.specs.Fault.{◌<>◌}
 use Rattle.tp_script.specs.Notes.{NameView}
 use Rattle.tp_script.specs.Passes.{is_rollover}
-use Rattle.tp_script.specs.Grammar.{body_at, head_at}
+use Rattle.tp_script.specs.Grammar.{late_line, head_at}
 use Rattle.tp_script.specs.Script.{HeadView, WorkerView, no_head}
 use Rattle.tp_script.specs.declared.fault.LineFault.{LineFault}
 use Rattle.tp_script.specs.declared.head.Act.{Act}
@@ -202,7 +202,7 @@ session_act_step h why (acts.Leave at name) s =
 
 -- what a line says behind such a head, in such a state
 abbrev pub said_in : List ℕ → HeadView → SessionState → Result (HeadView × Option Act) LineFault
-said_in line h s = body_at line s.notes.clients h
+said_in line h s = late_line line s.notes.clients h
 
 -- the head that it leaves
 abbrev pub head_left : HeadView → Result (HeadView × Option Act) LineFault → HeadView

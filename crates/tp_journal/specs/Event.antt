@@ -5,5 +5,5 @@ use Rattle.std.specs.Prelude.{ℕ, Bool, List, slice_index, ◌==◌}
 abbrev pub Event : Type 0
 Event = ℕ × ℕ × Bool × List ℕ
 
-abbrev pub event_of : List ℕ → List ℕ → Event
-event_of numbers bytes = (slice_index numbers 0, slice_index numbers 1, slice_index numbers 2 == 1, bytes)
+abbrev pub told_event : List ℕ → List ℕ → Event
+told_event numbers bytes = (slice_index numbers 0, slice_index numbers 1, slice_index numbers 2 == 1, bytes)

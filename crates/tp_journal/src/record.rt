@@ -1,7 +1,7 @@
 //! A history of calls that only clauses read: no memory holds it.
 ghost use Rattle.std.specs.Prelude.{◌≡◌, List, [], ◌∷◌, true, false, IsOk, is_ok};
 ghost use Rattle.std.specs.Borrow.{ftrue};
-ghost use Rattle.tp_journal.specs.Event.{Event, event_of};
+ghost use Rattle.tp_journal.specs.Event.{Event, told_event};
 
 use crate::Failed;
 use std::io;
@@ -51,7 +51,7 @@ impl Record {
 
     /// The numbers are those of an `Event`: which call, what it was given, and 1 for success.
     pub fn note(&mut self, _numbers: &[u64], _bytes: &[u8])
-        ensures { self.new.events ≡ event_of _numbers.now _bytes.now ∷ self.old.events }
+        ensures { self.new.events ≡ told_event _numbers.now _bytes.now ∷ self.old.events }
     {}
 
     /// Notes a call with its answer, and passes that on.

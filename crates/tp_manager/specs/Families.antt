@@ -125,7 +125,7 @@ pub record Followed (l : Limits) (root from : ℕ) (least : Option ℕ) (v w : V
 
 -- a collection of the next reply, on its way: others were quicker to take k replies since it began, and each
 -- one before `from` was killed
-pub record Taking (l : Limits) (root from k : ℕ) (v w : View) : Type 0 where
+pub record CollectingNext (l : Limits) (root from k : ℕ) (v w : View) : Type 0 where
   pub looked : Looked l (k * one_take_steps (length (family w.seen root))) v w
   pub killed : WereKilled l root (λ i. i < from) v.seen w.seen
   pub tries : k ≤ count_below (in_family root w.seen) from

@@ -31,7 +31,7 @@ use tp_words::UnitWord;
 
 /// What a cancel came to at an element.
 #[derive(Clone, Copy, Debug, PartialEq, Eq)]
-pub(crate) enum Ended {
+pub(crate) enum CancelEnd {
     /// The cancel has killed it.
     Killed,
     /// A unit had consumed it, and has made this many elements, with the ids from `first` on.
@@ -42,7 +42,7 @@ pub(crate) enum Ended {
 
 impl Shared {
     /// The outputs of the unit that consumed the element of the row. One step.
-    fn outputs_of(&self, seat: &mut Seat, row: u32, unit: u16) -> Ended
+    fn outputs_of(&self, seat: &mut Seat, row: u32, unit: u16) -> CancelEnd
         requires steady { IsSteady self.now.words seat.old }
         requires consumed { status_of (table_limits self.now.words).attempts (seen_by seat.old) row ≡ Consumed unit }
         ensures same { IsSameSeat seat.old seat.new }
@@ -51,14 +51,14 @@ impl Shared {
         ensures none { killed_there row result ≡ [] }
     {
         match self.words.load_unit(seat, unit) {
-            UnitWord::Committed { first, count } => Ended::Outputs { first, count },
+            UnitWord::Committed { first, count } => CancelEnd::Outputs { first, count },
             UnitWord::Undecided => unreachable!(),
             UnitWord::Aborted => unreachable!(),
         }
     }
 
     /// What is the case where a kill of the row's element was refused. At most one step.
-    fn left_by(&self, seat: &mut Seat, row: u32, refusal: Refusal) -> Ended
+    fn left_by(&self, seat: &mut Seat, row: u32, refusal: Refusal) -> CancelEnd
         requires steady { IsSteady self.now.words seat.old }
         requires past { IsPastKill (table_limits self.now.words) (seen_by seat.old) row refusal }
         ensures same { IsSameSeat seat.old seat.new }
@@ -68,13 +68,13 @@ impl Shared {
     {
         match refusal {
             Refusal::Consumed { unit } => self.outputs_of(seat, row, unit),
-            _ => Ended::Before,
+            _ => CancelEnd::Before,
         }
     }
 
     /// Kills the element that is born in the row, unless it is a reply, or is consumed or killed.
     #[inline(always)]
-    fn end_row(&self, seat: &mut Seat, row: u32) -> Ended
+    fn end_row(&self, seat: &mut Seat, row: u32) -> CancelEnd
         requires steady { IsSteady self.now.words seat.old }
         requires row { (row < rows_of (table_limits self.now.words)) × HasElement (seen_by seat.old) row }
         requires free { (hand_of seat.old).open_unit ≡ None }
@@ -85,10 +85,10 @@ impl Shared {
     {
         let head = self.head_at(seat, row);
         if is_reply(head) {
-            return Ended::Before;
+            return CancelEnd::Before;
         }
         match self.kill_row(seat, row) {
-            Ok(_) => Ended::Killed,
+            Ok(_) => CancelEnd::Killed,
             Err(refusal) => self.left_by(seat, row, refusal),
         }
     }
@@ -114,9 +114,9 @@ impl Shared {
                 return killed;
             };
             match self.end_row(seat, row) {
-                Ended::Outputs { first, count } => ahead.insert_rows(rows, first, count),
-                Ended::Killed => killed += 1,
-                Ended::Before => (),
+                CancelEnd::Outputs { first, count } => ahead.insert_rows(rows, first, count),
+                CancelEnd::Killed => killed += 1,
+                CancelEnd::Before => (),
             }
         }
         unreachable!()

@@ -5,13 +5,13 @@ use Rattle.std.specs.List.{AllZip}
 use Rattle.tp_model.specs.Steps.{IsServerStage}
 use Rattle.tp_model.specs.declared.types.Limits.{Limits}
 use Rattle.tp_model.specs.declared.types.TheConstants.{MAX_PART_ROWS}
-use Rattle.tp_manager.specs.Shown.{ManagerShown, PassShown}
+use Rattle.tp_manager.specs.Shown.{ManagerShown, PassShown, numbers}
 use Rattle.tp_workers.specs.declared.killer.KillJob.{KillJob}
 use Rattle.tp_workers.specs.declared.tally.Shift.{Shift}
 use Rattle.tp_workers.specs.Clients.{ClientRan, JobShown}
 use Rattle.tp_workers.specs.Desks.{TakesTurns}
 use Rattle.tp_workers.specs.Desks as workers
-use Rattle.tp_workers.specs.Free.{IsFreePass, numbers}
+use Rattle.tp_workers.specs.Free.{IsFreePass}
 use Rattle.tp_workers.specs.Killers.{KillerRan}
 use Rattle.tp_workers.specs.Plans.{least_first}
 use Rattle.tp_workers.specs.Ran.{RanEach}

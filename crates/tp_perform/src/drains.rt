@@ -1,8 +1,7 @@
 //! The commands `drain` and `drain next`: the free desks take turns in rounds, on the caller's thread.
 ghost use Rattle.std.specs.Prelude.{◌≡◌, ◌+◌, ◌⊎◌, ◌≤◌, ◌<◌, IfOk, MatchOption, length, string_bytes, true};
 ghost use Rattle.tp_manager.specs.Accounts.{AreAll};
-ghost use Rattle.tp_manager.specs.Shown.{IsKeptBy};
-ghost use Rattle.tp_workers.specs.Free.{numbers};
+ghost use Rattle.tp_manager.specs.Shown.{IsKeptBy, numbers};
 ghost use Rattle.tp_commands.specs.Acting.{StaysIn, TurnsIn};
 ghost use Rattle.tp_commands.specs.Places.{firsts};
 ghost use Rattle.tp_perform.specs.Drains.{Drains, Round, Turn, turn_claimed};

@@ -1,8 +1,7 @@
 //! After the last command, and after a fault: the desks give up what they have in hand, one after another.
 ghost use Rattle.std.specs.Prelude.{◌≡◌, ◌+◌, ◌≤◌, ◌<◌, length};
 ghost use Rattle.tp_manager.specs.Accounts.{AreAll};
-ghost use Rattle.tp_manager.specs.Shown.{IsKeptBy};
-ghost use Rattle.tp_workers.specs.Free.{numbers};
+ghost use Rattle.tp_manager.specs.Shown.{IsKeptBy, numbers};
 ghost use Rattle.tp_commands.specs.Acting.{GivesUpIn};
 ghost use Rattle.tp_commands.specs.Places.{firsts};
 ghost use Rattle.tp_perform.specs.GivingUp.{GiveUpAll, DeskGivesUp};

@@ -2,8 +2,8 @@
 //! sessions perform alike.
 ghost use Rattle.std.specs.Prelude.{◌≡◌, ◌+◌, ◌≤◌, [], All, IfOk, None, false, length, string_bytes};
 ghost use Rattle.tp_manager.specs.Accounts.{AreAll};
-ghost use Rattle.tp_manager.specs.Shown.{IsKeptBy, IsOf};
-ghost use Rattle.tp_workers.specs.Free.{IsFreePass, numbers};
+ghost use Rattle.tp_manager.specs.Shown.{IsKeptBy, IsOf, numbers};
+ghost use Rattle.tp_workers.specs.Free.{IsFreePass};
 ghost use Rattle.tp_commands.specs.Places.{AllLie, firsts};
 ghost use Rattle.tp_perform.specs.Scenes.{Scene, scene};
 ghost use Rattle.tp_perform.specs.Told.{AreReady, IsScene, Performs, PerformsAll, TellsCommand, drain_order};

@@ -1,8 +1,8 @@
 //! A race as a command: by which passes, and its line.
 ghost use Rattle.std.specs.Prelude.{◌≡◌, ◌+◌, ◌≤◌, All, IfOk, length, string_bytes};
 ghost use Rattle.tp_manager.specs.Accounts.{AreAll};
-ghost use Rattle.tp_manager.specs.Shown.{IsKeptBy, IsOf};
-ghost use Rattle.tp_workers.specs.Free.{IsFreePass, numbers};
+ghost use Rattle.tp_manager.specs.Shown.{IsKeptBy, IsOf, numbers};
+ghost use Rattle.tp_workers.specs.Free.{IsFreePass};
 ghost use Rattle.tp_commands.specs.Places.{AllLie, firsts};
 ghost use Rattle.tp_perform.specs.Scenes.{Scene, scene};
 ghost use Rattle.tp_perform.specs.Told.{AreReady, IsScene, Performs, PerformsAll, RaceFree};

@@ -5,10 +5,10 @@ ghost use Rattle.std.specs.Prelude.{length};
 ghost use Rattle.tp_desk.specs.Steady.{shown};
 ghost use Rattle.tp_server.specs.Books.{Raises};
 ghost use Rattle.tp_crew.specs.Crew.{IsSteadyCrew};
-ghost use Rattle.tp_pipeline.specs.Books.{CrewGoesOn, HaveWorked, IsStaffed, charges_in, count_in, one, takings_in};
+ghost use Rattle.tp_pipeline.specs.Books.{CrewGoesOn, HaveWorked, IsStaffed, charges_in, count_in, one_payment, takings_in};
 ghost use Rattle.tp_pipeline.specs.Audits.{Agree, payment};
 ghost use Rattle.tp_pipeline.specs.Ends.{AddUp, AreClosed};
-ghost use Rattle.tp_pipeline.specs.Payments.{payment_amount, charger, shipper, validator};
+ghost use Rattle.tp_pipeline.specs.Payments.{payment_amount, charger, shipper, payment_validator};
 ghost use Rattle.tp_pipeline.specs.Stops.{IsBatchFault, IsServiceFault, StopsAt, StopsBehind};
 ghost use Rattle.tp_pipeline.specs.Submitting.{SubmitsPayments, SubmitsPayment};
 
@@ -343,8 +343,8 @@ pub fn serve<R: Clock + Threads + Sync + AllocGlobal>(
 
 /// What each payment adds to the servers' registers.
 fn each_payment()
-    ensures validated { (ceiling : ℕ) → Raises (validator ceiling) count_in one }
+    ensures validated { (ceiling : ℕ) → Raises (payment_validator ceiling) count_in one_payment }
     ensures takings { Raises charger takings_in payment_amount }
-    ensures charges { Raises charger charges_in one }
-    ensures shipped { Raises shipper count_in one }
+    ensures charges { Raises charger charges_in one_payment }
+    ensures shipped { Raises shipper count_in one_payment }
 {}

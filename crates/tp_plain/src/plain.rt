@@ -3,7 +3,7 @@ ghost use Rattle.tp_model.specs.declared.types.TheConstants.{MAX_OUTPUTS};
 ghost use Rattle.std.specs.Prelude.{◌≡◌, ℕ, nat_lt, ◌<◌, ◌≤◌, ◌↔◌, ◌⊎◌, length, map, IfOk, IfErr, IsSome};
 ghost use Rattle.std.specs.Prelude.{is_some, replicate};
 ghost use Rattle.std.specs.List.{range_with_len};
-ghost use Rattle.tp_plain.specs.Noted.{event_of};
+ghost use Rattle.tp_plain.specs.Noted.{noted_event};
 ghost use Rattle.tp_plain.specs.Computed.{IsComputed, IsComputedOk, submit_of, commit_of, abort_of, kill_of};
 ghost use Rattle.tp_plain.specs.Computed.{read_of};
 ghost use Rattle.tp_plain.specs.OneThread.{Answers, CallSubmit, CallAbort, CallCommit, CallKill, CallRead};
@@ -281,9 +281,9 @@ impl Plain {
 
     // An Abort or a Kill by a pass with nothing in its hand.
     pub(crate) fn mark(&mut self, note: &Note<'_>)
-        requires step { Step self.old.limits self.old.history (event_of note.now) }
-        requires quiet { IsWithoutUnit self.old (event_of note.now) }
-        ensures { self.new ≡ extended self.old (event_of note.now) }
+        requires step { Step self.old.limits self.old.history (noted_event note.now) }
+        requires quiet { IsWithoutUnit self.old (noted_event note.now) }
+        ensures { self.new ≡ extended self.old (noted_event note.now) }
     {
         apply(self.limits.attempts, &mut self.looks, note);
         self.history = self.history.then(note);

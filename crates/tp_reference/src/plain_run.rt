@@ -3,8 +3,8 @@ ghost use Rattle.std.specs.Prelude.{◌≡◌, ◌+◌, ◌<◌, ◌≤◌, map,
 ghost use Rattle.tp_script.specs.Ranges.{IsInRange, IsScriptAct};
 ghost use Rattle.tp_script.specs.declared.script.TheConstants.{MAX_SERVERS};
 ghost use Rattle.tp_script.specs.Script.{head_view, server_view};
-ghost use Rattle.tp_reference.specs.PlainReport.{act_step, balance_answer, begin, command_step, counted_value};
-ghost use Rattle.tp_reference.specs.PlainReport.{desk_step, new_desk, register_sum, worker};
+ghost use Rattle.tp_reference.specs.PlainReport.{act_step, balance_answer, begin, command_step, counted_at_desk};
+ghost use Rattle.tp_reference.specs.PlainReport.{desk_step, new_desk, sum_over_desks, worker};
 ghost use Rattle.tp_reference.specs.PlainRunning.{state, IsSetUp};
 
 use crate::client_acts::client_line;
@@ -123,7 +123,7 @@ impl PlainRun {
 
     // The sum of a register over all desks.
     fn sum(&self, k: u64) -> u128
-        ensures { result ≡ register_sum k (state self.now) }
+        ensures { result ≡ sum_over_desks k (state self.now) }
     {
         let mut sum = 0;
         for desk in &self.desks {
@@ -192,7 +192,7 @@ impl PlainRun {
 
 // What a desk adds to the sum of a register.
 fn counted_value(desk: &PlainDesk, k: u64) -> u64
-    ensures { result ≡ counted_value k desk.now }
+    ensures { result ≡ counted_at_desk k desk.now }
 {
     if desk.is_dropped {
         return 0;

@@ -29,8 +29,8 @@ pub record AreFit (l k : Limits) (survivors : List Survivor) : Type 0 where
   pub apart : AreApart survivors
 
 -- its family has a place in this table, and its stage is one of those that outputs have
-abbrev pub MayBeBorn : List Family → Survivor → Type 0
-MayBeBorn families s = (s.root < length families) × IsStage s.stage
+abbrev pub HasFamilyPlace : List Family → Survivor → Type 0
+HasFamilyPlace families s = (s.root < length families) × IsStage s.stage
 
 -- births of these haven't begun: for want of memory, or since these aren't fit
 abbrev pub StopsUnfit : Limits → Limits → List Survivor → Stop → Type 0

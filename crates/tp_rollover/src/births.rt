@@ -13,7 +13,7 @@ ghost use Rattle.tp_rollover.specs.Anew.{filler, group_size, home_of, named_in, 
 ghost use Rattle.tp_rollover.specs.Anew.{next_born, submitted_next};
 ghost use Rattle.tp_rollover.specs.Bounds.{AllMake, bear_steps, commit_on_steps, gathered};
 ghost use Rattle.tp_rollover.specs.Births.{born_of};
-ghost use Rattle.tp_rollover.specs.Fits.{AreFit, IsFit, MayBeBorn};
+ghost use Rattle.tp_rollover.specs.Fits.{AreFit, IsFit, HasFamilyPlace};
 ghost use Rattle.tp_rollover.specs.Lone.{Agrees, AgreesUnless, AreLone, bearing, lone, placing};
 ghost use Rattle.tp_rollover.specs.Runs.{BearsOn, StaysInPart, newly};
 ghost use Rattle.tp_rollover.specs.declared.stops.Stop.TheVariants as stops;
@@ -229,7 +229,7 @@ fn bear_next(
 ) -> Result<Group, Stop>
     requires lone { AreLone manager.now keeper.old passes.old }
     requires some { 1 ≤ length unborn.now.rest.now }
-    requires may { All (MayBeBorn families.old) unborn.now.rest.now }
+    requires may { All (HasFamilyPlace families.old) unborn.now.rest.now }
     ensures lone { AreLone manager.now keeper.new passes.new × (keeper.new.given ≡ keeper.old.given) }
     ensures long { length families.new ≡ length families.old }
     ensures inside { IfOk result (λ group. (1 ≤ group.count) × (group.count ≤ length unborn.now.rest.now)) }
@@ -375,7 +375,7 @@ fn bear_turn(
 ) -> Result<(), Stop>
     requires lone { AreLone manager.now keeper.old passes.old }
     requires some { 1 ≤ length unborn.now.rest.now }
-    requires may { All (MayBeBorn families.old) unborn.now.rest.now }
+    requires may { All (HasFamilyPlace families.old) unborn.now.rest.now }
     ensures lone { AreLone manager.now keeper.new passes.new × (keeper.new.given ≡ keeper.old.given) }
     ensures long { length families.new ≡ length families.old }
     ensures steps { let n = newly unborn.now.rest.now moved.old.items moved.new.items result in

@@ -328,8 +328,8 @@ FindsOther kind v i found now w = Grew kind unchanged [] v w × (now ≢ found) 
     × IsFitClaim now
 
 -- the event of a commit exchange: the drafts are born
-abbrev pub committed : View → ℕ → Event
-committed v u = Commit (hand v).number u (hand v).drafts
+abbrev pub commit_event : View → ℕ → Event
+commit_event v u = Commit (hand v).number u (hand v).drafts
 
 -- the open unit has ended by the pass's own event; its drafts are drafts no more
 abbrev pub with_end : Event → Hand → Hand
@@ -340,7 +340,7 @@ abbrev pub with_lost : Hand → Hand
 with_lost a = record a { first_draft = a.next; drafts = []; open_unit = None }
 
 abbrev pub MakesCommit : View → ℕ → View → Type 0
-MakesCommit v u w = Grew kinds.CommitExchange (with_end (committed v u)) (committed v u ∷ []) v w
+MakesCommit v u w = Grew kinds.CommitExchange (with_end (commit_event v u)) (commit_event v u ∷ []) v w
 
 -- an exchange on the open unit that failed: another pass had aborted it
 abbrev pub LosesUnit : StepKind → View → ℕ → View → Type 0

@@ -310,5 +310,5 @@ late_words [] clients h = Ok (h, None)
 late_words (w ∷ ws) clients h = known (keyword w) Syntax >>= λ k. late_keyword k ws clients h
 
 -- what such a line leaves of the head, and what it asks for, where notes are kept of these clients
-unfoldable pub body_at : List ℕ → List ClientNote → HeadView → Result (HeadView × Option Act) LineFault
-body_at line clients h = line_words line >>= λ ws. late_words ws clients h
+unfoldable pub late_line : List ℕ → List ClientNote → HeadView → Result (HeadView × Option Act) LineFault
+late_line line clients h = line_words line >>= λ ws. late_words ws clients h

@@ -75,7 +75,7 @@ pub record IsNew (l : Limits) (s : Stand) : Type 0 where
   pub new : All IsNewPass (passes_in s.scene)
 
 -- the same in memory
-pub record IsNewManaged (l : Limits) (m : Managed) : Type 0 where
+pub record IsNewInMemory (l : Limits) (m : Managed) : Type 0 where
   pub managed : IsManaged m
   pub limits : m.manager.limits ≡ l
   pub seen : m.keeper.seen ≡ []

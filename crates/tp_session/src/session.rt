@@ -14,7 +14,7 @@ ghost use Rattle.tp_script.specs.Ranges.{IsActInRange};
 ghost use Rattle.tp_script.specs.Script.{head_view};
 ghost use Rattle.tp_script.specs.declared.head.Head.{Head};
 ghost use Rattle.tp_session.specs.Conversed.{BodyFront, BodyWhole, Conversed, ConversedAs, ConversedFront};
-ghost use Rattle.tp_session.specs.Conversed.{IsNewManaged, LiveEnds, limits_of};
+ghost use Rattle.tp_session.specs.Conversed.{IsNewInMemory, LiveEnds, limits_of};
 ghost use Rattle.tp_session.specs.Heard.{HearsFront, IsAllOf, IsSilent, Tells};
 ghost use Rattle.tp_commands.specs.Places.{workers};
 ghost use Rattle.tp_perform.specs.Told.{AllLeftAt};
@@ -149,7 +149,7 @@ fn with_managed<W: Wire>(
     wire: &mut W,
 ) -> Result<(), Fault>
     requires ready { W.ready wire.old }
-    requires new { IsNewManaged (limits_of (head_view head.old) 0) managed }
+    requires new { IsNewInMemory (limits_of (head_view head.old) 0) managed }
     requires asked { W.asked wire.old + lines.old.left < 2 ^ 64 }
     requires in_range { IfSome (first_act first) (IsActInRange
         (vec_len head.old.servers) (vec_len head.old.workers)) }
@@ -190,7 +190,7 @@ fn with_servers<W: Wire>(
     wire: &mut W,
 ) -> Result<(), Fault>
     requires ready { W.ready wire.old }
-    requires new { IsNewManaged (limits_of (head_view head.old) 0) managed }
+    requires new { IsNewInMemory (limits_of (head_view head.old) 0) managed }
     requires behaviours { map (λ server. behaviour server) servers.items
         ≡ map (λ line. behaviour_of line.recipe) head.old.servers.items }
     requires registers { map (λ server. registers server) servers.items

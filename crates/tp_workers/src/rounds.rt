@@ -3,7 +3,8 @@ ghost use Rattle.std.specs.Prelude.{◌≡◌, ◌+◌, ◌*◌, ◌<◌, ◌^�
 ghost use Rattle.tp_workers.specs.Asking.{AsksTurns};
 ghost use Rattle.tp_workers.specs.Desks.{DeskWorked, IsDeskOf};
 ghost use Rattle.tp_workers.specs.Drained.{DeskDrained, LastTurn, TookTurn};
-ghost use Rattle.tp_workers.specs.Free.{IsFreePass, numbers};
+ghost use Rattle.tp_workers.specs.Free.{IsFreePass};
+ghost use Rattle.tp_manager.specs.Shown.{numbers};
 ghost use Rattle.tp_workers.specs.Gains.{commits_in};
 ghost use Rattle.tp_workers.specs.declared.tally.Shift.{Shift};
 ghost use Rattle.tp_workers.specs.Ran.{RanEach};

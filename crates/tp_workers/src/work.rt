@@ -3,7 +3,8 @@ ghost use Rattle.std.specs.Prelude.{◌≡◌, ◌+◌, ◌-◌, ◌*◌, ◌<�
 ghost use Rattle.tp_workers.specs.Asking.{AsksTurns};
 ghost use Rattle.tp_workers.specs.Clients.{ClientRan, IsClientJob, IsClientOf};
 ghost use Rattle.tp_workers.specs.Desks.{DeskRan, IsDeskOf};
-ghost use Rattle.tp_workers.specs.Free.{IsFreePass, numbers};
+ghost use Rattle.tp_workers.specs.Free.{IsFreePass};
+ghost use Rattle.tp_manager.specs.Shown.{numbers};
 ghost use Rattle.tp_workers.specs.Gains.{commits_in, enqueues_in, kills_in};
 ghost use Rattle.tp_workers.specs.Killers.{IsKillJob, IsKillerOf, KillerRan};
 ghost use Rattle.tp_workers.specs.Ran.{AreTold, RanEach};
