@@ -57,7 +57,7 @@ impl Shared {
         }
     }
 
-    /// What is the case where a kill of the row's element was refused. At most one step.
+    /// What the cancel has come to, where its kill of the row's element was refused. At most one step.
     fn left_by(&self, seat: &mut Seat, row: u32, refusal: Refusal) -> CancelEnd
         requires steady { IsSteady self.now.words seat.old }
         requires past { IsPastKill (table_limits self.now.words) (seen_by seat.old) row refusal }
@@ -93,8 +93,8 @@ impl Shared {
         }
     }
 
-    /// Goes through the family, and ends the work on each element that it comes to. How many elements it
-    /// killed. The set is empty before and after.
+    /// Goes through the family, and ends the work on each element that it comes to. Tells how many elements
+    /// it killed. The set is empty before and after.
     fn cancel_family(&self, seat: &mut Seat, rows: &mut RowSet, root: u32) -> u32
         requires steady { IsSteady self.now.words seat.old }
         requires request { (root < rows_of (table_limits self.now.words))
@@ -124,14 +124,14 @@ impl Shared {
 }
 
 impl Manager {
-    /// Cancels the request of a client whose element has this id. It kills each element of its family that is
-    /// no reply and not consumed, and aborts the units of work that hold them on the way. When it returns,
-    /// each of them is consumed or killed, and none is born, claimed or committed any more. Replies are left
-    /// alone. The pass has no unit open.
+    /// Cancels the request of a client whose element has this id. It kills each element of the request's
+    /// family that is neither consumed nor a reply, and aborts the units of work that hold such elements.
+    /// When it returns, each element of the family but replies is consumed or killed, and none is born,
+    /// claimed or committed any more. Replies are left as they are. The pass may have no unit open.
     ///
-    /// It goes from the root to the outputs of the unit that consumed it, and on, always from the least id
-    /// that it has come to and not gone on from, and through nothing else: `few` names how many elements that
-    /// are.
+    /// It walks the family, and looks at nothing else: from the root to the outputs of the unit that consumed
+    /// it, and so on, always from the least id that it has come to and not gone on from. Its steps are
+    /// bounded by the number of elements in the family (`few`).
     ///
     /// `NotThere` where no client's element with this id is born.
     pub fn cancel(&self, pass: &mut Pass, root: u32) -> Result<Cancelled, Refusal>

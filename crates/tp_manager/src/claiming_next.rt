@@ -339,8 +339,9 @@ impl Shared {
 }
 
 impl Manager {
-    /// Takes the element that waits in the stage, 1 to 14, and comes first after the one of the stage that
-    /// the pass took last by such a call. After the last id comes the first. Otherwise as `claim`.
+    /// Takes an element that waits in the stage, 1 to 14, as `claim` does, but the next one in turn: the
+    /// first that is found to wait behind the element which the pass's last `claim_next` of this stage took.
+    /// Behind the last id comes the first again.
     pub fn claim_next(&self, pass: &mut Pass, stage: u8) -> Claimed
         requires own { IsOf self.now pass.old }
         requires stage { IsServerStage stage }

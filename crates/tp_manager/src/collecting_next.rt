@@ -84,9 +84,9 @@ impl Shared {
 }
 
 impl Manager {
-    /// Takes the least reply to the request with this root that it finds waiting, once: it is killed, so that
-    /// nobody else collects it. Where another is quicker it walks again, and takes the next one (`lean`). The
-    /// pass has no unit open. `None` where none waits.
+    /// Takes the reply to the request with this root that has the least id of those that it finds waiting.
+    /// The reply is killed, so nobody else collects it. Where another caller was quicker, it walks again and
+    /// takes the next one (`lean`). The pass may have no unit open. `None` where no reply waits.
     pub fn collect_next(&self, pass: &mut Pass, root: u32) -> Option<Element>
         requires own { IsOf self.now pass.old }
         requires free { pass.old.open_unit ≡ None }

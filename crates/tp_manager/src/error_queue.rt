@@ -241,7 +241,9 @@ impl Shared {
 }
 
 impl Manager {
-    /// The least id from this one on of an element, of whatever stage, that was found to be parked.
+    /// The least id from `from` on of an element that was found to be parked, in whatever stage. `None` where
+    /// none was found. Each element with a lesser id from there on that was born when the call began to look
+    /// wasn't parked at some moment of the call.
     pub fn next_error(&self, pass: &mut Pass, from: u32) -> Option<u32>
         requires own { IsOf self.now pass.old }
         ensures own { IsOf self.now pass.new }

@@ -36,8 +36,8 @@ impl Shared {
 }
 
 impl Manager {
-    /// The element of the request with this root that has the least id from this one on, and its status:
-    /// so where an order is. `None` where there is none.
+    /// The element of the request with this root that has the least id from `from` on, whatever its stage,
+    /// and its status: so a client sees where its order is. `None` where there is no such element.
     pub fn family(&self, pass: &mut Pass, root: u32, from: u32) -> Option<Look>
         requires own { IsOf self.now pass.old }
         ensures own { IsOf self.now pass.new }

@@ -79,9 +79,9 @@ impl Shared {
         }
     }
 
-    /// Kills the element of the row, whose claim was just found; there are at most this many attempts from it
-    /// on. How many units it aborted. At most two steps for each attempt, and one for each round in which the
-    /// element is found untaken.
+    /// Kills the element of the row, whose claim was just found, where units can take it at most this many
+    /// times from now on. How many units it aborted. At most two steps for each of these times, and one for
+    /// each round in which the element is found untaken.
     #[cycle(kill)]
     #[inline(always)]
     fn kill_from(
@@ -158,9 +158,9 @@ impl Shared {
 }
 
 impl Manager {
-    /// Kills the element with this id, so that it is never taken again, and aborts the units of work that hold
-    /// it on the way. The pass has no unit open. `NotThere` where no such element is born, `Consumed` where a unit that took it has
-    /// committed, and `AlreadyKilled`.
+    /// Kills the element with this id, so that no unit of work takes it any more. A unit that holds it is
+    /// aborted. The pass may have no unit open. `NotThere` where no such element is born, `Consumed` where a
+    /// unit that took it has committed, and `AlreadyKilled` where it was killed before.
     pub fn kill(&self, pass: &mut Pass, id: u32) -> Result<Killed, Refusal>
         requires own { IsOf self.now pass.old }
         requires free { pass.old.open_unit ≡ None }
