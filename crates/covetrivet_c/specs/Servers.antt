@@ -19,7 +19,8 @@ use Rattle.covetrivet_c.specs.declared.shapes.BornOut.{BornOut}
 use Rattle.covetrivet_c.specs.declared.shapes.DraftIn.{DraftIn}
 use Rattle.covetrivet_c.specs.declared.fault.Fault.{Fault}
 use Rattle.covetrivet_c.specs.declared.fault.Fault.TheVariants as faults
-use Rattle.covetrivet_c.specs.Asked.{ManagerAsked, GoesSteps, IsBusy, IsNoClaim, IsNoCommit, LooksAtId, StaysFree}
+use Rattle.covetrivet_c.specs.Asked.{ManagerAsked, GoesSteps, IsBusy, IsNoClaim, IsNoCommit, LooksAtId}
+use Rattle.covetrivet_c.specs.Asked.{StaysFree}
 use Rattle.covetrivet_c.specs.Codes.{code_of, refusal_code}
 use Rattle.covetrivet_c.specs.Shapes.{draft_given}
 
@@ -56,13 +57,15 @@ EndsOpenUnit n old new = StaysFree n old new × IfSome old.open_unit (HasEnded n
 -- `abort`
 abbrev pub AbortSays : Limits → PassShown → PassShown → Result (Unit {0}) Fault → Type 0
 AbortSays l old new (Ok it) = EndsOpenUnit abort_steps old new × AnswersAbort old new endeds.Aborted
-AbortSays l old new (Err faults.Lost) = EndsOpenUnit abort_steps old new × AnswersAbort old new endeds.AlreadyAborted
+AbortSays l old new (Err faults.Lost) =
+    EndsOpenUnit abort_steps old new × AnswersAbort old new endeds.AlreadyAborted
 AbortSays l old new (Err faults.NoOpen) = (new ≡ old) × (old.open_unit ≡ None)
 AbortSays l old new (Err other) = ⊥
 
 -- a commit of these drafts
 abbrev pub CommitsDrafts : Limits → List DraftView → PassShown → PassShown → Outcome → Type 0
-CommitsDrafts l drafts old new it = EndsOpenUnit (commit_steps l (length drafts)) old new × Settles drafts old new it
+CommitsDrafts l drafts old new it =
+    EndsOpenUnit (commit_steps l (length drafts)) old new × Settles drafts old new it
 
 -- `commit`
 abbrev pub CommitSays : List DraftIn → Limits → PassShown → PassShown → Result Outcome Fault → Type 0

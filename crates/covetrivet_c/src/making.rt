@@ -163,7 +163,8 @@ pub extern "C" fn covetrivet_capacity(
     manager: &mut HomeHandle,
     capacity: &mut u32,
 ) -> u32
-    ensures answer { ShowsHome capacity_of manager.old.held manager.new.held result capacity.old capacity.new }
+    ensures answer { ShowsHome capacity_of manager.old.held manager.new.held result capacity.old
+        capacity.new }
 {
     let Some(home) = manager.lift(alloc) else {
         return CLOSED;

@@ -9,7 +9,8 @@ impl Caller {
     ghost use Rattle.tp_model.specs.declared.types.TheConstants.{MAX_OUTPUTS};
     ghost use Rattle.covetrivet_c.specs.declared.fault.Fault.TheVariants as faults;
     ghost use Rattle.covetrivet_c.specs.Callers.{caller_limits};
-    ghost use Rattle.covetrivet_c.specs.Servers.{AbortSays, ClaimIdSays, ClaimNextSays, ClaimSays, CommitSays};
+    ghost use Rattle.covetrivet_c.specs.Servers.{AbortSays, ClaimIdSays, ClaimNextSays, ClaimSays};
+    ghost use Rattle.covetrivet_c.specs.Servers.{CommitSays};
     ghost use Rattle.covetrivet_c.specs.Servers.{CommitsDrafts};
 
     /// Takes the first element of a stage, 1 to 14, that waits.

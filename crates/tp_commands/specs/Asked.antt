@@ -1,6 +1,7 @@
 -- What the script's own client is answered, and what its pass did for it. `old` is what the pass shows before
 -- the command, and `new` what it shows after it.
-use Rattle.std.specs.Prelude.{◌≡◌, ◌⊎◌, ℕ, zero, suc, ◌+◌, ◌-◌, ◌≤◌, ◌<◌, List, [], ◌∷◌, length, Option, Some, None}
+use Rattle.std.specs.Prelude.{◌≡◌, ◌⊎◌, ℕ, zero, suc, ◌+◌, ◌-◌, ◌≤◌, ◌<◌, List, [], ◌∷◌, length, Option, Some}
+use Rattle.std.specs.Prelude.{None}
 use Rattle.tp_model.specs.declared.types.Counts.{Counts}
 use Rattle.tp_model.specs.declared.types.Element.{Element}
 use Rattle.tp_model.specs.declared.types.Limits.{Limits}
@@ -191,7 +192,8 @@ TellsLooks l from (suc n) old looks new = (before : List Look) × (between : Pas
     × TellsLooks l from n old before between × TellsLook l (from + n) between shown new
     × (looks ≡ with_shown before shown)
 
--- ids from this one on were read, until none was left or so many were found waiting in the stage as are listed
+-- ids from this one on were read, until none was left or so many were found waiting in the stage as are
+-- listed
 pub record ListsWaiting (l : Limits) (stage from : ℕ) (old : PassShown) (found : List ℕ) (new : PassShown)
     : Type 0 where
   pub many : ℕ

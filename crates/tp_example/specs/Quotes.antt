@@ -30,7 +30,8 @@ price_heard None = []
 
 -- one register: how many quotes were given
 abbrev pub quoted : List ℕ → Element → List ℕ → Result Effect Declined
-quoted (n ∷ []) question heard = if nat_lt (n + 1) (2 ^ 64) then quote_heard n question heard else Err TooLarge
+quoted (n ∷ []) question heard =
+    if nat_lt (n + 1) (2 ^ 64) then quote_heard n question heard else Err TooLarge
 quoted registers question heard = Err NoRegister
 
 abbrev pub quotes : Behaviour

@@ -22,7 +22,8 @@ pub record JournalHasText {D : Type 0} (seen : D → List ℕ) (may_leave : D �
 
 -- a journal has the text that its file has
 abbrev pub IsJournalSettled : {D : Type 0} → (D → List ℕ) → (D → List ℕ → Type 0) → Journal D → Type 0
-IsJournalSettled seen may_leave journal = JournalHasText seen may_leave (text_of (seen journal.device)) journal
+IsJournalSettled seen may_leave journal =
+    JournalHasText seen may_leave (text_of (seen journal.device)) journal
 
 -- the same, unless it is poisoned
 abbrev pub IsJournalOpen : {D : Type 0} → (D → List ℕ) → (D → List ℕ → Type 0) → Journal D → Type 0

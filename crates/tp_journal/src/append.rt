@@ -23,7 +23,8 @@ impl<D: Device> Journal<D> {
         requires open { IsJournalOpen D.seen D.may_leave self.old }
         ensures open { IsJournalOpen D.seen D.may_leave self.new }
         ensures acknowledged { OnOk result ((self.new.poisoned ≡ false)
-            × (text_of (D.seen self.new.device) ≡ with_own_end (text_of (D.seen self.old.device) ++ batch.now))) }
+            × (text_of (D.seen self.new.device) ≡ with_own_end
+            (text_of (D.seen self.old.device) ++ batch.now))) }
         ensures accepted { OnOk result (IsBatch batch.now) }
         ensures refused { (why : Refusal) → IsErrOf result (AppendError.Refused why)
             → (self.new ≡ self.old) × (IsBatch batch.now → ⊥) }

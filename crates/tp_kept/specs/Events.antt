@@ -73,7 +73,8 @@ lacks_memory (b ∷ bs) = begins (line (refusal_text refusals.NoMemory)) (b ∷ 
 abbrev pub is_sure : List Event → Bool
 is_sure [] = true
 is_sure ((kind, number, ok, bytes) ∷ past) =
-    not (((kind == MUTED) || ((kind == SHOWN) || ((kind == TAKEN) || (kind == NUMBERED)))) && lacks_memory bytes)
+    not (((kind == MUTED) || ((kind == SHOWN) || ((kind == TAKEN) || (kind == NUMBERED))))
+    && lacks_memory bytes)
     && is_sure past
 
 -- ---- what makes a journal short

@@ -44,7 +44,8 @@ impl Shared {
     /// The outputs of the unit that consumed the element of the row. One step.
     fn outputs_of(&self, seat: &mut Seat, row: u32, unit: u16) -> CancelEnd
         requires steady { IsSteady self.now.words seat.old }
-        requires consumed { status_of (table_limits self.now.words).attempts (seen_by seat.old) row ≡ Consumed unit }
+        requires consumed { status_of (table_limits self.now.words).attempts (seen_by seat.old) row
+            ≡ Consumed unit }
         ensures same { IsSameSeat seat.old seat.new }
         ensures looked { Looked (table_limits self.now.words) 1 (view_of seat.old) (view_of seat.new) }
         ensures told { IsEnded (table_limits self.now.words) row (seen_by seat.new) result }
@@ -140,8 +141,10 @@ impl Manager {
         ensures own { IsOf self.now pass.new }
         ensures turn { pass.new.from ≡ pass.old.from }
         ensures follows { Follows (cancel_steps self.now.limits) pass.old pass.new }
-        ensures few { Follows (family_cancel_steps self.now.limits (length (family pass.new.seen root))) pass.old pass.new }
-        ensures lean { Follows (lean_cancel_steps self.now.limits (family pass.new.seen root)) pass.old pass.new }
+        ensures few { Follows (family_cancel_steps self.now.limits (length (family pass.new.seen root)))
+            pass.old pass.new }
+        ensures lean { Follows (lean_cancel_steps self.now.limits (family pass.new.seen root)) pass.old
+            pass.new }
         ensures open_unit { pass.new.open_unit ≡ None }
         ensures looks { root < rows_of self.now.limits → HasLooked pass.old pass.new }
         ensures answer { MatchResult result

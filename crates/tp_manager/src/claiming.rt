@@ -25,7 +25,8 @@ impl Manager {
         ensures limits { AreLimits self.now.limits }
         ensures follows { Follows (claim_steps self.now.limits) pass.old pass.new }
         ensures answer { Claims self.now.limits stage pass.old pass.new result }
-        ensures few { Follows (claim_steps_left self.now.limits (marks_of pass.old.lows stage)) pass.old pass.new }
+        ensures few { Follows (claim_steps_left self.now.limits (marks_of pass.old.lows stage)) pass.old
+            pass.new }
         ensures lean { let lows = marks_of pass.old.lows stage in
             let n = lean_claim_steps self.now.limits stage lows pass.new.seen_blocks result in
             Follows (n pass.old.seen pass.new.seen) pass.old pass.new }

@@ -89,7 +89,8 @@ impl Shared {
         ensures remembers { Remembers stage (view_of seat.new) lows.new }
         ensures lows { RisesAt part lows.old lows.new }
         ensures few { let l = table_limits self.now.words in
-            StepsTo (2 + (l.rows - slice_index lows.old part) * try_steps) (view_of seat.old) (view_of seat.new) }
+            StepsTo (2 + (l.rows - slice_index lows.old part) * try_steps) (view_of seat.old)
+            (view_of seat.new) }
         ensures lean { let l = table_limits self.now.words in let n = slice_index lows.old part in
             IsLeanWithin l stage 2 (part * l.rows + n) (l.rows - n) from to
             (view_of seat.old) (view_of seat.new) }
@@ -142,7 +143,8 @@ impl Shared {
         ensures remembers { Remembers stage (view_of seat.new) lows.new }
         ensures lows { RisesAt part lows.old lows.new }
         ensures few { let l = table_limits self.now.words in
-            StepsTo (3 + (l.rows - slice_index lows.old part) * try_steps) (view_of seat.old) (view_of seat.new) }
+            StepsTo (3 + (l.rows - slice_index lows.old part) * try_steps) (view_of seat.old)
+            (view_of seat.new) }
         ensures lean { let l = table_limits self.now.words in let n = slice_index lows.old part in
             IsLeanWithin l stage 3 (part * l.rows + n) (l.rows - n) from to
             (view_of seat.old) (view_of seat.new) }
@@ -320,7 +322,8 @@ impl Shared {
         ensures lows { NoneFalls lows.old lows.new }
         ensures few { let l = table_limits self.now.words in
             let n = 2 * drawn_steps l.spare + BLOCK_ROWS * l.spare * try_steps in
-            StepsTo (2 * scan_steps l try_steps 3 lows.old l.parts + n) (view_of seat.old) (view_of seat.new) }
+            StepsTo (2 * scan_steps l try_steps 3 lows.old l.parts + n) (view_of seat.old)
+            (view_of seat.new) }
         ensures lean { let l = table_limits self.now.words in
             IsLean l (lean_turn_steps l stage lows.old drawn.new) (view_of seat.old) (view_of seat.new) }
         ensures told { let l = table_limits self.now.words in

@@ -202,7 +202,8 @@ impl Shared {
         ensures remembers { Remembers 0 (view_of seat.new) lows.new }
         ensures lows { NoneFalls lows.old lows.new }
         ensures told { let l = table_limits self.now.words in
-            let n = spare_left l (look_steps l) (slice_index lows.old l.parts) in let P = PassedOver l in MatchOption result
+            let n = spare_left l (look_steps l) (slice_index lows.old l.parts) in let P = PassedOver l in
+            MatchOption result
             (Begun l P n from (rows_of l) (view_of seat.old) (view_of seat.new))
             (λ id. (from ≤ id) × (id < rows_of l) × Hits l id (seen_by seat.new)
             × Sought l n (EachRow P from id) (view_of seat.old) (view_of seat.new)) }
@@ -249,7 +250,8 @@ impl Manager {
         ensures own { IsOf self.now pass.new }
         ensures turn { pass.new.from ≡ pass.old.from }
         ensures follows { Follows (next_error_steps self.now.limits) pass.old pass.new }
-        ensures few { Follows (listing_steps_left self.now.limits (marks_of pass.old.lows 0)) pass.old pass.new }
+        ensures few { Follows (listing_steps_left self.now.limits (marks_of pass.old.lows 0)) pass.old
+            pass.new }
         ensures quiet { IsQuiet pass.old pass.new }
         ensures looks { from < rows_of self.now.limits → HasLooked pass.old pass.new }
         ensures inside { IfSome result (λ id. id < rows_of self.now.limits) }

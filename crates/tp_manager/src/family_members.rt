@@ -43,7 +43,8 @@ impl Manager {
         ensures own { IsOf self.now pass.new }
         ensures turn { pass.new.from ≡ pass.old.from }
         ensures follows { Follows (family_steps self.now.limits) pass.old pass.new }
-        ensures few { Follows (family_look_steps self.now.limits (length (family pass.new.seen root))) pass.old pass.new }
+        ensures few { Follows (family_look_steps self.now.limits (length (family pass.new.seen root)))
+            pass.old pass.new }
         ensures quiet { IsQuiet pass.old pass.new }
         ensures looks { from < rows_of self.now.limits → HasLooked pass.old pass.new }
         ensures answer { MatchOption result

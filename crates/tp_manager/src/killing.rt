@@ -51,7 +51,8 @@ impl Shared {
         requires found { claim_value claim ≡ claim_word (seen_by seat.old) row }
         requires free { (hand_of seat.old).open_unit ≡ None }
         ensures same { IsSameSeat seat.old seat.new }
-        ensures told { let l = table_limits self.now.words in let word = claim_value claim in MatchResult result
+        ensures told { let l = table_limits self.now.words in let word = claim_value claim in
+            MatchResult result
             (λ count. Loosened l row word count (view_of seat.old) (view_of seat.new))
             (λ refusal. Looked l (takers word) (view_of seat.old) (view_of seat.new)
             × IsPastKill l (seen_by seat.new) row refusal) }
@@ -98,7 +99,8 @@ impl Shared {
         requires free { (hand_of seat.old).open_unit ≡ None }
         requires enough { IsEnough (table_limits self.now.words) left (claim_value claim.tells) }
         ensures same { IsSameSeat seat.old seat.new }
-        ensures told { let l = table_limits self.now.words in let n = slay_from left (claim_value claim.tells) in
+        ensures told { let l = table_limits self.now.words in
+            let n = slay_from left (claim_value claim.tells) in
             MatchResult result
             (λ count. KillsIn l n row left count (view_of seat.old) (view_of seat.new))
             (λ refusal. FailsIn l n row left refusal (view_of seat.old) (view_of seat.new)) }
@@ -132,7 +134,8 @@ impl Shared {
         requires free { (hand_of seat.old).open_unit ≡ None }
         requires enough { IsEnough (table_limits self.now.words) left (claim_value claim.tells) }
         ensures same { IsSameSeat seat.old seat.new }
-        ensures told { let l = table_limits self.now.words in let n = slay_from left (claim_value claim.tells) in
+        ensures told { let l = table_limits self.now.words in
+            let n = slay_from left (claim_value claim.tells) in
             MatchResult result
             (λ count. KillsIn l n row left count (view_of seat.old) (view_of seat.new))
             (λ refusal. FailsIn l n row left refusal (view_of seat.old) (view_of seat.new)) }

@@ -68,8 +68,8 @@ kill_job rows plan clients =
     let first = first_number clients * rows in
     record { first = first; end = first + plan.clients * rows }
 
--- passes that a race may have, whose manager has parts of so many rows: all are free, and there are enough for
--- its clients
+-- passes that a race may have, whose manager has parts of so many rows: all are free, and there are enough
+-- for its clients
 pub record MayRace (m : ManagerShown) (rows : ℕ) (plan : Race) (racers : List PassShown) : Type 0 where
   pub free : All (IsFreePass m) racers
   pub enough : plan.clients ≤ length racers

@@ -13,8 +13,8 @@ use tp_manager::{Keeper, Manager, Pass};
 use tp_server::Server;
 
 /// Has each desk give up what it has in hand, in the order of the servers. The passes are all that the keeper
-/// gave out: the client's, then one for each server, then those of races. They gather behind each desk, so that
-/// what is counted afterwards is what a manager of one thread counts.
+/// gave out: the client's, then one for each server, then those of races. They gather behind each desk, so
+/// that what is counted afterwards is what a manager of one thread counts.
 pub fn give_up_all(
     manager: &Manager,
     keeper: &mut Keeper,

@@ -19,7 +19,8 @@ counted n stage payment = record {
 }
 
 abbrev pub count_on : ℕ → List ℕ → Element → Result Effect Declined
-count_on stage (n ∷ []) payment = if nat_lt (n + 1) (2 ^ 64) then Ok (counted n stage payment) else Err TooLarge
+count_on stage (n ∷ []) payment =
+    if nat_lt (n + 1) (2 ^ 64) then Ok (counted n stage payment) else Err TooLarge
 count_on stage other payment = Err NoRegister
 
 -- the validator counts what it lets through, which is what isn't above its ceiling; else it declines for its
@@ -29,7 +30,10 @@ payment_validated ceiling registers payment =
     if nat_le (payment_amount payment) ceiling then count_on 2 registers payment else Err (Own 1)
 
 abbrev pub payment_validator : ℕ → Behaviour
-payment_validator ceiling = record { stage = 1; effect = λ registers payment heard. payment_validated ceiling registers payment }
+payment_validator ceiling = record {
+  stage = 1;
+  effect = λ registers payment heard. payment_validated ceiling registers payment;
+}
 
 -- the charge adds the amount to the takings, counts one more, and notes the bank's receipt
 abbrev pub charge : ℕ → ℕ → Element → ℕ → Effect

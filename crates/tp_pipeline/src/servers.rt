@@ -1,7 +1,8 @@
 //! The servers of the three stages. The words of a payment's body are its amount, its number, and the bank's
 //! receipt once there is one.
 ghost use Rattle.std.specs.Prelude.{◌≡◌, ◌≤◌};
-ghost use Rattle.tp_pipeline.specs.Payments.{receipt_heard, charged, charger, count_on, shipper, payment_validated, payment_validator};
+ghost use Rattle.tp_pipeline.specs.Payments.{receipt_heard, charged, charger, count_on, shipper};
+ghost use Rattle.tp_pipeline.specs.Payments.{payment_validated, payment_validator};
 
 use crate::bank::Bank;
 use std::hint::spin_loop;

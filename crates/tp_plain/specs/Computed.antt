@@ -34,8 +34,10 @@ use Rattle.tp_plain.specs.Looks.{look_at, sooner, attempts_in, is_unsettled_of, 
 use Rattle.tp_model.specs.Births.{IsWhole, request}
 use Rattle.tp_plain.specs.OneThread.{Answers, CallSubmit, CallClaim, CallClaimId, CallClaimNext, CallCommit}
 use Rattle.tp_plain.specs.OneThread.{CallAbort, CallKill, CallCancel, CallRelease, CallCollect, CallRequeue}
-use Rattle.tp_plain.specs.OneThread.{CallRead, State, pass_at, first_row, next_unit, having_taken, turn_of_pass, moved}
-use Rattle.tp_plain.specs.OneThread.{with_pass, with_draw, ready, used_up, extended, freed, freed_after_use, made_of}
+use Rattle.tp_plain.specs.OneThread.{CallRead, State, pass_at, first_row, next_unit, having_taken}
+use Rattle.tp_plain.specs.OneThread.{turn_of_pass, moved}
+use Rattle.tp_plain.specs.OneThread.{with_pass, with_draw, ready, used_up, extended, freed, freed_after_use}
+use Rattle.tp_plain.specs.OneThread.{made_of}
 
 -- whether clients may submit to this stage
 abbrev pub is_server_stage : ℕ → Bool
@@ -74,7 +76,8 @@ work_on s c look = record {
 -- the state after a claim of a waiting element, with these places for the pass's claims in turn
 abbrev pub with_claimed : State → ℕ → Look → List ℕ → State
 with_claimed s c look turns =
-    moved s (Claim c (next_unit s c) look.element.id (attempts_in look.status + 1)) c (having_taken s c (work_on s c look) turns)
+    moved s (Claim c (next_unit s c) look.element.id (attempts_in look.status + 1)) c
+    (having_taken s c (work_on s c look) turns)
 
 -- a claim of what was found to wait
 abbrev pub claim_found : State → ℕ → Option Look → Claimed × State
@@ -89,7 +92,10 @@ claim_of_stage s c stage = if nat_lt (pass_at s c).claimed s.limits.units
 -- a claim in turn of what was found to wait: the next one of the stage goes on after it
 abbrev pub claim_next_found : State → ℕ → ℕ → Option Look → Claimed × State
 claim_next_found s c stage None = (claimed.Idle, s)
-claim_next_found s c stage (Some look) = (claimed.Work (work_on s c look), with_claimed s c look (slice_set (pass_at s c).turns stage (look.element.id + 1)))
+claim_next_found s c stage (Some look) = (
+  claimed.Work (work_on s c look),
+  with_claimed s c look (slice_set (pass_at s c).turns stage (look.element.id + 1)),
+)
 
 -- a claim in turn
 abbrev pub claim_next_of_stage : State → ℕ → ℕ → Claimed × State
@@ -323,7 +329,8 @@ pub record AreAllowed (s : State) (c : ℕ) : Type 0 where
       (claim_next_of_stage s c stage).1
   pub claim_id : (i : ℕ) → (pass_at s c).holding ≡ None
       → Answers s (CallClaimId c i (claim_id_of s c i).0) (claim_id_of s c i).1
-  pub commit : (u : ℕ) (drafts : List DraftView) → (pass_at s c).holding ≡ Some u → length drafts ≤ MAX_OUTPUTS
+  pub commit : (u : ℕ) (drafts : List DraftView) → (pass_at s c).holding ≡ Some u
+      → length drafts ≤ MAX_OUTPUTS
       → All IsWhole drafts
       → Answers s (CallCommit c drafts (Ok (commit_of s c drafts).0)) (commit_of s c drafts).1
   pub abort : (u : ℕ) → (pass_at s c).holding ≡ Some u → Answers s (CallAbort c (abort_of s c).0)

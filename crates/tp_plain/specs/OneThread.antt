@@ -204,14 +204,17 @@ pub record PlainTakesNext (s : State) (c stage : ℕ) (w : Work) (t : State) : T
   pub room : (pass_at s c).claimed < s.limits.units
   pub next : w.unit ≡ next_unit s c
   pub waiting : Waits s stage w.element (w.attempt - 1)
-  pub first : (e : Element) (n : ℕ) → Waits s stage e n → ¬ IsPlainBefore (turn_of_pass s c stage) w.element.id e.id
+  pub first : (e : Element) (n : ℕ) → Waits s stage e n
+      → ¬ IsPlainBefore (turn_of_pass s c stage) w.element.id e.id
   pub step : Step s.limits s.history (Claim c w.unit w.element.id w.attempt)
-  pub after : t ≡ moved s (Claim c w.unit w.element.id w.attempt) c (having_taken s c w (slice_set (pass_at s c).turns stage (w.element.id + 1)))
+  pub after : t ≡ moved s (Claim c w.unit w.element.id w.attempt) c
+      (having_taken s c w (slice_set (pass_at s c).turns stage (w.element.id + 1)))
 
 -- a claim takes work, or is idle where nothing waits, or finds the pass's units used up
 abbrev pub PlainClaims : State → ℕ → ℕ → Claimed → State → Type 0
 PlainClaims s c stage (claimed.Work w) t = PlainTakes s c stage w t
-PlainClaims s c stage claimed.Idle t = (t ≡ s) × ((pass_at s c).claimed < s.limits.units) × ((e : Element) (n : ℕ)
+PlainClaims s c stage claimed.Idle t =
+    (t ≡ s) × ((pass_at s c).claimed < s.limits.units) × ((e : Element) (n : ℕ)
     → ¬ Waits s stage e n)
 PlainClaims s c stage claimed.NoUnit t = (t ≡ s) × (s.limits.units ≤ (pass_at s c).claimed)
 
@@ -416,7 +419,8 @@ Answers s (CallClaimNext c stage r) t = MatchResult r (λ a. PlainClaimsNext s c
 Answers s (CallCommit c drafts r) t = (u : ℕ) × ((pass_at s c).holding ≡ Some u)
     × MatchResult r (λ a. AnswersCommit s c u drafts a t) (λ why. RefusesCommit s c u drafts why × (t ≡ s))
 Answers s (CallAbort c a) t = (u : ℕ) × ((pass_at s c).holding ≡ Some u) × GivesUp s c u a t
-Answers s (CallKill c i r) t = MatchResult r (λ k. PlainKills s c i k.units_aborted t) (λ why. RefusesKill s i why
+Answers s (CallKill c i r) t =
+    MatchResult r (λ k. PlainKills s c i k.units_aborted t) (λ why. RefusesKill s i why
     × (t ≡ s))
 Answers s (CallCancel c root r) t = MatchResult r (λ k. PlainCancels s c root k.killed t)
     (λ why. RefusesCancel s root why × (t ≡ s))

@@ -97,7 +97,8 @@ impl Plain {
         block_first(self.limits, self.limits.spare)
     }
 
-    /// Whether a pass has a unit of work in its hand: claimed, and neither committed nor given up by its own calls.
+    /// Whether a pass has a unit of work in its hand: claimed, and neither committed nor given up by its own
+    /// calls.
     pub fn has_open(&self, caller: u16) -> bool
         requires { caller < self.now.limits.parts }
         ensures { result ≡ is_some (pass_at self.now caller).holding }
@@ -113,7 +114,8 @@ impl Plain {
         self.passes[caller as usize].claimed < self.limits.units
     }
 
-    /// A client puts a new request into a stage. Where the run of the pass has no row left, the pass draws a block.
+    /// A client puts a new request into a stage. Where the run of the pass has no row left, the pass draws a
+    /// block.
     ///
     /// `BadStage` for a stage outside 1 to 14, `Full` where no spare block is left either, and `NoMemory`.
     pub fn submit(&mut self, caller: u16, stage: u8, body: Body) -> Result<u32, Refusal>
@@ -156,8 +158,8 @@ impl Plain {
         Ok(id)
     }
 
-    /// A pass ends the unit in its hand, and its drafts become elements, in rows of one run. Where its run has too
-    /// few rows left for them, the pass draws a block.
+    /// A pass ends the unit in its hand, and its drafts become elements, in rows of one run. Where its run
+    /// has too few rows left for them, the pass draws a block.
     pub fn commit(&mut self, caller: u16, drafts: &[Draft]) -> Result<Outcome, Refusal>
         requires pass { caller < self.old.limits.parts }
         requires holding { IsSome (pass_at self.old caller).holding }

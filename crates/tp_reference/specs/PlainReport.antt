@@ -24,7 +24,8 @@ use Rattle.tp_report.specs.declared.answer.ServerAnswer.TheVariants as told
 use Rattle.tp_report.specs.Answer.{account_text, answer_text, balance_text, final_text, line, named_text}
 use Rattle.tp_reference.specs.declared.plain_desk.PlainDesk.{PlainDesk}
 use Rattle.tp_reference.specs.PlainClient.{client_step, counts_of}
-use Rattle.tp_reference.specs.PlainDesks.{DeskAnswered, does_unless_dropped, after_giving_up, takes_part, turn_by}
+use Rattle.tp_reference.specs.PlainDesks.{DeskAnswered, does_unless_dropped, after_giving_up, takes_part}
+use Rattle.tp_reference.specs.PlainDesks.{turn_by}
 
 -- the manager of one thread, and a desk for each server
 pub record ReportState : Type 0 where
@@ -85,7 +86,8 @@ has_claimed other = true
 abbrev pub round_turn : Order → Option ServerView → Option PlainDesk → ℕ → ReportState → Bool × ReportState
 round_turn order (Some server) (Some desk) i s =
     if takes_part s.manager (worker i) desk
-    then (let done = turn_by order server.recipe (worker i) s.manager desk in (has_claimed done.answer, with_acted s i done))
+    then (let done = turn_by order server.recipe (worker i) s.manager desk in
+    (has_claimed done.answer, with_acted s i done))
     else (false, s)
 round_turn order server desk i s = (false, s)
 

@@ -24,7 +24,8 @@ impl PlainRun {
         requires ready { IsSetUp (map server_view servers.now) self.now }
         requires within { at < length servers.now }
         ensures { IfOk result (λ text. string_bytes text
-            ≡ desk_final_line (slice_get (map server_view servers.now) at) (slice_get self.now.desks.items at)) }
+            ≡ desk_final_line (slice_get (map server_view servers.now) at)
+            (slice_get self.now.desks.items at)) }
     {
         let name = servers[at].name.as_str();
         let registers = self.desks[at].registers.as_slice();

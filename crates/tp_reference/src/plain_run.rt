@@ -3,7 +3,8 @@ ghost use Rattle.std.specs.Prelude.{◌≡◌, ◌+◌, ◌<◌, ◌≤◌, map,
 ghost use Rattle.tp_script.specs.Ranges.{IsInRange, IsScriptAct};
 ghost use Rattle.tp_script.specs.declared.script.TheConstants.{MAX_SERVERS};
 ghost use Rattle.tp_script.specs.Script.{head_view, server_view};
-ghost use Rattle.tp_reference.specs.PlainReport.{act_step, balance_answer, begin, command_step, counted_at_desk};
+ghost use Rattle.tp_reference.specs.PlainReport.{act_step, balance_answer, begin, command_step};
+ghost use Rattle.tp_reference.specs.PlainReport.{counted_at_desk};
 ghost use Rattle.tp_reference.specs.PlainReport.{desk_step, new_desk, sum_over_desks, worker};
 ghost use Rattle.tp_reference.specs.PlainRunning.{state, IsSetUp};
 
@@ -108,7 +109,8 @@ impl PlainRun {
     ) -> Result<String, AllocError>
         requires ready { IsSetUp (map server_view servers.now) self.now }
         requires within { at < length servers.now }
-        ensures { IfOk result (λ text. string_bytes text ≡ balance_answer (slice_get (map server_view servers.now) at)
+        ensures { IfOk result
+            (λ text. string_bytes text ≡ balance_answer (slice_get (map server_view servers.now) at)
             (slice_get self.now.desks.items at) k) }
     {
         let name = servers[at].name.as_str();
@@ -176,7 +178,8 @@ impl PlainRun {
         act: &Act,
     ) -> Result<String, AllocError>
         requires ready { IsSetUp (map server_view script.now.head.servers.items) self.old }
-        requires in_range { IsScriptAct (vec_len script.now.head.servers) (vec_len script.now.head.workers) act.now }
+        requires in_range { IsScriptAct (vec_len script.now.head.servers) (vec_len script.now.head.workers)
+            act.now }
         ensures step { IfOk result (λ text.
             act_step (map server_view script.now.head.servers.items) act.now (state self.old)
             ≡ (string_bytes text, state self.new)) }

@@ -1,5 +1,5 @@
--- What descriptions are fit to be made alive: those of elements that one manager, with limits l, can have alive
--- at once, and that another one, with limits k, can have too.
+-- What descriptions are fit to be made alive: those of elements that one manager, with limits l, can have
+-- alive at once, and that another one, with limits k, can have too.
 use Rattle.std.specs.Prelude.{◌≢◌, ◌<◌, All, List, length}
 use Rattle.tp_model.specs.declared.types.Limits.{Limits}
 use Rattle.tp_model.specs.History.{In}

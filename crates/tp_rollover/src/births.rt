@@ -51,8 +51,8 @@ struct Unborn<'s> {
     rest: &'s [Survivor],
 }
 
-/// Those that are born next: of which element, by the next pass from which on, and whether a further carrier is
-/// born with them.
+/// Those that are born next: of which element, by the next pass from which on, and whether a further carrier
+/// is born with them.
 #[derive(Clone, Copy, Debug, PartialEq, Eq)]
 struct Birth<'s> {
     group: &'s [Survivor],
@@ -207,7 +207,8 @@ fn bear_group(
     ensures rows { let n = length birth.now.group.now in
         IfOk result (λ first. first + n ≤ rows_of manager.now.limits) }
     ensures gives { Agrees result (λ first. (first, placing manager.now keeper.new passes.new cursor.new))
-        (born_next (length passes.old) (drafts_of birth.now.group.now birth.now.more) birth.now.carrier birth.now.home
+        (born_next (length passes.old) (drafts_of birth.now.group.now birth.now.more) birth.now.carrier
+        birth.now.home
         (placing manager.now keeper.old passes.old cursor.old)) }
     ensures memory { IfErr result (λ stop. stop ≢ stops.NoMemory) }
 {
@@ -381,7 +382,8 @@ fn bear_turn(
     ensures steps { let n = newly unborn.now.rest.now moved.old.items moved.new.items result in
         AllMake (n * bear_steps manager.now.limits keeper.old.given 1)
         keeper.old passes.old keeper.new passes.new }
-    ensures on { BearsOn unborn.now.limits (length passes.old) unborn.now.rest.now moved.old.items moved.new.items
+    ensures on { BearsOn unborn.now.limits (length passes.old) unborn.now.rest.now moved.old.items
+        moved.new.items
         (bearing manager.now keeper.old passes.old cursor.old families.old)
         (bearing manager.now keeper.new passes.new cursor.new families.new) result }
     ensures memory { IfErr result (λ stop. stop ≡ stops.NoMemory
@@ -422,7 +424,8 @@ pub(crate) fn bear_all(
         AllMake (n * bear_steps manager.now.limits keeper.old.given 1)
         keeper.old passes.old keeper.new passes.new }
     ensures gives { let l = of.now.limits in
-        let computed = all_born l (length passes.old) survivors.now (lone manager.now keeper.old passes.old) in
+        let computed = all_born l (length passes.old) survivors.now
+        (lone manager.now keeper.old passes.old) in
         AgreesUnless (AreFit l manager.now.limits survivors.now → computed ≡ None) result
         (λ _. (moved.new.items, lone manager.now keeper.new passes.new)) computed }
 {

@@ -139,8 +139,8 @@ fn are_apart(limits: Limits, survivors: &[Survivor], families: &[Family]) -> boo
     true
 }
 
-/// The families of these, where they are fit to be made alive in this manager. `Unequal` where they aren't. `of`
-/// is the manager in which they are.
+/// The families of these, where they are fit to be made alive in this manager. `Unequal` where they aren't.
+/// `of` is the manager in which they are.
 pub(crate) fn families_for(
     families: &mut Vec<Family>,
     of: &Manager,

@@ -12,7 +12,8 @@ use Rattle.tp_model.specs.declared.event.Event.{Event}
 use Rattle.tp_model.specs.declared.event.Event.TheVariants.{Enqueue, Claim, Commit, Abort, Kill, Requeue}
 use Rattle.tp_model.specs.declared.trace.StepKind.{StepKind}
 use Rattle.tp_model.specs.declared.trace.StepKind.TheVariants as kinds
-use Rattle.tp_model.specs.History.{Aborted, Committed, In, IsSettled, IsUnborn, status_of, UnitClaim, UnitEnd, claim_of}
+use Rattle.tp_model.specs.History.{Aborted, Committed, In, IsSettled, IsUnborn, status_of, UnitClaim, UnitEnd}
+use Rattle.tp_model.specs.History.{claim_of}
 use Rattle.tp_model.specs.History.{births, element_of, end_of, events_by, pass_of}
 use Rattle.tp_model.specs.Passes.{AreEnded, Ascend, IsOwnArea, IsOwnOpen, IsRun}
 use Rattle.tp_model.specs.Words.{ClaimWord, claim_word, round_in, word_status}
@@ -430,7 +431,8 @@ pub record DrawsNone (v : View) (b n : ℕ) (w : View) : Type 0 where
 
 -- row i is in an area of the pass that its run has left
 abbrev pub IsLeftBehind : Limits → Hand → ℕ → Type 0
-IsLeftBehind l a i = (first : ℕ) × (end : ℕ) × IsOwnArea l a.number a.blocks first end × (first ≤ i) × (i < end)
+IsLeftBehind l a i =
+    (first : ℕ) × (end : ℕ) × IsOwnArea l a.number a.blocks first end × (first ≤ i) × (i < end)
     × (end ≢ a.next + a.left)
 
 -- the seat knows that no row is empty that the pass left unused when it drew its last block
@@ -503,7 +505,8 @@ pub record SeatsMeet (v w v' w' : View) : Type 0 where
   pub second_saw : IsPrefix w.seen v'.seen
   -- the first made the three steps, and the second was there at the one between; nothing else changed
   pub first_one : IsOnePass v'
-  pub first_is : hand v' ≡ noted kinds.SeatLoad v'.seen (noted kinds.Load v'.seen (noted kinds.SeatLoad v.seen (hand v)))
+  pub first_is : hand v' ≡ noted kinds.SeatLoad v'.seen
+      (noted kinds.Load v'.seen (noted kinds.SeatLoad v.seen (hand v)))
   pub second_one : IsOnePass w'
   pub second_is : hand w' ≡ noted kinds.Load v'.seen (hand w)
   pub limits : (v'.limits ≡ v.limits) × (w'.limits ≡ v.limits)

@@ -1,13 +1,17 @@
-//! What a line says: in the head, and behind it. Scripts and live sessions have the same lines, but for races.
-ghost use Rattle.std.specs.Prelude.{◌≡◌, ◌≤◌, ◌&&◌, None, Result, Some, map, nat_le, vec_len, ℕ, IfOk, IfSome};
+//! What a line says: in the head, and behind it. Scripts and live sessions have the same lines, but for
+//! races.
+ghost use Rattle.std.specs.Prelude.{◌≡◌, ◌≤◌, ◌&&◌, None, Result, Some, map, nat_le, vec_len, ℕ, IfOk};
+ghost use Rattle.std.specs.Prelude.{IfSome};
 ghost use Rattle.std.specs.Prelude.{OnErr};
 ghost use Rattle.std.specs.List.{list_all, list_any};
 ghost use Rattle.tp_script.specs.declared.fault.LineFault.{LineFault};
 ghost use Rattle.tp_script.specs.declared.fault.LineFault.TheVariants.{Syntax};
 ghost use Rattle.tp_script.specs.declared.head.Act.{Act};
 ghost use Rattle.tp_script.specs.Grammar.{account_at, act_said, body_keyword, body_words, dump_at, given_by};
-ghost use Rattle.tp_script.specs.Grammar.{head_at, head_keyword, head_words, is_comment, limit_line, line_words};
-ghost use Rattle.tp_script.specs.Grammar.{out_of_order, restore_at, rows_line, setting_at, spare_line, units_line};
+ghost use Rattle.tp_script.specs.Grammar.{head_at, head_keyword, head_words, is_comment, limit_line};
+ghost use Rattle.tp_script.specs.Grammar.{line_words};
+ghost use Rattle.tp_script.specs.Grammar.{out_of_order, restore_at, rows_line, setting_at, spare_line};
+ghost use Rattle.tp_script.specs.Grammar.{units_line};
 ghost use Rattle.tp_script.specs.Grammar.{names_an_id, overview_at, unless_waiting, waits_for_restore};
 ghost use Rattle.tp_script.specs.Keyword.{keyword};
 ghost use Rattle.tp_script.specs.LineWords.{known, one_word};

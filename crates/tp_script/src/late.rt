@@ -61,9 +61,9 @@ impl Head {
         Ok(Some(act))
     }
 
-    /// What a line of a session behind its head asks for, if it isn't empty or a comment, where notes are kept
-    /// of these clients. A worker that comes takes the first free place, and leaves it free when it goes; each
-    /// place stays. A faulty line leaves the head as it was.
+    /// What a line of a session behind its head asks for, if it isn't empty or a comment, where notes are
+    /// kept of these clients. A worker that comes takes the first free place, and leaves it free when it
+    /// goes; each place stays. A faulty line leaves the head as it was.
     #[tactic(auto, unfolding(crate::specs::Grammar::late_line))]
     pub fn body_line(
         &mut self,

@@ -56,7 +56,8 @@ amount_of (FixedAmount n) amount after = n
 -- word at this place
 abbrev pub body_of : ℕ → List ℕ → ℕ → Output → List ℕ
 body_of word body after output =
-    slice_set (slice_set body 0 (output_key output.key (key_in body))) word (amount_of output.amount (slice_index body word) after)
+    slice_set (slice_set body 0 (output_key output.key (key_in body))) word
+    (amount_of output.amount (slice_index body word) after)
 
 -- the draft of one output of a recipe whose amount is the word at this place, where the act leaves the
 -- register at after

@@ -1,5 +1,5 @@
--- What a worker outside of the program is answered, and what its pass did for it. `old` is what is in its hand
--- before the command, and `new` what is in it after.
+-- What a worker outside of the program is answered, and what its pass did for it. `old` is what is in its
+-- hand before the command, and `new` what is in it after.
 use Rattle.std.specs.Prelude.{◌≡◌, ◌⊎◌, ℕ, Bool, true, false, List, [], ◌∷◌, Option, Some, None, is_some}
 use Rattle.std.specs.Prelude.{length}
 use Rattle.tp_model.specs.Drafts.{DraftView}
@@ -99,7 +99,8 @@ WorkerTellsClaim l stage old (Told told.Busy) new = IsWorkerBusy old new
 WorkerTellsClaim l stage old other new = ⊥
 
 -- a claim in turn from the worker's stage that was answered so, and what is in hand then
-pub record NextAnswered (l : Limits) (stage : ℕ) (claimed : Claimed) (held : Holding) (old new : Hand) : Type 0 where
+pub record NextAnswered (l : Limits) (stage : ℕ) (claimed : Claimed) (held : Holding) (old new : Hand)
+    : Type 0 where
   pub idle : old.work ≡ Nothing
   pub of_servers : IsServerStage stage
   pub follows : Follows (claim_next_steps l) old.pass new.pass
@@ -110,8 +111,10 @@ pub record NextAnswered (l : Limits) (stage : ℕ) (claimed : Claimed) (held : H
 abbrev pub WorkerTellsNext : Limits → ℕ → Hand → WorkerAnswer → Hand → Type 0
 WorkerTellsNext l stage old (Took work) new =
     NextAnswered l stage (claimeds.Work work) (Open work.unit work.element.id) old new
-WorkerTellsNext l stage old (Told (told.Turned turneds.Idle)) new = NextAnswered l stage claimeds.Idle Nothing old new
-WorkerTellsNext l stage old (Told (told.Turned turneds.NoUnit)) new = NextAnswered l stage claimeds.NoUnit Nothing old new
+WorkerTellsNext l stage old (Told (told.Turned turneds.Idle)) new =
+    NextAnswered l stage claimeds.Idle Nothing old new
+WorkerTellsNext l stage old (Told (told.Turned turneds.NoUnit)) new =
+    NextAnswered l stage claimeds.NoUnit Nothing old new
 WorkerTellsNext l stage old (Told told.Busy) new = IsWorkerBusy old new
 WorkerTellsNext l stage old other new = ⊥
 

@@ -12,8 +12,8 @@ use Rattle.tp_session.specs.declared.first.First.{First}
 
 -- ---- the head
 
--- A line of the head has no answer where the head takes it. A faulty one is refused, by its number, and leaves
--- the head as it was. The first command is no line of the head.
+-- A line of the head has no answer where the head takes it. A faulty one is refused, by its number, and
+-- leaves the head as it was. The first command is no line of the head.
 abbrev pub HeadLine : ℕ → Result (HeadView × Option Act) LineFault → HeadView → List ℕ → HeadView → Type 0
 HeadLine n (Ok (taken, None)) old text new = (text ≡ []) × (new ≡ taken)
 HeadLine n (Ok (taken, Some act)) old text new = ⊥

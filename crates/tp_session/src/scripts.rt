@@ -1,5 +1,6 @@
 //! The whole run of a script, from the reader's bytes to the writer's.
-ghost use Rattle.std.specs.Prelude.{◌≡◌, ◌+◌, ◌++◌, ◌^◌, ◌<◌, ◌≤◌, None, Result, All, IfSome, IsErrOf, IsTrue};
+ghost use Rattle.std.specs.Prelude.{◌≡◌, ◌+◌, ◌++◌, ◌^◌, ◌<◌, ◌≤◌, None, Result, All, IfSome, IsErrOf};
+ghost use Rattle.std.specs.Prelude.{IsTrue};
 ghost use Rattle.std.specs.Prelude.{OnErr, OnOk, length, map};
 ghost use Rattle.std.specs.Io.KnownBytes.{Appends};
 ghost use Rattle.tp_report.specs.Faults.{TellsFault, exit_status};
@@ -114,7 +115,8 @@ fn serve_by<T: Threads + Sync, W: Sink>(
     managed: Managed,
     writer: &mut W,
 ) -> Result<(), Fault>
-    requires new { IsNewInMemory (limits_of (head_view script.now.head) (racing script.now.acts.items)) managed }
+    requires new { IsNewInMemory (limits_of (head_view script.now.head) (racing script.now.acts.items))
+        managed }
     ensures told { OnOk result (Report script.now (Appends (W.contents writer.old) (W.contents writer.new))) }
     ensures front { OnErr result
         (ReportFront script.now (AppendsFront (W.contents writer.old) (W.contents writer.new))) }
@@ -140,7 +142,8 @@ fn serve_with<T: Threads + Sync, W: Sink>(
     servers: Vec<Box<dyn Server + Send>>,
     writer: &mut W,
 ) -> Result<(), Fault>
-    requires new { IsNewInMemory (limits_of (head_view script.now.head) (racing script.now.acts.items)) managed }
+    requires new { IsNewInMemory (limits_of (head_view script.now.head) (racing script.now.acts.items))
+        managed }
     requires behaviours { map (λ server. behaviour server) servers.items
         ≡ map (λ line. behaviour_of line.recipe) script.now.head.servers.items }
     requires registers { map (λ server. registers server) servers.items

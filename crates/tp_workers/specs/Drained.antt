@@ -31,7 +31,8 @@ module _ {B : Type 0} (behaviour : B → Behaviour) (registers : B → List ℕ)
   -- a desk of this pass and this server took one turn, which is counted
   pub record TookTurn (old : PassShown × B) (counts : Shift) (new : PassShown × B) : Type 0 where
     pub turned : Turned
-    pub turn : TakesTurn order m.limits (place behaviour registers pending old) turned (place behaviour registers pending new)
+    pub turn : TakesTurn order m.limits (place behaviour registers pending old) turned
+        (place behaviour registers pending new)
     pub limits : AreLimits m.limits
     pub counted : counts ≡ turn_count turned
     pub leaves : Leaves (behaviour old.1) (registers old.1) (registers new.1) old.0 new.0
@@ -49,7 +50,8 @@ module _ {B : Type 0} (behaviour : B → Behaviour) (registers : B → List ℕ)
   -- the pass has consumed since led to.
   pub record DeskDrained (old : PassShown × B) (counts : Shift) (new : PassShown × B) : Type 0 where
     pub taken : ℕ
-    pub calls : MadeCalls (TakesTurn order m.limits) turn_count taken (place behaviour registers pending old) counts
+    pub calls : MadeCalls (TakesTurn order m.limits) turn_count taken (place behaviour registers pending old)
+        counts
         (place behaviour registers pending new)
     pub done : counts.done + commits_in old.0 ≡ commits_in new.0
     pub few : counts.done ≤ MAX_UNITS
