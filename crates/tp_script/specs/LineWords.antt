@@ -136,9 +136,11 @@ key_at w = if bytes_eq w (codes "same") then Ok keys.Same else do
 
 -- the amount of an output: `same`, `after` or a number
 unfoldable pub amount_at : List ℕ → Result AmountFrom LineFault
-amount_at w = if bytes_eq w (codes "same") then Ok amounts.Same else if bytes_eq w (codes "after") then Ok amounts.After else do
-  n ← number_at (2 ^ 64 - 1) w
-  Ok (amounts.Fixed n)
+amount_at w =
+    if bytes_eq w (codes "same") then Ok amounts.Same
+    else if bytes_eq w (codes "after") then Ok amounts.After else do
+      n ← number_at (2 ^ 64 - 1) w
+      Ok (amounts.Fixed n)
 
 -- an output has exactly two colons
 abbrev pub has_two_colons : List ℕ → Bool
