@@ -122,7 +122,7 @@ module _ {X : Type 0} {F : X → Type 0} (behaviour : (x : X) × F x → Behavio
 -- ---- what is done
 
 -- what a pass and its server show of a desk
-abbrev pub place_of_desk : DeskShown → workers.Place
+abbrev pub place_of_desk : DeskShown → workers.DeskPlace
 place_of_desk d = record { pass = d.pass; behaviour = d.behaviour; registers = d.registers }
 
 -- the server is as it was

@@ -16,7 +16,7 @@ use Rattle.tp_script.specs.declared.head.Act.TheVariants as acts
 use Rattle.tp_script.specs.declared.head.WorkerAct.{WorkerAct}
 use Rattle.tp_alone.specs.Thread.{thread_of}
 use Rattle.tp_session.specs.Conversed.{Conversed, ConversedFront}
-use Rattle.tp_session.specs.Hands.{Hand, WorkerDoes}
+use Rattle.tp_session.specs.Hands.{WorkerHand, WorkerDoes}
 use Rattle.tp_session.specs.Heard.{heard}
 use Rattle.tp_session.specs.Live.{Live}
 use Rattle.tp_session.specs.Told.{LineTold, Now, said_now}
@@ -33,7 +33,7 @@ use Rattle.tp_exact.specs.Stands.{StandsAsComputed}
 abbrev pub ExactWorker : Type 0
 ExactWorker =
     (act : WorkerAct) (l : Limits) (stage : ℕ) (keeper keeper' : KeeperShown) (olds news : List PassShown)
-    (h h' : List Event) (c : ℕ) (old new : Hand) (answer : WorkerAnswer)
+    (h h' : List Event) (c : ℕ) (old new : WorkerHand) (answer : WorkerAnswer)
     → Acts l keeper keeper' olds news h h' c old.pass new.pass → WorkerDoes l stage act old answer new
     → let done = worker_does act stage c (thread_of l olds h) old.work in
     (answer ≡ done.answer) × (thread_of l news h' ≡ done.manager) × (new.work ≡ done.work)

@@ -134,7 +134,7 @@ pub record CollectingNext (l : Limits) (root from k : ℕ) (v w : View) : Type 0
 
 -- in at most n steps: the least reply that waited was killed, and each one before it had been; or each one
 -- had been
-abbrev pub Taken : Limits → ℕ → ℕ → View → View → Option Element → Type 0
-Taken l n root v w None = Looked l n v w × WereKilled l root (λ i. Unit {0}) v.seen w.seen
-Taken l n root v w (Some x) = Slain l n x.id [] v w × (element_of w.seen x.id ≡ Some x) × IsReply root x
+abbrev pub TakenReply : Limits → ℕ → ℕ → View → View → Option Element → Type 0
+TakenReply l n root v w None = Looked l n v w × WereKilled l root (λ i. Unit {0}) v.seen w.seen
+TakenReply l n root v w (Some x) = Slain l n x.id [] v w × (element_of w.seen x.id ≡ Some x) × IsReply root x
     × WereKilled l root (λ i. i < x.id) v.seen w.seen

@@ -47,7 +47,7 @@ use Rattle.tp_session.specs.Answers.{joined_line, left_line, restored_text, unit
 use Rattle.tp_session.specs.Carried.{lost_works, works_after}
 use Rattle.tp_session.specs.Clients.{NotedDoes, noting}
 use Rattle.tp_session.specs.Dump.{dump_lines, dump_text}
-use Rattle.tp_session.specs.Hands.{Hand, WorkerDoes, has_unit, unit_of}
+use Rattle.tp_session.specs.Hands.{WorkerHand, WorkerDoes, has_unit, unit_of}
 use Rattle.tp_session.specs.Lasts.{HandRead, end_at}
 use Rattle.tp_session.specs.NoteTexts.{last_hand}
 use Rattle.tp_session.specs.Notes.{NotesView, notes_in, notes_view, with_unit_end, without_end}
@@ -141,10 +141,10 @@ TellsBy false h c = CommandTold h c 0
 -- a worker did what it was asked, and all else is as it was
 pub record WorkerDid (it : WorkerLine) (act : WorkerAct) (at : ℕ) (old : Live) (answer : WorkerAnswer)
     (new : Live) : Type 0 where
-  pub before : Hand
+  pub before : WorkerHand
   pub pass : slice_get old.stand.scene.racers at ≡ Some before.pass
   pub work : slice_get old.works at ≡ Some before.work
-  pub after : Hand
+  pub after : WorkerHand
   pub does : WorkerDoes old.stand.manager.limits it.stage act before answer after
   pub stand : new.stand ≡ record old.stand {
     scene =

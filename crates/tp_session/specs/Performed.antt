@@ -86,10 +86,10 @@ pub record LiveCounts (old : Live) (account : Account) (new : Live) : Type 0 whe
   pub notes : new.notes ≡ old.notes
 
 -- so it was where the account is asked for, and else nothing was done
-abbrev pub Counts : Bool → Live → Option Account → Live → Type 0
-Counts false old account new = (account ≡ None) × (new ≡ old)
-Counts true old None new = ⊥
-Counts true old (Some account) new = LiveCounts old account new
+abbrev pub CountsAtEnd : Bool → Live → Option Account → Live → Type 0
+CountsAtEnd false old account new = (account ≡ None) × (new ≡ old)
+CountsAtEnd true old None new = ⊥
+CountsAtEnd true old (Some account) new = LiveCounts old account new
 
 -- Behind the last act what is in hand was given up, the account was taken, where it is asked for, and the
 -- desks were ended, which left these registers.
@@ -98,7 +98,7 @@ pub record SessionEnded (s : Script) (account : Option Account) (last : Live) (r
   pub closed : Live
   pub closes : SessionCloses s.head last closed
   pub counted : Live
-  pub counts : Counts s.account closed account counted
+  pub counts : CountsAtEnd s.account closed account counted
   pub ends : LiveEnds counted registers
 
 -- ---- the report

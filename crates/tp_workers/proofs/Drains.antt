@@ -13,7 +13,7 @@ use Rattle.tp_desk.specs.declared.order.Order.{Order}
 use Rattle.tp_workers.specs.declared.plan.Plan.{Plan}
 use Rattle.tp_workers.specs.declared.tally.Shift.{Shift}
 use Rattle.tp_workers.specs.Calling.{MadeCalls}
-use Rattle.tp_workers.specs.Desks.{DeskWorked, IsDeskOf, Place, TakesTurn, place}
+use Rattle.tp_workers.specs.Desks.{DeskWorked, IsDeskOf, DeskPlace, TakesTurn, place}
 use Rattle.tp_workers.specs.Drained.{DeskDrained, EndsIdle, LastTurn, TookTurn}
 use Rattle.tp_workers.specs.Free.{IsFreePass}
 use Rattle.tp_workers.specs.Gains.{commits_in}
@@ -60,7 +60,7 @@ module _ {B : Type 0} (behaviour : B → Behaviour) (registers : B → List ℕ)
   abbrev Took : PassShown × B → Shift → PassShown × B → Type 0
   Took x s y = TookTurn behaviour registers pending m order x s y
 
-  abbrev at : PassShown × B → Place
+  abbrev at : PassShown × B → DeskPlace
   at x = place behaviour registers pending x
 
   -- the units that are left to the pass

@@ -10,16 +10,16 @@ use Rattle.tp_desk.specs.declared.turned.Turned.{Turned}
 use Rattle.tp_desk.specs.Serving.{Leaves}
 use Rattle.tp_workers.specs.declared.tally.Shift.{Shift}
 use Rattle.tp_workers.specs.Calling.{MadeCalls}
-use Rattle.tp_workers.specs.Desks.{IsDeskOf, Place, TakesTurn, place}
+use Rattle.tp_workers.specs.Desks.{IsDeskOf, DeskPlace, TakesTurn, place}
 use Rattle.tp_workers.specs.Gains.{commits_in}
 use Rattle.tp_workers.specs.Tally.{claimed_in_all, turn_count}
 use Rattle.tp_model.specs.declared.types.TheConstants.{MAX_UNITS}
 
 -- turns were taken there, whose claims were in this order, and the last found nothing to claim
-pub record EndsIdle (order : Order) (l : Limits) (old new : Place) : Type 0 where
+pub record EndsIdle (order : Order) (l : Limits) (old new : DeskPlace) : Type 0 where
   pub taken : ℕ
   pub counts : Shift
-  pub before : Place
+  pub before : DeskPlace
   pub calls : MadeCalls (TakesTurn order l) turn_count taken old counts before
   pub last : Turned
   pub turn : TakesTurn order l before last new

@@ -21,7 +21,7 @@ use Rattle.tp_rule.specs.Views.{hand}
 use Rattle.tp_rule.specs.declared.view.View.{View}
 use Rattle.tp_manager.specs.declared.row_reads.Birth.{Birth}
 use Rattle.tp_manager.specs.Bounds.{collect_steps, one_take_steps, walk_steps}
-use Rattle.tp_manager.specs.Families.{IsAsked, Listed, Taken, CollectingNext, WereKilled, count_below, in_family, is_member}
+use Rattle.tp_manager.specs.Families.{IsAsked, Listed, TakenReply, CollectingNext, WereKilled, count_below, in_family, is_member}
 use Rattle.tp_manager.specs.Kills.{Slain}
 use Rattle.tp_manager.specs.Lists.{HasReply, IsReply, killed_between}
 use Rattle.tp_manager.specs.Looks.{IsBornAs}
@@ -118,7 +118,7 @@ module _ (l : Limits) (root : ℕ) where
       last : (y : List Event) (walks : ℕ) → k + 1 ≤ walks → (k + 1) * one_take_steps (length (family y root)) ≤ walks * one_take_steps (length (family y root))
       last y walks le = mul-le-mul_right (one_take_steps (length (family y root))) le
 
-    pub taken_none : Listed l root from None w x → Taken l ((killed_between l root v.seen x.seen + 1) * one_take_steps (length (family x.seen root))) root v x None
+    pub taken_none : Listed l root from None w x → TakenReply l ((killed_between l root v.seen x.seen + 1) * one_take_steps (length (family x.seen root))) root v x None
     taken_none s = (
       (let lost = t.lost in let more = killed_more l root v.seen w.seen x.seen (legal None s) (after None s) in
           let a = few None s x.seen (begins_refl x.seen) in let b = last None s x.seen (killed_between l root v.seen x.seen + 1) (omega arith) in
@@ -142,7 +142,7 @@ module _ (l : Limits) (root : ℕ) where
           (not_killed l v.seen p.0 id whole (begins_trans v.seen w.seen p.0 (before (Some id) s) p.1) p.3.3) (not_killed l w.seen p.0 id whole p.1 p.3.3) gone in
           omega arith
 
-      pub taken_some : (e : Element) → Slain l collect_steps id [] x y → element_of y.seen id ≡ Some e → IsPrefix x.seen y.seen → Taken l (killed_between l root v.seen y.seen * one_take_steps (length (family y.seen root))) root v y (Some e)
+      pub taken_some : (e : Element) → Slain l collect_steps id [] x y → element_of y.seen id ≡ Some e → IsPrefix x.seen y.seen → TakenReply l (killed_between l root v.seen y.seen * one_take_steps (length (family y.seen root))) root v y (Some e)
       taken_some e one born on =
           let own : e.id ≡ id = element_of-id y.seen id e born in
           let n = k * one_take_steps (length (family w.seen root)) + walk_steps (length (family x.seen root)) in
