@@ -77,7 +77,7 @@ impl Caller {
         }
     }
 
-    /// CommitsDrafts the open unit of work with these drafts, at most four.
+    /// Commits the open unit of work with these drafts, at most four.
     fn commit_drafts(&mut self, drafts: &[Draft]) -> Result<Outcome, Fault>
         requires few { length drafts.now ≤ MAX_OUTPUTS }
         ensures manager { self.new.manager ≡ self.old.manager }
@@ -91,7 +91,7 @@ impl Caller {
         Ok(self.manager.commit(&mut self.pass, drafts))
     }
 
-    /// CommitsDrafts the open unit of work with these drafts.
+    /// Commits the open unit of work with these drafts.
     pub fn commit(&mut self, drafts: &[DraftIn]) -> Result<Outcome, Fault>
         ensures manager { self.new.manager ≡ self.old.manager }
         ensures answer { CommitSays drafts.now (caller_limits self.old) self.old.pass self.new.pass result }
