@@ -9,11 +9,12 @@ use Rattle.tp_rollover.specs.declared.moved.Moved.{Moved}
 use Rattle.covetrivet_c.specs.declared.fault.Fault.{Fault}
 use Rattle.covetrivet_c.specs.declared.fault.Fault.TheVariants as faults
 use Rattle.covetrivet_c.specs.declared.home.Home.{Home}
-use Rattle.covetrivet_c.specs.Homes.{HomeGoesOn, HasGathered, IsHomeUnrolled, StaysHome, counts_of_stage, home_limits}
+use Rattle.covetrivet_c.specs.Homes.{HomeGoesOn, HasGathered, IsHomeUnrolled, StaysHome, counts_of_stage}
+use Rattle.covetrivet_c.specs.Homes.{home_limits}
 use Rattle.covetrivet_c.specs.Told.{TellsByCode, TellsEnd}
 
--- the handle led to a manager, and leads to one, for which this is so; or it led to nothing, the code says so,
--- and this is so
+-- the handle led to a manager, and leads to one, for which this is so; or it led to nothing, the code says
+-- so, and this is so
 abbrev pub Within : Option Home → Option Home → ℕ → (Home → Home → Type 0) → Type 0 → Type 0
 Within (Some old) (Some new) code Did Nothing = Did old new
 Within (Some old) None code Did Nothing = ⊥
@@ -26,7 +27,8 @@ HomeAnswers {X} shape Says was is code old new = Within was is code
     (λ h h'. (r : Result X Fault) × TellsByCode shape r code old new × Says h h' r) (new ≡ old)
 
 -- the same where nothing is to be written
-abbrev pub HomeEnds : {X : Type 0} → (Home → Home → Result X Fault → Type 0) → Option Home → Option Home → ℕ → Type 0
+abbrev pub HomeEnds : {X : Type 0} → (Home → Home → Result X Fault → Type 0) → Option Home → Option Home → ℕ
+    → Type 0
 HomeEnds {X} Says was is code = Within was is code
     (λ h h'. (r : Result X Fault) × TellsEnd r code × Says h h' r) (Unit {0})
 

@@ -11,7 +11,8 @@ use Rattle.tp_model.specs.History.{IsUnborn}
 use Rattle.tp_manager.specs.Shown.{PassShown, marks_of}
 use Rattle.tp_manager.specs.Bounds.{cancel_steps, collect_next_steps, collect_steps, family_cancel_steps}
 use Rattle.tp_manager.specs.Bounds.{family_collect_steps, family_look_steps, family_reply_steps, family_steps}
-use Rattle.tp_manager.specs.Bounds.{kill_steps, listing_steps_left, next_error_steps, read_steps, release_steps}
+use Rattle.tp_manager.specs.Bounds.{kill_steps, listing_steps_left, next_error_steps, read_steps}
+use Rattle.tp_manager.specs.Bounds.{release_steps}
 use Rattle.tp_manager.specs.Bounds.{reply_steps, requeue_steps, rounds_steps, submit_steps}
 use Rattle.tp_manager.specs.Calls.{AtPoint, Follows, Kills, KillFails, Reads, Submits, SubmitRefused}
 use Rattle.tp_manager.specs.Lists.{AllKilled, NextReply, NoneParked, NextError, NoneOfFamily, NextOfFamily}
@@ -20,7 +21,8 @@ use Rattle.tp_manager.specs.Requeues.{HasHadRounds, Requeues, RequeueFails}
 use Rattle.tp_manager.specs.Releases.{Releases, ReleaseFails, Collects, CollectFails}
 use Rattle.tp_manager.specs.Cancels.{Cancels, CancelFails}
 use Rattle.covetrivet_c.specs.declared.fault.Fault.{Fault}
-use Rattle.covetrivet_c.specs.Asked.{ManagerAsked, GoesSteps, IsBusy, IsNothing, LooksAtId, OnlyLooks, Refuses}
+use Rattle.covetrivet_c.specs.Asked.{ManagerAsked, GoesSteps, IsBusy, IsNothing, LooksAtId, OnlyLooks}
+use Rattle.covetrivet_c.specs.Asked.{Refuses}
 use Rattle.covetrivet_c.specs.Asked.{SoughtByC, StaysFree}
 
 -- `submit`
@@ -30,7 +32,8 @@ SubmitSays stage body l old new r = GoesSteps (submit_steps l) old new × (new.o
 
 -- `read`
 abbrev pub ReadSays : ℕ → Limits → PassShown → PassShown → Result Look Fault → Type 0
-ReadSays id l old new r = OnlyLooks (read_steps l) l id old new × MatchResult r (λ look. Reads l id old new look)
+ReadSays id l old new r =
+    OnlyLooks (read_steps l) l id old new × MatchResult r (λ look. Reads l id old new look)
     (Refuses (λ e. (e ≡ refusals.NotThere) × AtPoint old new (λ h. IsUnborn h id)))
 
 -- `rounds`
@@ -43,7 +46,8 @@ RoundsSays id l old new r = OnlyLooks rounds_steps l id old new
 abbrev pub ReplySays : ℕ → ℕ → Limits → PassShown → PassShown → Result ℕ Fault → Type 0
 ReplySays root from l old new r = OnlyLooks (reply_steps l) l from old new
     × Follows (family_reply_steps (length (family new.seen root))) old new
-    × MatchResult r (λ id. NextReply l root from id old new) (IsNothing (AllKilled l root (λ i. from ≤ i) old new))
+    × MatchResult r (λ id. NextReply l root from id old new)
+    (IsNothing (AllKilled l root (λ i. from ≤ i) old new))
 
 -- `next_error`
 abbrev pub ErrorSays : ℕ → Limits → PassShown → PassShown → Result ℕ Fault → Type 0
@@ -55,7 +59,8 @@ ErrorSays from l old new r = OnlyLooks (next_error_steps l) l from old new
 abbrev pub FamilySays : ℕ → ℕ → Limits → PassShown → PassShown → Result Look Fault → Type 0
 FamilySays root from l old new r = OnlyLooks (family_steps l) l from old new
     × Follows (family_look_steps l (length (family new.seen root))) old new
-    × MatchResult r (λ look. NextOfFamily l root from look old new) (IsNothing (NoneOfFamily root from old new))
+    × MatchResult r (λ look. NextOfFamily l root from look old new)
+    (IsNothing (NoneOfFamily root from old new))
 
 -- `requeue`
 abbrev pub RequeueSays : ℕ → Limits → PassShown → PassShown → Result ℕ Fault → Type 0

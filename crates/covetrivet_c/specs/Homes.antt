@@ -1,5 +1,6 @@
 -- What contracts say of a manager with the passes that are at home.
-use Rattle.std.specs.Prelude.{◌≡◌, ◌≢◌, ◌⊎◌, ◌==◌, ◌≤◌, ℕ, nat_le, not, zero, suc, All, None, List, [], ◌∷◌, length}
+use Rattle.std.specs.Prelude.{◌≡◌, ◌≢◌, ◌⊎◌, ◌==◌, ◌≤◌, ℕ, nat_le, not, zero, suc, All, None, List, [], ◌∷◌}
+use Rattle.std.specs.Prelude.{length}
 use Rattle.std.specs.Arc.{arc_value}
 use Rattle.std.specs.List.{AllZip, insert, prefix_len, slice_index_or}
 use Rattle.tp_model.specs.declared.types.Account.{Account}
@@ -66,7 +67,8 @@ place_with passes number = prefix_len (λ (p : PassShown). not (p.number == numb
 
 -- the first one with this number is
 abbrev pub LendsNumber : ℕ → List PassShown → PassShown → List PassShown → Type 0
-LendsNumber number olds pass news = (pass.number ≡ number) × LendsPlace (place_with olds number) olds pass news
+LendsNumber number olds pass news =
+    (pass.number ≡ number) × LendsPlace (place_with olds number) olds pass news
 
 -- why none with this number is
 abbrev pub IsNumberUnlent : ℕ → List PassShown → Fault → Type 0
@@ -121,8 +123,8 @@ IsUncarried l k olds news faults.Unequal =
 IsUncarried l k olds news other = ⊥
 
 -- It has gone on in a new manager with these limits, all of whose passes are at home: what a pass held, the
--- pass of the same number has in hand, and the others have no unit open. It keeps what was carried over, which
--- was made anew as is computed.
+-- pass of the same number has in hand, and the others have no unit open. It keeps what was carried over,
+-- which was made anew as is computed.
 pub record HomeGoesOn (old new : Home) (l : Limits) : Type 0 where
   pub limits : home_limits new ≡ l
   pub keeper : KeeperShown
@@ -154,7 +156,8 @@ AreBadFor h l = (¬ AreLimits l) ⊎ ((l.attempts ≢ (home_limits h).attempts)
 abbrev pub IsHomeUnrolled : Home → Limits → Fault → Type 0
 IsHomeUnrolled h l (faults.Refused refusals.NoMemory) = Unit {0}
 IsHomeUnrolled h l (faults.Refused refusals.BadLimits) = AreBadFor h l
-IsHomeUnrolled h l (faults.Refused refusals.Full) = WouldNotFit (home_limits h) h.passes.items l.parts (start l)
+IsHomeUnrolled h l (faults.Refused refusals.Full) =
+    WouldNotFit (home_limits h) h.passes.items l.parts (start l)
 IsHomeUnrolled h l (faults.Refused other) = ⊥
 IsHomeUnrolled h l faults.NotAll = ¬ AreAll h.keeper h.passes.items
 IsHomeUnrolled h l faults.Nothing = h.passes.items ≡ []

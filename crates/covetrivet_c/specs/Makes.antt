@@ -31,7 +31,8 @@ pub record OnlyPasses (old new : Home) : Type 0 where
 
 -- The caller's handle led to nothing, and leads to a caller of this manager, with the pass that is lent of
 -- those that were at home. Or the code says why not, and both lead where they led: no pass is lost.
-abbrev pub OpensBy : (List PassShown → PassShown → List PassShown → Type 0) → (List PassShown → Fault → Type 0)
+abbrev pub OpensBy : (List PassShown → PassShown → List PassShown → Type 0)
+    → (List PassShown → Fault → Type 0)
     → Option Home → Option Home → Option Caller → Option Caller → ℕ → Type 0
 OpensBy Lends Unlent home home' (Some c) c' code = (home' ≡ home) × (c' ≡ Some c) × (code ≡ 2)
 OpensBy Lends Unlent None home' None c' code = (home' ≡ None) × (c' ≡ None) × (code ≡ 1)

@@ -19,7 +19,8 @@ use Rattle.covetrivet_c.specs.declared.shapes.BornOut.{BornOut}
 use Rattle.covetrivet_c.specs.declared.shapes.DraftIn.{DraftIn}
 use Rattle.covetrivet_c.specs.declared.fault.Fault.{Fault}
 use Rattle.covetrivet_c.specs.declared.fault.Fault.TheVariants as faults
-use Rattle.covetrivet_c.specs.Asked.{ManagerAsked, GoesSteps, IsBusy, IsNoClaim, IsNoCommit, LooksAtId, StaysFree}
+use Rattle.covetrivet_c.specs.Asked.{ManagerAsked, GoesSteps, IsBusy, IsNoClaim, IsNoCommit, LooksAtId}
+use Rattle.covetrivet_c.specs.Asked.{StaysFree}
 use Rattle.covetrivet_c.specs.Codes.{code_of, refusal_code}
 use Rattle.covetrivet_c.specs.Shapes.{draft_given}
 
@@ -50,19 +51,21 @@ ClaimIdSays id l old new r = ManagerAsked (GoesSteps claim_id_steps old new
     (λ work. TakesId l id work old new) (ClaimIdFails l id old new) (IsBusy old) old new r
 
 -- the unit that was open has ended, and none is open
-abbrev pub Ended : ℕ → PassShown → PassShown → Type 0
-Ended n old new = StaysFree n old new × IfSome old.open_unit (HasEnded new.seen)
+abbrev pub EndsOpenUnit : ℕ → PassShown → PassShown → Type 0
+EndsOpenUnit n old new = StaysFree n old new × IfSome old.open_unit (HasEnded new.seen)
 
 -- `abort`
 abbrev pub AbortSays : Limits → PassShown → PassShown → Result (Unit {0}) Fault → Type 0
-AbortSays l old new (Ok it) = Ended abort_steps old new × AnswersAbort old new endeds.Aborted
-AbortSays l old new (Err faults.Lost) = Ended abort_steps old new × AnswersAbort old new endeds.AlreadyAborted
+AbortSays l old new (Ok it) = EndsOpenUnit abort_steps old new × AnswersAbort old new endeds.Aborted
+AbortSays l old new (Err faults.Lost) =
+    EndsOpenUnit abort_steps old new × AnswersAbort old new endeds.AlreadyAborted
 AbortSays l old new (Err faults.NoOpen) = (new ≡ old) × (old.open_unit ≡ None)
 AbortSays l old new (Err other) = ⊥
 
 -- a commit of these drafts
 abbrev pub CommitsDrafts : Limits → List DraftView → PassShown → PassShown → Outcome → Type 0
-CommitsDrafts l drafts old new it = Ended (commit_steps l (length drafts)) old new × Settles drafts old new it
+CommitsDrafts l drafts old new it =
+    EndsOpenUnit (commit_steps l (length drafts)) old new × Settles drafts old new it
 
 -- `commit`
 abbrev pub CommitSays : List DraftIn → Limits → PassShown → PassShown → Result Outcome Fault → Type 0

@@ -22,7 +22,13 @@ use Rattle.covetrivet_c.specs.declared.shapes.CountsOut.{CountsOut}
 use Rattle.covetrivet_c.specs.declared.shapes.MovedOut.{MovedOut}
 
 abbrev pub limits_in : PlainLimits → Limits
-limits_in l = record { parts = l.parts; rows = l.rows; units = l.units; attempts = l.attempts; spare = l.spare }
+limits_in l = record {
+  parts = l.parts;
+  rows = l.rows;
+  units = l.units;
+  attempts = l.attempts;
+  spare = l.spare;
+}
 
 -- the number of a unit or of a pass, and 65,536 for none
 abbrev pub number_code : Option ℕ → ℕ
@@ -60,7 +66,13 @@ counts_shape n =
     record { waiting = n.waiting; held = n.held; consumed = n.consumed; parked = n.parked; killed = n.killed }
 
 abbrev pub limits_shape : Limits → PlainLimits
-limits_shape l = record { parts = l.parts; rows = l.rows; units = l.units; spare = l.spare; attempts = l.attempts }
+limits_shape l = record {
+  parts = l.parts;
+  rows = l.rows;
+  units = l.units;
+  spare = l.spare;
+  attempts = l.attempts;
+}
 
 abbrev pub moved_shape : Moved → MovedOut
 moved_shape m = record {

@@ -1,5 +1,6 @@
 //! What C asks of all passes of a manager, once they are at home.
-ghost use Rattle.covetrivet_c.specs.Accounting.{CountSays, GatherSays, HomeAnswers, HomeEnds, MovedSays, RollSays};
+ghost use Rattle.covetrivet_c.specs.Accounting.{CountSays, GatherSays, HomeAnswers, HomeEnds, MovedSays};
+ghost use Rattle.covetrivet_c.specs.Accounting.{RollSays};
 ghost use Rattle.covetrivet_c.specs.Shapes.{counts_shape, limits_in, moved_shape};
 
 use crate::codes::CLOSED;
@@ -8,8 +9,8 @@ use crate::shapes::{CountsOut, MovedOut, PlainLimits, limits_in};
 use crate::telling::{tell, tell_counts, tell_end, tell_moved};
 use std::alloc::Global;
 
-/// Writes how many elements of a stage, 1 to 15, or with 0 of all stages, there are of each kind of status: of
-/// one history, which all passes have seen then.
+/// Writes how many elements of a stage, 1 to 15, or with 0 of all stages, there are of each kind of status:
+/// of one history, which all passes have seen then.
 #[unsafe(no_mangle)]
 pub extern "C" fn covetrivet_account(
     alloc: Global,

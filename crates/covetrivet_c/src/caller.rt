@@ -48,7 +48,8 @@ impl Caller {
             × Follows met_steps other.old.pass other.new.pass }
         ensures quiet { IsQuiet self.old.pass self.new.pass × IsQuiet other.old.pass other.new.pass }
         ensures looks { HasLooked self.old.pass self.new.pass × HasLooked other.old.pass other.new.pass }
-        ensures turn { (self.new.pass.from ≡ self.old.pass.from) × (other.new.pass.from ≡ other.old.pass.from) }
+        ensures turn { (self.new.pass.from ≡ self.old.pass.from)
+            × (other.new.pass.from ≡ other.old.pass.from) }
         ensures meets { Meets self.old.pass other.old.pass self.new.pass other.new.pass }
     {
         self.manager.meet(&mut self.pass, &mut other.pass);

@@ -1,6 +1,8 @@
 //! What C calls as a client.
-ghost use Rattle.covetrivet_c.specs.Clients.{CancelSays, CollectSays, ErrorSays, FamilySays, KillSays, NextSays};
-ghost use Rattle.covetrivet_c.specs.Clients.{ReadSays, ReleaseSays, ReplySays, RequeueSays, RoundsSays, SubmitSays};
+ghost use Rattle.covetrivet_c.specs.Clients.{CancelSays, CollectSays, ErrorSays, FamilySays, KillSays};
+ghost use Rattle.covetrivet_c.specs.Clients.{NextSays};
+ghost use Rattle.covetrivet_c.specs.Clients.{ReadSays, ReleaseSays, ReplySays, RequeueSays, RoundsSays};
+ghost use Rattle.covetrivet_c.specs.Clients.{SubmitSays};
 ghost use Rattle.covetrivet_c.specs.Shapes.{element_shape, look_shape, released_shape};
 ghost use Rattle.covetrivet_c.specs.Told.{AnswersByCode};
 

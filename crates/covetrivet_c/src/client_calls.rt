@@ -6,8 +6,10 @@ use tp_model::types::{Body, Element, Look, Released};
 impl Caller {
     ghost use Rattle.std.specs.Prelude.{◌≡◌};
     ghost use Rattle.covetrivet_c.specs.Callers.{caller_limits};
-    ghost use Rattle.covetrivet_c.specs.Clients.{CancelSays, CollectSays, ErrorSays, FamilySays, KillSays, NextSays};
-    ghost use Rattle.covetrivet_c.specs.Clients.{ReadSays, ReleaseSays, ReplySays, RequeueSays, RoundsSays, SubmitSays};
+    ghost use Rattle.covetrivet_c.specs.Clients.{CancelSays, CollectSays, ErrorSays, FamilySays, KillSays};
+    ghost use Rattle.covetrivet_c.specs.Clients.{NextSays};
+    ghost use Rattle.covetrivet_c.specs.Clients.{ReadSays, ReleaseSays, ReplySays, RequeueSays, RoundsSays};
+    ghost use Rattle.covetrivet_c.specs.Clients.{SubmitSays};
 
     /// Puts an element into the queue of a stage, 1 to 14. Its id.
     pub fn submit(&mut self, stage: u8, body: Body) -> Result<u32, Fault>

@@ -10,8 +10,8 @@ impl Home {
     ghost use Rattle.covetrivet_c.specs.Accounting.{RollSays};
 
     /// What is alive goes on in a new manager with these limits, whose attempts are those of the old one, and
-    /// what a pass holds in the hand of the pass of the same number, which these limits have. How many elements
-    /// that are.
+    /// what a pass holds in the hand of the pass of the same number, which these limits have. How many
+    /// elements that are.
     pub fn roll_over(&mut self, alloc: Global, limits: Limits) -> Result<usize, Fault>
         ensures answer { RollSays limits self.old self.new result }
     {

@@ -12,7 +12,7 @@ use crate::home_handle::HomeHandle;
 use crate::shapes::{PlainLimits, limits_in, limits_out};
 use std::alloc::Global;
 
-/// MakesHome a manager with these limits. The handle leads to nothing before.
+/// Makes a manager with these limits. The handle leads to nothing before.
 #[unsafe(no_mangle)]
 pub extern "C" fn covetrivet_make(
     alloc: Global,
@@ -42,7 +42,7 @@ pub extern "C" fn covetrivet_give_up(alloc: Global, manager: &mut HomeHandle)
     let _ = manager.lift(alloc);
 }
 
-/// OpensCaller a caller with the first pass that is at home. Its handle leads to nothing before.
+/// Opens a caller with the first pass that is at home. Its handle leads to nothing before.
 #[unsafe(no_mangle)]
 pub extern "C" fn covetrivet_open(
     alloc: Global,
@@ -69,7 +69,7 @@ pub extern "C" fn covetrivet_open(
     }
 }
 
-/// OpensCaller the caller of this number, if it is at home. Its handle leads to nothing before.
+/// Opens the caller of this number, if it is at home. Its handle leads to nothing before.
 #[unsafe(no_mangle)]
 pub extern "C" fn covetrivet_open_number(
     alloc: Global,
@@ -163,7 +163,8 @@ pub extern "C" fn covetrivet_capacity(
     manager: &mut HomeHandle,
     capacity: &mut u32,
 ) -> u32
-    ensures answer { ShowsHome capacity_of manager.old.held manager.new.held result capacity.old capacity.new }
+    ensures answer { ShowsHome capacity_of manager.old.held manager.new.held result capacity.old
+        capacity.new }
 {
     let Some(home) = manager.lift(alloc) else {
         return CLOSED;

@@ -9,7 +9,8 @@ impl Caller {
     ghost use Rattle.tp_model.specs.declared.types.TheConstants.{MAX_OUTPUTS};
     ghost use Rattle.covetrivet_c.specs.declared.fault.Fault.TheVariants as faults;
     ghost use Rattle.covetrivet_c.specs.Callers.{caller_limits};
-    ghost use Rattle.covetrivet_c.specs.Servers.{AbortSays, ClaimIdSays, ClaimNextSays, ClaimSays, CommitSays};
+    ghost use Rattle.covetrivet_c.specs.Servers.{AbortSays, ClaimIdSays, ClaimNextSays, ClaimSays};
+    ghost use Rattle.covetrivet_c.specs.Servers.{CommitSays};
     ghost use Rattle.covetrivet_c.specs.Servers.{CommitsDrafts};
 
     /// Takes the first element of a stage, 1 to 14, that waits.
@@ -76,7 +77,7 @@ impl Caller {
         }
     }
 
-    /// CommitsDrafts the open unit of work with these drafts, at most four.
+    /// Commits the open unit of work with these drafts, at most four.
     fn commit_drafts(&mut self, drafts: &[Draft]) -> Result<Outcome, Fault>
         requires few { length drafts.now ≤ MAX_OUTPUTS }
         ensures manager { self.new.manager ≡ self.old.manager }
@@ -90,7 +91,7 @@ impl Caller {
         Ok(self.manager.commit(&mut self.pass, drafts))
     }
 
-    /// CommitsDrafts the open unit of work with these drafts.
+    /// Commits the open unit of work with these drafts.
     pub fn commit(&mut self, drafts: &[DraftIn]) -> Result<Outcome, Fault>
         ensures manager { self.new.manager ≡ self.old.manager }
         ensures answer { CommitSays drafts.now (caller_limits self.old) self.old.pass self.new.pass result }

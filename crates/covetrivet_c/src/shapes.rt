@@ -1,7 +1,8 @@
 //! What crosses between the library and C.
 ghost use Rattle.std.specs.Prelude.{◌≡◌, MatchOption};
 ghost use Rattle.covetrivet_c.specs.Shapes.{IsDraftIn, counts_shape, draft_given, element_shape, limits_in};
-ghost use Rattle.covetrivet_c.specs.Shapes.{limits_shape, look_shape, moved_shape, released_shape, status_shape};
+ghost use Rattle.covetrivet_c.specs.Shapes.{limits_shape, look_shape, moved_shape, released_shape};
+ghost use Rattle.covetrivet_c.specs.Shapes.{status_shape};
 ghost use Rattle.covetrivet_c.specs.Shapes.{number_code, work_shape};
 
 use tp_model::types::{Body, Counts, Draft, Element, Limits, Look, Released, Status, Work};

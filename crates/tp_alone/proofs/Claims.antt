@@ -20,8 +20,8 @@ use Rattle.tp_model.proofs.Lists.{if_other}
 use Rattle.tp_model.proofs.Bridges.{born_either, found_later, in_none}
 use Rattle.tp_model.proofs.Histories.{status_of-snoc}
 use Rattle.tp_plain.specs.declared.pass_state.PassState.{PassState}
-use Rattle.tp_plain.specs.OneThread.{IsPlainBefore, State, Waits, next_unit, pass_at, taken, turn_of}
-use Rattle.tp_plain.specs.Computed.{claim_next_of_stage, claim_of_stage, next_waiting, with_claim, work_on}
+use Rattle.tp_plain.specs.OneThread.{IsPlainBefore, State, Waits, next_unit, pass_at, having_taken, turn_of_pass}
+use Rattle.tp_plain.specs.Computed.{claim_next_of_stage, claim_of_stage, next_waiting, with_claimed, work_on}
 use Rattle.tp_plain.proofs.Computations.{claim_idle, claim_next_idle, claim_next_works, claim_works}
 use Rattle.tp_manager.specs.Calls.{Claims, FoundNone, FoundNoneBefore, IsQuiet, IsWaiting, Opens, claims_in, opening}
 use Rattle.tp_manager.specs.Shown.{KeeperShown, PassShown}
@@ -120,7 +120,7 @@ module _ (l : Limits) (keeper keeper' : KeeperShown) (olds news : List PassShown
       next = first_waits before from stage a.before.legal work.element (work.attempt - 1) waits none_before
 
     module _ (turns : List ℕ) (turned : turns_in new.from ≡ turns) where
-      now : state_of new ≡ taken before c (work_on before c look) turns
+      now : state_of new ≡ having_taken before c (work_on before c look) turns
       now =
           let x : claims_in new.mine ≡ used.claimed + 1 = ap claims_in made ∙ (claims_more old.mine (event ∷ []) ∙ ap (λ k. k + 1) (sym claimed_is)) in
           let y : new.next ≡ used.next = says.run.0 ∙ sym (ap (λ (p : PassState). p.next) used_is) in
@@ -129,14 +129,14 @@ module _ (l : Limits) (keeper keeper' : KeeperShown) (olds news : List PassShown
           let t = turned in
           cc
 
-      pub left : thread_of l news h' ≡ with_claim before c look turns
+      pub left : thread_of l news h' ≡ with_claimed before c look turns
       left =
           let ends : h' ≡ h ++ Claim c (next_unit before c) work.element.id ((work.attempt - 1) + 1) ∷ [] =
           last ∙ (ap (λ u. h ++ Claim c u work.element.id work.attempt ∷ []) unit_is ∙ ap (λ k. h ++ Claim c (next_unit before c) work.element.id k ∷ []) (sym again)) in
           leaves l keeper keeper' olds news h h' n c old new a _ _ (drawn_of olds) ends now (drawn_stays l keeper keeper' olds news h h' n c old new a says.run.2)
 
-      pub takes : let p : Claimed × State = (claimed.Work (work_on before c look), with_claim before c look turns) in (claimed.Work work, thread_of l news h') ≡ p
-      takes = both (claimed.Work work) (claimed.Work (work_on before c look)) (thread_of l news h') (with_claim before c look turns) (ap (λ w. claimed.Work w) work_is) left
+      pub takes : let p : Claimed × State = (claimed.Work (work_on before c look), with_claimed before c look turns) in (claimed.Work work, thread_of l news h') ≡ p
+      takes = both (claimed.Work work) (claimed.Work (work_on before c look)) (thread_of l news h') (with_claimed before c look turns) (ap (λ w. claimed.Work w) work_is) left
 
 -- an idle claim
 module _ (l : Limits) (keeper keeper' : KeeperShown) (olds news : List PassShown) (h h' : List Event) (n c : ℕ) (old new : PassShown) (a : Alone l keeper keeper' olds news h h' n c old new) (turn : new.from ≡ old.from) (stage from : ℕ) where
@@ -190,17 +190,17 @@ alone_claim_next stage l keeper keeper' olds news h h' n c old new (claimed.Work
     let before : State = was l keeper keeper' olds news h h' n c old new a in
     let is : (pass_at before c).turns ≡ turns_in old.from = ap (λ (p : PassState). p.turns) (used_is l keeper keeper' olds news h h' n c old new a stage) in
     let few : stage < 16 = let top = server.1 in omega arith in
-    let at : slice_index old.from stage ≡ turn_of before c stage = sym (ap (λ ts. slice_index ts stage) is ∙ turn_is old.from stage few) in
-    let first : FoundNoneBefore l stage (turn_of before c stage) work.element.id old new = subst (λ k. FoundNoneBefore l stage k work.element.id old new) at says.first in
+    let at : slice_index old.from stage ≡ turn_of_pass before c stage = sym (ap (λ ts. slice_index ts stage) is ∙ turn_is old.from stage few) in
+    let first : FoundNoneBefore l stage (turn_of_pass before c stage) work.element.id old new = subst (λ k. FoundNoneBefore l stage k work.element.id old new) at says.first in
     let same : turns_in new.from ≡ slice_set (pass_at before c).turns stage (work.element.id + 1) =
     turned old.from new.from stage (work.element.id + 1) few says.turn says.others ∙ ap (λ ts. slice_set ts stage (work.element.id + 1)) (sym is) in
     takes l keeper keeper' olds news h h' n c old new a stage work says.opens (slice_set (pass_at before c).turns stage (work.element.id + 1)) same
     ∙ sym (claim_next_works before c stage (look l keeper keeper' olds news h h' n c old new a stage work says.opens)
     (room l keeper keeper' olds news h h' n c old new a stage work says.opens)
-    (next l keeper keeper' olds news h h' n c old new a stage work says.opens (turn_of before c stage) first))
+    (next l keeper keeper' olds news h h' n c old new a stage work says.opens (turn_of_pass before c stage) first))
 alone_claim_next stage l keeper keeper' olds news h h' n c old new claimed.Idle a server says =
     let before : State = was l keeper keeper' olds news h h' n c old new a in
-    let t = idle_leaves l keeper keeper' olds news h h' n c old new a says.1 stage (turn_of before c stage) says.0 in
+    let t = idle_leaves l keeper keeper' olds news h h' n c old new a says.1 stage (turn_of_pass before c stage) says.0 in
     ap (λ t. (claimed.Idle, t)) t.1 ∙ sym (claim_next_idle before c stage t.2 t.0)
 alone_claim_next stage l keeper keeper' olds news h h' n c old new claimed.NoUnit a server says =
     let turn : new.from ≡ old.from = ap (λ (p : PassShown). p.from) says.1 in

@@ -12,7 +12,7 @@ use Rattle.tp_model.specs.History.{end_of, first_id}
 use Rattle.tp_model.proofs.Bridges.{append_nil}
 use Rattle.tp_model.proofs.Lists.{if_other}
 use Rattle.tp_plain.specs.declared.pass_state.PassState.{PassState}
-use Rattle.tp_plain.specs.OneThread.{State, HasPlainRoom, made_of, next_row, ready, root_of, spent, with_draw}
+use Rattle.tp_plain.specs.OneThread.{State, HasPlainRoom, made_of, first_row, ready, root_of, freed_after_use, with_draw}
 use Rattle.tp_plain.specs.Computed.{abort_of, commit_of, committed_by, has_room}
 use Rattle.tp_plain.proofs.Computations.{abort_already, abort_goes, commit_goes, commit_lost}
 use Rattle.tp_manager.specs.Calls.{Closes, Commits, IsRoot, Loses, UsesRows, claims_in}
@@ -43,14 +43,14 @@ module _ (l : Limits) (keeper keeper' : KeeperShown) (olds news : List PassShown
   k = length ds
 
   module _ (u row : ℕ) (closes : Closes u old new) (run : UsesRows k row old new) where
-    spent_is : claims_in new.mine ≡ claims_in old.mine → state_of new ≡ spent (ready before c k) k
+    spent_is : claims_in new.mine ≡ claims_in old.mine → state_of new ≡ freed_after_use (ready before c k) k
     spent_is same =
         let used = uses l keeper keeper' olds news h h' n c old new a k row run in
         let next = used.new_next in
         let left = used.new_left in
         let none = closes.open_unit in
         let literal : (let x : PassState = record { next = used.next + k; left = used.left - k; claimed = claims_in old.mine; holding = None; turns = turns_in old.from } in state_of new ≡ x) = (let turns : turns_in new.from ≡ turns_in old.from = ap turns_in turn in cc) in
-        literal ∙ ap (λ (x : PassState). spent x k) (sym used.readied.0)
+        literal ∙ ap (λ (x : PassState). freed_after_use x k) (sym used.readied.0)
 
     has_rows : HasPlainRoom before c k
     has_rows =
@@ -59,7 +59,7 @@ module _ (l : Limits) (keeper keeper' : KeeperShown) (olds news : List PassShown
         let room = used.room in
         omega arith
 
-    row_is : row ≡ next_row before c k
+    row_is : row ≡ first_row before c k
     row_is = let used = uses l keeper keeper' olds news h h' n c old new a k row run in used.first_is ∙ sym (ap (λ (x : PassState). x.next) used.readied.0)
 
     drawn_is : drawn_of news ≡ (with_draw before c k).drawn
@@ -78,16 +78,16 @@ module _ (l : Limits) (keeper keeper' : KeeperShown) (olds news : List PassShown
       let last : h' ≡ h ++ Commit c u (made_of before c u ds) ∷ [] = end_is l keeper keeper' olds news h h' n c old new a _ made in
       let undecided : end_of h u ≡ None = (step_of l keeper keeper' olds news h h' n c old new a _ last).open_unit.unfinished in
       let claims : claims_in new.mine ≡ claims_in old.mine = ap claims_in made ∙ (claims_more old.mine (Commit c u (made_of before c u ds) ∷ []) ∙ omega arith) in
-      let answer : outcome.Committed first count ≡ outcome.Committed (if k == 0 then 0 else next_row before c k) k =
-      ap (λ i. outcome.Committed i count) (says.first_is ∙ (first_output u says.root says.row ds ∙ ap (λ i. if k == 0 then 0 else i) rows)) ∙ ap (λ m. outcome.Committed (if k == 0 then 0 else next_row before c k) m) says.count_is in
-      both (outcome.Committed first count) (outcome.Committed (if k == 0 then 0 else next_row before c k) k) (thread_of l news h') (committed_by before c u ds).1 answer
-      (leaves l keeper keeper' olds news h h' n c old new a _ (spent (ready before c k) k) (with_draw before c k).drawn last (spent_is u says.row says.closes says.run claims) (drawn_is u says.row says.closes says.run))
+      let answer : outcome.Committed first count ≡ outcome.Committed (if k == 0 then 0 else first_row before c k) k =
+      ap (λ i. outcome.Committed i count) (says.first_is ∙ (first_output u says.root says.row ds ∙ ap (λ i. if k == 0 then 0 else i) rows)) ∙ ap (λ m. outcome.Committed (if k == 0 then 0 else first_row before c k) m) says.count_is in
+      both (outcome.Committed first count) (outcome.Committed (if k == 0 then 0 else first_row before c k) k) (thread_of l news h') (committed_by before c u ds).1 answer
+      (leaves l keeper keeper' olds news h h' n c old new a _ (freed_after_use (ready before c k) k) (with_draw before c k).drawn last (spent_is u says.row says.closes says.run claims) (drawn_is u says.row says.closes says.run))
       ∙ sym (commit_goes before c u ds (in_hand l keeper keeper' olds news h h' n c old new a turn u says.closes) undecided (has_rows u says.row says.closes says.run))
 
   lost : (u : ℕ) → Closes u old new → (row : ℕ) → UsesRows k row old new → Loses u old new → (outcome.Lost, thread_of l news h') ≡ commit_of before c ds
   lost u closes row run loses =
       let last : h' ≡ h = end_is l keeper keeper' olds news h h' n c old new a [] (loses.0 ∙ sym (append_nil old.mine)) ∙ append_nil h in
-      ap (λ t. (outcome.Lost, t)) (leaves l keeper keeper' olds news h h' n c old new a h (spent (ready before c k) k) (with_draw before c k).drawn last (spent_is u row closes run (ap claims_in loses.0)) (drawn_is u row closes run))
+      ap (λ t. (outcome.Lost, t)) (leaves l keeper keeper' olds news h h' n c old new a h (freed_after_use (ready before c k) k) (with_draw before c k).drawn last (spent_is u row closes run (ap claims_in loses.0)) (drawn_is u row closes run))
       ∙ sym (commit_lost before c u ds (in_hand l keeper keeper' olds news h h' n c old new a turn u closes) (lost_unit l keeper keeper' olds news h h' n c old new a turn u closes loses) (has_rows u row closes run))
 
   -- no room, and no block

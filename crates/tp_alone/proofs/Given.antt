@@ -11,7 +11,7 @@ use Rattle.tp_model.specs.declared.types.Work.{Work}
 use Rattle.tp_model.specs.History.{IsUnborn, element_of, status_of}
 use Rattle.tp_plain.specs.declared.pass_state.PassState.{PassState}
 use Rattle.tp_plain.specs.OneThread.{State, pass_at}
-use Rattle.tp_plain.specs.Computed.{claim_id_at, claim_id_of, with_claim, work_on}
+use Rattle.tp_plain.specs.Computed.{claim_id_at, claim_id_of, with_claimed, work_on}
 use Rattle.tp_plain.proofs.Given.{computes}
 use Rattle.tp_manager.specs.Calls.{IsWaiting, claims_in}
 use Rattle.tp_manager.specs.Given.{HasReplyStage, HasUnwaiting}
@@ -48,7 +48,7 @@ alone_claim_id id l keeper keeper' olds news h h' n c old new (Ok work) a turn s
     let is : element_of h id ≡ Some work.element = ap (element_of h) (sym says.id_is) ∙ born l keeper keeper' olds news h h' n c old new a stage work says.opens in
     let stands : status_of l.attempts h id ≡ Waiting (work.attempt - 1) = ap (status_of l.attempts h) (sym says.id_is) ∙ (waits l keeper keeper' olds news h h' n c old new a stage work says.opens).waits in
     let other : work.element.stage ≢ 15 = λ reply. (let top = says.server.1 in omega arith) in
-    both (Ok work) (Ok (work_on before c y)) (thread_of l news h') (with_claim before c y (pass_at before c).turns) (ap (λ w. Ok w) (work_is l keeper keeper' olds news h h' n c old new a stage work says.opens))
+    both (Ok work) (Ok (work_on before c y)) (thread_of l news h') (with_claimed before c y (pass_at before c).turns) (ap (λ w. Ok w) (work_is l keeper keeper' olds news h h' n c old new a stage work says.opens))
     (left l keeper keeper' olds news h h' n c old new a stage work says.opens (pass_at before c).turns same)
     ∙ sym (computes before c id work.element (room l keeper keeper' olds news h h' n c old new a stage work says.opens) is other ∙ ap (claim_id_at before c work.element) stands)
 alone_claim_id id l keeper keeper' olds news h h' n c old new (Err refusal.NoUnit) a turn says =

@@ -8,7 +8,7 @@ use Rattle.tp_model.specs.declared.event.Event.TheVariants.{Enqueue}
 use Rattle.tp_model.specs.Births.{request}
 use Rattle.tp_model.specs.Steps.{IsServerStage}
 use Rattle.tp_plain.specs.declared.pass_state.PassState.{PassState}
-use Rattle.tp_plain.specs.OneThread.{State, HasPlainRoom, ready, next_row, with_draw, used_up}
+use Rattle.tp_plain.specs.OneThread.{State, HasPlainRoom, ready, first_row, with_draw, used_up}
 use Rattle.tp_plain.specs.Computed.{has_room, is_server_stage, submit_of, with_request}
 use Rattle.tp_plain.proofs.Computations.{submit_goes}
 use Rattle.tp_manager.specs.Calls.{FindsNoBlock, IsQuiet, Submits, claims_in}
@@ -52,12 +52,12 @@ module _ (l : Limits) (keeper keeper' : KeeperShown) (olds news : List PassShown
       let u = uses l keeper keeper' olds news h h' n c old new a 1 id says.run in
       let r = u.readied in
       let room : HasPlainRoom before c 1 = let x : (ready before c 1).left ≡ u.left = ap (λ (p : PassState). p.left) r.0 in let y = u.room in omega arith in
-      let at : id ≡ next_row before c 1 = u.first_is ∙ sym (ap (λ (p : PassState). p.next) r.0) in
+      let at : id ≡ first_row before c 1 = u.first_is ∙ sym (ap (λ (p : PassState). p.next) r.0) in
       let number = number_is l keeper keeper' olds news h h' n c old new a in
-      let event : Enqueue old.number (request id stage body) ≡ Enqueue c (request (next_row before c 1) stage body) = ap (λ d. Enqueue d (request id stage body)) number ∙ ap (λ i. Enqueue c (request i stage body)) at in
+      let event : Enqueue old.number (request id stage body) ≡ Enqueue c (request (first_row before c 1) stage body) = ap (λ d. Enqueue d (request id stage body)) number ∙ ap (λ i. Enqueue c (request i stage body)) at in
       let now : state_of new ≡ used_up (ready before c 1) 1 = used u.next u.left u.new_next u.new_left ∙ ap (λ (p : PassState). used_up p 1) (sym r.0) in
-      let last : h' ≡ h ++ Enqueue c (request (next_row before c 1) stage body) ∷ [] = end_is l keeper keeper' olds news h h' n c old new a _ says.adds.mine ∙ ap (λ e. h ++ e ∷ []) event in
-      both (Ok id) (Ok (next_row before c 1)) (thread_of l news h') (with_request before c stage body) (ap (λ i. Ok i) at)
+      let last : h' ≡ h ++ Enqueue c (request (first_row before c 1) stage body) ∷ [] = end_is l keeper keeper' olds news h h' n c old new a _ says.adds.mine ∙ ap (λ e. h ++ e ∷ []) event in
+      both (Ok id) (Ok (first_row before c 1)) (thread_of l news h') (with_request before c stage body) (ap (λ i. Ok i) at)
       (leaves l keeper keeper' olds news h h' n c old new a _ (used_up (ready before c 1) 1) (with_draw before c 1).drawn last now (sym r.1))
       ∙ sym (submit_goes before c stage body says.stage_is room)
     where

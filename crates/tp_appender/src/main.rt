@@ -1,8 +1,8 @@
 //! Appends the lines on standard input to a journal, those of a read as a batch, and tells which are kept.
 //!
-//! `tp_appender FILE` writes what it recovered, then `ready` with how many bytes were cut off behind that. For
-//! each batch it writes `acknowledged` with the number of lines, or `refused`. A batch that begins with `!` takes
-//! the place of all. Beside the file it makes `FILE.new` and `FILE.lock`.
+//! `tp_appender FILE` writes what it recovered, then `ready` with how many bytes were cut off behind that.
+//! For each batch it writes `acknowledged` with the number of lines, or `refused`. A batch that begins with
+//! `!` takes the place of all. Beside the file it makes `FILE.new` and `FILE.lock`.
 //!
 //! Exit status 0: done. 1: a fault, with its line on standard error. 64: not one word.
 #![tactic(auto)]

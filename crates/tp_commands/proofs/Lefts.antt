@@ -8,8 +8,7 @@ use Rattle.std.proofs.lemmas.Bool.Decides.{eqb_tells}
 use Rattle.std.proofs.lemmas.List.Edits.{length-swap, swapped_from_swap}
 use Rattle.tp_server.specs.Behaviour.{Behaviour}
 use Rattle.tp_server.specs.Pending.{Pending}
-use Rattle.tp_manager.specs.Shown.{PassShown}
-use Rattle.tp_workers.specs.Free.{numbers}
+use Rattle.tp_manager.specs.Shown.{PassShown, numbers}
 use Rattle.tp_commands.specs.declared.place.Place.{Place}
 use Rattle.tp_commands.specs.Places.{AllLeft, AllLie, IsLeft, all_firsts, first_of, firsts, workers}
 

@@ -58,7 +58,8 @@ pub record PlaceShown : Type 0 where
 -- the desk is steady: its registers are the fold of what it has committed since it began
 abbrev pub IsSteadyPlace : PlaceShown → Type 0
 IsSteadyPlace p = IfSome p.began (λ began. let d = p.desk in
-    (drafts : List DraftView) × IsDeskSteady d.behaviour d.registers d.pending began.1 began.0 d.pass d.work drafts)
+    (drafts : List DraftView) × IsDeskSteady d.behaviour d.registers d.pending began.1 began.0 d.pass d.work
+    drafts)
 
 -- what was laid aside
 abbrev pub work_in : {X : Type 0} {F : X → Type 0} → Option (Aside X F) → Option Work
@@ -121,7 +122,7 @@ module _ {X : Type 0} {F : X → Type 0} (behaviour : (x : X) × F x → Behavio
 -- ---- what is done
 
 -- what a pass and its server show of a desk
-abbrev pub place_of_desk : DeskShown → workers.Place
+abbrev pub place_of_desk : DeskShown → workers.DeskPlace
 place_of_desk d = record { pass = d.pass; behaviour = d.behaviour; registers = d.registers }
 
 -- the server is as it was
@@ -131,7 +132,8 @@ IsSameServer old new = (new.behaviour ≡ old.behaviour) × (new.registers ≡ o
 -- a turn
 abbrev pub TellsTurn : Limits → DeskShown → ServerAnswer → DeskShown → Type 0
 TellsTurn l old (told.Turned turned) new =
-    (old.work ≡ None) × TakesTurn orders.LeastFirst l (place_of_desk old) turned (place_of_desk new) × (new.work ≡ None)
+    (old.work ≡ None) × TakesTurn orders.LeastFirst l (place_of_desk old) turned (place_of_desk new)
+    × (new.work ≡ None)
 TellsTurn l old told.Busy new = IsSome old.work × (new ≡ old)
 TellsTurn l old other new = ⊥
 

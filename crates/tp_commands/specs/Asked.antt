@@ -1,6 +1,7 @@
 -- What the script's own client is answered, and what its pass did for it. `old` is what the pass shows before
 -- the command, and `new` what it shows after it.
-use Rattle.std.specs.Prelude.{◌≡◌, ◌⊎◌, ℕ, zero, suc, ◌+◌, ◌-◌, ◌≤◌, ◌<◌, List, [], ◌∷◌, length, Option, Some, None}
+use Rattle.std.specs.Prelude.{◌≡◌, ◌⊎◌, ℕ, zero, suc, ◌+◌, ◌-◌, ◌≤◌, ◌<◌, List, [], ◌∷◌, length, Option, Some}
+use Rattle.std.specs.Prelude.{None}
 use Rattle.tp_model.specs.declared.types.Counts.{Counts}
 use Rattle.tp_model.specs.declared.types.Element.{Element}
 use Rattle.tp_model.specs.declared.types.Limits.{Limits}
@@ -51,23 +52,23 @@ abbrev pub TellsSubmit : Limits → ℕ → List ℕ → PassShown → PassShown
 TellsSubmit l stage body old new a = Called l (submit_steps l) old new × Submitted stage body old new a
 
 -- a kill
-abbrev pub Killed : Limits → ℕ → PassShown → PassShown → Answer → Type 0
-Killed l id old new (answer.Killed i aborted) = (i ≡ id) × Kills l id aborted old new
-Killed l id old new (answer.Refused why) = KillFails l id old new why
-Killed l id old new other = ⊥
+abbrev pub ToldKilled : Limits → ℕ → PassShown → PassShown → Answer → Type 0
+ToldKilled l id old new (answer.Killed i aborted) = (i ≡ id) × Kills l id aborted old new
+ToldKilled l id old new (answer.Refused why) = KillFails l id old new why
+ToldKilled l id old new other = ⊥
 
 abbrev pub TellsKill : Limits → ℕ → PassShown → PassShown → Answer → Type 0
-TellsKill l id old new a = Called l (kill_steps l) old new × LooksAt l id old new × Killed l id old new a
+TellsKill l id old new a = Called l (kill_steps l) old new × LooksAt l id old new × ToldKilled l id old new a
 
 -- a cancel
-abbrev pub Cancelled : Limits → ℕ → PassShown → PassShown → Answer → Type 0
-Cancelled l root old new (answer.Cancelled r killed) = (r ≡ root) × Cancels l root killed old new
-Cancelled l root old new (answer.Refused why) = CancelFails root old new why
-Cancelled l root old new other = ⊥
+abbrev pub ToldCancelled : Limits → ℕ → PassShown → PassShown → Answer → Type 0
+ToldCancelled l root old new (answer.Cancelled r killed) = (r ≡ root) × Cancels l root killed old new
+ToldCancelled l root old new (answer.Refused why) = CancelFails root old new why
+ToldCancelled l root old new other = ⊥
 
 abbrev pub TellsCancel : Limits → ℕ → PassShown → PassShown → Answer → Type 0
 TellsCancel l root old new a = Called l (cancel_steps l) old new × LooksAt l root old new
-    × Cancelled l root old new a
+    × ToldCancelled l root old new a
 
 -- a requeue
 abbrev pub Requeued : Limits → ℕ → PassShown → PassShown → Answer → Type 0
@@ -79,13 +80,14 @@ abbrev pub TellsRequeue : Limits → ℕ → PassShown → PassShown → Answer 
 TellsRequeue l id old new a = Called l requeue_steps old new × LooksAt l id old new × Requeued l id old new a
 
 -- a release
-abbrev pub Released : Limits → ℕ → PassShown → PassShown → Answer → Type 0
-Released l id old new (answer.Released i unit attempt) = (i ≡ id) × Releases l id unit attempt old new
-Released l id old new (answer.Refused why) = ReleaseFails l id old new why
-Released l id old new other = ⊥
+abbrev pub ToldReleased : Limits → ℕ → PassShown → PassShown → Answer → Type 0
+ToldReleased l id old new (answer.Released i unit attempt) = (i ≡ id) × Releases l id unit attempt old new
+ToldReleased l id old new (answer.Refused why) = ReleaseFails l id old new why
+ToldReleased l id old new other = ⊥
 
 abbrev pub TellsRelease : Limits → ℕ → PassShown → PassShown → Answer → Type 0
-TellsRelease l id old new a = Called l release_steps old new × LooksAt l id old new × Released l id old new a
+TellsRelease l id old new a =
+    Called l release_steps old new × LooksAt l id old new × ToldReleased l id old new a
 
 -- a read
 abbrev pub HasRead : Limits → ℕ → PassShown → PassShown → Answer → Type 0
@@ -191,7 +193,8 @@ TellsLooks l from (suc n) old looks new = (before : List Look) × (between : Pas
     × TellsLooks l from n old before between × TellsLook l (from + n) between shown new
     × (looks ≡ with_shown before shown)
 
--- ids from this one on were read, until none was left or so many were found waiting in the stage as are listed
+-- ids from this one on were read, until none was left or so many were found waiting in the stage as are
+-- listed
 pub record ListsWaiting (l : Limits) (stage from : ℕ) (old : PassShown) (found : List ℕ) (new : PassShown)
     : Type 0 where
   pub many : ℕ

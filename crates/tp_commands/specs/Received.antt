@@ -1,5 +1,5 @@
--- Which reply a client receives whose requests are noted, and what its pass did for it. `old` is what the pass
--- shows before a call, and `new` what it shows after it.
+-- Which reply a client receives whose requests are noted, and what its pass did for it. `old` is what the
+-- pass shows before a call, and `new` what it shows after it.
 use Rattle.std.specs.Prelude.{◌≡◌, ◌&&◌, ◌==◌, ◌⊎◌, ℕ, zero, suc, Bool, true, false, if◌then◌else◌, List}
 use Rattle.std.specs.Prelude.{Option, Some, None}
 use Rattle.std.specs.List.{list_any}

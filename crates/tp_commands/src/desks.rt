@@ -1,11 +1,14 @@
 //! Commands on one server, at its desk, which is there until it is dropped.
-ghost use Rattle.std.specs.Prelude.{◌≡◌, ◌<◌, All, IfOk, IfSome, MatchOption, None, length, slice_get, string_bytes};
+ghost use Rattle.std.specs.Prelude.{◌≡◌, ◌<◌, All, IfOk, IfSome, MatchOption, None, length, slice_get};
+ghost use Rattle.std.specs.Prelude.{string_bytes};
 ghost use Rattle.std.specs.Prelude.{true};
 ghost use Rattle.tp_manager.specs.Shown.{IsOf};
 ghost use Rattle.tp_desk.specs.Steady.{IsSameDesk, SteadyDesk, shown};
-ghost use Rattle.tp_commands.specs.Acting.{Does, DoesAt, DoesIn, DropsAt, TellsAbort, TellsClaim, TellsCommit};
+ghost use Rattle.tp_commands.specs.Acting.{Does, DoesAt, DoesIn, DropsAt, TellsAbort, TellsClaim};
+ghost use Rattle.tp_commands.specs.Acting.{TellsCommit};
 ghost use Rattle.tp_commands.specs.Acting.{TellsDrop, TellsPrepare, TellsTake, TellsTurn, desk_shown};
-ghost use Rattle.tp_commands.specs.Acting.{StaysIn, TurnsAt, TurnsIn, place_of_desk, place_shown, places_shown};
+ghost use Rattle.tp_commands.specs.Acting.{StaysIn, TurnsAt, TurnsIn, place_of_desk, place_shown};
+ghost use Rattle.tp_commands.specs.Acting.{places_shown};
 ghost use Rattle.tp_commands.specs.Places.{AllLie, Lies, first_of, firsts, is_free_at};
 ghost use Rattle.tp_workers.specs.Desks.{TakesTurn};
 ghost use Rattle.tp_report.specs.Answer.{line, named_text};
@@ -54,8 +57,8 @@ pub fn desk_line(
     server_line(means.alloc, means.head.servers.as_slice(), server, answer)
 }
 
-/// Has the desk at one of the places take a turn whose claim is in this order, or answers `None` where it isn't
-/// free.
+/// Has the desk at one of the places take a turn whose claim is in this order, or answers `None` where it
+/// isn't free.
 pub fn turn_in(
     manager: &Manager,
     passes: &mut [Pass],
@@ -199,7 +202,8 @@ fn act_by(desk: &mut Desk, act: DeskAct) -> ServerAnswer
     requires steady { SteadyDesk (shown behaviour) (shown registers) (shown pending) desk.old }
     ensures same { IsSameDesk desk.old desk.new }
     ensures steady { SteadyDesk (shown behaviour) (shown registers) (shown pending) desk.new }
-    ensures tells { Does desk.old.manager.now.limits act (desk_shown behaviour registers pending desk.old) result
+    ensures tells { Does desk.old.manager.now.limits act (desk_shown behaviour registers pending desk.old)
+        result
         (desk_shown behaviour registers pending desk.new) }
 {
     match act {
@@ -219,7 +223,8 @@ fn turn(desk: &mut Desk) -> ServerAnswer
     requires steady { SteadyDesk (shown behaviour) (shown registers) (shown pending) desk.old }
     ensures same { IsSameDesk desk.old desk.new }
     ensures steady { SteadyDesk (shown behaviour) (shown registers) (shown pending) desk.new }
-    ensures tells { TellsTurn desk.old.manager.now.limits (desk_shown behaviour registers pending desk.old) result
+    ensures tells { TellsTurn desk.old.manager.now.limits (desk_shown behaviour registers pending desk.old)
+        result
         (desk_shown behaviour registers pending desk.new) }
 {
     if desk.has_open() {
@@ -233,7 +238,8 @@ fn claim(desk: &mut Desk, order: Order) -> ServerAnswer
     requires steady { SteadyDesk (shown behaviour) (shown registers) (shown pending) desk.old }
     ensures same { IsSameDesk desk.old desk.new }
     ensures steady { SteadyDesk (shown behaviour) (shown registers) (shown pending) desk.new }
-    ensures tells { TellsClaim order desk.old.manager.now.limits (desk_shown behaviour registers pending desk.old) result
+    ensures tells { TellsClaim order desk.old.manager.now.limits
+        (desk_shown behaviour registers pending desk.old) result
         (desk_shown behaviour registers pending desk.new) }
 {
     if desk.has_open() {
@@ -262,7 +268,8 @@ fn take(desk: &mut Desk, id: u32) -> ServerAnswer
     requires steady { SteadyDesk (shown behaviour) (shown registers) (shown pending) desk.old }
     ensures same { IsSameDesk desk.old desk.new }
     ensures steady { SteadyDesk (shown behaviour) (shown registers) (shown pending) desk.new }
-    ensures tells { TellsTake desk.old.manager.now.limits id (desk_shown behaviour registers pending desk.old) result
+    ensures tells { TellsTake desk.old.manager.now.limits id (desk_shown behaviour registers pending desk.old)
+        result
         (desk_shown behaviour registers pending desk.new) }
 {
     if desk.has_open() {
@@ -280,7 +287,8 @@ fn prepare(desk: &mut Desk) -> ServerAnswer
     requires steady { SteadyDesk (shown behaviour) (shown registers) (shown pending) desk.old }
     ensures same { IsSameDesk desk.old desk.new }
     ensures steady { SteadyDesk (shown behaviour) (shown registers) (shown pending) desk.new }
-    ensures tells { TellsPrepare desk.old.manager.now.limits (desk_shown behaviour registers pending desk.old) result
+    ensures tells { TellsPrepare desk.old.manager.now.limits (desk_shown behaviour registers pending desk.old)
+        result
         (desk_shown behaviour registers pending desk.new) }
 {
     let Some(work) = desk.in_hand() else {
@@ -303,7 +311,8 @@ fn commit(desk: &mut Desk) -> ServerAnswer
     requires steady { SteadyDesk (shown behaviour) (shown registers) (shown pending) desk.old }
     ensures same { IsSameDesk desk.old desk.new }
     ensures steady { SteadyDesk (shown behaviour) (shown registers) (shown pending) desk.new }
-    ensures tells { TellsCommit desk.old.manager.now.limits (desk_shown behaviour registers pending desk.old) result
+    ensures tells { TellsCommit desk.old.manager.now.limits (desk_shown behaviour registers pending desk.old)
+        result
         (desk_shown behaviour registers pending desk.new) }
 {
     let Some(work) = desk.in_hand() else {

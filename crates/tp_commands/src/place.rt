@@ -68,7 +68,8 @@ pub fn begin_again(passes: &[Pass], servers: &[Box<dyn Server + Send>], places: 
     requires paired { (length passes.now ≡ length places.old) × (length servers.now ≡ length places.old) }
     ensures lie { AllLie behaviour registers pending passes.now servers.now places.new }
     ensures began { firsts places.new ≡ all_firsts passes.now servers.now }
-    ensures dropped { map (λ place. place.is_dropped) places.new ≡ map (λ place. place.is_dropped) places.old }
+    ensures dropped { map (λ place. place.is_dropped) places.new
+        ≡ map (λ place. place.is_dropped) places.old }
 {
     let Some((pass, passes)) = passes.split_first() else {
         return;

@@ -1,5 +1,6 @@
 //! What the client counts and lists by stage.
-ghost use Rattle.std.specs.Prelude.{◌≡◌, ◌+◌, ◌-◌, ◌^◌, ◌≤◌, ℕ, List, Option, IfOk, OnOk, string_bytes, vec_len};
+ghost use Rattle.std.specs.Prelude.{◌≡◌, ◌+◌, ◌-◌, ◌^◌, ◌≤◌, ℕ, List, Option, IfOk, OnOk, string_bytes};
+ghost use Rattle.std.specs.Prelude.{vec_len};
 ghost use Rattle.std.specs.List.{All};
 ghost use Rattle.tp_model.specs.declared.types.Look.{Look};
 ghost use Rattle.tp_model.specs.Counts.{is_waiting};

@@ -13,7 +13,7 @@ use Rattle.std.specs.declared.dyn_box.DynBox.{DynBox}
 use Rattle.tp_server.specs.Behaviour.{Behaviour}
 use Rattle.tp_server.specs.Pending.{Pending}
 use Rattle.tp_manager.specs.Accounts.{AreAll, AreNumberedFrom, Attends}
-use Rattle.tp_manager.specs.Shown.{IsOf}
+use Rattle.tp_manager.specs.Shown.{IsOf, numbers}
 use Rattle.tp_alone.specs.Thread.{Stays}
 use Rattle.tp_rollover.specs.Managed.{IsNewPass}
 use Rattle.tp_rollover.proofs.Seen.{quiet_stays}
@@ -31,7 +31,7 @@ use Rattle.tp_crew.specs.Folds.{BeginsFold}
 use Rattle.tp_crew.specs.CrewPasses.{HasServed, HaveServed, ShowsAsPass, clients_in, desks_in, own_in}
 use Rattle.tp_workers.specs.Desks.{DeskRan}
 use Rattle.tp_workers.specs.Drained.{DeskDrained}
-use Rattle.tp_workers.specs.Free.{IsFreePass, numbers}
+use Rattle.tp_workers.specs.Free.{IsFreePass}
 use Rattle.tp_workers.specs.Ran.{RanAll, RanEach}
 
 -- others with the same numbers

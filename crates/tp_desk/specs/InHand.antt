@@ -34,7 +34,8 @@ InHand behaviour registers pending (Some work) drafts first pass =
 -- What holds between the calls of a desk that began with a pass and a server which showed `first` and
 -- `start`: the server's registers are led to by what the desk has committed, the work in hand is what the
 -- pass and the server say, and each unit that the desk claimed has ended but for the one in hand.
-pub record IsDeskSteady (behaviour : Behaviour) (registers : List ℕ) (pending : Option Pending) (start : List ℕ)
+pub record IsDeskSteady (behaviour : Behaviour) (registers : List ℕ) (pending : Option Pending)
+    (start : List ℕ)
     (first pass : PassShown) (work : Option Work) (drafts : List DraftView) : Type 0 where
   pub serves : Serves behaviour start registers first pass
   pub in_hand : InHand behaviour registers pending work drafts first pass

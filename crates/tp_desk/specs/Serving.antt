@@ -58,7 +58,8 @@ pub record Serves (behaviour : Behaviour) (start registers : List ℕ) (old new 
 
 -- each unit that was claimed among the events has ended, or is the one that may be open
 abbrev pub AreUnitsEnded : Option ℕ → List Event → List Event → Type 0
-AreUnitsEnded but events h = (u : ℕ) (t : UnitClaim) → claim_of events u ≡ Some t → (but ≡ Some u) ⊎ HasEnded h u
+AreUnitsEnded but events h =
+    (u : ℕ) (t : UnitClaim) → claim_of events u ≡ Some t → (but ≡ Some u) ⊎ HasEnded h u
 
 -- what the lenders of a pass and a server find when the desk has ended; the pass shows what every pass shows
 -- between calls

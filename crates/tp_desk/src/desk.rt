@@ -58,8 +58,8 @@ impl Desk<'_, '_, '_> {
         self.server.stage()
     }
 
-    /// The server's register of committed work with this number, counted from 0, or `None` past the last one. Prepared
-    /// work isn't counted.
+    /// The server's register of committed work with this number, counted from 0, or `None` past the last one.
+    /// Prepared work isn't counted.
     pub fn balance(&self, k: u64) -> Option<u64>
         ensures { result ≡ slice_get (registers self.now.server.now) k }
     {
@@ -110,7 +110,8 @@ impl Drop for Desk<'_, '_, '_> {
         ensures own { IsOf self.entry.manager.now self.exit.1.0.now }
         ensures behaviour { behaviour self.exit.1.1.0.now ≡ behaviour self.entry.server.now }
         ensures registers { registers self.exit.1.1.0.now ≡ registers self.entry.server.now }
-        ensures asked { Asks (undo_of (pending self.entry.server.now)) (asked self.entry.server.now) (asked self.exit.1.1.0.now) }
+        ensures asked { Asks (undo_of (pending self.entry.server.now)) (asked self.entry.server.now)
+            (asked self.exit.1.1.0.now) }
         ensures adds { EndsOpen self.entry.pass.now.open_unit self.entry.pass.now self.exit.1.0.now }
         ensures turn { self.exit.1.0.now.from ≡ self.entry.pass.now.from }
         ensures follows { IfSome self.entry.pass.now.open_unit (λ _.

@@ -87,8 +87,10 @@ impl<'m, 'p, 's> Desk<'m, 'p, 's> {
         ensures server { self.new.server.now ≡ self.old.server.now }
         ensures limits { AreLimits self.old.manager.now.limits }
         ensures turn { self.new.pass.now.from ≡ self.old.pass.now.from }
-        ensures follows { Follows (claim_steps self.old.manager.now.limits) self.old.pass.now self.new.pass.now }
-        ensures answer { Claims self.old.manager.now.limits (behaviour self.old.server.now).stage self.old.pass.now self.new.pass.now result }
+        ensures follows { Follows (claim_steps self.old.manager.now.limits) self.old.pass.now
+            self.new.pass.now }
+        ensures answer { Claims self.old.manager.now.limits (behaviour self.old.server.now).stage
+            self.old.pass.now self.new.pass.now result }
         ensures work { self.new.work ≡ work_of result }
         ensures steady { SteadyDesk behaviour registers pending self.new }
     {
@@ -104,8 +106,10 @@ impl<'m, 'p, 's> Desk<'m, 'p, 's> {
         ensures same { IsSameDesk self.old self.new }
         ensures server { self.new.server.now ≡ self.old.server.now }
         ensures limits { AreLimits self.old.manager.now.limits }
-        ensures follows { Follows (claim_next_steps self.old.manager.now.limits) self.old.pass.now self.new.pass.now }
-        ensures answer { ClaimsNext self.old.manager.now.limits (behaviour self.old.server.now).stage self.old.pass.now self.new.pass.now result }
+        ensures follows { Follows (claim_next_steps self.old.manager.now.limits) self.old.pass.now
+            self.new.pass.now }
+        ensures answer { ClaimsNext self.old.manager.now.limits (behaviour self.old.server.now).stage
+            self.old.pass.now self.new.pass.now result }
         ensures work { self.new.work ≡ work_of result }
         ensures steady { SteadyDesk behaviour registers pending self.new }
     {
@@ -121,7 +125,8 @@ impl<'m, 'p, 's> Desk<'m, 'p, 's> {
         ensures limits { AreLimits self.old.manager.now.limits }
         ensures turn { KeepsTurn order self.old.pass.now self.new.pass.now }
         ensures pass_limits { self.new.pass.now.limits ≡ self.old.manager.now.limits }
-        ensures follows { Follows (steps_by order self.old.manager.now.limits) self.old.pass.now self.new.pass.now }
+        ensures follows { Follows (steps_by order self.old.manager.now.limits) self.old.pass.now
+            self.new.pass.now }
         ensures answer { ClaimsBy order self.old.manager.now.limits (behaviour self.old.server.now).stage
             self.old.pass.now self.new.pass.now result }
         ensures work { self.new.work ≡ work_of result }
@@ -143,17 +148,20 @@ impl<'m, 'p, 's> Desk<'m, 'p, 's> {
         ensures behaviour { behaviour self.new.server.now ≡ behaviour self.old.server.now }
         ensures registers { registers self.new.server.now ≡ registers self.old.server.now }
         ensures made { OnOk result (IfSome self.old.work (λ work. IsMade (behaviour self.old.server.now)
-            (registers self.old.server.now) work.element (pending self.new.server.now) self.new.drafts.items)) }
+            (registers self.old.server.now) work.element (pending self.new.server.now)
+            self.new.drafts.items)) }
         ensures ready { OnOk result ((self.new.pass.now ≡ self.old.pass.now) × (self.new.work ≡ self.old.work)
             × IsSome (pending self.new.server.now)) }
         ensures free { OnErr result (self.new.work ≡ None) }
         ensures clear { OnErr result (pending self.new.server.now ≡ None) }
-        ensures asked { IfSome self.old.work (λ work. Asks (Prepare work.element (registers self.old.server.now) ∷ [])
+        ensures asked { IfSome self.old.work
+            (λ work. Asks (Prepare work.element (registers self.old.server.now) ∷ [])
             (asked self.old.server.now) (asked self.new.server.now)) }
         ensures turn { self.new.pass.now.from ≡ self.old.pass.now.from }
         ensures follows { OnErr result (Follows abort_steps self.old.pass.now self.new.pass.now) }
         ensures answer { IfErr result (λ why. IfSome self.old.work (λ work.
-            Declines (behaviour self.old.server.now) (registers self.old.server.now) work why self.old.pass.now self.new.pass.now)) }
+            Declines (behaviour self.old.server.now) (registers self.old.server.now) work why
+            self.old.pass.now self.new.pass.now)) }
         ensures steady { SteadyDesk behaviour registers pending self.new }
     {
         let Some(work) = self.work else {
@@ -181,7 +189,8 @@ impl<'m, 'p, 's> Desk<'m, 'p, 's> {
         ensures behaviour { behaviour self.new.server.now ≡ behaviour self.old.server.now }
         ensures registers { Some (registers self.new.server.now)
             ≡ registers_left result (registers self.old.server.now) (pending self.old.server.now) }
-        ensures asked { Asks (settling result (pending self.old.server.now)) (asked self.old.server.now) (asked self.new.server.now) }
+        ensures asked { Asks (settling result (pending self.old.server.now)) (asked self.old.server.now)
+            (asked self.new.server.now) }
         ensures clear { pending self.new.server.now ≡ None }
         ensures free { self.new.work ≡ None }
         ensures turn { self.new.pass.now.from ≡ self.old.pass.now.from }
@@ -205,7 +214,8 @@ impl<'m, 'p, 's> Desk<'m, 'p, 's> {
         ensures same { IsSameDesk self.old self.new }
         ensures behaviour { behaviour self.new.server.now ≡ behaviour self.old.server.now }
         ensures registers { registers self.new.server.now ≡ registers self.old.server.now }
-        ensures asked { Asks (undo_of (pending self.old.server.now)) (asked self.old.server.now) (asked self.new.server.now) }
+        ensures asked { Asks (undo_of (pending self.old.server.now)) (asked self.old.server.now)
+            (asked self.new.server.now) }
         ensures clear { pending self.new.server.now ≡ None }
         ensures free { self.new.work ≡ None }
         ensures turn { self.new.pass.now.from ≡ self.old.pass.now.from }
@@ -218,15 +228,16 @@ impl<'m, 'p, 's> Desk<'m, 'p, 's> {
         self.manager.abort(self.pass)
     }
 
-    /// Ends the desk: prepared work is called off and an open unit of work aborted. So the lenders find a pass
-    /// with no unit open, and a server with the registers of committed work. A drop does the same.
+    /// Ends the desk: prepared work is called off and an open unit of work aborted. So the lenders find a
+    /// pass with no unit open, and a server with the registers of committed work. A drop does the same.
     pub fn end(self)
         ensures free { self.exit.1.0.now.open_unit ≡ None }
         ensures clear { pending self.exit.1.1.0.now ≡ None }
         ensures own { IsOf self.entry.manager.now self.exit.1.0.now }
         ensures behaviour { behaviour self.exit.1.1.0.now ≡ behaviour self.entry.server.now }
         ensures registers { registers self.exit.1.1.0.now ≡ registers self.entry.server.now }
-        ensures asked { Asks (undo_of (pending self.entry.server.now)) (asked self.entry.server.now) (asked self.exit.1.1.0.now) }
+        ensures asked { Asks (undo_of (pending self.entry.server.now)) (asked self.entry.server.now)
+            (asked self.exit.1.1.0.now) }
         ensures adds { EndsOpen self.entry.pass.now.open_unit self.entry.pass.now self.exit.1.0.now }
         ensures turn { self.exit.1.0.now.from ≡ self.entry.pass.now.from }
         ensures follows { IfSome self.entry.pass.now.open_unit (λ _.

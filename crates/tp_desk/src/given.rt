@@ -22,7 +22,8 @@ impl Desk<'_, '_, '_> {
         ensures same { IsSameDesk self.old self.new }
         ensures server { self.new.server.now ≡ self.old.server.now }
         ensures turn { self.new.pass.now.from ≡ self.old.pass.now.from }
-        ensures follows { Follows (given_steps self.old.manager.now.limits) self.old.pass.now self.new.pass.now }
+        ensures follows { Follows (given_steps self.old.manager.now.limits) self.old.pass.now
+            self.new.pass.now }
         ensures answer { ClaimsGiven self.old.manager.now.limits (behaviour self.old.server.now).stage id
             self.old.pass.now self.new.pass.now result }
         ensures work { MatchResult result (λ work. self.new.work ≡ Some work) (λ _. self.new.work ≡ None) }

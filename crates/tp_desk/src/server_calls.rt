@@ -24,7 +24,8 @@ pub(crate) fn prepare(
         (registers server.old) element.now (Err why)) }
     ensures prepared { OnOk result (IsSome (pending server.new)) }
     ensures unprepared { OnErr result (pending server.new ≡ None) }
-    ensures asked { Asks (Prepare element.now (registers server.old) ∷ []) (asked server.old) (asked server.new) }
+    ensures asked { Asks (Prepare element.now (registers server.old) ∷ []) (asked server.old)
+        (asked server.new) }
 {
     server.prepare(element)
 }

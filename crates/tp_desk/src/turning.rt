@@ -26,7 +26,8 @@ impl Desk<'_, '_, '_> {
         ensures free { self.new.work ≡ None }
         ensures limits { AreLimits self.old.manager.now.limits }
         ensures turn { self.new.pass.now.from ≡ self.old.pass.now.from }
-        ensures follows { Follows (turn_steps Order.LeastFirst self.old.manager.now.limits) self.old.pass.now self.new.pass.now }
+        ensures follows { Follows (turn_steps Order.LeastFirst self.old.manager.now.limits) self.old.pass.now
+            self.new.pass.now }
         ensures answer { Turns Order.LeastFirst self.old.manager.now.limits (behaviour self.old.server.now)
             (registers self.old.server.now)
             self.old.pass.now self.new.pass.now result (registers self.new.server.now) }
@@ -46,7 +47,8 @@ impl Desk<'_, '_, '_> {
         ensures behaviour { behaviour self.new.server.now ≡ behaviour self.old.server.now }
         ensures free { self.new.work ≡ None }
         ensures limits { AreLimits self.old.manager.now.limits }
-        ensures follows { Follows (turn_steps Order.InTurn self.old.manager.now.limits) self.old.pass.now self.new.pass.now }
+        ensures follows { Follows (turn_steps Order.InTurn self.old.manager.now.limits) self.old.pass.now
+            self.new.pass.now }
         ensures answer { Turns Order.InTurn self.old.manager.now.limits (behaviour self.old.server.now)
             (registers self.old.server.now)
             self.old.pass.now self.new.pass.now result (registers self.new.server.now) }
@@ -66,7 +68,8 @@ impl Desk<'_, '_, '_> {
         ensures free { self.new.work ≡ None }
         ensures limits { AreLimits self.old.manager.now.limits }
         ensures turn { KeepsTurn order self.old.pass.now self.new.pass.now }
-        ensures follows { Follows (turn_steps order self.old.manager.now.limits) self.old.pass.now self.new.pass.now }
+        ensures follows { Follows (turn_steps order self.old.manager.now.limits) self.old.pass.now
+            self.new.pass.now }
         ensures answer { Turns order self.old.manager.now.limits (behaviour self.old.server.now)
             (registers self.old.server.now)
             self.old.pass.now self.new.pass.now result (registers self.new.server.now) }

@@ -19,9 +19,9 @@ use Rattle.tp_exact.specs.Alive.{survivors_now}
 use Rattle.tp_report.specs.declared.answer.Renamed.{Renamed}
 use Rattle.tp_desk.specs.declared.order.Order.{Order}
 use Rattle.tp_desk.specs.declared.order.Order.TheVariants.{LeastFirst, InTurn}
-use Rattle.tp_reference.specs.PlainReport.{ReportState, balance_answer, command_step, desk_at, drain_of, final_line, finals_below, most_rounds, round_below, round_of, round_turn, drain_rounds}
+use Rattle.tp_reference.specs.PlainReport.{ReportState, balance_answer, command_step, desk_at, drain_of, desk_final_line, finals_below, most_rounds, round_below, round_of, round_turn, drain_rounds}
 use Rattle.tp_reference.specs.declared.plain_desk.PlainDesk.{PlainDesk}
-use Rattle.tp_script.specs.Grammar.{body_at}
+use Rattle.tp_script.specs.Grammar.{late_line}
 use Rattle.tp_script.specs.Passes.{is_rollover}
 use Rattle.tp_script.specs.Script.{HeadView, ServerView, SettingsView, WorkerView}
 use Rattle.tp_script.specs.declared.fault.LineFault.{LineFault}
@@ -109,7 +109,7 @@ module _ (gs hs : List ServerView) (alike : map strip gs ≡ map strip hs) where
 
   -- ---- final lines
 
-  final_stripped : (d : Option PlainDesk) (o : Option ServerView) → final_line o d ≡ final_line (option_map strip o) d
+  final_stripped : (d : Option PlainDesk) (o : Option ServerView) → desk_final_line o d ≡ desk_final_line (option_map strip o) d
   final_stripped None None = refl
   final_stripped None (Some v) = refl
   final_stripped (Some d) None = refl
@@ -119,8 +119,8 @@ module _ (gs hs : List ServerView) (alike : map strip gs ≡ map strip hs) where
   unfolding finals_below
   same_finals ds zero = refl
   same_finals ds (suc n) =
-      ap (λ text. text ++ final_line (slice_get gs n) (slice_get ds n)) (same_finals ds n)
-      ∙ ap (λ text. finals_below hs ds n ++ text) (by_place (λ o. final_line o (slice_get ds n)) (final_stripped (slice_get ds n)) n)
+      ap (λ text. text ++ desk_final_line (slice_get gs n) (slice_get ds n)) (same_finals ds n)
+      ∙ ap (λ text. finals_below hs ds n ++ text) (by_place (λ o. desk_final_line o (slice_get ds n)) (final_stripped (slice_get ds n)) n)
 
   -- ---- dumps
 

@@ -153,19 +153,19 @@ counted_so true o = refl
 counted_so false None = refl
 counted_so false (Some v) = refl
 
-pub summed_so : (k : ℕ) (ps : List PlaceShown) (ds : List PlainDesk) → AllZip IsFor ps ds → register_sum k ps ≡ sum_by (plain.counted_value k) ds
+pub summed_so : (k : ℕ) (ps : List PlaceShown) (ds : List PlainDesk) → AllZip IsFor ps ds → register_sum k ps ≡ sum_by (plain.counted_at_desk k) ds
 summed_so k [] [] a = refl
 summed_so k [] (d ∷ ds) a = absurd a
 summed_so k (p ∷ ps) [] a = absurd a
 summed_so k (p ∷ ps) (d ∷ ds) a =
     let is = a.0 in
-    let one : counted_value p.is_dropped (slice_get p.desk.registers k) ≡ plain.counted_value k d =
+    let one : counted_value p.is_dropped (slice_get p.desk.registers k) ≡ plain.counted_at_desk k d =
     counted_so p.is_dropped (slice_get p.desk.registers k)
     ∙ (ap (λ (b : Bool). if b then 0 else plain.value_of (slice_get p.desk.registers k)) (sym is.dropped)
     ∙ ap (λ rs. if d.is_dropped then 0 else plain.value_of (slice_get rs k)) (sym is.desk.registers)) in
     let first = sum_by-cons (λ (q : PlaceShown). counted_value q.is_dropped (slice_get q.desk.registers k)) p ps in
-    let second = sum_by-cons (plain.counted_value k) d ds in
-    first ∙ (ap (λ n. n + register_sum k ps) one ∙ (ap (λ n. plain.counted_value k d + n) (summed_so k ps ds a.1) ∙ sym second))
+    let second = sum_by-cons (plain.counted_at_desk k) d ds in
+    first ∙ (ap (λ n. n + register_sum k ps) one ∙ (ap (λ n. plain.counted_at_desk k d + n) (summed_so k ps ds a.1) ∙ sym second))
 
 -- ---- a command without a race
 

@@ -83,7 +83,7 @@ module _ (servers : List ServerView) (order : Order) (m : ManagerShown) where
   -- ---- a turn
 
   -- whether a desk is free
-  free_same : (keeper : KeeperShown) (old : Scene) (s : ReportState) (at : ℕ) (p : PlaceShown) (d : PlainDesk) → Is keeper old s → slice_get old.places at ≡ Some p → IsFor p d → desks.is_free s.manager (worker at) d ≡ is_free p
+  free_same : (keeper : KeeperShown) (old : Scene) (s : ReportState) (at : ℕ) (p : PlaceShown) (d : PlainDesk) → Is keeper old s → slice_get old.places at ≡ Some p → IsFor p d → desks.takes_part s.manager (worker at) d ≡ is_free p
   free_same keeper old s at p d stands found is =
       let parts = parted old.places at p found in
       let state : slice_index_or (map state_of (passes_in old) ++ not_given l (length (passes_in old))) (worker at) no_pass ≡ state_of p.desk.pass
@@ -100,7 +100,7 @@ module _ (servers : List ServerView) (order : Order) (m : ManagerShown) where
   abbrev by_free : Bool → DeskAnswered → ℕ → ReportState → Bool × ReportState
   by_free b done at s = if b then (plain.has_claimed done.answer, with_acted s at done) else (false, s)
 
-  computed : (at : ℕ) (s : ReportState) (server : ServerView) (d : PlainDesk) (b : Bool) → slice_get servers at ≡ Some server → slice_get s.desks at ≡ Some d → desks.is_free s.manager (worker at) d ≡ b
+  computed : (at : ℕ) (s : ReportState) (server : ServerView) (d : PlainDesk) (b : Bool) → slice_get servers at ≡ Some server → slice_get s.desks at ≡ Some d → desks.takes_part s.manager (worker at) d ≡ b
       → round_turn order (slice_get servers at) (slice_get s.desks at) at s ≡ by_free b (turn_by order server.recipe (worker at) s.manager d) at s
   computed at s server d b named desk_is free =
       ap (λ o. round_turn order o (slice_get s.desks at) at s) named

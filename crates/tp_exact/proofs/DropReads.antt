@@ -15,7 +15,7 @@ use Rattle.tp_reference.specs.PlainDesks.{does, has_open, nothing_done, with_dro
 use Rattle.tp_reference.specs.PlainReport.{desk_at, with_acted, worker}
 use Rattle.tp_reference.specs.declared.plain_desk.PlainDesk.{PlainDesk}
 use Rattle.tp_script.specs.Commands.{command_at, server_named, one_server}
-use Rattle.tp_script.specs.Grammar.{act_said, act_by, body_at, body_keyword, late_keyword, late_words, given_by, line_words}
+use Rattle.tp_script.specs.Grammar.{act_said, act_by, late_line, body_keyword, late_keyword, late_words, given_by, line_words}
 use Rattle.tp_script.specs.LineWords.{is_name, known, require}
 use Rattle.tp_script.specs.Script.{HeadView, ServerView}
 use Rattle.tp_script.specs.ServerLines.{server_at, worker_at}
@@ -64,8 +64,8 @@ module _ (name : List ℕ) (place : ℕ) (t : HeadView) (good : is_name name ≡
   unfolding late_words late_keyword body_keyword
   words_read clients = bind_ok (act_said drivers.Session (verb.Desk desk.Drop) (name ∷ []) t) asked (λ a. Ok (t, Some a)) act_is
 
-  pub drop_reads : (clients : List ClientNote) → body_at (codes "drop " ++ name) clients t ≡ Ok (t, Some asked)
-  unfolding body_at
+  pub drop_reads : (clients : List ClientNote) → late_line (codes "drop " ++ name) clients t ≡ Ok (t, Some asked)
+  unfolding late_line
   drop_reads clients =
       bind_ok (line_words (codes "drop " ++ name)) (codes "drop" ∷ name ∷ []) (λ ws. late_words ws clients t)
       (by_words 100 (114 ∷ 111 ∷ 112 ∷ 32 ∷ joined name []) (codes "drop") (name ∷ []) 8 (8 ∷ []) refl refl drop_word (name_word name good, tt) (omega arith))

@@ -14,7 +14,7 @@ use Rattle.tp_exact.specs.Finals.{ExactFinals}
 use Rattle.tp_exact.specs.Stands.{IsFor}
 
 -- one of them
-line_so : (a : Option ServerView) (b : Option PlainDesk) → final_line a (option_map (λ (d : PlainDesk). d.registers) b) ≡ plain.final_line a b
+line_so : (a : Option ServerView) (b : Option PlainDesk) → final_line a (option_map (λ (d : PlainDesk). d.registers) b) ≡ plain.desk_final_line a b
 line_so (Some server) (Some desk) = refl
 line_so (Some server) None = refl
 line_so None b = refl

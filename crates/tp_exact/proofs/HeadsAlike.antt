@@ -5,7 +5,7 @@ use Rattle.std.specs.List.{list_any}
 use Rattle.std.specs.Str.{bytes_eq}
 use Rattle.tp_script.specs.Clients.{client_words, forget_at, last_at, last_by, noted_at, receive_at, receive_least, receive_of, register_at, send_of, send_words}
 use Rattle.tp_script.specs.Commands.{SubmitWords, balance_at, command_at, server_named, one_server, stage_at, submit_body, take_at}
-use Rattle.tp_script.specs.Grammar.{act_said, act_by, body_at, body_keyword, ends_head, given_by, is_named, late_keyword, late_words, line_words, out_of_order, with_head, worker_act, worker_of}
+use Rattle.tp_script.specs.Grammar.{act_said, act_by, late_line, body_keyword, ends_head, given_by, is_named, late_keyword, late_words, line_words, out_of_order, with_head, worker_act, worker_of}
 use Rattle.tp_script.specs.Keyword.{keyword}
 use Rattle.tp_script.specs.LineWords.{◌>>=◌, is_name, known, no_word, number_at, one_word, ordinal_at, require, three, two}
 use Rattle.tp_script.specs.Script.{HeadView, ServerView, WorkerView}
@@ -286,8 +286,8 @@ module _ (g h : HeadView) (same : SameNames g h) where
   same_words clients [] = ap (λ (x : HeadView). Ok (x, None)) (sym own_workers)
   same_words clients (w ∷ ws) = carried_bound (known (keyword w) Syntax) (λ k. late_keyword k ws clients g) (λ k. late_keyword k ws clients h) (λ k. same_late clients k ws)
 
-  pub same_body : (line : List ℕ) (clients : List ClientNote) → body_at line clients g ≡ carried (body_at line clients h)
-  unfolding body_at
+  pub same_body : (line : List ℕ) (clients : List ClientNote) → late_line line clients g ≡ carried (late_line line clients h)
+  unfolding late_line
   same_body line clients = carried_bound (line_words line) (λ ws. late_words ws clients g) (λ ws. late_words ws clients h) (same_words clients)
 
 -- ---- no line behind the head is `restore`
@@ -402,7 +402,7 @@ module _ (h : HeadView) where
   coming_none (acts.Last at) comes = tt
   coming_none (acts.Overview what) comes = tt
 
-  pub no_restore : (line : List ℕ) (clients : List ClientNote) → OfSaid (λ left asked. AsksNoRestore asked) (body_at line clients h)
+  pub no_restore : (line : List ℕ) (clients : List ClientNote) → OfSaid (λ left asked. AsksNoRestore asked) (late_line line clients h)
   no_restore line clients = of_line (λ left asked. AsksNoRestore asked) clients h tt (λ k ws a is. asks_none k ws a is) (λ ws a which. coming_none a which) line
 
 -- ---- lines one after another

@@ -3,7 +3,7 @@ use Rattle.std.proofs.Common.{◌≡◌, ℕ, Bool, true, false, not, ◌⊎◌,
 use Rattle.std.specs.Prelude.{slice_set}
 use Rattle.std.specs.List.{list_any}
 use Rattle.tp_script.specs.Commands.{stage_at}
-use Rattle.tp_script.specs.Grammar.{body_at, body_keyword, ends_head, late_keyword, late_words, line_words, with_head}
+use Rattle.tp_script.specs.Grammar.{late_line, body_keyword, ends_head, late_keyword, late_words, line_words, with_head}
 use Rattle.tp_script.specs.Keyword.{keyword}
 use Rattle.tp_script.specs.LineWords.{◌>>=◌, is_name, known, one_word, require, two}
 use Rattle.tp_script.specs.Notes.{NameView}
@@ -120,8 +120,8 @@ module _ (P : HeadView → Option Act → Type 0) where
     by_words [] = none
     by_words (w ∷ ws) = bound (known (keyword w) Syntax) (λ k. late_keyword k ws clients h) (λ k is. by_keyword k ws)
 
-    pub of_line : (line : List ℕ) → OfSaid P (body_at line clients h)
-    unfolding body_at
+    pub of_line : (line : List ℕ) → OfSaid P (late_line line clients h)
+    unfolding late_line
     of_line line = bound (line_words line) (λ ws. late_words ws clients h) (λ ws is. by_words ws)
 
 -- ---- the servers stay, and nothing but workers changes
@@ -129,7 +129,7 @@ module _ (P : HeadView → Option Act → Type 0) where
 abbrev pub OnlyWorkers : HeadView → HeadView → Type 0
 OnlyWorkers h left = left ≡ record h { workers = left.workers }
 
-pub only_workers : (line : List ℕ) (clients : List ClientNote) (h : HeadView) → OfSaid (λ left asked. OnlyWorkers h left) (body_at line clients h)
+pub only_workers : (line : List ℕ) (clients : List ClientNote) (h : HeadView) → OfSaid (λ left asked. OnlyWorkers h left) (late_line line clients h)
 only_workers line clients h = of_line (λ left asked. OnlyWorkers h left) clients h refl (λ k ws a is. refl) (λ ws a which. refl) line
 
 -- ---- no race
@@ -163,5 +163,5 @@ coming_no_race (acts.Noted name act) comes = tt
 coming_no_race (acts.Last worker) comes = tt
 coming_no_race (acts.Overview what) comes = tt
 
-pub line_no_race : (line : List ℕ) (clients : List ClientNote) (h : HeadView) → OfSaid (λ left asked. NoRace asked) (body_at line clients h)
+pub line_no_race : (line : List ℕ) (clients : List ClientNote) (h : HeadView) → OfSaid (λ left asked. NoRace asked) (late_line line clients h)
 line_no_race line clients h = of_line (λ left asked. NoRace asked) clients h tt (λ k ws a is. asks_no_race k ws h a is) (λ ws a which. coming_no_race a which) line

@@ -76,7 +76,7 @@ same_plain s covered =
     let h : HeadView = s.head in
     let parts = either_false (not (length h.workers == 0)) (list_any is_other s.acts) covered in
     let none : length h.workers ≡ 0 = no_workers h.workers parts.0 in
-    let limits : limits_of h 0 ≡ plain.limits_of h = ap (with_parts h) (omega (arith, none)) in
+    let limits : limits_of h 0 ≡ plain.plain_limits h = ap (with_parts h) (omega (arith, none)) in
     let first : SessionState = session_begin h in
     let done : List ℕ × SessionState = acts_step h [] s.acts first in
     let end : closed h done.1 ≡ desks_closed (length h.servers) done.1 = ap (λ n. workers_closed h n (desks_closed (length h.servers) done.1)) none in

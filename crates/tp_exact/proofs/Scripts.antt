@@ -30,7 +30,7 @@ use Rattle.tp_reference.specs.PlainReport.{ended_below, finals_below}
 use Rattle.tp_session.specs.Answers.{worker_answer_line}
 use Rattle.tp_session.specs.Conversed.{LiveBegins, finals_of}
 use Rattle.tp_session.specs.Live.{Live, TellsAct, TellsRaced}
-use Rattle.tp_session.specs.Performed.{ActsTold, SessionCloses, Counts as CountsLive, DesksClose, LiveCounts, Ran, RanFront, Report, ReportFront, ReportPart, WorkerCloses, WorkersBelow, closing_text}
+use Rattle.tp_session.specs.Performed.{ActsTold, SessionCloses, CountsAtEnd as CountsLive, DesksClose, LiveCounts, Ran, RanFront, Report, ReportFront, ReportPart, WorkerCloses, WorkersBelow, closing_text}
 use Rattle.tp_exact.specs.PlainScript.{script_account_line, acts_step, closed, desks_closed, end_lines, script_report_of_read, script_of, workers_closed}
 use Rattle.tp_exact.specs.PlainSession.{Refusals, SessionState, session_act_step, session_begin, first_refusal, other_refusals}
 use Rattle.tp_exact.specs.Programs.{ExactProgram, IsChecked, IsCovered, WritesAs, exit_of}

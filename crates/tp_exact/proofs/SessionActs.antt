@@ -2,7 +2,7 @@
 use Rattle.std.proofs.Common.{◌≡◌, ◌∙◌, Bool, true, false, List, ℕ, Option, None, Some, Ok, Err, ap, sym, subst}
 use Rattle.tp_rollover.specs.declared.moved.RollFault.{RollFault}
 use Rattle.tp_script.specs.Passes.{is_race, is_rollover}
-use Rattle.tp_script.specs.Grammar.{body_at}
+use Rattle.tp_script.specs.Grammar.{late_line}
 use Rattle.tp_script.specs.Script.{HeadView, head_view}
 use Rattle.tp_script.specs.declared.head.Act.{Act}
 use Rattle.tp_script.specs.declared.head.Act.TheVariants as acts
@@ -75,7 +75,7 @@ module _ (n : ℕ) (old new : Now) (text : List ℕ) (s : SessionState) (is : St
 
   pub line_so : (line : List ℕ) → LineTold n (said_now line old) old text new → Leads (said_in line h s)
   line_so line t =
-      let same : said_now line old ≡ said_in line h s = ap (λ (x : NotesView). body_at line x.clients h) (sym is.notes) in
+      let same : said_now line old ≡ said_in line h s = ap (λ (x : NotesView). late_line line x.clients h) (sym is.notes) in
       subst Leads same (by_said (said_now line old) (only_workers line old.live.notes.clients h) (line_no_race line old.live.notes.clients h) t)
 
 pub exact_line : ExactLine

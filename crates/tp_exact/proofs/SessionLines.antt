@@ -26,7 +26,7 @@ use Rattle.tp_reference.specs.PlainReport.{command_step}
 use Rattle.tp_alone.specs.Thread.{AreTogether, Stays, not_given, state_of, thread_of}
 use Rattle.tp_session.specs.Answers.{left_line, worker_answer_line}
 use Rattle.tp_session.specs.Live as lives
-use Rattle.tp_session.specs.Hands.{Hand, has_unit}
+use Rattle.tp_session.specs.Hands.{WorkerHand, has_unit}
 use Rattle.tp_session.specs.Live.{AccountTold, CommandTold, JoinTold, LeaveTold, Live, TellsAccount, WorkerTold, with_notes}
 use Rattle.tp_session.specs.Notes.{with_unit_end, without_end}
 use Rattle.tp_session.specs.declared.hand.Holding.{Holding}
@@ -136,10 +136,10 @@ module _ (head : Head) (old new : Live) (text : List ℕ) (s : SessionState) (is
   -- ---- a worker
 
   module _ (at : ℕ) (act : WorkerAct) (t : WorkerTold head.workers.items act at old text new) where
-    abbrev before : Hand
+    abbrev before : WorkerHand
     before = t.did.before
 
-    abbrev after : Hand
+    abbrev after : WorkerHand
     after = t.did.after
 
     abbrev middle : Scene

@@ -26,7 +26,7 @@ use Rattle.tp_alone.proofs.Claims.{alone_claim, alone_claim_next}
 use Rattle.tp_alone.proofs.Commits.{alone_commit}
 use Rattle.tp_alone.proofs.Given.{alone_claim_id}
 use Rattle.tp_commands.specs.Asked.{Called}
-use Rattle.tp_session.specs.Hands.{AbortsHand, Hand, HearsLost, NextAnswered, WorkerTellsAbort, WorkerTellsClaim, WorkerTellsCommit, WorkerTellsNext, WorkerTellsTake, is_busy}
+use Rattle.tp_session.specs.Hands.{AbortsHand, WorkerHand, HearsLost, NextAnswered, WorkerTellsAbort, WorkerTellsClaim, WorkerTellsCommit, WorkerTellsNext, WorkerTellsTake, is_busy}
 use Rattle.tp_session.specs.declared.hand.Holding.{Holding}
 use Rattle.tp_session.specs.declared.hand.Holding.TheVariants.{Nothing, Open, Lost}
 use Rattle.tp_session.specs.declared.hand.WorkerAnswer.{WorkerAnswer}
@@ -36,7 +36,7 @@ use Rattle.tp_exact.specs.PlainWorkers.{WorkerAnswered, worker_aborted_as, worke
 use Rattle.tp_exact.specs.Sessions.{ExactWorker}
 use Rattle.tp_exact.proofs.Parts.{idle, whole}
 
-module _ (l : Limits) (stage : ℕ) (keeper keeper' : KeeperShown) (olds news : List PassShown) (h h' : List Event) (c : ℕ) (old new : Hand) (a : Acts l keeper keeper' olds news h h' c old.pass new.pass) where
+module _ (l : Limits) (stage : ℕ) (keeper keeper' : KeeperShown) (olds news : List PassShown) (h h' : List Event) (c : ℕ) (old new : WorkerHand) (a : Acts l keeper keeper' olds news h h' c old.pass new.pass) where
   abbrev was : State
   was = thread_of l olds h
 
@@ -52,19 +52,19 @@ module _ (l : Limits) (stage : ℕ) (keeper keeper' : KeeperShown) (olds news : 
 
   -- nothing was done
   still : new ≡ old → is ≡ was
-  still same = idle l keeper keeper' olds news h h' c old.pass new.pass a (ap (λ (z : Hand). z.pass) same)
+  still same = idle l keeper keeper' olds news h h' c old.pass new.pass a (ap (λ (z : WorkerHand). z.pass) same)
 
   none_open : (act : WorkerAct) → does_idle act stage c was ≡ worker_told_as told.NoneOpen was Nothing → old.work ≡ Nothing → new ≡ old → So (Told told.NoneOpen) (worker_does act stage c was old.work)
   none_open act computed none same =
-      with_hand act Nothing (Told told.NoneOpen) none (subst (λ d. So (Told told.NoneOpen) d) (sym computed) (refl, still same, ap (λ (z : Hand). z.work) same ∙ none))
+      with_hand act Nothing (Told told.NoneOpen) none (subst (λ d. So (Told told.NoneOpen) d) (sym computed) (refl, still same, ap (λ (z : WorkerHand). z.work) same ∙ none))
 
   busy : (act : WorkerAct) → ((unit element : ℕ) → does_busy act unit element c was ≡ worker_told_as told.Busy was (Open unit element)) → ((element : ℕ) → does_lost act element was ≡ worker_told_as told.Busy was (Lost element))
       → (o : Holding) → old.work ≡ o → is_busy o ≡ true → new ≡ old → So (Told told.Busy) (worker_does act stage c was old.work)
   busy act computed lost Nothing at some same = absurd cc
   busy act computed lost (Open unit element) at some same =
-      with_hand act (Open unit element) (Told told.Busy) at (subst (λ d. So (Told told.Busy) d) (sym (computed unit element)) (refl, still same, ap (λ (z : Hand). z.work) same ∙ at))
+      with_hand act (Open unit element) (Told told.Busy) at (subst (λ d. So (Told told.Busy) d) (sym (computed unit element)) (refl, still same, ap (λ (z : WorkerHand). z.work) same ∙ at))
   busy act computed lost (Lost element) at some same =
-      with_hand act (Lost element) (Told told.Busy) at (subst (λ d. So (Told told.Busy) d) (sym (lost element)) (refl, still same, ap (λ (z : Hand). z.work) same ∙ at))
+      with_hand act (Lost element) (Told told.Busy) at (subst (λ d. So (Told told.Busy) d) (sym (lost element)) (refl, still same, ap (λ (z : WorkerHand). z.work) same ∙ at))
 
   -- a unit was lost before, and the worker hears of it
   hears : (act : WorkerAct) (element : ℕ) (answer : WorkerAnswer) → HearsLost element old new → does_lost act element was ≡ record { answer = answer; manager = was; work = Nothing } → So answer (worker_does act stage c was old.work)

@@ -45,14 +45,15 @@ AliveLineReads =
     → FitsLine s → s.holder ≡ None → length h.alive < MAX_ALIVE
     → head_at (life_text workers first s) h ≡ Ok (record h { alive = h.alive ++ line_of first s ∷ [] }, None)
 
--- the name is that of this worker of a head, and no line of the head says that it has or had something in hand
+-- the name is that of this worker of a head, and no line of the head says that it has or had something in
+-- hand
 pub record IsFreeWorker (name : List ℕ) (worker : ℕ) (h : HeadView) : Type 0 where
   pub named : IsPlaceName name
   pub at : worker_at name h ≡ Some worker
   pub idle : has_in_hand worker h ≡ false
 
--- And so does the line of one that a worker has in hand. The worker has a name of at most 8 letters, so the line
--- isn't too long: it has at most 208 bytes.
+-- And so does the line of one that a worker has in hand. The worker has a name of at most 8 letters, so the
+-- line isn't too long: it has at most 208 bytes.
 abbrev pub HeldLineReads : Type 0
 HeldLineReads =
     (workers : List WorkerView) (first worker : ℕ) (w : WorkerView) (s : Survivor) (h : HeadView)
@@ -81,8 +82,9 @@ FoundLinesRead =
     → HeadLines past (map (life_text workers first) survivors) h []
     (record h { alive = h.alive ++ map (line_of first) survivors })
 
--- The lines that a dump tells of what was lost, read one after another, add to a head just what they tell, and
--- none is refused: they are of workers of the head that have nothing in hand there, and the ids have 32 bits.
+-- The lines that a dump tells of what was lost, read one after another, add to a head just what they tell,
+-- and none is refused: they are of workers of the head that have nothing in hand there, and the ids have 32
+-- bits.
 abbrev pub LostLinesRead : Type 0
 LostLinesRead =
     (workers : List WorkerView) (first : ℕ) (works : List Holding) (survivors : List Survivor) (h : HeadView)
@@ -104,10 +106,10 @@ lines_between h works survivors = let first = 1 + length h.servers in
     map (life_text h.workers first) survivors
     ++ lost_lines h.workers first works survivors (length h.workers)
 
--- So all lines of a dump from the `alive` ones to the `lost` ones, read one after another by a head g that has
--- the workers of the dumped session's head, and in which nothing is alive or lost yet, lead to a head that says
--- just that; and none is refused. The session stands for a computed state, and no desk has a unit open. The
--- words of the bodies have 64 bits and the ids 32, as all that a program has.
+-- So all lines of a dump from the `alive` ones to the `lost` ones, read one after another by a head g that
+-- has the workers of the dumped session's head, and in which nothing is alive or lost yet, lead to a head
+-- that says just that; and none is refused. The session stands for a computed state, and no desk has a unit
+-- open. The words of the bodies have 64 bits and the ids 32, as all that a program has.
 abbrev pub DumpLinesRead : Type 0
 DumpLinesRead =
     (h g : HeadView) (old done : Live) (survivors : List Survivor) (s : SessionState) (past : ℕ)

@@ -69,7 +69,8 @@ abbrev pub lost_in : ℕ → Bool → Option Holding → List LostLine
 lost_in worker holds None = []
 lost_in worker holds (Some work) = lost_told worker (lost_element holds work)
 
--- those of the first n workers, which have these works in hand, and of which the first one's pass has this number
+-- those of the first n workers, which have these works in hand, and of which the first one's pass has this
+-- number
 abbrev pub all_lost : ℕ → List Holding → List Survivor → ℕ → List LostLine
 all_lost first works survivors zero = []
 all_lost first works survivors (suc n) = all_lost first works survivors n
@@ -86,9 +87,9 @@ HeldByWorkers =
     → StandsLive h old s → HoldsUnits old → lives.has_desk_open old ≡ false → FoundAlive old survivors done
     → AreHeldFrom (1 + length h.servers) survivors
 
--- What is alive in a session was found for a dump, where workers alone hold something, and a head with as many
--- servers says just that, under the same limit of attempts. Then it describes what was found; and where it is
--- restored, that is a rollover of the session that was dumped.
+-- What is alive in a session was found for a dump, where workers alone hold something, and a head with as
+-- many servers says just that, under the same limit of attempts. Then it describes what was found; and where
+-- it is restored, that is a rollover of the session that was dumped.
 abbrev pub RestoredDump : Type 0
 RestoredDump =
     (old done : Live) (survivors : List Survivor) (head : HeadView) (first new : Stand) (moved : List Moved)
@@ -103,11 +104,12 @@ RestoredDump =
     (done.stand.keeper.seen ++ kills old.stand.manager.limits.attempts done.stand.keeper.seen 0 moved)
     new.keeper.seen moved
 
--- And the workers of the session in which it is restored, which are as many, have in hand there what they would
--- have after a rollover of the session that was dumped, where the head says what was lost too.
+-- And the workers of the session in which it is restored, which are as many, have in hand there what they
+-- would have after a rollover of the session that was dumped, where the head says what was lost too.
 abbrev pub RestoredHands : Type 0
 RestoredHands =
-    (dumped done : Live) (survivors : List Survivor) (head : HeadView) (old : Live) (text : List ℕ) (new : Live)
+    (dumped done : Live) (survivors : List Survivor) (head : HeadView) (old : Live) (text : List ℕ)
+    (new : Live)
     → AreLimits dumped.stand.manager.limits → FoundAlive dumped survivors done
     → AreHeldFrom (1 + length head.servers) survivors
     → head.alive ≡ map (line_of (1 + length head.servers)) survivors

@@ -85,7 +85,8 @@ next_receive true name root number place c n m =
     (reply_taken (first_below (λ r. asks_for n.requests name root r) m (rows_of m.limits)) m)
 next_receive false name root number place c n m = refuses refusals.NotThere n m
 
-abbrev pub receive_by : Standing → NameView → Option ℕ → ℕ → ℕ → ClientNote → NotesView → State → NotedAnswered
+abbrev pub receive_by : Standing → NameView → Option ℕ → ℕ → ℕ → ClientNote → NotesView → State
+    → NotedAnswered
 receive_by Next name root number place c n m =
     next_receive (is_its_own n.requests name root) name root number place c n m
 receive_by Again name root number place c n m = just (received_text name number (last_reply_text c)) n m

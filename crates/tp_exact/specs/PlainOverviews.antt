@@ -1,5 +1,6 @@
 -- What is told of all passes at once where nobody else acts, computed.
-use Rattle.std.specs.Prelude.{◌-◌, ℕ, zero, suc, if◌then◌else◌, is_some, List, [], ◌∷◌, ◌++◌, Option, Some, None}
+use Rattle.std.specs.Prelude.{◌-◌, ℕ, zero, suc, if◌then◌else◌, is_some, List, [], ◌∷◌, ◌++◌, Option, Some}
+use Rattle.std.specs.Prelude.{None}
 use Rattle.std.specs.Prelude.{codes, drop, length, map, slice_get}
 use Rattle.tp_model.specs.declared.types.Limits.{Limits}
 use Rattle.tp_plain.specs.Computed.{read_of}
@@ -27,7 +28,8 @@ desks_hold ds ps = []
 
 -- where one of this name has an open unit, how the element stands that it took
 abbrev pub holder_told : State → Option (List ℕ) → Option Holding → List ℕ
-holder_told m (Some name) (Some (Open unit element)) = holder_text name unit element (read_as (read_of m element))
+holder_told m (Some name) (Some (Open unit element)) =
+    holder_text name unit element (read_as (read_of m element))
 holder_told m name work = []
 
 -- so it is for the first n

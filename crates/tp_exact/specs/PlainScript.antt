@@ -1,5 +1,7 @@
--- A script where nobody else acts: what is written of it, computed. Its lines are performed as those of a session.
-use Rattle.std.specs.Prelude.{ℕ, zero, suc, Bool, true, false, List, [], ◌∷◌, ◌++◌, None, Result, Ok, Err, length}
+-- A script where nobody else acts: what is written of it, computed. Its lines are performed as those of a
+-- session.
+use Rattle.std.specs.Prelude.{ℕ, zero, suc, Bool, true, false, List, [], ◌∷◌, ◌++◌, None, Result, Ok, Err}
+use Rattle.std.specs.Prelude.{length}
 use Rattle.tp_report.specs.Answer.{account_text, line}
 use Rattle.tp_script.specs.Fault.{refused_text}
 use Rattle.tp_script.specs.Script.{HeadView, ScriptView}
@@ -9,7 +11,8 @@ use Rattle.tp_script.specs.declared.head.Act.TheVariants.{Worker}
 use Rattle.tp_script.specs.declared.head.WorkerAct.TheVariants.{Abort}
 use Rattle.tp_reference.specs.PlainClient.{counts_of}
 use Rattle.tp_reference.specs.PlainReport.{ended_below, finals_below}
-use Rattle.tp_exact.specs.PlainSession.{Refusals, SessionState, session_act_step, session_begin, first_refusal, other_refusals}
+use Rattle.tp_exact.specs.PlainSession.{Refusals, SessionState, session_act_step, session_begin}
+use Rattle.tp_exact.specs.PlainSession.{first_refusal, other_refusals}
 
 -- acts one after another, which were refused so
 abbrev pub acts_step : HeadView → Refusals → List Act → SessionState → List ℕ × SessionState
@@ -22,7 +25,8 @@ acts_step h refusals (a ∷ others) s =
 
 -- the desks of so many servers gave up what they had in hand
 abbrev pub desks_closed : ℕ → SessionState → SessionState
-desks_closed servers s = record s { report = record s.report { manager = ended_below s.report.manager servers } }
+desks_closed servers s =
+    record s { report = record s.report { manager = ended_below s.report.manager servers } }
 
 -- so did the first n workers
 abbrev pub workers_closed : HeadView → ℕ → SessionState → SessionState
@@ -40,7 +44,8 @@ script_account_line false s = []
 
 -- the final lines of what is left in the end, and the account
 abbrev pub end_lines : HeadView → Bool → SessionState → List ℕ
-end_lines h account s = finals_below h.servers s.report.desks (length h.servers) ++ script_account_line account s
+end_lines h account s =
+    finals_below h.servers s.report.desks (length h.servers) ++ script_account_line account s
 
 -- ---- a whole script
 

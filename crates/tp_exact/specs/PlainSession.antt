@@ -15,7 +15,7 @@ use Rattle.tp_report.specs.declared.answer.Renamed.{Renamed}
 use Rattle.tp_script.specs.Fault.{◌<>◌}
 use Rattle.tp_script.specs.Notes.{NameView}
 use Rattle.tp_script.specs.Passes.{is_rollover}
-use Rattle.tp_script.specs.Grammar.{body_at, head_at}
+use Rattle.tp_script.specs.Grammar.{late_line, head_at}
 use Rattle.tp_script.specs.Script.{HeadView, WorkerView, no_head}
 use Rattle.tp_script.specs.declared.fault.LineFault.{LineFault}
 use Rattle.tp_script.specs.declared.head.Act.{Act}
@@ -26,7 +26,8 @@ use Rattle.tp_script.specs.declared.script.Command.{Command}
 use Rattle.tp_perform.specs.Rollover.{renamed, roll_refused_text}
 use Rattle.tp_reference.specs.PlainClient.{counts_of}
 use Rattle.tp_reference.specs.PlainReport.{ReportState, command_step, finals_below, new_desk}
-use Rattle.tp_session.specs.Answers.{joined_line, left_line, refused_line, restored_text, units_text, worker_answer_line}
+use Rattle.tp_session.specs.Answers.{joined_line, left_line, refused_line, restored_text, units_text}
+use Rattle.tp_session.specs.Answers.{worker_answer_line}
 use Rattle.tp_session.specs.Carried.{lost_works, works_after}
 use Rattle.tp_session.specs.Conversed.{limits_of}
 use Rattle.tp_session.specs.Dump.{dump_lines, dump_text}
@@ -77,7 +78,8 @@ session_is_open s = list_any has_unit s.works || session_desk_open s
 
 -- `account`
 abbrev pub session_account_line : SessionState → List ℕ
-session_account_line s = line (if session_is_open s then answer_text answer.Busy else account_text (counts_of s.report.manager))
+session_account_line s =
+    line (if session_is_open s then answer_text answer.Busy else account_text (counts_of s.report.manager))
 
 -- ---- rollovers, dumps and restores
 
@@ -96,8 +98,8 @@ abbrev pub other_refusals : Refusals → Refusals
 other_refusals [] = []
 other_refusals (why ∷ others) = others
 
--- With such a unit of work open the answer is that it is, and else the refusal, if it was one: then this state
--- is left. Else this is done.
+-- With such a unit of work open the answer is that it is, and else the refusal, if it was one: then this
+-- state is left. Else this is done.
 abbrev pub unless_refused : Bool → Option RollFault → SessionState → List ℕ × SessionState
     → List ℕ × SessionState
 unless_refused true why left done = (line (answer_text answer.Busy), left)
@@ -127,7 +129,8 @@ anew_as told h before left s (Some (moved, manager)) =
 anew_as told h before left s None = (line (roll_refused_text faults.Full), left)
 
 -- these elements are made anew in a manager with the same limits
-abbrev pub session_anew : (List Renamed → List ℕ) → HeadView → List Survivor → List Holding → SessionState → SessionState
+abbrev pub session_anew : (List Renamed → List ℕ) → HeadView → List Survivor → List Holding → SessionState
+    → SessionState
     → List ℕ × SessionState
 session_anew told h survivors before left s = let l = s.report.manager.limits in
     anew_as told h before left s (made_anew l l.parts survivors (start l))
@@ -142,7 +145,8 @@ unrestored s = record s { notes = notes_in [] s.notes }
 
 -- a restore of what the head says is alive, is in hand, or was lost
 abbrev pub session_restored : HeadView → SessionState → List ℕ × SessionState
-session_restored h s = session_anew restored_text h (survivors_of h) (lost_works h.lost 0 s.works) (unrestored s) s
+session_restored h s =
+    session_anew restored_text h (survivors_of h) (lost_works h.lost 0 s.works) (unrestored s) s
 
 -- the lines that lead to this state
 abbrev pub dump_of : HeadView → SessionState → List (List ℕ)
@@ -160,10 +164,11 @@ noted_step done s =
 abbrev pub last_step : Option WorkerView → ℕ → SessionState → List ℕ
 last_step None at s = []
 last_step (Some it) at s =
-    line (last_hand it.name (work_told (slice_index_or s.works at Nothing) s.report.manager) (end_at s.notes.ends at))
+    line (last_hand it.name (work_told (slice_index_or s.works at Nothing) s.report.manager)
+    (end_at s.notes.ends at))
 
--- `leave`: the worker whose place is free now gives up what it has in hand, and nothing is noted any more of its
--- last unit
+-- `leave`: the worker whose place is free now gives up what it has in hand, and nothing is noted any more of
+-- its last unit
 abbrev pub leave_step : Option WorkerView → NameView → ℕ → ℕ → SessionState → List ℕ × SessionState
 leave_step None name at c s = ([], s)
 leave_step (Some it) name at c s =
@@ -191,7 +196,8 @@ session_act_step h why (acts.Worker at act) s =
     worker_step (slice_get h.workers at) act at (1 + length h.servers + at) s
 session_act_step h why acts.Account s = (session_account_line s, s)
 session_act_step h why acts.Dump s = unless_refused (session_desk_open s) why s (dump_text (dump_of h s), s)
-session_act_step h why acts.Restore s = unless_refused (session_is_open s) why (unrestored s) (session_restored h s)
+session_act_step h why acts.Restore s =
+    unless_refused (session_is_open s) why (unrestored s) (session_restored h s)
 session_act_step h why (acts.Noted name act) s = noted_step (noted_does name act s.notes s.report.manager) s
 session_act_step h why (acts.Last at) s = (last_step (slice_get h.workers at) at s, s)
 session_act_step h why (acts.Overview what) s =
@@ -202,7 +208,7 @@ session_act_step h why (acts.Leave at name) s =
 
 -- what a line says behind such a head, in such a state
 abbrev pub said_in : List ℕ → HeadView → SessionState → Result (HeadView × Option Act) LineFault
-said_in line h s = body_at line s.notes.clients h
+said_in line h s = late_line line s.notes.clients h
 
 -- the head that it leaves
 abbrev pub head_left : HeadView → Result (HeadView × Option Act) LineFault → HeadView
@@ -275,7 +281,8 @@ session_begin h = record {
 -- and the final lines
 abbrev pub session_by : Refusals → ReadHead → List ℕ
 session_by refusals read =
-    let body = session_lines_from read.command read.head read.past refusals read.behind (session_begin read.head) in
+    let body = session_lines_from read.command read.head read.past refusals read.behind
+    (session_begin read.head) in
     read.text ++ (body.0 ++ finals_below read.head.servers body.1.report.desks
     (length read.head.servers))
 

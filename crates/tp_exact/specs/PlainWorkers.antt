@@ -1,5 +1,5 @@
--- What a worker of a live session is answered where nobody else acts, computed. A worker acts through a pass of
--- its own.
+-- What a worker of a live session is answered where nobody else acts, computed. A worker acts through a pass
+-- of its own.
 use Rattle.std.specs.Prelude.{ℕ, Result, Ok, Err}
 use Rattle.tp_model.specs.declared.types.Claimed.{Claimed}
 use Rattle.tp_model.specs.declared.types.Claimed.TheVariants as claimed
@@ -47,7 +47,8 @@ taken_as id (Err why, m) = worker_told_as (told.NotTaken id why) m Nothing
 
 -- a commit of the unit in hand, which had taken this element
 abbrev pub worker_committed_as : ℕ → ℕ → Outcome × thread.State → WorkerAnswered
-worker_committed_as unit element (outcome, m) = worker_told_as (told.Turned (settled_as unit element outcome)) m Nothing
+worker_committed_as unit element (outcome, m) =
+    worker_told_as (told.Turned (settled_as unit element outcome)) m Nothing
 
 -- an abort of it
 abbrev pub worker_aborted_as : ℕ → Ended × thread.State → WorkerAnswered
@@ -63,7 +64,8 @@ does_idle other stage c m = worker_told_as told.NoneOpen m Nothing
 
 -- and with this unit in hand, which has taken this element
 abbrev pub does_busy : WorkerAct → ℕ → ℕ → ℕ → thread.State → WorkerAnswered
-does_busy (acts.Commit drafts) unit element c m = worker_committed_as unit element (commit_of m c drafts.items)
+does_busy (acts.Commit drafts) unit element c m =
+    worker_committed_as unit element (commit_of m c drafts.items)
 does_busy acts.Abort unit element c m = worker_aborted_as element (abort_of m c)
 does_busy other unit element c m = worker_told_as told.Busy m (Open unit element)
 

@@ -40,8 +40,8 @@ WritesAs (Ok exit) wanted text before after = (exit ≡ wanted) × Appends befor
 WritesAs (Err faults.Read) wanted text before after = Keeps before after
 WritesAs (Err other) wanted text before after = AppendsFront before after text
 
--- so it is by what `tp_session::run` promises, whatever bytes it read, where these rollovers, dumps and restores
--- were refused as no line says
+-- so it is by what `tp_session::run` promises, whatever bytes it read, where these rollovers, dumps and
+-- restores were refused as no line says
 abbrev pub ExactProgram : Type 0
 ExactProgram =
     (outcome : Result Exit Fault) (bytes : List ℕ) (before after : Option (List ℕ))

@@ -10,7 +10,8 @@ use Rattle.tp_script.specs.declared.notes.ClientNote.{ClientNote}
 use Rattle.tp_script.specs.declared.notes.NotedAct.TheVariants as asks
 use Rattle.tp_rollover.specs.declared.moved.RollFault.{RollFault}
 use Rattle.tp_session.specs.Notes.{has_name}
-use Rattle.tp_exact.specs.PlainSession.{Refusals, SessionState, first_refusal, head_left, line_step, lines_step}
+use Rattle.tp_exact.specs.PlainSession.{Refusals, SessionState, first_refusal, head_left, line_step}
+use Rattle.tp_exact.specs.PlainSession.{lines_step}
 use Rattle.tp_exact.specs.PlainSession.{other_refusals, said_in, session_act_step}
 
 -- what is noted of the client of this name
@@ -28,7 +29,8 @@ pub record HasDone (name : NameView) (sent received : ℕ) (s : SessionState) : 
 
 -- what was said doesn't forget the client
 abbrev pub LeavesNote : NameView → Result (HeadView × Option Act) LineFault → Type 0
-LeavesNote name said = (other : NameView) (left : HeadView) → said ≡ Ok (left, Some (acts.Noted other asks.Forget))
+LeavesNote name said =
+    (other : NameView) (left : HeadView) → said ≡ Ok (left, Some (acts.Noted other asks.Forget))
     → has_name name other ≡ false
 
 -- none of these lines does, which were refused so, after this many others
@@ -41,7 +43,8 @@ KeepNote name h past refusals (line ∷ others) s = let said = said_in line h s 
 -- over any lines that don't forget it, rollovers and restores among them, refused or not
 abbrev pub DoneForGood : Type 0
 DoneForGood = (h : HeadView) (past : ℕ) (refusals : Refusals) (lines : List (List ℕ)) (s : SessionState)
-    (name : NameView) (sent received : ℕ) → KeepNote name h past refusals lines s → HasDone name sent received s
+    (name : NameView) (sent received : ℕ) → KeepNote name h past refusals lines s
+    → HasDone name sent received s
     → HasDone name sent received (lines_step h past refusals lines s).1
 
 -- ---- what is done once
@@ -55,7 +58,8 @@ SendsOnce = (h : HeadView) (why : Option RollFault) (s : SessionState) (name : N
 -- and so it is of receives: each takes one reply at most, which no other receive takes
 abbrev pub ReceivesOnce : Type 0
 ReceivesOnce = (h : HeadView) (why : Option RollFault) (s : SessionState) (name : NameView) (number : ℕ)
-    (root : Option ℕ) (note : ClientNote) → client_note_of name s ≡ Some note → (number ≡ note.received + 1 → ⊥)
+    (root : Option ℕ) (note : ClientNote) → client_note_of name s ≡ Some note
+    → (number ≡ note.received + 1 → ⊥)
     → (session_act_step h why (acts.Noted name (asks.Receive number root)) s).1 ≡ s
 
 -- ---- what is answered again
@@ -63,7 +67,8 @@ ReceivesOnce = (h : HeadView) (why : Option RollFault) (s : SessionState) (name 
 -- a send that was done, made again with any body, has the same answer and does nothing
 abbrev pub SendsAgain : Type 0
 SendsAgain = (h : HeadView) (why why' : Option RollFault) (s : SessionState) (name : NameView)
-    (number stage stage' : ℕ) (body body' : List ℕ) (before note : ClientNote) → client_note_of name s ≡ Some before
+    (number stage stage' : ℕ) (body body' : List ℕ) (before note : ClientNote)
+    → client_note_of name s ≡ Some before
     → let first = session_act_step h why (acts.Noted name (asks.Send number stage body)) s in
     client_note_of name first.1 ≡ Some note → note.sent ≡ number
     → session_act_step h why' (acts.Noted name (asks.Send number stage' body')) first.1 ≡ first

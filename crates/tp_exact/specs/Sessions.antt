@@ -16,37 +16,38 @@ use Rattle.tp_script.specs.declared.head.Act.TheVariants as acts
 use Rattle.tp_script.specs.declared.head.WorkerAct.{WorkerAct}
 use Rattle.tp_alone.specs.Thread.{thread_of}
 use Rattle.tp_session.specs.Conversed.{Conversed, ConversedFront}
-use Rattle.tp_session.specs.Hands.{Hand, WorkerDoes}
+use Rattle.tp_session.specs.Hands.{WorkerHand, WorkerDoes}
 use Rattle.tp_session.specs.Heard.{heard}
 use Rattle.tp_session.specs.Live.{Live}
 use Rattle.tp_session.specs.Told.{LineTold, Now, said_now}
 use Rattle.tp_session.specs.declared.hand.WorkerAnswer.{WorkerAnswer}
 use Rattle.tp_exact.specs.Acts.{Acts}
-use Rattle.tp_exact.specs.PlainSession.{Refusals, SessionState, head_left, line_step, read_head, said_in, session_of}
+use Rattle.tp_exact.specs.PlainSession.{Refusals, SessionState, head_left, line_step, read_head, said_in}
+use Rattle.tp_exact.specs.PlainSession.{session_of}
 use Rattle.tp_exact.specs.PlainSession.{session_act_step, session_begin}
 use Rattle.tp_exact.specs.PlainWorkers.{worker_does}
 use Rattle.tp_exact.specs.Stands.{StandsAsComputed}
 
--- a worker's pass c did so between two gatherings: the answer is the computed one, and so are the state and the
--- work that are left
+-- a worker's pass c did so between two gatherings: the answer is the computed one, and so are the state and
+-- the work that are left
 abbrev pub ExactWorker : Type 0
 ExactWorker =
     (act : WorkerAct) (l : Limits) (stage : ℕ) (keeper keeper' : KeeperShown) (olds news : List PassShown)
-    (h h' : List Event) (c : ℕ) (old new : Hand) (answer : WorkerAnswer)
+    (h h' : List Event) (c : ℕ) (old new : WorkerHand) (answer : WorkerAnswer)
     → Acts l keeper keeper' olds news h h' c old.pass new.pass → WorkerDoes l stage act old answer new
     → let done = worker_does act stage c (thread_of l olds h) old.work in
     (answer ≡ done.answer) × (thread_of l news h' ≡ done.manager) × (new.work ≡ done.work)
 
--- what is there stands for a computed state: its scene does, as a script's, the workers have the same in hand, and
--- the same is noted
+-- what is there stands for a computed state: its scene does, as a script's, the workers have the same in
+-- hand, and the same is noted
 pub record StandsLive (h : HeadView) (live : Live) (s : SessionState) : Type 0 where
   pub stands : StandsAsComputed h.servers live.stand.manager.limits live.stand.keeper live.stand.keeper.seen
       live.stand.scene s.report
   pub works : s.works ≡ live.works
   pub notes : s.notes ≡ live.notes
 
--- A line may be refused so where the lines alone don't say it: `None`, it wasn't; else there was no memory, or
--- what stood there wasn't what was described.
+-- A line may be refused so where the lines alone don't say it: `None`, it wasn't; else there was no memory,
+-- or what stood there wasn't what was described.
 abbrev pub IsUnforeseen : Option RollFault → Type 0
 IsUnforeseen None = Unit {0}
 IsUnforeseen (Some faults.NoMemory) = Unit {0}
@@ -107,7 +108,8 @@ asks_refusable (Err fault) = false
 abbrev pub has_refusable_in : HeadView → ℕ → List (List ℕ) → SessionState → Bool
 has_refusable_in h past [] s = false
 has_refusable_in h past (line ∷ others) s = let said = said_in line h s in
-    asks_refusable said || has_refusable_in (head_left h said) (past + 1) others (line_step (past + 1) None said s).1
+    asks_refusable said || has_refusable_in (head_left h said) (past + 1) others
+    (line_step (past + 1) None said s).1
 
 -- the same of all, of which this is the first command
 abbrev pub has_refusable_from : Option Act → HeadView → ℕ → List (List ℕ) → SessionState → Bool

@@ -25,13 +25,15 @@ use Rattle.tp_exact.specs.AliveReads.{IsBody64}
 use Rattle.tp_exact.specs.Dumps.{all_lost, line_of}
 use Rattle.tp_exact.specs.HeadReads.{AreSettings, IsHeadServer, IsNameAt, started}
 use Rattle.tp_exact.specs.NoteReads.{AreNotes, alive_notes}
-use Rattle.tp_exact.specs.PlainSession.{Refusals, SessionState, session_begin, lines_step, read_head, session_restored}
+use Rattle.tp_exact.specs.PlainSession.{Refusals, SessionState, session_begin, lines_step, read_head}
+use Rattle.tp_exact.specs.PlainSession.{session_restored}
 use Rattle.tp_exact.specs.PlainSession.{rolled_over}
 use Rattle.tp_exact.specs.Sessions.{AreUnforeseen, StandsLive}
 
 -- ---- what was dumped
 
--- the worker at a place of a head: a name that no server has, or that of the free place, and a stage of servers
+-- the worker at a place of a head: a name that no server has, or that of the free place, and a stage of
+-- servers
 pub record IsPlacedWorker (h : HeadView) (place : ℕ) (w : WorkerView) : Type 0 where
   pub named : IsNameAt place w.name
   pub no_server : is_none (position (λ (v : ServerView). bytes_eq v.name w.name) h.servers) ≡ true
@@ -132,10 +134,11 @@ RestoredStands =
     IsDumped h old done survivors s → SaysAll h t old survivors
     → old.stand.manager.limits ≡ limits_of h 0 → begun.stand.manager.limits ≡ limits_of t 0
     → StandsLive t begun (session_begin t) → HoldsUnits begun → RestoredLive t begun text new
-    → AreAlike (lines_step t past [] (drops_of h old) (session_restored t (session_begin t)).1).1 (rolled_over h s).1
+    → AreAlike (lines_step t past [] (drops_of h old) (session_restored t (session_begin t)).1).1
+    (rolled_over h s).1
 
--- So what the new session is told from there on, of any lines, is what is computed of the dumped session behind
--- its rollover, and so are the final lines: nobody can tell the two apart.
+-- So what the new session is told from there on, of any lines, is what is computed of the dumped session
+-- behind its rollover, and so are the final lines: nobody can tell the two apart.
 abbrev pub AnswersGoOn : Type 0
 AnswersGoOn =
     (source : Head) (old done : Live) (survivors : List Survivor) (s : SessionState)

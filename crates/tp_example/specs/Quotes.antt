@@ -24,13 +24,14 @@ quote_heard n question (price ∷ []) = Ok (quote n question price)
 quote_heard n question heard = Err (Own 2)
 
 -- what was heard: the price, if there is one
-abbrev pub as_heard : Option ℕ → List ℕ
-as_heard (Some price) = price ∷ []
-as_heard None = []
+abbrev pub price_heard : Option ℕ → List ℕ
+price_heard (Some price) = price ∷ []
+price_heard None = []
 
 -- one register: how many quotes were given
 abbrev pub quoted : List ℕ → Element → List ℕ → Result Effect Declined
-quoted (n ∷ []) question heard = if nat_lt (n + 1) (2 ^ 64) then quote_heard n question heard else Err TooLarge
+quoted (n ∷ []) question heard =
+    if nat_lt (n + 1) (2 ^ 64) then quote_heard n question heard else Err TooLarge
 quoted registers question heard = Err NoRegister
 
 abbrev pub quotes : Behaviour

@@ -17,15 +17,15 @@ abbrev pub cost : Element → ℕ
 cost order = slice_index order.body 1 * slice_index order.body 3
 
 -- an order for six or more goes to the packers, a smaller one is replied to at once
-abbrev pub route : ℕ → ℕ
-route n = if nat_le 6 n then 2 else REPLY_STAGE
+abbrev pub order_route : ℕ → ℕ
+order_route n = if nat_le 6 n then 2 else REPLY_STAGE
 
 -- what is left and what was taken change at once, and the output has both
 abbrev pub sale : ℕ → ℕ → Element → Effect
 sale left takings order = record {
   registers = (left - how_many order) ∷ (takings + cost order) ∷ [];
   drafts = record {
-    stage = route (how_many order);
+    stage = order_route (how_many order);
     body = slice_index order.body 0 ∷ (left - how_many order) ∷ slice_index order.body 2 ∷ cost order ∷ [];
   } ∷ [];
 }

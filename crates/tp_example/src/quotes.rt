@@ -1,6 +1,6 @@
 //! A server of one's own that replies what a call to the outside gave.
 ghost use Rattle.std.specs.Prelude.{◌≡◌};
-ghost use Rattle.tp_example.specs.Quotes.{as_heard, quoted, quotes};
+ghost use Rattle.tp_example.specs.Quotes.{price_heard, quoted, quotes};
 
 use tp_model::types::{Element, REPLY_STAGE};
 use tp_server::{Declined, Effect, Handler};
@@ -35,7 +35,7 @@ impl<P: Prices> Handler<1> for Quotes<P> {
 
 /// What a question comes to, where this many quotes were given and this price was heard.
 fn quoted(question: &Element, given: &[u64; 1], price: Option<u64>) -> Result<Effect<1>, Declined>
-    ensures { result ≡ quoted given.now question.now (as_heard price) }
+    ensures { result ≡ quoted given.now question.now (price_heard price) }
 {
     let [goods, _, customer, _] = question.body;
     let Some(given) = given[0].checked_add(1) else {

@@ -42,7 +42,8 @@ pub fn sell(
         (taken (gained pass.old.mine pass.new.mine) pass.new.seen) }
     ensures sold { result.sold + commits_in pass.old ≡ commits_in pass.new }
     ensures short { (counts : Shift) × (result.sold ≡ counts.done) × (result.short ≡ counts.refused)
-        × DeskWorksOn (least_first turns) manager.now.limits (place behaviour registers pending (pass.old, stock.old)) counts
+        × DeskWorksOn (least_first turns) manager.now.limits
+        (place behaviour registers pending (pass.old, stock.old)) counts
         (place behaviour registers pending (pass.new, stock.new)) }
     ensures turns { result.sold + result.short ≤ turns }
 {

@@ -12,10 +12,10 @@ abbrev pub bytes_in : List ℕ → ℕ
 bytes_in registers = slice_index registers 1
 
 -- each picture is one notice
-abbrev pub one : Element → ℕ
-one picture = 1
+abbrev pub one_notice : Element → ℕ
+one_notice picture = 1
 
 -- Each of these pictures was counted once, with its bytes, and no other was.
 pub record CountsAll (before after : List ℕ) (pictures : List Element) : Type 0 where
-  pub notices : notices_in after ≡ notices_in before + sum_by one pictures
+  pub notices : notices_in after ≡ notices_in before + sum_by one_notice pictures
   pub bytes : bytes_in after ≡ bytes_in before + sum_by picture_bytes pictures

@@ -17,8 +17,8 @@ abbrev pub picture_bytes : Element → ℕ
 picture_bytes picture = slice_index picture.body 1
 
 -- a picture of at most a thousand bytes needs no resizing
-abbrev pub route : ℕ → ℕ
-route bytes = if nat_le bytes 1000 then 3 else 2
+abbrev pub picture_route : ℕ → ℕ
+picture_route bytes = if nat_le bytes 1000 then 3 else 2
 
 -- the validator knows this many formats and keeps nothing; it declines any other format for its own reason
 abbrev pub validated : ℕ → Element → Result Effect Declined
@@ -27,7 +27,7 @@ validated formats picture =
     then Ok (record {
       registers = [];
       drafts = record {
-        stage = route (picture_bytes picture);
+        stage = picture_route (picture_bytes picture);
         body = picture.body;
       } ∷ [];
     })

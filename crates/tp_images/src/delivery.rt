@@ -3,7 +3,7 @@ ghost use Rattle.std.specs.Prelude.{◌≡◌, ◌+◌, ◌≤◌};
 ghost use Rattle.tp_model.specs.Counts.{taken};
 ghost use Rattle.tp_server.specs.Books.{Raises};
 ghost use Rattle.tp_desk.specs.Serving.{gained};
-ghost use Rattle.tp_images.specs.Books.{CountsAll, bytes_in, notices_in, one};
+ghost use Rattle.tp_images.specs.Books.{CountsAll, bytes_in, notices_in, one_notice};
 ghost use Rattle.tp_images.specs.Pictures.{picture_bytes, notifier};
 ghost use Rattle.tp_workers.specs.Desks.{IsDeskOf};
 ghost use Rattle.tp_workers.specs.Gains.{commits_in};
@@ -35,6 +35,6 @@ pub fn deliver(
 
 /// Each notice counts one more, and adds the bytes of its picture.
 fn each_notice()
-    ensures notices { Raises notifier notices_in one }
+    ensures notices { Raises notifier notices_in one_notice }
     ensures bytes { Raises notifier bytes_in picture_bytes }
 {}

@@ -1,5 +1,5 @@
-//! The resizer's stage by the manager's own calls. This form suits work whose books are kept elsewhere: nothing ties a state of the
-//! worker to what was committed, and in return the worker needs no `Server`.
+//! The resizer's stage by the manager's own calls. This form suits work whose books are kept elsewhere:
+//! nothing ties a state of the worker to what was committed, and in return the worker needs no `Server`.
 ghost use Rattle.std.specs.Prelude.{◌≡◌, ◌+◌, ◌≤◌, []};
 ghost use Rattle.tp_desk.specs.Serving.{Serves};
 ghost use Rattle.tp_images.specs.Pictures.{spaceless};
@@ -9,8 +9,8 @@ ghost use Rattle.tp_workers.specs.Gains.{commits_in};
 use tp_manager::{Manager, Pass};
 use tp_model::types::{Claimed, Draft, Outcome};
 
-/// Resizes at most this many pictures of stage 2, and reports how many were. A picture of no bytes fails: its unit is aborted, so
-/// that it waits again until its attempts are used up.
+/// Resizes at most this many pictures of stage 2, and reports how many were. A picture of no bytes fails: its
+/// unit is aborted, so that it waits again until its attempts are used up.
 pub fn resize(manager: &Manager, pass: &mut Pass, turns: u32) -> u32
     requires free { IsFreePass manager.now pass.old }
     ensures free { IsFreePass manager.now pass.new }

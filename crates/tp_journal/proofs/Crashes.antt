@@ -6,7 +6,7 @@ use Rattle.std.proofs.lemmas.List.{append-nil, drop_at, nil_from_length}
 use Rattle.std.proofs.lemmas.Bool.Decides.{nat_tests}
 use Rattle.tp_journal.specs.Device.{EachMixed}
 use Rattle.tp_journal.specs.Laws.{KeepsBatches, KeepsText, TellsNoCrash}
-use Rattle.tp_journal.specs.Text.{HasSealed, HasTorn, IsBatch, IsDamage, IsFrontOf, IsPlain, IsSealed, IsSet, IsText, end_line, first_line, text_of, with_end}
+use Rattle.tp_journal.specs.Text.{HasSealed, HasTorn, IsBatch, IsDamage, IsFrontOf, IsPlain, IsSealed, IsSet, IsText, end_line, first_line, text_of, with_own_end}
 use Rattle.tp_journal.proofs.Damages.{IsZero}
 use Rattle.tp_journal.proofs.Ends.{end-is, sealed-text}
 use Rattle.tp_journal.proofs.Kept.{appended-sealed, sealed-front}
@@ -119,7 +119,7 @@ last-line t short (inr (inner, front, is)) =
       inr (ap (λ (l : List ℕ). get_or l (length t - 2) 0) whole ∙ ap (λ (n : ℕ). get_or ((inner ++ end.0) ++ 23 ∷ 10 ∷ []) n 0) two ∙ at-seam (inner ++ end.0) (23 ∷ 10 ∷ []) 0),
     )
 
-module _ (text batch file : List ℕ) (short : length (with_end (text ++ batch)) < 2 ^ 64) (is_text : IsText text) (is_sealed : IsSealed text) (is_batch : IsBatch batch) (torn : HasTorn text (batch ++ end_line (text ++ batch)) file) where
+module _ (text batch file : List ℕ) (short : length (with_own_end (text ++ batch)) < 2 ^ 64) (is_text : IsText text) (is_sealed : IsSealed text) (is_batch : IsBatch batch) (torn : HasTorn text (batch ++ end_line (text ++ batch)) file) where
   abbrev bytes : List ℕ
   bytes = batch ++ end_line (text ++ batch)
 
@@ -141,7 +141,7 @@ module _ (text batch file : List ℕ) (short : length (with_end (text ++ batch))
   bytes-long : length bytes ≡ length body + 2
   bytes-long = omega (arith, ap length bytes-are, length-append body (23 ∷ 10 ∷ []))
 
-  all-is : text ++ bytes ≡ with_end (text ++ batch)
+  all-is : text ++ bytes ≡ with_own_end (text ++ batch)
   all-is = sym (append_assoc text batch (end_line (text ++ batch)))
 
   here : text_of file ≡ text ++ text_of torn.rest
@@ -154,10 +154,10 @@ module _ (text batch file : List ℕ) (short : length (with_end (text ++ batch))
   first-long = front-length text first_line (sealed-front text is_sealed)
 
   -- what is found is the text, or all of it
-  pub either : (found : List ℕ) → HasSealed (text_of file) found → (found ≡ text) ⊎ (found ≡ with_end (text ++ batch))
+  pub either : (found : List ℕ) → HasSealed (text_of file) found → (found ≡ text) ⊎ (found ≡ with_own_end (text ++ batch))
   either found h = from (longer-front text found (text_of torn.rest) h.front.rest (sym here ∙ h.front.whole) (h.longest text (record { rest = text_of torn.rest; whole = here }) is_sealed))
     where
-      ends : (more : List ℕ) → found ≡ text ++ more → text_of torn.rest ≡ more ++ h.front.rest → 1 ≤ length more → found ≡ with_end (text ++ batch)
+      ends : (more : List ℕ) → found ≡ text ++ more → text_of torn.rest ≡ more ++ h.front.rest → 1 ≤ length more → found ≡ with_own_end (text ++ batch)
       ends more is rest_is some =
           let bytes_split : bytes ≡ more ++ (h.front.rest ++ written.rest) = written.whole ∙ ap (λ (l : List ℕ). l ++ written.rest) rest_is ∙ append_assoc more h.front.rest written.rest in
           let long : length found ≡ length text + length more = omega (arith, ap length is, length-append text more) in
@@ -186,7 +186,7 @@ module _ (text batch file : List ℕ) (short : length (with_end (text ++ batch))
           one-or-more (suc zero) le = inl refl
           one-or-more (suc (suc n)) le = inr (omega arith)
 
-      from : (more : List ℕ) × (found ≡ text ++ more) × (text_of torn.rest ≡ more ++ h.front.rest) → (found ≡ text) ⊎ (found ≡ with_end (text ++ batch))
+      from : (more : List ℕ) × (found ≡ text ++ more) × (text_of torn.rest ≡ more ++ h.front.rest) → (found ≡ text) ⊎ (found ≡ with_own_end (text ++ batch))
       from ([], is, rest_is) = inl (is ∙ append-nil text)
       from (x ∷ more, is, rest_is) = inr (ends (x ∷ more) is rest_is (omega arith))
 
@@ -201,7 +201,7 @@ module _ (text batch file : List ℕ) (short : length (with_end (text ++ batch))
       behind : drop (length text) file ≡ torn.rest
       behind = ap (drop (length text)) torn.file_is ∙ drop_at text torn.rest (length text) refl
 
-      at-all : found ≡ with_end (text ++ batch) → ⊥
+      at-all : found ≡ with_own_end (text ++ batch) → ⊥
       at-all is =
           let rest_is : drop (length found) file ≡ drop (length bytes) torn.rest = ap (λ (n : ℕ). drop n file) (ap length (is ∙ sym all-is) ∙ length-append text bytes) ∙ ap (drop (length text + length bytes)) torn.file_is ∙ dropped text torn.rest (length bytes) in
           let zeros : All IsZero (drop (length found) file) = subst (All IsZero) (sym rest_is) (torn-behind torn.free bytes torn.rest torn.torn) in
@@ -243,8 +243,8 @@ module _ (text batch file : List ℕ) (short : length (with_end (text ++ batch))
                   let read : text_of torn.rest ≡ (e.front ++ 23 ∷ 10 ∷ []) ++ text_of e.back = ap text_of split ∙ text-append (e.front ++ 23 ∷ 10 ∷ []) e.back set in
                   let all_there : length bytes ≤ length (text_of torn.rest) = omega (arith, ap length read, long, length-append (e.front ++ 23 ∷ 10 ∷ []) (text_of e.back)) in
                   let same : text_of torn.rest ≡ bytes = sym (append-nil (text_of torn.rest)) ∙ ap (λ (l : List ℕ). text_of torn.rest ++ l) (sym (nil_from_length written.rest (omega (arith, all_there, ap length written.whole, length-append (text_of torn.rest) written.rest)))) ∙ sym written.whole in
-                  let sealed_all : IsFrontOf (text_of file) (with_end (text ++ batch)) = record { rest = []; whole = here ∙ ap (λ (l : List ℕ). text ++ l) same ∙ all-is ∙ sym (append-nil (with_end (text ++ batch))) } in
-                  omega (arith, h.longest (with_end (text ++ batch)) sealed_all (appended-sealed text batch is_sealed), ap length is, ap length all-is, length-append text bytes, bytes-long)
+                  let sealed_all : IsFrontOf (text_of file) (with_own_end (text ++ batch)) = record { rest = []; whole = here ∙ ap (λ (l : List ℕ). text ++ l) same ∙ all-is ∙ sym (append-nil (with_own_end (text ++ batch))) } in
+                  omega (arith, h.longest (with_own_end (text ++ batch)) sealed_all (appended-sealed text batch is_sealed), ap length is, ap length all-is, length-append text bytes, bytes-long)
 
 pub keeps_batches : KeepsBatches
 keeps_batches text batch file recovered short is_text is_sealed is_batch torn (inl none) =

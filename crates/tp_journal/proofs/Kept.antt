@@ -4,16 +4,16 @@ use Rattle.std.proofs.lemmas.List.Elements.{All-append, All-take}
 use Rattle.std.proofs.lemmas.List.{length-take-le, take_at}
 use Rattle.sha2.specs.Hashers.{Holds256}
 use Rattle.tp_journal.specs.Device.{LeavesOnly, Only}
-use Rattle.tp_journal.specs.Journal.{KeepsText, Stands}
-use Rattle.tp_journal.specs.Text.{HasSealed, IsBatch, IsDamage, IsFrontOf, IsRecovered, IsSealed, IsSet, IsText, end_line, first_line, text_of, with_end}
+use Rattle.tp_journal.specs.Journal.{JournalHasText, Stands}
+use Rattle.tp_journal.specs.Text.{HasSealed, IsBatch, IsDamage, IsFrontOf, IsRecovered, IsSealed, IsSet, IsText, end_line, first_line, text_of, with_own_end}
 use Rattle.tp_journal.specs.declared.journal.Journal.{Journal}
 use Rattle.tp_journal.proofs.Ends.{sealed-text}
 use Rattle.tp_journal.proofs.Moments.{started}
 use Rattle.tp_journal.proofs.Texts.{rest-text, text-is_text}
 
-pub kept : {D : Type 0} (seen : D → List ℕ) (may_leave : D → List ℕ → Type 0) (text : List ℕ) (journal : Journal D) → Stands seen may_leave text journal.len journal.device → journal.end ≡ length text → Holds256 journal.hasher text → KeepsText seen may_leave (text_of (seen journal.device)) journal
+pub kept : {D : Type 0} (seen : D → List ℕ) (may_leave : D → List ℕ → Type 0) (text : List ℕ) (journal : Journal D) → Stands seen may_leave text journal.len journal.device → journal.end ≡ length text → Holds256 journal.hasher text → JournalHasText seen may_leave (text_of (seen journal.device)) journal
 kept seen may_leave text journal stands end hashed =
-    subst (λ (t : List ℕ). KeepsText seen may_leave t journal) (sym (rest-text text (seen journal.device) stands.at_rest)) (record { stands = stands; end = end; hashed = hashed })
+    subst (λ (t : List ℕ). JournalHasText seen may_leave t journal) (sym (rest-text text (seen journal.device) stands.at_rest)) (record { stands = stands; end = end; hashed = hashed })
 
 -- nothing was done
 pub idle : {D : Type 0} (seen : D → List ℕ) (may_leave : D → List ℕ → Type 0) (moment : D → ℕ) (left_since : D → ℕ → List ℕ → Type 0) (P : List ℕ → Type 0) (d : D)
@@ -24,10 +24,10 @@ pub sealed-front : (text : List ℕ) → IsSealed text → IsFrontOf text first_
 sealed-front text (inl is) = record { rest = []; whole = is }
 sealed-front text (inr (inner, front, is)) = record { rest = front.rest ++ end_line inner; whole = is ∙ ap (λ (l : List ℕ). l ++ end_line inner) front.whole ∙ append_assoc first_line front.rest (end_line inner) }
 
-pub appended-text : (text batch bytes : List ℕ) → bytes ≡ batch ++ end_line (text ++ batch) → text ++ bytes ≡ with_end (text ++ batch)
+pub appended-text : (text batch bytes : List ℕ) → bytes ≡ batch ++ end_line (text ++ batch) → text ++ bytes ≡ with_own_end (text ++ batch)
 appended-text text batch bytes is = ap (λ (l : List ℕ). text ++ l) is ∙ sym (append_assoc text batch (end_line (text ++ batch)))
 
-pub appended-sealed : (text batch : List ℕ) → IsSealed text → IsSealed (with_end (text ++ batch))
+pub appended-sealed : (text batch : List ℕ) → IsSealed text → IsSealed (with_own_end (text ++ batch))
 appended-sealed text batch is =
     let front = sealed-front text is in
     inr (text ++ batch, record { rest = front.rest ++ batch; whole = ap (λ (l : List ℕ). l ++ batch) front.whole ∙ append_assoc first_line front.rest batch }, refl)
@@ -35,7 +35,7 @@ appended-sealed text batch is =
 pub bytes-text : (text batch bytes : List ℕ) → length (text ++ batch) < 2 ^ 64 → IsBatch batch → bytes ≡ batch ++ end_line (text ++ batch) → IsText bytes
 bytes-text text batch bytes short is same = subst IsText (sym same) (sealed-text batch (text ++ batch) is.plain short)
 
-pub replaced-text : (batch first bytes : List ℕ) → first ≡ first_line → bytes ≡ batch ++ end_line (first_line ++ batch) → first ++ bytes ≡ with_end (first_line ++ batch)
+pub replaced-text : (batch first bytes : List ℕ) → first ≡ first_line → bytes ≡ batch ++ end_line (first_line ++ batch) → first ++ bytes ≡ with_own_end (first_line ++ batch)
 replaced-text batch first bytes first_is is = ap (λ (l : List ℕ). l ++ bytes) first_is ∙ appended-text first_line batch bytes is
 
 pub first_text : IsText first_line
@@ -48,6 +48,6 @@ pub recovered-of : (bytes seen : List ℕ) (count : ℕ) → bytes ≡ seen → 
 recovered-of bytes seen count same inside sealed whole =
     subst (λ (file : List ℕ). IsRecovered file (take count bytes)) same (inr (sealed, λ damage. whole (subst (λ (n : ℕ). IsDamage (drop n bytes)) (length-take-le count bytes inside) damage)))
 
-pub replaced-is_text : (batch : List ℕ) → IsBatch batch → length (first_line ++ batch) < 2 ^ 64 → IsText (with_end (first_line ++ batch))
+pub replaced-is_text : (batch : List ℕ) → IsBatch batch → length (first_line ++ batch) < 2 ^ 64 → IsText (with_own_end (first_line ++ batch))
 replaced-is_text batch is short =
     subst IsText (appended-text first_line batch (batch ++ end_line (first_line ++ batch)) refl) (All-append IsSet first_line (batch ++ end_line (first_line ++ batch)) first_text (sealed-text batch (first_line ++ batch) is.plain short))

@@ -5,12 +5,12 @@ use Rattle.std.proofs.Math.Seq.{take-append-add}
 use Rattle.std.proofs.lemmas.Bool.Decides.{Decides-eqb, nat_tests}
 use Rattle.std.proofs.lemmas.Slice.Eq.{starts_is}
 use Rattle.std.specs.List.{starts_with}
-use Rattle.tp_journal.specs.Text.{HasSealed, IsFrontOf, IsSealed, end_line, first_line, text_of, with_end}
+use Rattle.tp_journal.specs.Text.{HasSealed, IsFrontOf, IsSealed, end_line, first_line, text_of, with_own_end}
 use Rattle.tp_journal.proofs.Ends.{end-marked}
 
 -- no sealed front with its end at a place before this one is longer
 abbrev pub Longest : List ℕ → ℕ → ℕ → Type 0
-Longest text at count = (inner : List ℕ) → length first_line ≤ length inner → length inner < at → IsFrontOf text (with_end inner) → length (with_end inner) ≤ count
+Longest text at count = (inner : List ℕ) → length first_line ≤ length inner → length inner < at → IsFrontOf text (with_own_end inner) → length (with_own_end inner) ≤ count
 
 front-of : (text front : List ℕ) → IsFrontOf text front → take (length front) text ≡ front
 front-of text front f = ap (take (length front)) f.whole ∙ take_at front f.rest (length front) refl
@@ -19,7 +19,7 @@ pub front-length : (text front : List ℕ) → IsFrontOf text front → length f
 front-length text front f = omega (arith, ap length f.whole, length-append front f.rest)
 
 -- a text with a front, and the bytes behind that
-inner-of : (text inner : List ℕ) → IsFrontOf text (with_end inner) → (take (length inner) text ≡ inner) × IsFrontOf (drop (length inner) text) (end_line inner)
+inner-of : (text inner : List ℕ) → IsFrontOf text (with_own_end inner) → (take (length inner) text ≡ inner) × IsFrontOf (drop (length inner) text) (end_line inner)
 inner-of text inner f =
     let whole : text ≡ inner ++ (end_line inner ++ f.rest) = f.whole ∙ append_assoc inner (end_line inner) f.rest in (
       ap (take (length inner)) whole ∙ take_at inner (end_line inner ++ f.rest) (length inner) refl,
@@ -27,7 +27,7 @@ inner-of text inner f =
     )
 
 -- an end begins with a mark
-pub marked : (text inner : List ℕ) → IsFrontOf text (with_end inner) → (length inner < length text) × (get_or text (length inner) 0 ≡ 35)
+pub marked : (text inner : List ℕ) → IsFrontOf text (with_own_end inner) → (length inner < length text) × (get_or text (length inner) 0 ≡ 35)
 marked text inner f =
     let rest = (inner-of text inner f).1 in
     let mark = end-marked inner in
@@ -105,7 +105,7 @@ sealed-done text at count front over inside least is longest = record {
     each : (t : List ℕ) → IsFrontOf text t → IsSealed t → length t ≤ length (take count text)
     each t of (inl is) = omega (arith, ap length is, least, length-take-le count text inside)
     each t of (inr (inner, first, is)) =
-        let front : IsFrontOf text (with_end inner) = subst (IsFrontOf text) is of in
+        let front : IsFrontOf text (with_own_end inner) = subst (IsFrontOf text) is of in
         omega (arith, ap length is, length-take-le count text inside, longest inner (front-length inner first_line first) (omega (arith, over, (marked text inner front).0)) front)
 
 pub larger : (a b m : ℕ) → m ≡ max a b → (m ≡ a) ⊎ (m ≡ b)

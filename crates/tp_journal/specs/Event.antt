@@ -2,8 +2,8 @@
 use Rattle.std.specs.Prelude.{ℕ, Bool, List, slice_index, ◌==◌}
 
 -- which call it was, a number that it was given, whether it succeeded, and bytes that it was given
-abbrev pub Event : Type 0
-Event = ℕ × ℕ × Bool × List ℕ
+abbrev pub FileCall : Type 0
+FileCall = ℕ × ℕ × Bool × List ℕ
 
-abbrev pub event_of : List ℕ → List ℕ → Event
-event_of numbers bytes = (slice_index numbers 0, slice_index numbers 1, slice_index numbers 2 == 1, bytes)
+abbrev pub told_event : List ℕ → List ℕ → FileCall
+told_event numbers bytes = (slice_index numbers 0, slice_index numbers 1, slice_index numbers 2 == 1, bytes)

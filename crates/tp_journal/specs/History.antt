@@ -4,17 +4,17 @@ use Rattle.std.specs.Prelude.{List, [], ◌∷◌, ◌++◌, length, take, drop,
 use Rattle.std.proofs.Common.{inl, inr}
 use Rattle.std.proofs.Math.Nat.{not-suc-le_self}
 use Rattle.tp_journal.specs.Device.{Grown, Mixed}
-use Rattle.tp_journal.specs.Event.{Event}
+use Rattle.tp_journal.specs.Event.{FileCall}
 use Rattle.tp_journal.specs.declared.record.TheConstants.{GROWN, OPENED, SPARE_SYNCED, SPARE_WRITTEN}
 use Rattle.tp_journal.specs.declared.record.TheConstants.{SWAPPED, SYNCED, WRITTEN}
 
 -- the bytes of the spare file
-abbrev pub spare_after : List Event → List ℕ
+abbrev pub spare_after : List FileCall → List ℕ
 spare_after [] = []
 spare_after ((call, number, ok, bytes) ∷ past) = if call == SPARE_WRITTEN then bytes else spare_after past
 
 -- the bytes of the file
-abbrev pub seen_after : List Event → List ℕ
+abbrev pub seen_after : List FileCall → List ℕ
 seen_after [] = []
 seen_after ((call, number, ok, bytes) ∷ past) =
     if call == OPENED then bytes
@@ -25,7 +25,7 @@ seen_after ((call, number, ok, bytes) ∷ past) =
     else seen_after past
 
 -- how many calls have failed
-abbrev pub faults_after : List Event → ℕ
+abbrev pub faults_after : List FileCall → ℕ
 faults_after [] = 0
 faults_after ((call, number, ok, bytes) ∷ past) = if ok then faults_after past else faults_after past + 1
 
@@ -34,14 +34,14 @@ Either true A B = A
 Either false A B = B
 
 -- what a crash leaves of the spare file: once it is synced its bytes, and until then anything
-abbrev pub spare_leaves_after : List Event → List ℕ → Type 0
+abbrev pub spare_leaves_after : List FileCall → List ℕ → Type 0
 spare_leaves_after [] c = Unit {0}
 spare_leaves_after ((call, number, ok, bytes) ∷ past) c =
     Either ((call == SPARE_SYNCED) && ok) (c ≡ spare_after past)
     (Either ((call == SPARE_WRITTEN) || (call == SWAPPED)) (Unit {0}) (spare_leaves_after past c))
 
 -- what a crash leaves of the file
-abbrev pub leaves_after : List Event → List ℕ → Type 0
+abbrev pub leaves_after : List FileCall → List ℕ → Type 0
 leaves_after [] c = ⊥
 leaves_after ((call, number, ok, bytes) ∷ past) c =
     Either (call == OPENED) (c ≡ bytes)
@@ -53,16 +53,16 @@ leaves_after ((call, number, ok, bytes) ∷ past) c =
     (leaves_after past c)))))
 
 -- what a crash at some moment from that one on might have left
-abbrev pub left_after : List Event → ℕ → List ℕ → Type 0
+abbrev pub left_after : List FileCall → ℕ → List ℕ → Type 0
 left_after [] t c = leaves_after [] c
 left_after (e ∷ past) t c = leaves_after (e ∷ past) c ⊎ ((t ≤ length past) × left_after past t c)
 
-pub counts_after : (events : List Event) (t : ℕ) (c : List ℕ) → t ≤ length events → leaves_after events c
+pub counts_after : (events : List FileCall) (t : ℕ) (c : List ℕ) → t ≤ length events → leaves_after events c
     → left_after events t c
 counts_after [] t c le now = now
 counts_after (e ∷ past) t c le now = inl now
 
-pub only_after : (events : List Event) (c : List ℕ) → left_after events (length events) c
+pub only_after : (events : List FileCall) (c : List ℕ) → left_after events (length events) c
     → leaves_after events c
 only_after [] c left = left
 only_after (e ∷ past) c (inl now) = now

@@ -14,7 +14,7 @@ pub record Stands {D : Type 0} (seen : D → List ℕ) (may_leave : D → List �
   pub durable : Only (seen device) (may_leave device)
 
 -- a journal has this text
-pub record KeepsText {D : Type 0} (seen : D → List ℕ) (may_leave : D → List ℕ → Type 0) (text : List ℕ)
+pub record JournalHasText {D : Type 0} (seen : D → List ℕ) (may_leave : D → List ℕ → Type 0) (text : List ℕ)
     (journal : Journal D) : Type 0 where
   pub stands : Stands seen may_leave text journal.len journal.device
   pub end : journal.end ≡ length text
@@ -22,7 +22,8 @@ pub record KeepsText {D : Type 0} (seen : D → List ℕ) (may_leave : D → Lis
 
 -- a journal has the text that its file has
 abbrev pub IsJournalSettled : {D : Type 0} → (D → List ℕ) → (D → List ℕ → Type 0) → Journal D → Type 0
-IsJournalSettled seen may_leave journal = KeepsText seen may_leave (text_of (seen journal.device)) journal
+IsJournalSettled seen may_leave journal =
+    JournalHasText seen may_leave (text_of (seen journal.device)) journal
 
 -- the same, unless it is poisoned
 abbrev pub IsJournalOpen : {D : Type 0} → (D → List ℕ) → (D → List ℕ → Type 0) → Journal D → Type 0

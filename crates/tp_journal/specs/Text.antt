@@ -47,13 +47,13 @@ first_line = codes "# covetrivet journal 2\n"
 unfoldable pub end_line : List ℕ → List ℕ
 end_line text = codes "# " ++ decimal (length text) ++ codes " " ++ encode_lower (sha256 text) ++ 23 ∷ 10 ∷ []
 
-abbrev pub with_end : List ℕ → List ℕ
-with_end text = text ++ end_line text
+abbrev pub with_own_end : List ℕ → List ℕ
+with_own_end text = text ++ end_line text
 
 -- a text that has the first line, and after that ends with its own end
 abbrev pub IsSealed : List ℕ → Type 0
 IsSealed text =
-    (text ≡ first_line) ⊎ ((inner : List ℕ) × IsFrontOf inner first_line × (text ≡ with_end inner))
+    (text ≡ first_line) ⊎ ((inner : List ℕ) × IsFrontOf inner first_line × (text ≡ with_own_end inner))
 
 -- the longest front of a text that is sealed
 pub record HasSealed (text sealed : List ℕ) : Type 0 where

@@ -5,7 +5,7 @@ ghost use Rattle.tp_journal.specs.declared.batch.Refusal.{Refusal};
 ghost use Rattle.tp_journal.specs.Device.{HasCause, LeavesOnly, Only};
 ghost use Rattle.tp_journal.specs.Journal.{IsJournalOpen, IsJournalSettled};
 ghost use Rattle.tp_journal.specs.Text.{HasTorn, IsAtRest, IsBatch, IsText};
-ghost use Rattle.tp_journal.specs.Text.{end_line, first_line, text_of, with_end};
+ghost use Rattle.tp_journal.specs.Text.{end_line, first_line, text_of, with_own_end};
 
 use crate::recovery::STEP;
 use crate::sealing::{FIRST_LINE, hasher_of, seal};
@@ -23,7 +23,8 @@ impl<D: Device> Journal<D> {
         requires open { IsJournalOpen D.seen D.may_leave self.old }
         ensures open { IsJournalOpen D.seen D.may_leave self.new }
         ensures acknowledged { OnOk result ((self.new.poisoned ≡ false)
-            × (text_of (D.seen self.new.device) ≡ with_end (text_of (D.seen self.old.device) ++ batch.now))) }
+            × (text_of (D.seen self.new.device) ≡ with_own_end
+            (text_of (D.seen self.old.device) ++ batch.now))) }
         ensures accepted { OnOk result (IsBatch batch.now) }
         ensures refused { (why : Refusal) → IsErrOf result (AppendError.Refused why)
             → (self.new ≡ self.old) × (IsBatch batch.now → ⊥) }
@@ -32,7 +33,7 @@ impl<D: Device> Journal<D> {
             (HasTorn (text_of (D.seen self.old.device))
             (batch.now ++ end_line (text_of (D.seen self.old.device) ++ batch.now))) }
         ensures within { self.old.poisoned ≡ false → (self.new.device ≡ self.old.device)
-            ⊎ (length (with_end (text_of (D.seen self.old.device) ++ batch.now)) < 2 ^ 64) }
+            ⊎ (length (with_own_end (text_of (D.seen self.old.device) ++ batch.now)) < 2 ^ 64) }
         ensures poisoned { self.old.poisoned ≡ true
             → (self.new ≡ self.old) × IsErrOf result AppendError.Poisoned }
         ensures later { D.faults self.old.device ≤ D.faults self.new.device }
@@ -68,14 +69,14 @@ impl<D: Device> Journal<D> {
         requires open { IsJournalOpen D.seen D.may_leave self.old }
         ensures open { IsJournalOpen D.seen D.may_leave self.new }
         ensures acknowledged { OnOk result ((self.new.poisoned ≡ false)
-            × (text_of (D.seen self.new.device) ≡ with_end (first_line ++ batch.now))) }
+            × (text_of (D.seen self.new.device) ≡ with_own_end (first_line ++ batch.now))) }
         ensures accepted { OnOk result (IsBatch batch.now) }
         ensures refused { (why : Refusal) → IsErrOf result (AppendError.Refused why)
             → (self.new ≡ self.old) × (IsBatch batch.now → ⊥) }
         ensures any_moment { self.old.poisoned ≡ false
             → LeavesOnly D.moment D.left_since self.old.device self.new.device
             (λ c. IsAtRest (text_of (D.seen self.old.device)) c
-            ⊎ IsAtRest (with_end (first_line ++ batch.now)) c) }
+            ⊎ IsAtRest (with_own_end (first_line ++ batch.now)) c) }
         ensures poisoned { self.old.poisoned ≡ true
             → (self.new ≡ self.old) × IsErrOf result AppendError.Poisoned }
         ensures later { D.faults self.old.device ≤ D.faults self.new.device }

@@ -1,7 +1,7 @@
 //! A history of calls that only clauses read: no memory holds it.
 ghost use Rattle.std.specs.Prelude.{◌≡◌, List, [], ◌∷◌, true, false, IsOk, is_ok};
 ghost use Rattle.std.specs.Borrow.{ftrue};
-ghost use Rattle.tp_journal.specs.Event.{Event, event_of};
+ghost use Rattle.tp_journal.specs.Event.{FileCall, told_event};
 
 use crate::Failed;
 use std::io;
@@ -32,7 +32,7 @@ pub const SWAPPED: u64 = 6;
 #[derive(Drop)]
 pub struct Record {
     marker: PhantomData<u8>,
-    pub ghost events: { List Event },
+    pub ghost events: { List FileCall },
 }
 
 impl Model for Record {
@@ -49,9 +49,9 @@ impl Record {
         }
     }
 
-    /// The numbers are those of an `Event`: which call, what it was given, and 1 for success.
+    /// The numbers are those of a `FileCall`: which call, what it was given, and 1 for success.
     pub fn note(&mut self, _numbers: &[u64], _bytes: &[u8])
-        ensures { self.new.events ≡ event_of _numbers.now _bytes.now ∷ self.old.events }
+        ensures { self.new.events ≡ told_event _numbers.now _bytes.now ∷ self.old.events }
     {}
 
     /// Notes a call with its answer, and passes that on.

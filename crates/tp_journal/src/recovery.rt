@@ -1,5 +1,6 @@
 //! What is recovered of a file that a crash may have left.
-ghost use Rattle.std.specs.Prelude.{◌≡◌, ◌⊎◌, ◌<◌, ◌≤◌, List, ℕ, All, drop, length, take, IfOk, OnOk, IsErrOf};
+ghost use Rattle.std.specs.Prelude.{◌≡◌, ◌⊎◌, ◌<◌, ◌≤◌, List, ℕ, All, drop, length, take, IfOk, OnOk};
+ghost use Rattle.std.specs.Prelude.{IsErrOf};
 ghost use Rattle.tp_journal.specs.Device.{LeavesOnly};
 ghost use Rattle.tp_journal.specs.Journal.{LeavesRecovered, Stands};
 ghost use Rattle.tp_journal.specs.Text.{HasDamage, HasSealed, IsAtRest, IsDamage, IsFrontOf, IsRecovered};

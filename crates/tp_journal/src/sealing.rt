@@ -3,7 +3,7 @@ ghost use Rattle.std.specs.Prelude.{◌≡◌, ◌⊎◌, ◌+◌, ◌<◌, ◌�
 ghost use Rattle.std.specs.Prelude.{IfOk, OnOk, IsErrOf};
 ghost use Rattle.tp_journal.specs.declared.batch.Refusal.{Refusal};
 ghost use Rattle.sha2.specs.Hashers.{Holds256};
-ghost use Rattle.tp_journal.specs.Text.{HasSealed, IsBatch, IsFrontOf, end_line, first_line, with_end};
+ghost use Rattle.tp_journal.specs.Text.{HasSealed, IsBatch, IsFrontOf, end_line, first_line, with_own_end};
 
 use crate::AppendError;
 use crate::batch::check;
@@ -54,7 +54,7 @@ pub(crate) fn seal(
     ensures bytes { (text : List ℕ) → Holds256 hasher.now text → length text ≡ end
         → IfOk result (λ ready. ready.bytes.items ≡ batch.now ++ end_line (text ++ batch.now)) }
     ensures hasher { (text : List ℕ) → Holds256 hasher.now text → length text ≡ end
-        → IfOk result (λ ready. Holds256 ready.hasher (with_end (text ++ batch.now))) }
+        → IfOk result (λ ready. Holds256 ready.hasher (with_own_end (text ++ batch.now))) }
     ensures not_failed { IsErrOf result AppendError.Failed → ⊥ }
     ensures not_poisoned { IsErrOf result AppendError.Poisoned → ⊥ }
     ensures not_full { IsErrOf result AppendError.Full → ⊥ }

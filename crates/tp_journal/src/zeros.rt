@@ -1,5 +1,6 @@
 //! Bytes that are 0, and bytes up to the first or behind the last of others.
-ghost use Rattle.std.specs.Prelude.{◌≡◌, ◌<◌, ◌≤◌, ◌-◌, ◌++◌, All, ℕ, length, replicate, take, drop, get_or, IfOk};
+ghost use Rattle.std.specs.Prelude.{◌≡◌, ◌<◌, ◌≤◌, ◌-◌, ◌++◌, All, ℕ, length, replicate, take, drop, get_or};
+ghost use Rattle.std.specs.Prelude.{IfOk};
 ghost use Rattle.tp_journal.specs.Text.{IsSet, IsText};
 
 use std::alloc::{AllocError, Global};

@@ -1,5 +1,5 @@
-//! The tests of the journal, over a disk that fails. They stand in a crate of their own, since a crate with tests
-//! is proved twice.
+//! The tests of the journal, over a disk that fails. They stand in a crate of their own, since a crate with
+//! tests is proved twice.
 #![tactic(auto)]
 
 #[cfg(test)]

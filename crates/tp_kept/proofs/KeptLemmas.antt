@@ -5,7 +5,7 @@ use Rattle.std.specs.Io.KnownBytes.{Consumes, IsAtEnd}
 use Rattle.std.proofs.lemmas.List.{drop-drop, length-take-le, take_at}
 use Rattle.tp_journal.specs.Device.{LeavesOnly}
 use Rattle.tp_journal.specs.Journal.{IsJournalOpen, IsJournalSettled}
-use Rattle.tp_journal.specs.Text.{HasTorn, IsAtRest, IsBatch, IsPlain, end_line, first_line, text_of, with_end}
+use Rattle.tp_journal.specs.Text.{HasTorn, IsAtRest, IsBatch, IsPlain, end_line, first_line, text_of, with_own_end}
 use Rattle.tp_journal.specs.declared.journal.Journal.{Journal}
 use Rattle.tp_journal.proofs.Crashes.{keeps_batches, keeps_text}
 use Rattle.tp_kept.specs.Kept.{IsKept, KeepsLines, lines_in, coming}
@@ -41,7 +41,7 @@ module _ {D : Type 0} (seen : D → List ℕ) (may_leave : D → List ℕ → Ty
   }
 
   -- other lines took the place of all
-  pub kept_replaced : (j : Journal D) (text : List ℕ) → IsJournalOpen seen may_leave j → j.poisoned ≡ false → text_of (seen j.device) ≡ with_end (first_line ++ text) → IsBatch text → length (first_line ++ text) < 2 ^ 64 → IsKept seen may_leave j false tried text
+  pub kept_replaced : (j : Journal D) (text : List ℕ) → IsJournalOpen seen may_leave j → j.poisoned ≡ false → text_of (seen j.device) ≡ with_own_end (first_line ++ text) → IsBatch text → length (first_line ++ text) < 2 ^ 64 → IsKept seen may_leave j false tried text
   kept_replaced j text now fine is batch_is short =
       subst (λ l. IsKept seen may_leave j false tried l) (ap lines_in is ∙ lines_with first_line text (inl refl) batch_is short) (kept_new j (text_of (seen j.device)) (now fine) fine refl)
 
@@ -53,7 +53,7 @@ module _ {D : Type 0} (seen : D → List ℕ) (may_leave : D → List ℕ → Ty
     settled = was.is_open (was.fine refl).0
 
     -- a batch was appended
-    pub kept_appended : j'.poisoned ≡ false → text_of (seen j'.device) ≡ with_end (text ++ batch) → IsBatch batch → (j'.device ≡ j.device) ⊎ (length (with_end (text ++ batch)) < 2 ^ 64) → IsKept seen may_leave j' false tried (lines ++ batch)
+    pub kept_appended : j'.poisoned ≡ false → text_of (seen j'.device) ≡ with_own_end (text ++ batch) → IsBatch batch → (j'.device ≡ j.device) ⊎ (length (with_own_end (text ++ batch)) < 2 ^ 64) → IsKept seen may_leave j' false tried (lines ++ batch)
     kept_appended fine is batch_is (inl same) = absurd (omega (arith, ap length is, ap (λ d. length (text_of (seen d))) same, length-append (text ++ batch) (end_line (text ++ batch)), length-append text batch, some))
       where
         some : 1 ≤ length batch
@@ -69,10 +69,10 @@ module _ {D : Type 0} (seen : D → List ℕ) (may_leave : D → List ℕ → Ty
 
     -- it may not have been
     pub kept_torn : (moment : D → ℕ) (left_since : D → ℕ → List ℕ → Type 0) → ((file : D) (t : ℕ) (c : List ℕ) → t ≤ moment file → may_leave file c → left_since file t c)
-        → LeavesOnly moment left_since j.device j'.device (HasTorn text (batch ++ end_line (text ++ batch))) → IsBatch batch → (j'.device ≡ j.device) ⊎ (length (with_end (text ++ batch)) < 2 ^ 64) → IsKept seen may_leave j' true tried lines
+        → LeavesOnly moment left_since j.device j'.device (HasTorn text (batch ++ end_line (text ++ batch))) → IsBatch batch → (j'.device ≡ j.device) ⊎ (length (with_own_end (text ++ batch)) < 2 ^ 64) → IsKept seen may_leave j' true tried lines
     kept_torn moment left_since counts leaves batch_is within = record { is_open = now; keeps = keeps within; fine = λ e. absurd cc }
       where
-        keeps : (j'.device ≡ j.device) ⊎ (length (with_end (text ++ batch)) < 2 ^ 64) → KeepsLines (may_leave j'.device) tried lines
+        keeps : (j'.device ≡ j.device) ⊎ (length (with_own_end (text ++ batch)) < 2 ^ 64) → KeepsLines (may_leave j'.device) tried lines
         keeps (inl same) = subst (λ d. KeepsLines (may_leave d) tried lines) (sym same) was.keeps
         keeps (inr short) = λ file recovered left is.
             let torn = leaves.each file (counts j'.device (moment j.device) file leaves.later left) in
@@ -84,7 +84,7 @@ module _ {D : Type 0} (seen : D → List ℕ) (may_leave : D → List ℕ → Ty
 
     -- other lines may have taken the place of all
     pub kept_tried : (moment : D → ℕ) (left_since : D → ℕ → List ℕ → Type 0) → ((file : D) (t : ℕ) (c : List ℕ) → t ≤ moment file → may_leave file c → left_since file t c)
-        → LeavesOnly moment left_since j.device j'.device (λ c. IsAtRest text c ⊎ IsAtRest (with_end (first_line ++ batch)) c) → IsBatch batch → length (first_line ++ batch) < 2 ^ 64 → IsKept seen may_leave j' true (Some batch) lines
+        → LeavesOnly moment left_since j.device j'.device (λ c. IsAtRest text c ⊎ IsAtRest (with_own_end (first_line ++ batch)) c) → IsBatch batch → length (first_line ++ batch) < 2 ^ 64 → IsKept seen may_leave j' true (Some batch) lines
     kept_tried moment left_since counts leaves batch_is short = record { is_open = now; keeps = keeps; fine = λ e. absurd cc }
       where
         keeps : KeepsLines (may_leave j'.device) (Some batch) lines
@@ -92,7 +92,7 @@ module _ {D : Type 0} (seen : D → List ℕ) (may_leave : D → List ℕ → Ty
             let rests = leaves.each file (counts j'.device (moment j.device) file leaves.later left) in
             elim rests [
               | inl old ↦ inl ([], ap lines_in (keeps_text text file recovered settled.stands.is_sealed old is) ∙ ((was.fine refl).1 ∙ sym (append-nil lines)))
-              | inr new ↦ inr (ap (λ l. Some l) (sym (ap lines_in (keeps_text (with_end (first_line ++ batch)) file recovered (inr (first_line ++ batch, record { rest = batch; whole = refl }, refl)) new is) ∙ lines_with first_line batch (inl refl) batch_is short)))
+              | inr new ↦ inr (ap (λ l. Some l) (sym (ap lines_in (keeps_text (with_own_end (first_line ++ batch)) file recovered (inr (first_line ++ batch, record { rest = batch; whole = refl }, refl)) new is) ∙ lines_with first_line batch (inl refl) batch_is short)))
             ]
 
 -- some of what is ready was given

@@ -8,7 +8,7 @@ use Rattle.std.proofs.lemmas.List.{drop_at}
 use Rattle.std.proofs.lemmas.List.Elements.{All-append, All-cons, All-get_or, All-head, All-nil, All-tail}
 use Rattle.hex.specs.Hex.{encode_with, lower_digits, encode_lower}
 use Rattle.sha2.specs.Sha256.{sha256}
-use Rattle.tp_journal.specs.Text.{IsBatch, IsPlain, IsSealed, end_line, first_line, with_end}
+use Rattle.tp_journal.specs.Text.{IsBatch, IsPlain, IsSealed, end_line, first_line, with_own_end}
 use Rattle.tp_journal.proofs.Ends.{IsByte, sha_bytes}
 use Rattle.tp_kept.specs.Kept.{lines_in}
 use Rattle.tp_kept.specs.Lines.{given_from, given_in, is_own}
@@ -136,11 +136,11 @@ given_batch batch is =
     ap given_in is.ends ∙ (given_plain [] is.front (All-nil IsPlain) (all_front is.front (10 ∷ []) (subst (All IsPlain) is.ends is.plain)) ∙ sym is.ends)
 
 -- a batch with its end adds its lines
-pub lines_with : (text batch : List ℕ) → IsSealed text → IsBatch batch → length (text ++ batch) < 2 ^ 64 → lines_in (with_end (text ++ batch)) ≡ lines_in text ++ batch
+pub lines_with : (text batch : List ℕ) → IsSealed text → IsBatch batch → length (text ++ batch) < 2 ^ 64 → lines_in (with_own_end (text ++ batch)) ≡ lines_in text ++ batch
 lines_with text batch is_sealed is short =
     let at = behind text (omega (arith, short, length-append text batch)) is_sealed in
     let own : List ℕ = end_line (text ++ batch) in
-    let whole : with_end (text ++ batch) ≡ first_line ++ (at.rest ++ (batch ++ own)) =
+    let whole : with_own_end (text ++ batch) ≡ first_line ++ (at.rest ++ (batch ++ own)) =
     append_assoc text batch own ∙ (ap (λ l. l ++ (batch ++ own)) at.text_is ∙ append_assoc first_line at.rest (batch ++ own)) in
     let here : drop (length first_line) text ≡ at.rest = ap (drop (length first_line)) at.text_is ∙ drop_at first_line at.rest (length first_line) refl in
     let added : given_in (batch ++ own) ≡ batch =

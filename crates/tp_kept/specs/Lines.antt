@@ -31,7 +31,8 @@ own_dump = codes "dump\n"
 abbrev pub text_before : List ℕ → List ℕ
 text_before line = if opens (codes "rollover") line then own_dump else []
 
--- a line that would be taken for one that says how many lines a journal had has another text: both are comments
+-- a line that would be taken for one that says how many lines a journal had has another text: both are
+-- comments
 abbrev pub plain_line : List ℕ → List ℕ
 plain_line line =
     if opens (codes "# covetrivet: ") line && nat_lt (length line) MAX_KEPT then codes "#" else line

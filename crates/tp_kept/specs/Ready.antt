@@ -9,8 +9,8 @@ use Rattle.tp_script.specs.declared.source.Source as sources
 use Rattle.tp_report.specs.declared.sink.Sink as sinks
 use Rattle.tp_journal.specs.declared.device.Device as devices
 
--- What the session was given, or the lines of a dump in its place, and what is ready for it, is in the journal
--- on the disk. What was read of a line has bytes that a journal takes.
+-- What the session was given, or the lines of a dump in its place, and what is ready for it, is in the
+-- journal on the disk. What was read of a line has bytes that a journal takes.
 pub record IsReady {R W D : Type 0}
     {reads : sources.Ghosts R} {writes : sinks.Ghosts W} {keeps : devices.Ghosts D}
     (seen : D → List ℕ) (may_leave : D → List ℕ → Type 0) (k : Kept R W D reads writes keeps) : Type 0 where

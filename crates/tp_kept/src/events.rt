@@ -30,7 +30,8 @@ pub(crate) const ROLLED: u64 = 8;
 /// These lines took the place of all that the session was given.
 pub(crate) const SHORTENED: u64 = 9;
 
-/// These lines, and what was ready, may have taken the place of all lines of the journal: the disk has failed.
+/// These lines, and what was ready, may have taken the place of all lines of the journal: the disk has
+/// failed.
 pub(crate) const TRIED: u64 = 10;
 
 /// Answers with numbers of lines were told, which the client has by other numbers: those were written.

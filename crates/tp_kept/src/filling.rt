@@ -328,7 +328,8 @@ impl<R: Source + Drop, W: Sink + Drop, D: Device + Drop> Kept<R, W, D> {
         ensures is_ready { IsReady D.seen D.may_leave self.new }
         ensures at_most { (result ≤ length buffer.old)
             × (result ≤ length (drop self.old.at self.old.ready.items)) }
-        ensures some { 0 < length buffer.old → 0 < length (drop self.old.at self.old.ready.items) → 0 < result }
+        ensures some { 0 < length buffer.old → 0 < length (drop self.old.at self.old.ready.items)
+            → 0 < result }
         ensures room { length buffer.new ≡ length buffer.old }
         ensures bytes { take result buffer.new ≡ take result (drop self.old.at self.old.ready.items) }
         ensures at { (self.new.ready ≡ self.old.ready) × (self.new.at ≡ self.old.at + result) }

@@ -1,9 +1,10 @@
-//! The numbers of a client's lines, where the session has others: it was given lines of a dump in the place of
-//! many, and each `dump` of its own.
+//! The numbers of a client's lines, where the session has others: it was given lines of a dump in the place
+//! of many, and each `dump` of its own.
 ghost use Rattle.std.specs.Prelude.{◌≡◌, ◌++◌, ◌∷◌, ◌+◌, ◌-◌, ◌*◌, ◌^◌, [], IfOk, OnOk, decimal, min};
 ghost use Rattle.std.specs.Prelude.{string_bytes, true};
 ghost use Rattle.tp_kept.specs.Lines.{opens};
-ghost use Rattle.tp_kept.specs.Numbers.{behind_number, is_digit, count_moved, number_from, refused, renumbered};
+ghost use Rattle.tp_kept.specs.Numbers.{behind_number, is_digit, count_moved, number_from, refused};
+ghost use Rattle.tp_kept.specs.Numbers.{renumbered};
 ghost use Rattle.tp_kept.specs.Numbers.{renumbered_line};
 
 use crate::lines::line_end;

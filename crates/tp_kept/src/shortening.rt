@@ -41,9 +41,11 @@ impl<R: Source + Drop, W: Sink + Drop, D: Device + Drop> Kept<R, W, D> {
         ensures is_ready { IsReady D.seen D.may_leave self.new }
         ensures told { OnOk result (Appends (contents_of self.old.log.events (W.contents self.old.writer))
             (contents_of self.new.log.events (W.contents self.new.writer)) answers.now) }
-        ensures front { OnErr result (AppendsFront (contents_of self.old.log.events (W.contents self.old.writer))
+        ensures front { OnErr result
+            (AppendsFront (contents_of self.old.log.events (W.contents self.old.writer))
             (contents_of self.new.log.events (W.contents self.new.writer)) answers.now) }
-        ensures rest { coming (drop self.new.at self.new.ready.items) self.new.line.items (R.rest self.new.reader)
+        ensures rest { coming (drop self.new.at self.new.ready.items) self.new.line.items
+            (R.rest self.new.reader)
             ≡ coming (drop self.old.at self.old.ready.items) self.old.line.items (R.rest self.old.reader) }
         ensures asked { self.new.asked ≡ self.old.asked }
         ensures cause { OnErr result (is_some self.new.cause ≡ true) }
@@ -56,15 +58,16 @@ impl<R: Source + Drop, W: Sink + Drop, D: Device + Drop> Kept<R, W, D> {
         Ok(())
     }
 
-    /// Looks whether the dump at the front of the journal was restored. Where it wasn't, nothing of it is lost
-    /// silently: the session ends.
+    /// Looks whether the dump at the front of the journal was restored. Where it wasn't, nothing of it is
+    /// lost silently: the session ends.
     pub(crate) fn expect_restored(&mut self, answers: &[u8]) -> Result<(), Failed>
         requires ready { IsReady D.seen D.may_leave self.old }
         requires fine { self.old.cause ≡ None }
         ensures is_ready { IsReady D.seen D.may_leave self.new }
         ensures contents { contents_of self.new.log.events (W.contents self.new.writer)
             ≡ contents_of self.old.log.events (W.contents self.old.writer) }
-        ensures rest { coming (drop self.new.at self.new.ready.items) self.new.line.items (R.rest self.new.reader)
+        ensures rest { coming (drop self.new.at self.new.ready.items) self.new.line.items
+            (R.rest self.new.reader)
             ≡ coming (drop self.old.at self.old.ready.items) self.old.line.items (R.rest self.old.reader) }
         ensures asked { self.new.asked ≡ self.old.asked }
         ensures fine { OnOk result (self.new.cause ≡ None) }
@@ -89,7 +92,8 @@ impl<R: Source + Drop, W: Sink + Drop, D: Device + Drop> Kept<R, W, D> {
         ensures is_ready { IsReady D.seen D.may_leave self.new }
         ensures contents { contents_of self.new.log.events (W.contents self.new.writer)
             ≡ contents_of self.old.log.events (W.contents self.old.writer) }
-        ensures rest { coming (drop self.new.at self.new.ready.items) self.new.line.items (R.rest self.new.reader)
+        ensures rest { coming (drop self.new.at self.new.ready.items) self.new.line.items
+            (R.rest self.new.reader)
             ≡ coming (drop self.old.at self.old.ready.items) self.old.line.items (R.rest self.old.reader) }
         ensures asked { self.new.asked ≡ self.old.asked }
         ensures cause { self.new.cause ≡ self.old.cause }
@@ -109,9 +113,11 @@ impl<R: Source + Drop, W: Sink + Drop, D: Device + Drop> Kept<R, W, D> {
         ensures is_ready { IsReady D.seen D.may_leave self.new }
         ensures told { OnOk result (Appends (contents_of self.old.log.events (W.contents self.old.writer))
             (contents_of self.new.log.events (W.contents self.new.writer)) answers.now) }
-        ensures front { OnErr result (AppendsFront (contents_of self.old.log.events (W.contents self.old.writer))
+        ensures front { OnErr result
+            (AppendsFront (contents_of self.old.log.events (W.contents self.old.writer))
             (contents_of self.new.log.events (W.contents self.new.writer)) answers.now) }
-        ensures rest { coming (drop self.new.at self.new.ready.items) self.new.line.items (R.rest self.new.reader)
+        ensures rest { coming (drop self.new.at self.new.ready.items) self.new.line.items
+            (R.rest self.new.reader)
             ≡ coming (drop self.old.at self.old.ready.items) self.old.line.items (R.rest self.old.reader) }
         ensures asked { self.new.asked ≡ self.old.asked }
         ensures written { OnOk result (bytes_written self.new.log.events
@@ -140,13 +146,16 @@ impl<R: Source + Drop, W: Sink + Drop, D: Device + Drop> Kept<R, W, D> {
         ensures is_ready { IsReady D.seen D.may_leave self.new }
         ensures told { OnOk result (Appends (contents_of self.old.log.events (W.contents self.old.writer))
             (contents_of self.new.log.events (W.contents self.new.writer)) answers.now) }
-        ensures front { OnErr result (AppendsFront (contents_of self.old.log.events (W.contents self.old.writer))
+        ensures front { OnErr result
+            (AppendsFront (contents_of self.old.log.events (W.contents self.old.writer))
             (contents_of self.new.log.events (W.contents self.new.writer)) answers.now) }
-        ensures rest { coming (drop self.new.at self.new.ready.items) self.new.line.items (R.rest self.new.reader)
+        ensures rest { coming (drop self.new.at self.new.ready.items) self.new.line.items
+            (R.rest self.new.reader)
             ≡ coming (drop self.old.at self.old.ready.items) self.old.line.items (R.rest self.old.reader) }
         ensures asked { self.new.asked ≡ self.old.asked }
         ensures written { OnOk result (bytes_written self.new.log.events
-            ≡ bytes_written self.old.log.events ++ shown_of self.old.recovering self.old.more self.old.less answers.now) }
+            ≡ bytes_written self.old.log.events ++ shown_of self.old.recovering self.old.more self.old.less
+            answers.now) }
         ensures cause { OnErr result (is_some self.new.cause ≡ true) }
     {
         if self.recovering {
@@ -173,7 +182,8 @@ impl<R: Source + Drop, W: Sink + Drop, D: Device + Drop> Kept<R, W, D> {
         ensures is_ready { IsReady D.seen D.may_leave self.new }
         ensures contents { contents_of self.new.log.events (W.contents self.new.writer)
             ≡ contents_of self.old.log.events (W.contents self.old.writer) }
-        ensures rest { coming (drop self.new.at self.new.ready.items) self.new.line.items (R.rest self.new.reader)
+        ensures rest { coming (drop self.new.at self.new.ready.items) self.new.line.items
+            (R.rest self.new.reader)
             ≡ coming (drop self.old.at self.old.ready.items) self.old.line.items (R.rest self.old.reader) }
         ensures asked { self.new.asked ≡ self.old.asked }
         ensures fine { OnOk result (self.new.cause ≡ None) }

@@ -1,5 +1,5 @@
-//! How much of what is ready a session is given at once, so that it is known which of its answers is that of a
-//! `dump` of its own, and which that of the rollover behind it.
+//! How much of what is ready a session is given at once, so that it is known which of its answers is that of
+//! a `dump` of its own, and which that of the rollover behind it.
 ghost use Rattle.std.specs.Prelude.{◌≡◌, ◌≤◌, ◌<◌, length, true};
 ghost use Rattle.tp_kept.specs.Lines.{opens, own_dump};
 ghost use Rattle.tp_kept.specs.declared.stage.Stage.TheVariants as Stage;

@@ -42,8 +42,8 @@ abbrev pub blocks_together : List PassShown → ℕ
 blocks_together [] = 0
 blocks_together (p ∷ ps) = length p.blocks + blocks_together ps
 
--- n spare blocks are drawn: each of these passes has found this many, and they are those that these passes have
--- drawn, each of them one pass alone, and once
+-- n spare blocks are drawn: each of these passes has found this many, and they are those that these passes
+-- have drawn, each of them one pass alone, and once
 pub record HaveDrawn (n : ℕ) (passes : List PassShown) : Type 0 where
   pub found : (p : PassShown) → In p passes → p.seen_blocks ≡ n
   pub below : (p : PassShown) → In p passes → Ascend 0 n p.blocks

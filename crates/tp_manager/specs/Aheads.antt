@@ -32,5 +32,5 @@ pub record IsSorted (a : Ahead) (words : List ℕ) : Type 0 where
   pub more : a.more ≡ true → (a.end ≤ a.next) × (a.far_end ≤ a.far)
 
 -- the id that a number stands for: the greatest number stands for none
-abbrev pub id_of : ℕ → Option ℕ
-id_of n = cond (n == 4294967295) None (Some n)
+abbrev pub id_if_any : ℕ → Option ℕ
+id_if_any n = cond (n == 4294967295) None (Some n)

@@ -65,8 +65,8 @@ untaken_left (TakenWord n u r) = MAX_ROUNDS - r
 untaken_left (KilledWord n u r) = 0
 untaken_left (AgainWord r) = MAX_ROUNDS + 1 - r
 
--- the kill of an element whose claim was found, with this many attempts left: for each the unit's word and the
--- claim, and the claim where it is found untaken
+-- the kill of an element whose claim was found, with this many attempts left: for each the unit's word and
+-- the claim, and the claim where it is found untaken
 abbrev pub slay_from : ℕ → ClaimWord → ℕ
 slay_from left word = retry_steps left + untaken_left word
 
@@ -156,8 +156,8 @@ spare_left l t n = 3 * drawn_steps l.spare + (BLOCK_ROWS * l.spare - n) * t
 abbrev pub listing_steps : Limits → ℕ
 listing_steps l = l.parts * find_steps l + spare_left l (look_steps l) 0
 
--- a walk that looks for replies at this many elements: the claim of each, and the word of the unit that took it
--- or its head
+-- a walk that looks for replies at this many elements: the claim of each, and the word of the unit that took
+-- it or its head
 abbrev pub stride_steps : ℕ
 stride_steps = 2
 
@@ -178,8 +178,8 @@ family_look_steps l n = family_reply_steps n + read_steps l
 abbrev pub family_steps : Limits → ℕ
 family_steps l = family_look_steps l (rows_of l)
 
--- the collection of the next reply in a family of this many: a walk and a collection for each one that another
--- was quicker to take, and once more
+-- the collection of the next reply in a family of this many: a walk and a collection for each one that
+-- another was quicker to take, and once more
 abbrev pub one_take_steps : ℕ → ℕ
 one_take_steps n = walk_steps n + collect_steps
 
@@ -308,7 +308,8 @@ pub record RoundBounds (l : Limits) : Type 0 where
   pub claim_left : (lows : List ℕ)
       → claim_steps_left l lows ≤ rows_left l lows * 9 + 3 * l.parts + 1 + 3 * drawn_steps l.spare
   pub listing_left : (lows : List ℕ)
-      → listing_steps_left l lows ≤ rows_left l lows * (2 * changes l.attempts + 8) + 3 * l.parts + 3 * drawn_steps l.spare
+      → listing_steps_left l lows ≤ rows_left l lows * (2 * changes l.attempts + 8) + 3 * l.parts
+      + 3 * drawn_steps l.spare
   pub commit : (k : ℕ) → commit_steps l k ≤ 6 * k + 3 + l.spare
   pub abort : abort_steps ≤ 2
   pub kill : kill_steps l ≤ 4 * changes l.attempts + 8
@@ -319,7 +320,8 @@ pub record RoundBounds (l : Limits) : Type 0 where
   pub read : read_steps l ≤ 2 * changes l.attempts + 10
   pub reply : (n : ℕ) → family_reply_steps n ≤ 2 * n + 1
   pub family : (n : ℕ) → family_look_steps l n ≤ 2 * n + 2 * changes l.attempts + 11
-  pub next_error : next_error_steps l ≤ rows_of l * (2 * changes l.attempts + 8) + 3 * l.parts + 3 * drawn_steps l.spare
+  pub next_error : next_error_steps l ≤ rows_of l * (2 * changes l.attempts + 8) + 3 * l.parts
+      + 3 * drawn_steps l.spare
   pub meet : meet_steps ≤ 3
   pub gather : (n : ℕ) → 1 ≤ n → n ≤ l.parts → gather_steps l n + 1 ≡ 5 * n + 2 * l.parts
   pub account : AreLimits l → (n : ℕ) → n ≤ l.parts

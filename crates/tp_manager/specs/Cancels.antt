@@ -56,10 +56,10 @@ AreInTurn l c root from to [] es = es ≡ []
 AreInTurn l c root from to (i ∷ ids) es = (own : List Event) × (rest : List Event) × (es ≡ own ++ rest)
     × IsDoneAt l c root from to i own × AreInTurn l c root from to ids rest
 
--- the pass has made these events, among them this many Kills; the root is a client's element, and its family is
--- settled: of it nothing is claimed or committed any more, and nothing is born. It was at one element after
--- the other, in the order of a walk through the whole family: always the least id that the walk had come to
--- and not gone on from
+-- the pass has made these events, among them this many Kills; the root is a client's element, and its family
+-- is settled: of it nothing is claimed or committed any more, and nothing is born. It was at one element
+-- after the other, in the order of a walk through the whole family: always the least id that the walk had
+-- come to and not gone on from
 pub record Cancels (l : Limits) (root killed : ℕ) (old new : PassShown) : Type 0 where
   pub events : List Event
   pub counted : kills_among events ≡ killed

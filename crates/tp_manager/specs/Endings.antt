@@ -1,6 +1,7 @@
 -- What a cancel does on its way. In each definition l are the table's limits, root is the id of the request,
 -- v is the view before, and w the view after.
-use Rattle.std.specs.Prelude.{◌≡◌, ◌⊎◌, ℕ, ◌+◌, ◌<◌, ◌≤◌, Bool, true, Some, List, [], ◌∷◌, ◌++◌, length, sum_by}
+use Rattle.std.specs.Prelude.{◌≡◌, ◌⊎◌, ℕ, ◌+◌, ◌<◌, ◌≤◌, Bool, true, Some, List, [], ◌∷◌, ◌++◌, length}
+use Rattle.std.specs.Prelude.{sum_by}
 use Rattle.std.specs.Prelude.{if◌then◌else◌}
 use Rattle.tp_model.specs.declared.types.TheConstants.{REPLY_STAGE}
 use Rattle.tp_model.specs.declared.types.Element.{Element}
@@ -13,8 +14,8 @@ use Rattle.tp_model.specs.Families.{IsSettledFamily}
 use Rattle.tp_model.specs.Orders.{IsReached, IsWalk}
 use Rattle.tp_rule.specs.Views.{hand}
 use Rattle.tp_rule.specs.declared.view.View.{View}
-use Rattle.tp_manager.specs.declared.cancelling.Ended.{Ended}
-use Rattle.tp_manager.specs.declared.cancelling.Ended.TheVariants.{Killed, Outputs, Before}
+use Rattle.tp_manager.specs.declared.cancelling.CancelEnd.{CancelEnd}
+use Rattle.tp_manager.specs.declared.cancelling.CancelEnd.TheVariants.{Killed, Outputs, Before}
 use Rattle.tp_manager.specs.Bounds.{end_steps_at}
 use Rattle.tp_manager.specs.Cancels.{AreInTurn, AreOfCancel, IsDoneAt}
 use Rattle.tp_manager.specs.Families.{Reached, Tree}
@@ -35,7 +36,7 @@ pub record Swept (l : Limits) (n root : ℕ) (es : List Event) (v w : View) : Ty
   pub own : AreOfCancel l (hand v).number root v.seen w.seen es
 
 -- the elements that a cancel killed at element i
-abbrev pub killed_there : ℕ → Ended → List ℕ
+abbrev pub killed_there : ℕ → CancelEnd → List ℕ
 killed_there i Killed = i ∷ []
 killed_there i other = []
 
@@ -45,14 +46,14 @@ IsUnworked l i h = (status_of l.attempts h i ≡ statuses.Killed) ⊎ ((x : Elem
     × (x.stage ≡ REPLY_STAGE))
 
 -- what is so of element i where a cancel came to this
-abbrev pub IsEnded : Limits → ℕ → List Event → Ended → Type 0
+abbrev pub IsEnded : Limits → ℕ → List Event → CancelEnd → Type 0
 IsEnded l i h Killed = IsUnworked l i h
 IsEnded l i h Before = IsUnworked l i h
 IsEnded l i h (Outputs first count) = (u : ℕ) × (t : UnitClaim) × (claim_of h u ≡ Some t) × (t.item ≡ i)
     × (status_of l.attempts h i ≡ statuses.Consumed u) × (end_of h u ≡ Some (Committed first count))
 
 -- the cancel came to this at element i
-pub record EndsAt (l : Limits) (n root i : ℕ) (r : Ended) (v w : View) : Type 0 where
+pub record EndsAt (l : Limits) (n root i : ℕ) (r : CancelEnd) (v w : View) : Type 0 where
   pub events : List Event
   pub swept : Swept l n root events v w
   pub killed : killed_in events ≡ killed_there i r

@@ -125,7 +125,7 @@ pub record Followed (l : Limits) (root from : ℕ) (least : Option ℕ) (v w : V
 
 -- a collection of the next reply, on its way: others were quicker to take k replies since it began, and each
 -- one before `from` was killed
-pub record Taking (l : Limits) (root from k : ℕ) (v w : View) : Type 0 where
+pub record CollectingNext (l : Limits) (root from k : ℕ) (v w : View) : Type 0 where
   pub looked : Looked l (k * one_take_steps (length (family w.seen root))) v w
   pub killed : WereKilled l root (λ i. i < from) v.seen w.seen
   pub tries : k ≤ count_below (in_family root w.seen) from
@@ -134,7 +134,7 @@ pub record Taking (l : Limits) (root from k : ℕ) (v w : View) : Type 0 where
 
 -- in at most n steps: the least reply that waited was killed, and each one before it had been; or each one
 -- had been
-abbrev pub Taken : Limits → ℕ → ℕ → View → View → Option Element → Type 0
-Taken l n root v w None = Looked l n v w × WereKilled l root (λ i. Unit {0}) v.seen w.seen
-Taken l n root v w (Some x) = Slain l n x.id [] v w × (element_of w.seen x.id ≡ Some x) × IsReply root x
+abbrev pub TakenReply : Limits → ℕ → ℕ → View → View → Option Element → Type 0
+TakenReply l n root v w None = Looked l n v w × WereKilled l root (λ i. Unit {0}) v.seen w.seen
+TakenReply l n root v w (Some x) = Slain l n x.id [] v w × (element_of w.seen x.id ≡ Some x) × IsReply root x
     × WereKilled l root (λ i. i < x.id) v.seen w.seen

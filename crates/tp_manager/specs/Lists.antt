@@ -78,8 +78,8 @@ abbrev pub killed_between : Limits → ℕ → List Event → List Event → ℕ
 killed_between l root a b = count_by (λ x. x.stage == REPLY_STAGE && (is_killed (status_of l.attempts b x.id)
     && not (is_killed (status_of l.attempts a x.id)))) (family b root)
 
--- how often a collection of the next reply walks where this many were killed meanwhile: once for each of them,
--- its own among them, and once more where it takes none
+-- how often a collection of the next reply walks where this many were killed meanwhile: once for each of
+-- them, its own among them, and once more where it takes none
 abbrev pub walks_of : Option Element → ℕ → ℕ
 walks_of (Some x) killed = killed
 walks_of None killed = killed + 1

@@ -48,9 +48,9 @@ Contains v i head (Holds birth) = IsBornAs v.seen i birth × (head ≡ Filled bi
 Contains v i head DeadDraft = IsUnborn v.seen i × HasDead v i
 Contains v i head Nothing = IsUnborn v.seen i × (head ≢ Empty → head ≢ Void → MayBeBorn v.limits v.seen i)
 
--- the element of row i, whose claim word was found in history a to be w, has this status in history b: where that
--- claim is still there the next attempt may begin; or it is consumed or killed; or there is a history from a to
--- b in which it doesn't wait
+-- the element of row i, whose claim word was found in history a to be w, has this status in history b: where
+-- that claim is still there the next attempt may begin; or it is consumed or killed; or there is a history
+-- from a to b in which it doesn't wait
 abbrev pub HasStand : Limits → ℕ → List Event → List Event → ClaimWord → Stand → Type 0
 HasStand l i a b w (Ready n) = AllowsClaim l b w (n + 1) × (n < l.attempts)
 HasStand l i a b w Over = IsSettled (status_of l.attempts b i)

@@ -1,5 +1,5 @@
 -- What contracts see of a manager, of its keeper, and of a pass.
-use Rattle.std.specs.Prelude.{◌≡◌, ℕ, ◌+◌, ◌≤◌, Option, List, [], ◌∷◌, length, slice_index}
+use Rattle.std.specs.Prelude.{◌≡◌, ℕ, ◌+◌, ◌≤◌, Option, List, [], ◌∷◌, length, map, slice_index}
 use Rattle.std.specs.List.{slice_index_or}
 use Rattle.atomic_table.specs.Seated.{TableId}
 use Rattle.tp_model.specs.declared.types.Limits.{Limits}
@@ -42,6 +42,10 @@ pub record PassShown : Type 0 where
   pub lows : List (List ℕ)
   pub seen_blocks : ℕ
   pub from : List ℕ
+
+-- the numbers of passes, in their order
+abbrev pub numbers : List PassShown → List ℕ
+numbers passes = map (λ p. p.number) passes
 
 -- the steps of these passes, all together
 abbrev pub steps_in : List Hand → ℕ

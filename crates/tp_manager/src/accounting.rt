@@ -231,9 +231,9 @@ impl Keeper {
         true
     }
 
-    /// All passes look until all have seen one history, and how many spare blocks are drawn. The slice holds
-    /// every pass that was given out, in order of number (`has_all` tests this), and the keeper stands for
-    /// the others. It takes no memory.
+    /// All passes look, until all have seen one history, and all know how many spare blocks are drawn. The
+    /// slice holds every pass that was given out, in order of number (`has_all` tests this). The keeper
+    /// stands for those that weren't. It takes no memory.
     pub fn gather(&mut self, manager: &Manager, passes: &mut [Pass])
         requires keeper { IsKeptBy manager.now self.old }
         requires own { All (IsOf manager.now) passes.old }
@@ -255,10 +255,10 @@ impl Keeper {
         first.run.drawn = drawn;
     }
 
-    /// How many elements there are of each kind of status, in all and by stage: the account of one history,
-    /// which all passes have seen then. The slice holds every pass that was given out, in order of number
-    /// (`has_all` tests this), and the keeper stands for the others. Each pass remembers then how many spare
-    /// blocks are drawn. It takes no memory.
+    /// How many elements have each kind of status, in all and by stage. It is the account of one history,
+    /// which all passes have seen when it returns. All know then how many spare blocks are drawn. The slice
+    /// holds every pass that was given out, in order of number (`has_all` tests this). The keeper stands for
+    /// those that weren't. It takes no memory.
     pub fn account(&mut self, manager: &Manager, passes: &mut [Pass]) -> Account
         requires keeper { IsKeptBy manager.now self.old }
         requires own { All (IsOf manager.now) passes.old }

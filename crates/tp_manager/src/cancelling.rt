@@ -31,7 +31,7 @@ use tp_words::UnitWord;
 
 /// What a cancel came to at an element.
 #[derive(Clone, Copy, Debug, PartialEq, Eq)]
-pub(crate) enum Ended {
+pub(crate) enum CancelEnd {
     /// The cancel has killed it.
     Killed,
     /// A unit had consumed it, and has made this many elements, with the ids from `first` on.
@@ -42,23 +42,24 @@ pub(crate) enum Ended {
 
 impl Shared {
     /// The outputs of the unit that consumed the element of the row. One step.
-    fn outputs_of(&self, seat: &mut Seat, row: u32, unit: u16) -> Ended
+    fn outputs_of(&self, seat: &mut Seat, row: u32, unit: u16) -> CancelEnd
         requires steady { IsSteady self.now.words seat.old }
-        requires consumed { status_of (table_limits self.now.words).attempts (seen_by seat.old) row ≡ Consumed unit }
+        requires consumed { status_of (table_limits self.now.words).attempts (seen_by seat.old) row
+            ≡ Consumed unit }
         ensures same { IsSameSeat seat.old seat.new }
         ensures looked { Looked (table_limits self.now.words) 1 (view_of seat.old) (view_of seat.new) }
         ensures told { IsEnded (table_limits self.now.words) row (seen_by seat.new) result }
         ensures none { killed_there row result ≡ [] }
     {
         match self.words.load_unit(seat, unit) {
-            UnitWord::Committed { first, count } => Ended::Outputs { first, count },
+            UnitWord::Committed { first, count } => CancelEnd::Outputs { first, count },
             UnitWord::Undecided => unreachable!(),
             UnitWord::Aborted => unreachable!(),
         }
     }
 
-    /// What is the case where a kill of the row's element was refused. At most one step.
-    fn left_by(&self, seat: &mut Seat, row: u32, refusal: Refusal) -> Ended
+    /// What the cancel has come to, where its kill of the row's element was refused. At most one step.
+    fn left_by(&self, seat: &mut Seat, row: u32, refusal: Refusal) -> CancelEnd
         requires steady { IsSteady self.now.words seat.old }
         requires past { IsPastKill (table_limits self.now.words) (seen_by seat.old) row refusal }
         ensures same { IsSameSeat seat.old seat.new }
@@ -68,13 +69,13 @@ impl Shared {
     {
         match refusal {
             Refusal::Consumed { unit } => self.outputs_of(seat, row, unit),
-            _ => Ended::Before,
+            _ => CancelEnd::Before,
         }
     }
 
     /// Kills the element that is born in the row, unless it is a reply, or is consumed or killed.
     #[inline(always)]
-    fn end_row(&self, seat: &mut Seat, row: u32) -> Ended
+    fn end_row(&self, seat: &mut Seat, row: u32) -> CancelEnd
         requires steady { IsSteady self.now.words seat.old }
         requires row { (row < rows_of (table_limits self.now.words)) × HasElement (seen_by seat.old) row }
         requires free { (hand_of seat.old).open_unit ≡ None }
@@ -85,16 +86,16 @@ impl Shared {
     {
         let head = self.head_at(seat, row);
         if is_reply(head) {
-            return Ended::Before;
+            return CancelEnd::Before;
         }
         match self.kill_row(seat, row) {
-            Ok(_) => Ended::Killed,
+            Ok(_) => CancelEnd::Killed,
             Err(refusal) => self.left_by(seat, row, refusal),
         }
     }
 
-    /// Goes through the family, and ends the work on each element that it comes to. How many elements it
-    /// killed. The set is empty before and after.
+    /// Goes through the family, and ends the work on each element that it comes to. Tells how many elements
+    /// it killed. The set is empty before and after.
     fn cancel_family(&self, seat: &mut Seat, rows: &mut RowSet, root: u32) -> u32
         requires steady { IsSteady self.now.words seat.old }
         requires request { (root < rows_of (table_limits self.now.words))
@@ -114,9 +115,9 @@ impl Shared {
                 return killed;
             };
             match self.end_row(seat, row) {
-                Ended::Outputs { first, count } => ahead.insert_rows(rows, first, count),
-                Ended::Killed => killed += 1,
-                Ended::Before => (),
+                CancelEnd::Outputs { first, count } => ahead.insert_rows(rows, first, count),
+                CancelEnd::Killed => killed += 1,
+                CancelEnd::Before => (),
             }
         }
         unreachable!()
@@ -124,14 +125,14 @@ impl Shared {
 }
 
 impl Manager {
-    /// Cancels the request of a client whose element has this id. It kills each element of its family that is
-    /// no reply and not consumed, and aborts the units of work that hold them on the way. When it returns,
-    /// each of them is consumed or killed, and none is born, claimed or committed any more. Replies are left
-    /// alone. The pass has no unit open.
+    /// Cancels the request of a client whose element has this id. It kills each element of the request's
+    /// family that is neither consumed nor a reply, and aborts the units of work that hold such elements.
+    /// When it returns, each element of the family but replies is consumed or killed, and none is born,
+    /// claimed or committed any more. Replies are left as they are. The pass may have no unit open.
     ///
-    /// It goes from the root to the outputs of the unit that consumed it, and on, always from the least id
-    /// that it has come to and not gone on from, and through nothing else: `few` names how many elements that
-    /// are.
+    /// It walks the family, and looks at nothing else: from the root to the outputs of the unit that consumed
+    /// it, and so on, always from the least id that it has come to and not gone on from. Its steps are
+    /// bounded by the number of elements in the family (`few`).
     ///
     /// `NotThere` where no client's element with this id is born.
     pub fn cancel(&self, pass: &mut Pass, root: u32) -> Result<Cancelled, Refusal>
@@ -140,8 +141,10 @@ impl Manager {
         ensures own { IsOf self.now pass.new }
         ensures turn { pass.new.from ≡ pass.old.from }
         ensures follows { Follows (cancel_steps self.now.limits) pass.old pass.new }
-        ensures few { Follows (family_cancel_steps self.now.limits (length (family pass.new.seen root))) pass.old pass.new }
-        ensures lean { Follows (lean_cancel_steps self.now.limits (family pass.new.seen root)) pass.old pass.new }
+        ensures few { Follows (family_cancel_steps self.now.limits (length (family pass.new.seen root)))
+            pass.old pass.new }
+        ensures lean { Follows (lean_cancel_steps self.now.limits (family pass.new.seen root)) pass.old
+            pass.new }
         ensures open_unit { pass.new.open_unit ≡ None }
         ensures looks { root < rows_of self.now.limits → HasLooked pass.old pass.new }
         ensures answer { MatchResult result

@@ -14,8 +14,8 @@ use tp_model::types::{Claimed, Work};
 
 impl Manager {
     /// Takes the element with the least id that was found to wait in the stage, 1 to 14, into a new unit of
-    /// work of the pass, which has none open. `NoUnit` where the pass has used its units; `Idle` where nothing
-    /// was found to wait. None of its steps is for a row behind the element that it takes (`lean`).
+    /// work. The pass may have none open. `NoUnit` where it has used up its units, and `Idle` where nothing
+    /// was found to wait. No step is for a row behind the element that it takes (`lean`).
     pub fn claim(&self, pass: &mut Pass, stage: u8) -> Claimed
         requires own { IsOf self.now pass.old }
         requires stage { IsServerStage stage }
@@ -25,7 +25,8 @@ impl Manager {
         ensures limits { AreLimits self.now.limits }
         ensures follows { Follows (claim_steps self.now.limits) pass.old pass.new }
         ensures answer { Claims self.now.limits stage pass.old pass.new result }
-        ensures few { Follows (claim_steps_left self.now.limits (marks_of pass.old.lows stage)) pass.old pass.new }
+        ensures few { Follows (claim_steps_left self.now.limits (marks_of pass.old.lows stage)) pass.old
+            pass.new }
         ensures lean { let lows = marks_of pass.old.lows stage in
             let n = lean_claim_steps self.now.limits stage lows pass.new.seen_blocks result in
             Follows (n pass.old.seen pass.new.seen) pass.old pass.new }
@@ -64,16 +65,17 @@ impl Manager {
     }
 }
 
-/// Of two claims of a stage by one pass, the second doesn't look again at first rows of a part, or of the
-/// spare blocks, which the first came to. This is so of rows that were of no use to the stage meanwhile. So
-/// it costs what the rows that are left cost, and at most three steps a part. The function does nothing: its
+/// What a pass's claim of a stage has come to from the beginning of a part, or of the spare rows, its next
+/// claim of the stage doesn't look at again, as far as these rows were of no use to the stage by then. So the
+/// next claim costs what the other rows cost, and at most three steps a part. The function does nothing: its
 /// contract is the law.
 pub fn few_again()
     ensures few { (l : Limits) (stage : ℕ) → FewAgain l stage }
 {}
 
-/// Of the elements of a stage that one pass made, a claim takes one of an earlier call before those of a
-/// later call, but for what it found not to wait. The function does nothing: its contract is the law.
+/// First in, first out: of the elements of a stage that one pass has made, a claim takes those of an earlier
+/// call before those of a later call. It leaves out only what it found not to wait. The function does
+/// nothing: its contract is the law.
 pub fn first_in_first_out()
     ensures first { (l : Limits) → FirstInFirstOut l }
 {}

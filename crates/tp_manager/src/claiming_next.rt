@@ -89,7 +89,8 @@ impl Shared {
         ensures remembers { Remembers stage (view_of seat.new) lows.new }
         ensures lows { RisesAt part lows.old lows.new }
         ensures few { let l = table_limits self.now.words in
-            StepsTo (2 + (l.rows - slice_index lows.old part) * try_steps) (view_of seat.old) (view_of seat.new) }
+            StepsTo (2 + (l.rows - slice_index lows.old part) * try_steps) (view_of seat.old)
+            (view_of seat.new) }
         ensures lean { let l = table_limits self.now.words in let n = slice_index lows.old part in
             IsLeanWithin l stage 2 (part * l.rows + n) (l.rows - n) from to
             (view_of seat.old) (view_of seat.new) }
@@ -142,7 +143,8 @@ impl Shared {
         ensures remembers { Remembers stage (view_of seat.new) lows.new }
         ensures lows { RisesAt part lows.old lows.new }
         ensures few { let l = table_limits self.now.words in
-            StepsTo (3 + (l.rows - slice_index lows.old part) * try_steps) (view_of seat.old) (view_of seat.new) }
+            StepsTo (3 + (l.rows - slice_index lows.old part) * try_steps) (view_of seat.old)
+            (view_of seat.new) }
         ensures lean { let l = table_limits self.now.words in let n = slice_index lows.old part in
             IsLeanWithin l stage 3 (part * l.rows + n) (l.rows - n) from to
             (view_of seat.old) (view_of seat.new) }
@@ -320,7 +322,8 @@ impl Shared {
         ensures lows { NoneFalls lows.old lows.new }
         ensures few { let l = table_limits self.now.words in
             let n = 2 * drawn_steps l.spare + BLOCK_ROWS * l.spare * try_steps in
-            StepsTo (2 * scan_steps l try_steps 3 lows.old l.parts + n) (view_of seat.old) (view_of seat.new) }
+            StepsTo (2 * scan_steps l try_steps 3 lows.old l.parts + n) (view_of seat.old)
+            (view_of seat.new) }
         ensures lean { let l = table_limits self.now.words in
             IsLean l (lean_turn_steps l stage lows.old drawn.new) (view_of seat.old) (view_of seat.new) }
         ensures told { let l = table_limits self.now.words in
@@ -339,8 +342,9 @@ impl Shared {
 }
 
 impl Manager {
-    /// Takes the element that waits in the stage, 1 to 14, and comes first after the one of the stage that
-    /// the pass took last by such a call. After the last id comes the first. Otherwise as `claim`.
+    /// Takes an element that waits in the stage, 1 to 14, as `claim` does, but the next one in turn: the
+    /// first that is found to wait behind the element which the pass's last `claim_next` of this stage took.
+    /// Behind the last id comes the first again.
     pub fn claim_next(&self, pass: &mut Pass, stage: u8) -> Claimed
         requires own { IsOf self.now pass.old }
         requires stage { IsServerStage stage }

@@ -75,7 +75,7 @@ impl Shared {
 }
 
 impl Manager {
-    /// Takes the reply with this id, once: it is killed, so that nobody else collects it. The pass has no
+    /// Takes the reply with this id. The reply is killed, so nobody else collects it. The pass may have no
     /// unit open. `NotThere` where no element with this id is born, `BadStage` where it is no reply, and
     /// `AlreadyKilled` where it was collected or killed before.
     pub fn collect(&self, pass: &mut Pass, id: u32) -> Result<Element, Refusal>

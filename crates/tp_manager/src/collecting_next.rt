@@ -13,7 +13,7 @@ ghost use Rattle.tp_manager.specs.Bounds.{collect_next_steps, collect_steps, fam
 ghost use Rattle.tp_manager.specs.Bounds.{lean_collect_steps, one_take_steps};
 ghost use Rattle.tp_manager.specs.Calls.{Follows, HasLooked};
 ghost use Rattle.tp_manager.specs.Lists.{CollectsNext, NoneCollected, killed_between, walks_of};
-ghost use Rattle.tp_manager.specs.Families.{Taken};
+ghost use Rattle.tp_manager.specs.Families.{TakenReply};
 ghost use Rattle.tp_manager.specs.Kills.{Slain};
 ghost use Rattle.tp_manager.specs.Requeues.{IsBetween};
 ghost use Rattle.tp_manager.specs.RowSets.{IsEmpty};
@@ -66,7 +66,8 @@ impl Shared {
         ensures none { IsEmpty rows.new }
         ensures told { let l = table_limits self.now.words in
             let killed = killed_between l root (seen_by seat.old) (seen_by seat.new) in
-            Taken l (walks_of result killed * one_take_steps (length (family (seen_by seat.new) root))) root
+            TakenReply l (walks_of result killed * one_take_steps (length (family (seen_by seat.new) root)))
+            root
             (view_of seat.old) (view_of seat.new) result }
     {
         let mut from = 0;
@@ -84,9 +85,9 @@ impl Shared {
 }
 
 impl Manager {
-    /// Takes the least reply to the request with this root that it finds waiting, once: it is killed, so that
-    /// nobody else collects it. Where another is quicker it walks again, and takes the next one (`lean`). The
-    /// pass has no unit open. `None` where none waits.
+    /// Takes the reply to the request with this root that has the least id of those that it finds waiting.
+    /// The reply is killed, so nobody else collects it. Where another caller was quicker, it walks again and
+    /// takes the next one (`lean`). The pass may have no unit open. `None` where no reply waits.
     pub fn collect_next(&self, pass: &mut Pass, root: u32) -> Option<Element>
         requires own { IsOf self.now pass.old }
         requires free { pass.old.open_unit ≡ None }

@@ -53,8 +53,8 @@ impl Shared {
         false
     }
 
-    /// Marks this many rows from this one on, that the pass has left behind, as rows that are never used. A step for
-    /// each.
+    /// Marks this many rows from this one on, which the pass has left behind, as rows that are never used.
+    /// One step for each.
     fn void_rows(&self, seat: &mut Seat, first: u32, count: u16)
         requires steady { IsSteady self.now.words seat.old }
         requires left { AreLeft (table_limits self.now.words) (view_of seat.old) first count }
@@ -97,8 +97,8 @@ impl Shared {
 }
 
 impl Manager {
-    /// Whether the pass has this many rows left, at most 8: if need be it draws a spare block, and leaves no empty row
-    /// after.
+    /// Whether the pass has this many rows left, at most 8. Where it has fewer, it draws a spare block, and
+    /// leaves no empty row behind.
     pub(crate) fn has_room(&self, pass: &mut Pass, rows: u16) -> bool
         requires own { IsOf self.now pass.old }
         requires few { rows ≤ BLOCK_ROWS }

@@ -81,11 +81,12 @@ impl Manager {
     }
 
     /// Commits the open unit of work with at most four drafts. In one step its element is consumed and the
-    /// drafts are born, with ids one after another. They are in the next rows of the pass, or of a spare
-    /// block that it draws where too few are left to it: where enough are, no step is about spare blocks
-    /// (`lean`). `Full` where all blocks are drawn: the unit is
-    /// aborted, and no row is used. `Lost` where another caller had aborted the unit: the rows of the drafts
-    /// are used up. Whatever the answer, the pass has no unit open any more.
+    /// drafts are born, with ids one after another. They use the next rows of the pass. Where too few are
+    /// left to it, it draws a spare block for them; where enough are, no step is about spare blocks (`lean`).
+    ///
+    /// `Full` where no block is left to draw: the unit is aborted, and no row is used. `Lost` where another
+    /// caller had aborted the unit: the rows of the drafts are used up. Whatever the answer, the pass has no
+    /// unit open any more.
     #[inline(always)]
     pub fn commit(&self, pass: &mut Pass, drafts: &[Draft]) -> Outcome
         requires own { IsOf self.now pass.old }

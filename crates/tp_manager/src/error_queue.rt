@@ -202,7 +202,8 @@ impl Shared {
         ensures remembers { Remembers 0 (view_of seat.new) lows.new }
         ensures lows { NoneFalls lows.old lows.new }
         ensures told { let l = table_limits self.now.words in
-            let n = spare_left l (look_steps l) (slice_index lows.old l.parts) in let P = PassedOver l in MatchOption result
+            let n = spare_left l (look_steps l) (slice_index lows.old l.parts) in let P = PassedOver l in
+            MatchOption result
             (Begun l P n from (rows_of l) (view_of seat.old) (view_of seat.new))
             (λ id. (from ≤ id) × (id < rows_of l) × Hits l id (seen_by seat.new)
             × Sought l n (EachRow P from id) (view_of seat.old) (view_of seat.new)) }
@@ -241,13 +242,16 @@ impl Shared {
 }
 
 impl Manager {
-    /// The least id from this one on of an element, of whatever stage, that was found to be parked.
+    /// The least id from `from` on of an element that was found to be parked, in whatever stage. `None` where
+    /// none was found. Each element with a lesser id from there on that was born when the call began to look
+    /// wasn't parked at some moment of the call.
     pub fn next_error(&self, pass: &mut Pass, from: u32) -> Option<u32>
         requires own { IsOf self.now pass.old }
         ensures own { IsOf self.now pass.new }
         ensures turn { pass.new.from ≡ pass.old.from }
         ensures follows { Follows (next_error_steps self.now.limits) pass.old pass.new }
-        ensures few { Follows (listing_steps_left self.now.limits (marks_of pass.old.lows 0)) pass.old pass.new }
+        ensures few { Follows (listing_steps_left self.now.limits (marks_of pass.old.lows 0)) pass.old
+            pass.new }
         ensures quiet { IsQuiet pass.old pass.new }
         ensures looks { from < rows_of self.now.limits → HasLooked pass.old pass.new }
         ensures inside { IfSome result (λ id. id < rows_of self.now.limits) }

@@ -36,14 +36,15 @@ impl Shared {
 }
 
 impl Manager {
-    /// The element of the request with this root that has the least id from this one on, and its status:
-    /// so where an order is. `None` where there is none.
+    /// The element of the request with this root that has the least id from `from` on, whatever its stage,
+    /// and its status: so a client sees where its order is. `None` where there is no such element.
     pub fn family(&self, pass: &mut Pass, root: u32, from: u32) -> Option<Look>
         requires own { IsOf self.now pass.old }
         ensures own { IsOf self.now pass.new }
         ensures turn { pass.new.from ≡ pass.old.from }
         ensures follows { Follows (family_steps self.now.limits) pass.old pass.new }
-        ensures few { Follows (family_look_steps self.now.limits (length (family pass.new.seen root))) pass.old pass.new }
+        ensures few { Follows (family_look_steps self.now.limits (length (family pass.new.seen root)))
+            pass.old pass.new }
         ensures quiet { IsQuiet pass.old pass.new }
         ensures looks { from < rows_of self.now.limits → HasLooked pass.old pass.new }
         ensures answer { MatchOption result

@@ -144,8 +144,8 @@ impl Shared {
     }
 
     /// The unit takes the first element of these rows that waits in the stage, where a row before them may be
-    /// of use. No row of the gap is looked at, nor after it the one that the pass has consumed last. It stands
-    /// apart, since most claims come to no such row, and are slower with this among their own code.
+    /// of use. No row of the gap is looked at, nor after it the one that the pass has consumed last. It
+    /// stands apart, since most claims come to no such row, and are slower with this among their own code.
     #[inline(never)]
     pub(crate) fn scan_behind(
         &self,
@@ -186,8 +186,8 @@ impl Shared {
     }
 
     /// The unit takes the first element of a part that waits in the stage. The scan starts at the part's
-    /// mark, after the row that the pass has consumed last where that comes first, and raises the mark. Behind
-    /// a row that may be of use it goes on past the part's gap.
+    /// mark, after the row that the pass has consumed last where that comes first, and raises the mark.
+    /// Behind a row that may be of use it goes on past the part's gap.
     pub(crate) fn scan_from_mark(
         &self,
         seat: &mut Seat,

@@ -51,7 +51,8 @@ impl Shared {
         requires found { claim_value claim ≡ claim_word (seen_by seat.old) row }
         requires free { (hand_of seat.old).open_unit ≡ None }
         ensures same { IsSameSeat seat.old seat.new }
-        ensures told { let l = table_limits self.now.words in let word = claim_value claim in MatchResult result
+        ensures told { let l = table_limits self.now.words in let word = claim_value claim in
+            MatchResult result
             (λ count. Loosened l row word count (view_of seat.old) (view_of seat.new))
             (λ refusal. Looked l (takers word) (view_of seat.old) (view_of seat.new)
             × IsPastKill l (seen_by seat.new) row refusal) }
@@ -79,9 +80,9 @@ impl Shared {
         }
     }
 
-    /// Kills the element of the row, whose claim was just found; there are at most this many attempts from it
-    /// on. How many units it aborted. At most two steps for each attempt, and one for each round in which the
-    /// element is found untaken.
+    /// Kills the element of the row, whose claim was just found, where units can take it at most this many
+    /// times from now on. How many units it aborted. At most two steps for each of these times, and one for
+    /// each round in which the element is found untaken.
     #[cycle(kill)]
     #[inline(always)]
     fn kill_from(
@@ -98,7 +99,8 @@ impl Shared {
         requires free { (hand_of seat.old).open_unit ≡ None }
         requires enough { IsEnough (table_limits self.now.words) left (claim_value claim.tells) }
         ensures same { IsSameSeat seat.old seat.new }
-        ensures told { let l = table_limits self.now.words in let n = slay_from left (claim_value claim.tells) in
+        ensures told { let l = table_limits self.now.words in
+            let n = slay_from left (claim_value claim.tells) in
             MatchResult result
             (λ count. KillsIn l n row left count (view_of seat.old) (view_of seat.new))
             (λ refusal. FailsIn l n row left refusal (view_of seat.old) (view_of seat.new)) }
@@ -132,7 +134,8 @@ impl Shared {
         requires free { (hand_of seat.old).open_unit ≡ None }
         requires enough { IsEnough (table_limits self.now.words) left (claim_value claim.tells) }
         ensures same { IsSameSeat seat.old seat.new }
-        ensures told { let l = table_limits self.now.words in let n = slay_from left (claim_value claim.tells) in
+        ensures told { let l = table_limits self.now.words in
+            let n = slay_from left (claim_value claim.tells) in
             MatchResult result
             (λ count. KillsIn l n row left count (view_of seat.old) (view_of seat.new))
             (λ refusal. FailsIn l n row left refusal (view_of seat.old) (view_of seat.new)) }
@@ -158,9 +161,9 @@ impl Shared {
 }
 
 impl Manager {
-    /// Kills the element with this id, so that it is never taken again, and aborts the units of work that hold
-    /// it on the way. The pass has no unit open. `NotThere` where no such element is born, `Consumed` where a unit that took it has
-    /// committed, and `AlreadyKilled`.
+    /// Kills the element with this id, so that no unit of work takes it any more. A unit that holds it is
+    /// aborted. The pass may have no unit open. `NotThere` where no such element is born, `Consumed` where a
+    /// unit that took it has committed, and `AlreadyKilled` where it was killed before.
     pub fn kill(&self, pass: &mut Pass, id: u32) -> Result<Killed, Refusal>
         requires own { IsOf self.now pass.old }
         requires free { pass.old.open_unit ≡ None }

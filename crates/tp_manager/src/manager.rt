@@ -141,7 +141,7 @@ impl Model for Pass {
 
 impl Keeper {
     /// A manager with these limits, and the keeper of its passes. `BadLimits` where a limit is outside its
-    /// range; `NoMemory` only where the allocator refused.
+    /// range, and `NoMemory` where the allocator has refused, and only there.
     pub fn new(alloc: Global, limits: Limits) -> Result<(Manager, Keeper), MakeFault>
         ensures keeper { IfOk result (λ made. IsKeptBy made.0 made.1 × (made.1.given ≡ 0)) }
         ensures fresh { IfOk result (λ made. (made.1.seen ≡ []) × (made.1.steps ≡ 0)) }
@@ -223,10 +223,13 @@ impl Pass {
         self.number
     }
 
-    /// How many first rows of a part this pass knows done with for a stage, 1 to 15: no element of the stage
-    /// in them waits, is held or is parked, or will. With 0 for the stage it is so of all stages but 15. It is
-    /// 0 at first, and where there is no such stage or part. It is what the pass last found in the table or
-    /// put there; a claim keeps what it found even where another pass was quicker to put something else.
+    /// How many first rows of a part have nothing alive of a stage, 1 to 15, as far as this pass knows: no
+    /// element of the stage in these rows waits, is held or is parked, and none ever will. The pass's claims
+    /// begin behind them. Stage 0 stands for all stages but 15 together, and the part behind those of the
+    /// passes for all spare rows.
+    ///
+    /// It is 0 at first, and for a stage or a part that there isn't. It never falls (`follows` of each call).
+    /// Another pass may know of more rows.
     pub fn low(&self, stage: u8, part: u16) -> u16
         ensures answer { result ≡ low_of self.now stage part }
         ensures low { IsLow self.now.limits stage self.now.seen part result }
@@ -240,8 +243,8 @@ impl Pass {
         }
     }
 
-    /// How many spare blocks were drawn, by all passes together, as this pass last found or made it, and 0
-    /// before. They never get fewer.
+    /// How many spare blocks all passes together had drawn when this pass last looked or drew one, and 0
+    /// before that. The number never falls.
     pub fn seen_blocks(&self) -> u16
         ensures answer { result ≡ self.now.seen_blocks }
         ensures inside { result ≤ self.now.limits.spare }

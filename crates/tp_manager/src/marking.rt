@@ -121,7 +121,8 @@ impl Shared {
         ensures seen { seen_by seat.new ≡ seen_by seat.old }
         ensures remembers { Remembers kind (view_of seat.new) lows.new }
         ensures lows { RisesAt part lows.old lows.new }
-        ensures raised { let l = table_limits self.now.words in (part * l.rows + slice_index lows.new part ≡ low)
+        ensures raised { let l = table_limits self.now.words in
+            (part * l.rows + slice_index lows.new part ≡ low)
             ⊎ ((slice_index lows.new part ≡ mark) × Knows (view_of seat.new) (MarkAbove kind part mark)) }
     {
         let first = part as u32 * self.places.limits.rows as u32;
@@ -149,9 +150,11 @@ impl Shared {
         ensures knows { Knows (view_of seat.new) (PartMark stage part result) }
         ensures remembers { Remembers stage (view_of seat.new) lows.new }
         ensures lows { RisesAt part lows.old lows.new }
-        ensures low { IsLow (table_limits self.now.words) stage (seen_by seat.new) part (slice_index lows.new part) }
+        ensures low { IsLow (table_limits self.now.words) stage (seen_by seat.new) part
+            (slice_index lows.new part) }
         ensures rose { let l = table_limits self.now.words in
-            Rose stage (view_of seat.new) (part * l.rows + result) (part * l.rows + slice_index lows.new part) }
+            Rose stage (view_of seat.new) (part * l.rows + result)
+            (part * l.rows + slice_index lows.new part) }
     {
         let mark = self.words.load_mark(seat, stage, part);
         if lows[part as usize] < mark {

@@ -9,7 +9,8 @@ use crate::manager::{Manager, Pass};
 
 impl Manager {
     /// Two passes of the manager show each other what they have seen: both have then seen the same history,
-    /// with all that either had seen. Three steps of the first, and the one between of the second too.
+    /// with all that either had seen. The first makes three steps, of which the one in the middle is the
+    /// second's too.
     pub fn meet(&self, first: &mut Pass, second: &mut Pass)
         requires own { IsOf self.now first.old × IsOf self.now second.old }
         ensures own { IsOf self.now first.new × IsOf self.now second.new }

@@ -54,8 +54,8 @@ impl Shared {
 
 impl Manager {
     /// Aborts the unit of work that holds the element with this id: the element waits again, or is parked
-    /// where that was the last attempt of its round. The pass has no unit open. `NotThere` where no such
-    /// element is born, and `NotHeld`.
+    /// where that was the last attempt of its round. The pass may have no unit open. `NotThere` where no such
+    /// element is born, and `NotHeld` where no unit holds it.
     pub fn release(&self, pass: &mut Pass, id: u32) -> Result<Released, Refusal>
         requires own { IsOf self.now pass.old }
         requires free { pass.old.open_unit ≡ None }

@@ -10,10 +10,12 @@ ghost use Rattle.tp_manager.specs.Lists.{AllKilled, NextReply};
 use crate::manager::{Manager, Pass};
 
 impl Manager {
-    /// A reply to the request with this root, with the least id from this one on of those that were found to
-    /// wait. `None` where none was.
+    /// The least id from `from` on under which a reply to the request with this root was found to wait. Each
+    /// reply with a lesser id from there on, that was born when the call began to look, was found to be
+    /// killed. `None` where that is so of each reply from there on.
     ///
-    /// It looks at elements of the request's family alone, so its cost grows with their number (`few`).
+    /// It walks the request's family and looks at nothing else: it makes at most 2 steps for each element of
+    /// the family, and 1 more (`few`).
     pub fn reply(&self, pass: &mut Pass, root: u32, from: u32) -> Option<u32>
         requires own { IsOf self.now pass.old }
         ensures own { IsOf self.now pass.new }

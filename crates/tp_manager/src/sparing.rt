@@ -21,8 +21,8 @@ use tp_rule::Seat;
 
 impl Shared {
     /// The unit takes the first element of the spare blocks that waits in the stage, where nothing was born
-    /// from row `end` on. The scan starts at the mark of the spare rows, and raises it. Behind a row that may be of
-    /// use it goes on past their gap.
+    /// from row `end` on. The scan starts at the mark of the spare rows, and raises it. Behind a row that may
+    /// be of use it goes on past their gap.
     pub(crate) fn scan_spare(
         &self,
         seat: &mut Seat,
@@ -49,7 +49,8 @@ impl Shared {
             let n = part_rows l + slice_index lows.old l.parts in
             IsLeanAt l stage 2 n (scan_end end result - n) (view_of seat.old) (view_of seat.new) }
         ensures told { let l = table_limits self.now.words in
-            let n = 2 + (BLOCK_ROWS * l.spare - slice_index lows.old l.parts) * try_steps in MatchOption result
+            let n = 2 + (BLOCK_ROWS * l.spare - slice_index lows.old l.parts) * try_steps in
+            MatchOption result
             (Passed l n (PassedBy l stage) (part_rows l) (rows_of l) (view_of seat.old) (view_of seat.new))
             (λ t. Took l n (part_rows l) stage unit (view_of seat.old) (view_of seat.new) t.element t.attempt
             × (t.element.root ≡ t.root)) }
@@ -97,7 +98,8 @@ impl Shared {
         ensures remembers { Remembers 0 (view_of seat.new) lows.new }
         ensures lows { RisesAt (table_limits self.now.words).parts lows.old lows.new }
         ensures told { let l = table_limits self.now.words in let P = PassedOver l in
-            let n = 2 + (BLOCK_ROWS * l.spare - slice_index lows.old l.parts) * look_steps l in MatchOption result
+            let n = 2 + (BLOCK_ROWS * l.spare - slice_index lows.old l.parts) * look_steps l in
+            MatchOption result
             (Passed l n P from (rows_of l) (view_of seat.old) (view_of seat.new))
             (λ id. (from ≤ id) × (id < rows_of l) × Hits l id (seen_by seat.new)
             × Passed l n P from id (view_of seat.old) (view_of seat.new)) }

@@ -65,11 +65,11 @@ struct Least {
 
 impl Model for Least {
     ghost use Rattle.std.specs.Prelude.{ℕ, Option};
-    ghost use Rattle.tp_manager.specs.Aheads.{id_of};
+    ghost use Rattle.tp_manager.specs.Aheads.{id_if_any};
 
     ghost Value = { Option ℕ };
 
-    ghost view = { λ l. id_of l.id };
+    ghost view = { λ l. id_if_any l.id };
 }
 
 impl Least {

@@ -1,5 +1,6 @@
 -- What a pass shows to contracts, and the points of its calls.
-use Rattle.std.specs.Prelude.{◌≡◌, ◌⊎◌, ℕ, ◌+◌, ◌<◌, ◌≤◌, Bool, true, false, if◌then◌else◌, Option, None, Some}
+use Rattle.std.specs.Prelude.{◌≡◌, ◌⊎◌, ℕ, ◌+◌, ◌<◌, ◌≤◌, Bool, true, false, if◌then◌else◌, Option, None}
+use Rattle.std.specs.Prelude.{Some}
 use Rattle.std.specs.Prelude.{List, [], ◌∷◌}
 use mathlib.Core.List.{IsPrefix}
 use Rattle.tp_model.specs.declared.types.Limits.{Limits}
@@ -64,8 +65,8 @@ pub record IsRun (l : Limits) (h : List Event) (c : ℕ) (blocks : List ℕ) (ne
   pub usable : (i : ℕ) → next ≤ i → i < next + left → MayUse l h c i
 
 -- it has seen a legal history; its own events are those of that history with its number; the rows that are
--- left to it are a run there; its open unit is there its own, not committed, and not aborted by itself; and its
--- other units have ended there
+-- left to it are a run there; its open unit is there its own, not committed, and not aborted by itself; and
+-- its other units have ended there
 pub record IsPassView (l : Limits) (v : PassView) : Type 0 where
   pub given : v.number < l.parts
   pub legal : IsLegal l v.seen

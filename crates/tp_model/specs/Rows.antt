@@ -24,8 +24,8 @@ abbrev pub body : ℕ → List ℕ
 body amount = 0 ∷ amount ∷ (amount + 1) ∷ (amount + 2) ∷ []
 
 -- an output of a unit
-abbrev output : ℕ → ℕ → ℕ → ℕ → ℕ → Element
-output id stage root amount unit = record {
+abbrev row_output : ℕ → ℕ → ℕ → ℕ → ℕ → Element
+row_output id stage root amount unit = record {
   id = id;
   stage = stage;
   root = root;
@@ -35,7 +35,8 @@ output id stage root amount unit = record {
 
 -- a request, and its reply
 abbrev pub with_reply : List Event
-with_reply = Enqueue 0 (request 0 1 (body 10)) ∷ Claim 1 256 0 1 ∷ Commit 1 256 (output 8 15 0 10 256 ∷ [])
+with_reply =
+    Enqueue 0 (request 0 1 (body 10)) ∷ Claim 1 256 0 1 ∷ Commit 1 256 (row_output 8 15 0 10 256 ∷ [])
     ∷ []
 
 -- a request that is taken and given up three times

@@ -20,7 +20,8 @@ pub record AreLimits (l : Limits) : Type 0 where
   pub attempts : (1 ≤ l.attempts) × (l.attempts ≤ MAX_ATTEMPTS)
   pub spare : l.spare ≤ MAX_BLOCKS
 
--- how many attempts an element has in all its rounds, the first among them, where this many are allowed in each
+-- how many attempts an element has in all its rounds, the first among them, where this many are allowed in
+-- each
 abbrev pub tries : ℕ → ℕ
 tries attempts = (MAX_ROUNDS + 1) * attempts
 

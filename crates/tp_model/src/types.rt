@@ -28,8 +28,8 @@ pub struct Element {
 /// The status of an element.
 #[derive(Clone, Copy, Debug, PartialEq, Eq)]
 pub enum Status {
-    /// It may be claimed. This many units of work took it in its round and were aborted: fewer than the attempt
-    /// limit.
+    /// It may be claimed. This many units of work took it in its round and were aborted: fewer than the
+    /// attempt limit.
     Waiting { attempts: u8 },
     /// An undecided unit of work holds it, and is the `attempt`-th to do so in its round.
     Held { unit: u16, attempt: u8 },

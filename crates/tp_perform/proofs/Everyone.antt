@@ -2,8 +2,7 @@
 use Rattle.std.proofs.Common.{◌≡◌, ℕ, ◌+◌, List, [], ◌∷◌, sym, ◌∙◌, ap, length}
 use Rattle.std.proofs.lemmas.List.{length-map}
 use Rattle.tp_manager.specs.Accounts.{AreAll, AreNumberedFrom}
-use Rattle.tp_manager.specs.Shown.{KeeperShown, PassShown}
-use Rattle.tp_workers.specs.Free.{numbers}
+use Rattle.tp_manager.specs.Shown.{KeeperShown, PassShown, numbers}
 
 -- others with the same numbers
 from_same : (c : ℕ) (ps qs : List PassShown) → numbers qs ≡ numbers ps → AreNumberedFrom c ps → AreNumberedFrom c qs

@@ -17,12 +17,12 @@ use Rattle.tp_server.specs.Pending.{Pending}
 use Rattle.tp_manager.specs.Accounts.{AreAll, Attends, Gathers}
 use Rattle.tp_manager.specs.Bounds.{gather_steps}
 use Rattle.tp_manager.specs.Calls.{IsQuiet}
-use Rattle.tp_manager.specs.Shown.{IsOf, KeeperShown, ManagerShown, PassShown}
+use Rattle.tp_manager.specs.Shown.{IsOf, KeeperShown, ManagerShown, PassShown, numbers}
 use Rattle.tp_desk.specs.declared.aside.Aside.{Aside}
 use Rattle.tp_desk.specs.InHand.{InHand, IsDeskSteady}
 use Rattle.tp_desk.specs.Serving.{AreUnitsEnded, gained}
 use Rattle.tp_desk.proofs.Serves.{serves_more, still_ended}
-use Rattle.tp_workers.specs.Free.{IsFreePass, numbers}
+use Rattle.tp_workers.specs.Free.{IsFreePass}
 use Rattle.tp_commands.specs.declared.place.Place.{Place}
 use Rattle.tp_commands.specs.Acting.{places_shown}
 use Rattle.tp_commands.specs.Places.{AllLie, Lies, workers}

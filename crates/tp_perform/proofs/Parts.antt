@@ -139,7 +139,7 @@ module _ {X : Type 0} {F : X → Type 0} (behaviour : DynBox X Global F → Beha
   shown_length (p ∷ ps) (s ∷ ss) (o ∷ os) all = ap suc (shown_length ps ss os all.1)
 
   -- those that don't take part
-  pub stay_put : (Did : workers.Place → workers.Place → Type 0) (ps : List PassShown) (ss : List Box) (os : List (Place X F)) → Lie ps ss os → All (λ o. is_free_at o ≡ false) os → AllTakePart Did (Show ps ss os) (Show ps ss os)
+  pub stay_put : (Did : workers.DeskPlace → workers.DeskPlace → Type 0) (ps : List PassShown) (ss : List Box) (os : List (Place X F)) → Lie ps ss os → All (λ o. is_free_at o ≡ false) os → AllTakePart Did (Show ps ss os) (Show ps ss os)
   stay_put Did [] [] [] all busy = tt
   stay_put Did [] [] (o ∷ os) all busy = absurd all
   stay_put Did [] (s ∷ ss) os all busy = absurd all
@@ -150,7 +150,7 @@ module _ {X : Type 0} {F : X → Type 0} (behaviour : DynBox X Global F → Beha
       (subst (λ b. TakesPart b Did this this) (sym (shown_free behaviour registers pending p s o all.0 ∙ All-head (λ o. is_free_at o ≡ false) o os busy)) refl, stay_put Did ps ss os all.1 (All-tail (λ o. is_free_at o ≡ false) o os busy))
 
   -- those that do
-  took : (Did : workers.Place → workers.Place → Type 0) (p q : PassShown) (s t : Box) (o : Place X F) → Lies behaviour registers pending p s o.aside → is_free_at o ≡ true
+  took : (Did : workers.DeskPlace → workers.DeskPlace → Type 0) (p q : PassShown) (s t : Box) (o : Place X F) → Lies behaviour registers pending p s o.aside → is_free_at o ≡ true
       → Did (workers.place behaviour registers pending (p, s)) (workers.place behaviour registers pending (q, t))
       → TakesPart (is_free (place_shown behaviour registers pending p s o)) Did (place_shown behaviour registers pending p s o) (place_shown behaviour registers pending q t o)
   took Did p q s t o lies free did = subst (λ b. TakesPart b Did (place_shown behaviour registers pending p s o) (place_shown behaviour registers pending q t o)) (sym (shown_free behaviour registers pending p s o lies ∙ free))
@@ -160,7 +160,7 @@ module _ {X : Type 0} {F : X → Type 0} (behaviour : DynBox X Global F → Beha
       go None lies none = absurd lies
       go (Some a) lies none = none
 
-  pub took_part : (R : PassShown × Box → Shift → PassShown × Box → Type 0) (Did : workers.Place → workers.Place → Type 0)
+  pub took_part : (R : PassShown × Box → Shift → PassShown × Box → Type 0) (Did : workers.DeskPlace → workers.DeskPlace → Type 0)
       → ((x : PassShown × Box) (c : Shift) (y : PassShown × Box) → R x c y → Did (workers.place behaviour registers pending x) (workers.place behaviour registers pending y))
       → (ps : List PassShown) (ss : List Box) (os : List (Place X F)) (c : Shift) (qs : List PassShown) (ts : List Box)
       → Lie ps ss os → All (λ o. is_free_at o ≡ true) os → length qs ≡ length ps → length ts ≡ length ss → RanAll R (zip ps ss) c (zip qs ts) → AllTakePart Did (Show ps ss os) (Show qs ts os)
@@ -179,7 +179,7 @@ module _ {X : Type 0} {F : X → Type 0} (behaviour : DynBox X Global F → Beha
   )
 
   -- those in front took part, and the others didn't
-  pub parts_front : (R : PassShown × Box → Shift → PassShown × Box → Type 0) (Did : workers.Place → workers.Place → Type 0)
+  pub parts_front : (R : PassShown × Box → Shift → PassShown × Box → Type 0) (Did : workers.DeskPlace → workers.DeskPlace → Type 0)
       → ((x : PassShown × Box) (c : Shift) (y : PassShown × Box) → R x c y → Did (workers.place behaviour registers pending x) (workers.place behaviour registers pending y))
       → (n : ℕ) (ps : List PassShown) (ss : List Box) (os : List (Place X F)) (ps' ps'' : List PassShown) (ss' ss'' : List Box) (c : Shift) (qs : List PassShown) (ts : List Box)
       → ps ≡ ps' ++ ps'' → ss ≡ ss' ++ ss'' → Lie ps' ss' (take n os) → Lie ps'' ss'' (drop n os) → Lie qs ts (take n os)

@@ -2,8 +2,8 @@
 use Rattle.std.proofs.Common.{◌≡◌, ℕ, List, [], ◌∷◌, ◌++◌, All, Option, refl, sym, ◌∙◌, ap, subst, length, map, take, drop, replicate}
 use Rattle.std.proofs.lemmas.List.Elements.{All-head, All-tail}
 use Rattle.std.proofs.Math.Seq.{drop-append_seam, take-append_seam}
-use Rattle.tp_manager.specs.Shown.{ManagerShown, PassShown}
-use Rattle.tp_workers.specs.Free.{IsFreePass, numbers}
+use Rattle.tp_manager.specs.Shown.{ManagerShown, PassShown, numbers}
+use Rattle.tp_workers.specs.Free.{IsFreePass}
 use Rattle.tp_workers.specs.declared.killer.KillJob.{KillJob}
 use Rattle.tp_script.specs.declared.script.Race.{Race}
 use Rattle.tp_workers.specs.Clients.{JobShown}

@@ -8,9 +8,9 @@ use Rattle.std.proofs.lemmas.List.{length-append, length-take, take-append-drop}
 use Rattle.std.proofs.lemmas.List.Elements.{All-append, All-cons, All-drop, All-head, All-nil, All-take}
 use Rattle.tp_server.specs.Behaviour.{Behaviour}
 use Rattle.tp_server.specs.Pending.{Pending}
-use Rattle.tp_manager.specs.Shown.{IsOf, ManagerShown, PassShown}
+use Rattle.tp_manager.specs.Shown.{IsOf, ManagerShown, PassShown, numbers}
 use Rattle.tp_desk.specs.declared.aside.Aside.{Aside}
-use Rattle.tp_workers.specs.Free.{IsFreePass, numbers}
+use Rattle.tp_workers.specs.Free.{IsFreePass}
 use Rattle.tp_commands.specs.declared.place.Place.{Place}
 use Rattle.tp_commands.specs.Acting.{places_shown}
 use Rattle.tp_commands.specs.Places.{AllLeft, AllLie, IsLeft, Lies, first_of, firsts, workers}

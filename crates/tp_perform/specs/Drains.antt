@@ -38,7 +38,8 @@ abbrev pub Turn : Order → ManagerShown → ℕ → KeeperShown → Scene → B
 Turn order m at keeper old claimed keeper' new =
     TurnTaken order m at keeper old claimed keeper' new ⊎ NoTurn at keeper old claimed keeper' new
 
--- the desks in front of a place had their turns, one after another; and whether any of them claimed an element
+-- the desks in front of a place had their turns, one after another; and whether any of them claimed an
+-- element
 abbrev pub TurnsBelow : Order → ManagerShown → ℕ → KeeperShown → Scene → Bool → KeeperShown → Scene → Type 0
 TurnsBelow order m zero keeper old claimed keeper' new = (claimed ≡ false) × (keeper' ≡ keeper) × (new ≡ old)
 TurnsBelow order m (suc at) keeper old claimed keeper' new =

@@ -5,7 +5,8 @@ use Rattle.tp_commands.specs.Acting.{GivesUpIn}
 use Rattle.tp_perform.specs.Scenes.{Gathered, OnlyPlaces, Scene}
 
 -- the desk at a place gave up what it had in hand, and then all gathered
-pub record DeskGivesUp (m : ManagerShown) (at : ℕ) (keeper : KeeperShown) (old : Scene) (keeper' : KeeperShown)
+pub record DeskGivesUp (m : ManagerShown) (at : ℕ) (keeper : KeeperShown) (old : Scene)
+    (keeper' : KeeperShown)
     (new : Scene) : Type 0 where
   pub done : Scene
   pub gives_up : GivesUpIn m.limits at old.places done.places

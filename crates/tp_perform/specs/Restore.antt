@@ -17,9 +17,10 @@ use Rattle.tp_perform.specs.Scenes.{Scene, Stand, own_passes, passes_in}
 
 -- No unit was open. What was described stands again in another manager with the same limits, and nothing else
 -- is alive there. What each element is called there and what that manager is then is computed of what was
--- described. Its passes are together; there are as many of them. Who was described as a holder has that in hand
--- (`Restores`), and no desk has a unit open. The desks begin anew with the registers that they have.
-pub record Restored (survivors : List Survivor) (old : Stand) (moved : List Moved) (new : Stand) : Type 0 where
+-- described. Its passes are together; there are as many of them. Who was described as a holder has that in
+-- hand (`Restores`), and no desk has a unit open. The desks begin anew with the registers that they have.
+pub record Restored (survivors : List Survivor) (old : Stand) (moved : List Moved) (new : Stand)
+    : Type 0 where
   pub limits : new.manager.limits ≡ old.manager.limits
   pub restores : Restores new.manager.limits new.keeper (passes_in new.scene) survivors moved
   pub anew : let l = new.manager.limits in
@@ -31,8 +32,8 @@ pub record Restored (survivors : List Survivor) (old : Stand) (moved : List Move
   pub places : AllZip BeginsAgain old.scene.places new.scene.places
   pub racers : length new.scene.racers ≡ length old.scene.racers
 
--- Why what was described doesn't stand again in another manager with these limits: Busy where a pass of this one
--- has a unit open, and else one of these three, Full exactly where it finds no room there.
+-- Why what was described doesn't stand again in another manager with these limits: Busy where a pass of this
+-- one has a unit open, and else one of these three, Full exactly where it finds no room there.
 abbrev pub IsUnrestoredFor : Limits → List Survivor → List PassShown → RollFault → Type 0
 IsUnrestoredFor l survivors passes faults.Busy = ¬ AreFree passes
 IsUnrestoredFor l survivors passes faults.NoMemory = AreFree passes

@@ -37,9 +37,9 @@ pub record BeginsAgain (old new : PlaceShown) : Type 0 where
   pub kept : new.is_dropped ≡ old.is_dropped
 
 -- No desk had a unit open. What was alive goes on in another manager with the same limits, whose passes are
--- together; there are as many of them, and no desk has a unit open. What a worker had in hand, its pass has in
--- hand there (`Rolls`). What each element is called there and what that manager is then is computed of what was
--- alive. The old manager's keeper and passes showed these at the last.
+-- together; there are as many of them, and no desk has a unit open. What a worker had in hand, its pass has
+-- in hand there (`Rolls`). What each element is called there and what that manager is then is computed of
+-- what was alive. The old manager's keeper and passes showed these at the last.
 pub record RolledOver (old : Stand) (moved : List Moved) (new : Stand) : Type 0 where
   pub keeper : KeeperShown
   pub passes : List PassShown
@@ -82,9 +82,9 @@ pub record RollRefused (is_due : Scene → RollFault → Type 0) (old : Stand) (
   pub gathered : Gathered old.manager keeper new.keeper between new.scene
   pub text_is : text ≡ line (roll_refused_text why)
 
--- Why it was refused, of a manager with these limits and passes, of which these are the program's own: Busy where
--- one of them has a unit open, and else one of these two, Full only where what is alive finds no room in a new
--- manager.
+-- Why it was refused, of a manager with these limits and passes, of which these are the program's own: Busy
+-- where one of them has a unit open, and else one of these two, Full only where what is alive finds no room
+-- in a new manager.
 abbrev pub IsUnrolledFor : Limits → List PassShown → List PassShown → RollFault → Type 0
 IsUnrolledFor l own passes faults.Busy = ¬ AreFree own
 IsUnrolledFor l own passes faults.NoMemory = AreFree own

@@ -62,7 +62,8 @@ abbrev pub OnlyPass : PlaceShown → PlaceShown → Type 0
 OnlyPass old new = new ≡ record old { desk = record old.desk { pass = new.desk.pass } }
 
 -- all passes, of which there are no others, have gathered in at most n steps, and nothing else has changed
-pub record GatheredIn (n : ℕ) (m : ManagerShown) (keeper keeper' : KeeperShown) (old new : Scene) : Type 0 where
+pub record GatheredIn (n : ℕ) (m : ManagerShown) (keeper keeper' : KeeperShown) (old new : Scene)
+    : Type 0 where
   pub gathers : Gathers m.limits n keeper keeper' (passes_in old) (passes_in new)
   pub all : AreAll keeper' (passes_in new)
   pub given : keeper'.given ≡ keeper.given

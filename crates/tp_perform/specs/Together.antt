@@ -5,13 +5,13 @@ use Rattle.std.specs.List.{AllZip}
 use Rattle.tp_model.specs.Steps.{IsServerStage}
 use Rattle.tp_model.specs.declared.types.Limits.{Limits}
 use Rattle.tp_model.specs.declared.types.TheConstants.{MAX_PART_ROWS}
-use Rattle.tp_manager.specs.Shown.{ManagerShown, PassShown}
+use Rattle.tp_manager.specs.Shown.{ManagerShown, PassShown, numbers}
 use Rattle.tp_workers.specs.declared.killer.KillJob.{KillJob}
 use Rattle.tp_workers.specs.declared.tally.Shift.{Shift}
 use Rattle.tp_workers.specs.Clients.{ClientRan, JobShown}
 use Rattle.tp_workers.specs.Desks.{TakesTurns}
 use Rattle.tp_workers.specs.Desks as workers
-use Rattle.tp_workers.specs.Free.{IsFreePass, numbers}
+use Rattle.tp_workers.specs.Free.{IsFreePass}
 use Rattle.tp_workers.specs.Killers.{KillerRan}
 use Rattle.tp_workers.specs.Plans.{least_first}
 use Rattle.tp_workers.specs.Ran.{RanEach}
@@ -28,23 +28,26 @@ ArePassed {X = X} {F = F} from to places = (i : ℕ) (d : Place X F) → from �
     → is_free_at (get_or places i d) ≡ false
 
 -- the desk did this, and has nothing in hand
-pub record TookPart (Did : workers.Place → workers.Place → Type 0) (old new : PlaceShown) : Type 0 where
+pub record TookPart (Did : workers.DeskPlace → workers.DeskPlace → Type 0) (old new : PlaceShown)
+    : Type 0 where
   pub did : Did (place_of_desk old.desk) (place_of_desk new.desk)
   pub none_left : new.desk.work ≡ None
   pub began : new.began ≡ old.began
   pub kept : new.is_dropped ≡ old.is_dropped
 
 -- a desk that takes part did this, and any other is as it was
-abbrev pub TakesPart : Bool → (workers.Place → workers.Place → Type 0) → PlaceShown → PlaceShown → Type 0
+abbrev pub TakesPart : Bool → (workers.DeskPlace → workers.DeskPlace → Type 0) → PlaceShown → PlaceShown
+    → Type 0
 TakesPart true Did old new = TookPart Did old new
 TakesPart false Did old new = new ≡ old
 
 -- so it is at each place
-abbrev pub AllTakePart : (workers.Place → workers.Place → Type 0) → List PlaceShown → List PlaceShown → Type 0
+abbrev pub AllTakePart : (workers.DeskPlace → workers.DeskPlace → Type 0) → List PlaceShown → List PlaceShown
+    → Type 0
 AllTakePart Did olds news = AllZip (λ old new. TakesPart (is_free old) Did old new) olds news
 
 -- at most so many turns were taken there, each of which claimed the element with the least id
-abbrev pub TookTurns : Limits → ℕ → workers.Place → workers.Place → Type 0
+abbrev pub TookTurns : Limits → ℕ → workers.DeskPlace → workers.DeskPlace → Type 0
 TookTurns l turns old new = (counts : Shift) × TakesTurns (least_first turns) l old counts new
 
 -- ---- clients and killers
@@ -68,8 +71,8 @@ kill_job rows plan clients =
     let first = first_number clients * rows in
     record { first = first; end = first + plan.clients * rows }
 
--- passes that a race may have, whose manager has parts of so many rows: all are free, and there are enough for
--- its clients
+-- passes that a race may have, whose manager has parts of so many rows: all are free, and there are enough
+-- for its clients
 pub record MayRace (m : ManagerShown) (rows : ℕ) (plan : Race) (racers : List PassShown) : Type 0 where
   pub free : All (IsFreePass m) racers
   pub enough : plan.clients ≤ length racers

@@ -120,7 +120,8 @@ after_servers servers passes = drop servers (drop 1 passes)
 
 -- so many of them are free, behind so many others
 abbrev pub RaceFree : ManagerShown → ℕ → ℕ → ℕ → List PassShown → Type 0
-RaceFree m servers raced many passes = All (IsFreePass m) (take many (drop raced (after_servers servers passes)))
+RaceFree m servers raced many passes =
+    All (IsFreePass m) (take many (drop raced (after_servers servers passes)))
 
 -- the units that they have open
 abbrev pub units_held : ℕ → List PassShown → List (Option ℕ)

@@ -1,8 +1,7 @@
 //! The commands `drain` and `drain next`: the free desks take turns in rounds, on the caller's thread.
 ghost use Rattle.std.specs.Prelude.{◌≡◌, ◌+◌, ◌⊎◌, ◌≤◌, ◌<◌, IfOk, MatchOption, length, string_bytes, true};
 ghost use Rattle.tp_manager.specs.Accounts.{AreAll};
-ghost use Rattle.tp_manager.specs.Shown.{IsKeptBy};
-ghost use Rattle.tp_workers.specs.Free.{numbers};
+ghost use Rattle.tp_manager.specs.Shown.{IsKeptBy, numbers};
 ghost use Rattle.tp_commands.specs.Acting.{StaysIn, TurnsIn};
 ghost use Rattle.tp_commands.specs.Places.{firsts};
 ghost use Rattle.tp_perform.specs.Drains.{Drains, Round, Turn, turn_claimed};
@@ -18,8 +17,8 @@ use tp_manager::{Keeper, Manager, Pass};
 use tp_report::{Answer, line};
 use tp_server::Server;
 
-/// Has the free desks take turns in rounds, whose claims are in this order, until a whole round claims nothing,
-/// and returns its line. The passes are all that the keeper gave out: the client's, then one for
+/// Has the free desks take turns in rounds, whose claims are in this order, until a whole round claims
+/// nothing, and returns its line. The passes are all that the keeper gave out: the client's, then one for
 /// each server, then those of races. They gather after each turn.
 pub(crate) fn drain_line(
     alloc: Global,
@@ -50,7 +49,8 @@ pub(crate) fn drain_line(
     line(alloc, Answer::Drained)
 }
 
-/// Has each free desk take one turn, in the order of the servers. Answers whether any of them claimed an element.
+/// Has each free desk take one turn, in the order of the servers. Answers whether any of them claimed an
+/// element.
 fn round(
     manager: &Manager,
     keeper: &mut Keeper,
@@ -87,8 +87,8 @@ fn round(
     claims
 }
 
-/// Has the desk at one of the places take a turn, if it is free, and then all passes gather. Answers whether it
-/// claimed an element.
+/// Has the desk at one of the places take a turn, if it is free, and then all passes gather. Answers whether
+/// it claimed an element.
 fn turn(
     manager: &Manager,
     keeper: &mut Keeper,
@@ -134,8 +134,8 @@ fn claims(turned: Turned) -> bool
     }
 }
 
-/// Has the desk at one of the places take a turn, or answers `None` where it isn't free. The passes are all, from
-/// the client's on.
+/// Has the desk at one of the places take a turn, or answers `None` where it isn't free. The passes are all,
+/// from the client's on.
 fn turn_of_all(
     manager: &Manager,
     passes: &mut [Pass],

@@ -1,8 +1,7 @@
 //! After the last command, and after a fault: the desks give up what they have in hand, one after another.
 ghost use Rattle.std.specs.Prelude.{◌≡◌, ◌+◌, ◌≤◌, ◌<◌, length};
 ghost use Rattle.tp_manager.specs.Accounts.{AreAll};
-ghost use Rattle.tp_manager.specs.Shown.{IsKeptBy};
-ghost use Rattle.tp_workers.specs.Free.{numbers};
+ghost use Rattle.tp_manager.specs.Shown.{IsKeptBy, numbers};
 ghost use Rattle.tp_commands.specs.Acting.{GivesUpIn};
 ghost use Rattle.tp_commands.specs.Places.{firsts};
 ghost use Rattle.tp_perform.specs.GivingUp.{GiveUpAll, DeskGivesUp};
@@ -14,8 +13,8 @@ use tp_manager::{Keeper, Manager, Pass};
 use tp_server::Server;
 
 /// Has each desk give up what it has in hand, in the order of the servers. The passes are all that the keeper
-/// gave out: the client's, then one for each server, then those of races. They gather behind each desk, so that
-/// what is counted afterwards is what a manager of one thread counts.
+/// gave out: the client's, then one for each server, then those of races. They gather behind each desk, so
+/// that what is counted afterwards is what a manager of one thread counts.
 pub fn give_up_all(
     manager: &Manager,
     keeper: &mut Keeper,

@@ -2,8 +2,8 @@
 //! sessions perform alike.
 ghost use Rattle.std.specs.Prelude.{◌≡◌, ◌+◌, ◌≤◌, [], All, IfOk, None, false, length, string_bytes};
 ghost use Rattle.tp_manager.specs.Accounts.{AreAll};
-ghost use Rattle.tp_manager.specs.Shown.{IsKeptBy, IsOf};
-ghost use Rattle.tp_workers.specs.Free.{IsFreePass, numbers};
+ghost use Rattle.tp_manager.specs.Shown.{IsKeptBy, IsOf, numbers};
+ghost use Rattle.tp_workers.specs.Free.{IsFreePass};
 ghost use Rattle.tp_commands.specs.Places.{AllLie, firsts};
 ghost use Rattle.tp_perform.specs.Scenes.{Scene, scene};
 ghost use Rattle.tp_perform.specs.Told.{AreReady, IsScene, Performs, PerformsAll, TellsCommand, drain_order};
@@ -82,14 +82,16 @@ fn command_in(
     places: &mut [Place],
     command: Command,
 ) -> Result<String, AllocError>
-    requires ready { AreReady behaviour registers pending means.now.manager.now passes.old servers.old places.old }
+    requires ready { AreReady behaviour registers pending means.now.manager.now passes.old servers.old
+        places.old }
     requires as_many { length places.old ≡ length means.now.head.now.servers.items }
     requires enough { 1 + length servers.old ≤ length passes.old }
     requires in_range { IsInRange (length means.now.head.now.servers.items) command }
     requires no_race { is_race command ≡ false }
     requires no_rollover { is_rollover command ≡ false }
     requires no_drain { drain_order command ≡ None }
-    ensures ready { AreReady behaviour registers pending means.now.manager.now passes.new servers.new places.new }
+    ensures ready { AreReady behaviour registers pending means.now.manager.now passes.new servers.new
+        places.new }
     ensures as_many { length places.new ≡ length places.old }
     ensures began { firsts places.new ≡ firsts places.old }
     ensures numbered { numbers passes.new ≡ numbers passes.old }
@@ -136,7 +138,8 @@ pub fn perform_next(
 ) -> Result<String, AllocError>
     requires keeper { IsKeptBy means.now.manager.now keeper.old }
     requires given { AreAll keeper.old passes.old }
-    requires ready { AreReady behaviour registers pending means.now.manager.now passes.old servers.old places.old }
+    requires ready { AreReady behaviour registers pending means.now.manager.now passes.old servers.old
+        places.old }
     requires as_many { length places.old ≡ length means.now.head.now.servers.items }
     requires enough { 1 + length servers.old ≤ length passes.old }
     requires in_range { IsInRange (length means.now.head.now.servers.items) command }
@@ -145,7 +148,8 @@ pub fn perform_next(
     ensures keeper { IsKeptBy means.now.manager.now keeper.new }
     ensures given { keeper.new.given ≡ keeper.old.given }
     ensures all { AreAll keeper.new passes.new }
-    ensures ready { AreReady behaviour registers pending means.now.manager.now passes.new servers.new places.new }
+    ensures ready { AreReady behaviour registers pending means.now.manager.now passes.new servers.new
+        places.new }
     ensures as_many { length places.new ≡ length places.old }
     ensures began { firsts places.new ≡ firsts places.old }
     ensures numbered { numbers passes.new ≡ numbers passes.old }

@@ -1,8 +1,8 @@
 //! A race as a command: by which passes, and its line.
 ghost use Rattle.std.specs.Prelude.{◌≡◌, ◌+◌, ◌≤◌, All, IfOk, length, string_bytes};
 ghost use Rattle.tp_manager.specs.Accounts.{AreAll};
-ghost use Rattle.tp_manager.specs.Shown.{IsKeptBy, IsOf};
-ghost use Rattle.tp_workers.specs.Free.{IsFreePass, numbers};
+ghost use Rattle.tp_manager.specs.Shown.{IsKeptBy, IsOf, numbers};
+ghost use Rattle.tp_workers.specs.Free.{IsFreePass};
 ghost use Rattle.tp_commands.specs.Places.{AllLie, firsts};
 ghost use Rattle.tp_perform.specs.Scenes.{Scene, scene};
 ghost use Rattle.tp_perform.specs.Told.{AreReady, IsScene, Performs, PerformsAll, RaceFree};
@@ -64,14 +64,16 @@ pub(crate) fn race_in<R: Threads + Sync>(
     servers: &mut [Box<dyn Server + Send>],
     places: &mut [Place],
 ) -> Result<String, AllocError>
-    requires ready { AreReady behaviour registers pending racing.now.manager.now passes.old servers.old places.old }
+    requires ready { AreReady behaviour registers pending racing.now.manager.now passes.old servers.old
+        places.old }
     requires free { RaceFree racing.now.manager.now (length servers.old) racing.now.behind
         (racers_of (command.Race racing.now.plan)) passes.old }
     requires as_many { length places.old ≡ length racing.now.head.now.servers.items }
     requires enough { 1 + length servers.old + racing.now.behind + racers_of (command.Race racing.now.plan)
         ≤ length passes.old }
     requires in_range { IsInRange (length racing.now.head.now.servers.items) (command.Race racing.now.plan) }
-    ensures ready { AreReady behaviour registers pending racing.now.manager.now passes.new servers.new places.new }
+    ensures ready { AreReady behaviour registers pending racing.now.manager.now passes.new servers.new
+        places.new }
     ensures held { units_held (length servers.old) passes.new ≡ units_held (length servers.old) passes.old }
     ensures as_many { length places.new ≡ length places.old }
     ensures began { firsts places.new ≡ firsts places.old }
@@ -104,7 +106,8 @@ pub fn race_next<R: Threads + Sync>(
 ) -> Result<String, AllocError>
     requires keeper { IsKeptBy racing.now.manager.now keeper.old }
     requires given { AreAll keeper.old passes.old }
-    requires ready { AreReady behaviour registers pending racing.now.manager.now passes.old servers.old places.old }
+    requires ready { AreReady behaviour registers pending racing.now.manager.now passes.old servers.old
+        places.old }
     requires free { RaceFree racing.now.manager.now (length servers.old) racing.now.behind
         (racers_of (command.Race racing.now.plan)) passes.old }
     requires as_many { length places.old ≡ length racing.now.head.now.servers.items }
@@ -114,7 +117,8 @@ pub fn race_next<R: Threads + Sync>(
     ensures keeper { IsKeptBy racing.now.manager.now keeper.new }
     ensures given { keeper.new.given ≡ keeper.old.given }
     ensures all { AreAll keeper.new passes.new }
-    ensures ready { AreReady behaviour registers pending racing.now.manager.now passes.new servers.new places.new }
+    ensures ready { AreReady behaviour registers pending racing.now.manager.now passes.new servers.new
+        places.new }
     ensures held { units_held (length servers.old) passes.new ≡ units_held (length servers.old) passes.old }
     ensures as_many { length places.new ≡ length places.old }
     ensures began { firsts places.new ≡ firsts places.old }

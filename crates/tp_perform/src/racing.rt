@@ -127,7 +127,8 @@ pub(crate) fn run_race<R: Threads + Sync>(
     requires own { All (IsOf racing.now.manager.now) passes.old }
     requires lie { AllLie behaviour registers pending passes.old servers.old places.old }
     requires few { length places.old ≤ MAX_SERVERS }
-    requires racers { MayRace racing.now.manager.now racing.now.head.now.settings.rows racing.now.plan racers.old }
+    requires racers { MayRace racing.now.manager.now racing.now.head.now.settings.rows racing.now.plan
+        racers.old }
     ensures own { All (IsOf racing.now.manager.now) passes.new }
     ensures lie { AllLie behaviour registers pending passes.new servers.new places.new }
     ensures racers { AreStillFree racing.now.manager.now racers.old racers.new }
@@ -159,7 +160,8 @@ fn race_free<R: Threads + Sync>(
     requires free { All (λ place. is_free_at place ≡ true) (take front places.old) }
     requires within { (front ≤ at) × (at ≤ length places.old) }
     requires passed { ArePassed front at places.old }
-    requires racers { MayRace racing.now.manager.now racing.now.head.now.settings.rows racing.now.plan racers.old }
+    requires racers { MayRace racing.now.manager.now racing.now.head.now.settings.rows racing.now.plan
+        racers.old }
     ensures own { All (IsOf racing.now.manager.now) passes.new }
     ensures lie { AllLie behaviour registers pending passes.new servers.new places.new }
     ensures racers { AreStillFree racing.now.manager.now racers.old racers.new }
@@ -198,7 +200,8 @@ fn race_front<R: Threads + Sync>(
     requires free { All (λ place. is_free_at place ≡ true) (take front places.now) }
     requires within { front ≤ length places.now }
     requires passed { ArePassed front (length places.now) places.now }
-    requires racers { MayRace racing.now.manager.now racing.now.head.now.settings.rows racing.now.plan racers.old }
+    requires racers { MayRace racing.now.manager.now racing.now.head.now.settings.rows racing.now.plan
+        racers.old }
     ensures own { All (IsOf racing.now.manager.now) passes.new }
     ensures lie { AllLie behaviour registers pending passes.new servers.new places.now }
     ensures racers { AreStillFree racing.now.manager.now racers.old racers.new }

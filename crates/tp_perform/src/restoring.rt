@@ -30,9 +30,9 @@ fn are_held_by(survivors: &[Survivor], own: usize) -> bool
     })
 }
 
-/// A manager with the same limits takes the place of this one. In it is alive what was described, each element
-/// once, and nothing else. `Busy` where a unit of work is open. `Unequal` where one of the first so many passes
-/// is to hold one of these: they are the program's own, and begin with nothing in hand.
+/// A manager with the same limits takes the place of this one. In it is alive what was described, each
+/// element once, and nothing else. `Busy` where a unit of work is open. `Unequal` where one of the first so
+/// many passes is to hold one of these: they are the program's own, and begin with nothing in hand.
 fn take_up(
     alloc: Global,
     managed: &mut Managed,
@@ -75,8 +75,8 @@ fn take_up(
 /// Has what was described stand again, each element once, in a new manager with the same limits, in which the
 /// desks begin anew with the same registers. Answers what each element is there, in the order of the
 /// descriptions. It is refused with `Busy` where a unit of work is open, `Full` where the limits have not the
-/// rows or the units, `Unequal` where the descriptions contradict each other or the limits, or the client or a
-/// desk is to hold one, and `NoMemory`. Nothing has changed then, and all passes gather. The passes are the
+/// rows or the units, `Unequal` where the descriptions contradict each other or the limits, or the client or
+/// a desk is to hold one, and `NoMemory`. Nothing has changed then, and all passes gather. The passes are the
 /// client's, then one for each server, then others.
 pub fn restore(
     alloc: Global,

@@ -77,13 +77,14 @@ pub(crate) fn begin_all_again(
     ensures lie { AllLie behaviour registers pending
         (workers (length servers.now) passes.now) servers.now places.new }
     ensures began { firsts places.new ≡ all_firsts (workers (length servers.now) passes.now) servers.now }
-    ensures dropped { map (λ place. place.is_dropped) places.new ≡ map (λ place. place.is_dropped) places.old }
+    ensures dropped { map (λ place. place.is_dropped) places.new
+        ≡ map (λ place. place.is_dropped) places.old }
 {
     begin_again(&passes[1..1 + servers.len()], servers, places);
 }
 
-/// What is alive goes on in a new manager. `Busy` where one of the first so many passes has a unit of work open:
-/// they are the program's own, the client's and the desks'.
+/// What is alive goes on in a new manager. `Busy` where one of the first so many passes has a unit of work
+/// open: they are the program's own, the client's and the desks'.
 fn go_on(alloc: Global, managed: &mut Managed, own: usize) -> Result<Vec<Moved>, RollFault>
     requires managed { IsManaged managed.old }
     requires own { own ≤ length managed.old.passes.items }
@@ -108,8 +109,8 @@ fn go_on(alloc: Global, managed: &mut Managed, own: usize) -> Result<Vec<Moved>,
 /// Has what is alive, each element once, go on in a new manager with the same limits, in which the desks
 /// begin anew with the same registers. Answers what was carried over, by ascending ids. What a worker has in
 /// hand, its pass has in hand there. It is refused with `Busy` where a desk has a unit of work open, `Full`
-/// where the new manager has not the rows or the units, and `NoMemory`. Nothing has changed then, and all passes
-/// gather. The passes are the client's, then one for each server, then others.
+/// where the new manager has not the rows or the units, and `NoMemory`. Nothing has changed then, and all
+/// passes gather. The passes are the client's, then one for each server, then others.
 pub fn roll_over(
     alloc: Global,
     managed: &mut Managed,

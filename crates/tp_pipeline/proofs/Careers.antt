@@ -11,8 +11,8 @@ use Rattle.tp_crew.specs.Crew.{IsSteadyCrew, folds}
 use Rattle.tp_crew.specs.CrewPasses.{desks_in}
 use Rattle.tp_crew.specs.declared.crew.Crew.{Crew}
 use Rattle.tp_crew.proofs.Careers.{career_raised, come_same, has_become, has_begun, has_rolled}
-use Rattle.tp_pipeline.specs.Books.{CrewGoesOn, HasWorked, HaveWorked, charges_in, count_in, one, takings_in}
-use Rattle.tp_pipeline.specs.Payments.{payment_amount, charger, shipper, validator}
+use Rattle.tp_pipeline.specs.Books.{CrewGoesOn, HasWorked, HaveWorked, charges_in, count_in, one_payment, takings_in}
+use Rattle.tp_pipeline.specs.Payments.{payment_amount, charger, shipper, payment_validator}
 
 module _ {X : Type 0} {F : X → Type 0} (behaviour : DynBox X Global F → Behaviour) (registers : DynBox X Global F → List ℕ) where
   -- where folds go on as they were, so does all work
@@ -27,17 +27,17 @@ module _ {X : Type 0} {F : X → Type 0} (behaviour : DynBox X Global F → Beha
   }
 
   -- what each effect adds, all of a career add up to
-  has_worked : ((ceiling : ℕ) → Raises (validator ceiling) count_in one) → Raises charger takings_in payment_amount
-      → Raises charger charges_in one → Raises shipper count_in one
+  has_worked : ((ceiling : ℕ) → Raises (payment_validator ceiling) count_in one_payment) → Raises charger takings_in payment_amount
+      → Raises charger charges_in one_payment → Raises shipper count_in one_payment
       → (c : Crew X F) (k : ℕ) (u : DynBox X Global F) (stints : List Stint) (h : HasBecome behaviour registers k u stints c)
       → HasWorked behaviour registers u h.box
   has_worked validated takings charges shipped c k u stints h = record {
     stints = stints;
     career = h.career;
-    validated = λ ceiling is. career_raised behaviour registers (validator ceiling) count_in one stints u h.box (validated ceiling) is h.career;
+    validated = λ ceiling is. career_raised behaviour registers (payment_validator ceiling) count_in one_payment stints u h.box (validated ceiling) is h.career;
     takings = λ is. career_raised behaviour registers charger takings_in payment_amount stints u h.box takings is h.career;
-    charges = λ is. career_raised behaviour registers charger charges_in one stints u h.box charges is h.career;
-    shipped = λ is. career_raised behaviour registers shipper count_in one stints u h.box shipped is h.career;
+    charges = λ is. career_raised behaviour registers charger charges_in one_payment stints u h.box charges is h.career;
+    shipped = λ is. career_raised behaviour registers shipper count_in one_payment stints u h.box shipped is h.career;
   }
 
 module _ {X : Type 0} {F : X → Type 0} (behaviour : DynBox X Global F → Behaviour) (registers : DynBox X Global F → List ℕ)
@@ -49,8 +49,8 @@ module _ {X : Type 0} {F : X → Type 0} (behaviour : DynBox X Global F → Beha
       record { come = λ k u stints come. has_rolled behaviour registers pending old new k u stints h h' boxes begun come }
 
   -- from a crew that begins to one that it has become
-  pub have_worked : ((ceiling : ℕ) → Raises (validator ceiling) count_in one) → Raises charger takings_in payment_amount
-      → Raises charger charges_in one → Raises shipper count_in one
+  pub have_worked : ((ceiling : ℕ) → Raises (payment_validator ceiling) count_in one_payment) → Raises charger takings_in payment_amount
+      → Raises charger charges_in one_payment → Raises shipper count_in one_payment
       → (us : List (DynBox X Global F)) (old new : Crew X F) → IsSteadyCrew behaviour registers pending old → IsSteadyCrew behaviour registers pending new
       → old.boxes.items ≡ us → folds old ≡ zip (desks_in (length us) old.managed.passes.items) us → CrewGoesOn behaviour registers old new
       → HaveWorked behaviour registers us new.boxes.items

@@ -1,5 +1,6 @@
 -- What the audit holds the servers' registers and the books against.
-use Rattle.std.specs.Prelude.{◌≡◌, ℕ, zero, suc, ◌+◌, ◌%◌, nat_le, List, [], ◌∷◌, Some, if◌then◌else◌, slice_get}
+use Rattle.std.specs.Prelude.{◌≡◌, ℕ, zero, suc, ◌+◌, ◌%◌, nat_le, List, [], ◌∷◌, Some, if◌then◌else◌}
+use Rattle.std.specs.Prelude.{slice_get}
 use Rattle.std.specs.declared.alloc.Global.{Global}
 use Rattle.std.specs.declared.dyn_box.DynBox.{DynBox}
 use Rattle.tp_pipeline.specs.Ends.{AreClosed}
@@ -19,7 +20,8 @@ passed ceiling (suc n) = passed ceiling n + (if nat_le (amount_in n) ceiling the
 
 abbrev pub takings_due : ℕ → ℕ → ℕ
 takings_due ceiling zero = 0
-takings_due ceiling (suc n) = takings_due ceiling n + (if nat_le (amount_in n) ceiling then amount_in n else 0)
+takings_due ceiling (suc n) =
+    takings_due ceiling n + (if nat_le (amount_in n) ceiling then amount_in n else 0)
 
 module _ {X : Type 0} {F : X → Type 0} (registers : DynBox X Global F → List ℕ) where
   -- the box at this place shows this value in the register with this number

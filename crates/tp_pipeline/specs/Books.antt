@@ -8,7 +8,7 @@ use Rattle.tp_model.specs.declared.types.Element.{Element}
 use Rattle.tp_server.specs.Behaviour.{Behaviour}
 use Rattle.tp_crew.specs.Careers.{Career, HasCome, Stint, consumed_in}
 use Rattle.tp_crew.specs.declared.crew.Crew.{Crew}
-use Rattle.tp_pipeline.specs.Payments.{payment_amount, charger, shipper, validator}
+use Rattle.tp_pipeline.specs.Payments.{payment_amount, charger, shipper, payment_validator}
 
 -- a register: the charger's takings and its count, and the count of the others
 abbrev pub takings_in : List ℕ → ℕ
@@ -21,8 +21,8 @@ abbrev pub count_in : List ℕ → ℕ
 count_in registers = slice_index registers 0
 
 -- each payment counts as one
-abbrev pub one : Element → ℕ
-one payment = 1
+abbrev pub one_payment : Element → ℕ
+one_payment payment = 1
 
 module _ {X : Type 0} {F : X → Type 0} where
   -- the crew has four boxes, and no client
@@ -43,14 +43,14 @@ module _ {X : Type 0} {F : X → Type 0} (behaviour : DynBox X Global F → Beha
   pub record HasWorked (u w : DynBox X Global F) : Type 0 where
     pub stints : List Stint
     pub career : Career behaviour registers stints u w
-    pub validated : (ceiling : ℕ) → behaviour u ≡ validator ceiling
-        → count_in (registers w) ≡ count_in (registers u) + sum_by one (consumed_in stints)
+    pub validated : (ceiling : ℕ) → behaviour u ≡ payment_validator ceiling
+        → count_in (registers w) ≡ count_in (registers u) + sum_by one_payment (consumed_in stints)
     pub takings : behaviour u ≡ charger
         → takings_in (registers w) ≡ takings_in (registers u) + sum_by payment_amount (consumed_in stints)
     pub charges : behaviour u ≡ charger
-        → charges_in (registers w) ≡ charges_in (registers u) + sum_by one (consumed_in stints)
+        → charges_in (registers w) ≡ charges_in (registers u) + sum_by one_payment (consumed_in stints)
     pub shipped : behaviour u ≡ shipper
-        → count_in (registers w) ≡ count_in (registers u) + sum_by one (consumed_in stints)
+        → count_in (registers w) ≡ count_in (registers u) + sum_by one_payment (consumed_in stints)
 
   -- each of the first boxes has become the one at its place among the second
   abbrev pub HaveWorked : List (DynBox X Global F) → List (DynBox X Global F) → Type 0

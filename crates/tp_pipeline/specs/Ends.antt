@@ -2,7 +2,8 @@
 use Rattle.std.specs.Prelude.{◌≡◌, ℕ, ◌+◌, length}
 use Rattle.tp_pipeline.specs.declared.books.Books.{Books}
 
--- of the payments that were submitted, one reply each was collected, some are cancelled, and the others are open
+-- of the payments that were submitted, one reply each was collected, some are cancelled, and the others are
+-- open
 pub record AddUp (b : Books) : Type 0 where
   pub each_once : b.collected + b.cancelled + length b.roots.items ≡ b.submitted
 

@@ -19,17 +19,21 @@ counted n stage payment = record {
 }
 
 abbrev pub count_on : ℕ → List ℕ → Element → Result Effect Declined
-count_on stage (n ∷ []) payment = if nat_lt (n + 1) (2 ^ 64) then Ok (counted n stage payment) else Err TooLarge
+count_on stage (n ∷ []) payment =
+    if nat_lt (n + 1) (2 ^ 64) then Ok (counted n stage payment) else Err TooLarge
 count_on stage other payment = Err NoRegister
 
 -- the validator counts what it lets through, which is what isn't above its ceiling; else it declines for its
 -- own reason
-abbrev pub validated : ℕ → List ℕ → Element → Result Effect Declined
-validated ceiling registers payment =
+abbrev pub payment_validated : ℕ → List ℕ → Element → Result Effect Declined
+payment_validated ceiling registers payment =
     if nat_le (payment_amount payment) ceiling then count_on 2 registers payment else Err (Own 1)
 
-abbrev pub validator : ℕ → Behaviour
-validator ceiling = record { stage = 1; effect = λ registers payment heard. validated ceiling registers payment }
+abbrev pub payment_validator : ℕ → Behaviour
+payment_validator ceiling = record {
+  stage = 1;
+  effect = λ registers payment heard. payment_validated ceiling registers payment;
+}
 
 -- the charge adds the amount to the takings, counts one more, and notes the bank's receipt
 abbrev pub charge : ℕ → ℕ → Element → ℕ → Effect
@@ -42,9 +46,9 @@ charge takings n payment receipt = record {
 }
 
 -- what was heard from the bank: a receipt, if it is open
-abbrev pub as_heard : Option ℕ → List ℕ
-as_heard (Some receipt) = receipt ∷ []
-as_heard None = []
+abbrev pub receipt_heard : Option ℕ → List ℕ
+receipt_heard (Some receipt) = receipt ∷ []
+receipt_heard None = []
 
 -- with no receipt the charge is declined, for a reason of the server's own
 abbrev pub answered : ℕ → ℕ → Element → List ℕ → Result Effect Declined

@@ -2,8 +2,9 @@
 //! crew works them off, in one manager after another.
 //!
 //! The arguments, each of which may be left out: how many payments there are, how many turns each desk takes
-//! on a thread of its own before what is left of a batch is drained on one (as many as a batch has payments, if
-//! not said), and how many steps each turn's work takes. With any argument a line more tells of the managers.
+//! on a thread of its own before what is left of a batch is drained on one (as many as a batch has payments,
+//! if not said), and how many steps each turn's work takes. With any argument a line more tells of the
+//! managers.
 #![tactic(auto)]
 
 mod audit;
@@ -27,7 +28,8 @@ use tp_server::{OwnServer, three};
 /// The highest amount that the validator lets through.
 const CEILING: u64 = 98;
 
-/// How many words a large piece of memory has: a megabyte, twelve times as much as a manager of the crew takes.
+/// How many words a large piece of memory has: a megabyte, twelve times as much as a manager of the crew
+/// takes.
 const LARGE_PIECE: usize = 1 << 17;
 
 fn main(rt: HostRuntime) -> Result<(), PipelineFault> {

@@ -1,7 +1,8 @@
 //! The servers of the three stages. The words of a payment's body are its amount, its number, and the bank's
 //! receipt once there is one.
 ghost use Rattle.std.specs.Prelude.{◌≡◌, ◌≤◌};
-ghost use Rattle.tp_pipeline.specs.Payments.{as_heard, charged, charger, count_on, shipper, validated, validator};
+ghost use Rattle.tp_pipeline.specs.Payments.{receipt_heard, charged, charger, count_on, shipper};
+ghost use Rattle.tp_pipeline.specs.Payments.{payment_validated, payment_validator};
 
 use crate::bank::Bank;
 use std::hint::spin_loop;
@@ -35,7 +36,7 @@ pub struct Validator {
 }
 
 impl Handler<1> for Validator {
-    ghost behaviour = { λ s. validator s.ceiling };
+    ghost behaviour = { λ s. payment_validator s.ceiling };
 
     fn stage(&self) -> u8 {
         1
@@ -51,7 +52,7 @@ impl Handler<1> for Validator {
 
 /// What a payment comes to, where this is the ceiling.
 fn validated(ceiling: u64, payment: &Element, counted: &[u64; 1]) -> Result<Effect<1>, Declined>
-    ensures { result ≡ validated ceiling counted.now payment.now }
+    ensures { result ≡ payment_validated ceiling counted.now payment.now }
 {
     if payment.body[0] > ceiling {
         return Err(Declined::Own(1));
@@ -84,7 +85,7 @@ impl<B: Bank> Handler<2> for Charger<B> {
 
 /// What a payment comes to, where this receipt was heard of.
 fn charged(payment: &Element, books: &[u64; 2], receipt: Option<u64>) -> Result<Effect<2>, Declined>
-    ensures { result ≡ charged books.now payment.now (as_heard receipt) }
+    ensures { result ≡ charged books.now payment.now (receipt_heard receipt) }
 {
     let [amount, number, _, _] = payment.body;
     let Some(takings) = books[0].checked_add(amount) else {

@@ -5,10 +5,11 @@ ghost use Rattle.std.specs.Prelude.{length};
 ghost use Rattle.tp_desk.specs.Steady.{shown};
 ghost use Rattle.tp_server.specs.Books.{Raises};
 ghost use Rattle.tp_crew.specs.Crew.{IsSteadyCrew};
-ghost use Rattle.tp_pipeline.specs.Books.{CrewGoesOn, HaveWorked, IsStaffed, charges_in, count_in, one, takings_in};
+ghost use Rattle.tp_pipeline.specs.Books.{CrewGoesOn, HaveWorked, IsStaffed, charges_in, count_in};
+ghost use Rattle.tp_pipeline.specs.Books.{one_payment, takings_in};
 ghost use Rattle.tp_pipeline.specs.Audits.{Agree, payment};
 ghost use Rattle.tp_pipeline.specs.Ends.{AddUp, AreClosed};
-ghost use Rattle.tp_pipeline.specs.Payments.{payment_amount, charger, shipper, validator};
+ghost use Rattle.tp_pipeline.specs.Payments.{payment_amount, charger, shipper, payment_validator};
 ghost use Rattle.tp_pipeline.specs.Stops.{IsBatchFault, IsServiceFault, StopsAt, StopsBehind};
 ghost use Rattle.tp_pipeline.specs.Submitting.{SubmitsPayments, SubmitsPayment};
 
@@ -41,9 +42,9 @@ const LIMITS: CrewLimits = CrewLimits {
 /// With fewer rows left, or with fewer than twice as many units, the crew rolls over.
 const WANTED: u16 = 32;
 
-/// What is asked of the pipeline: how many payments, up to which amount the validator lets them through, and how
-/// many turns each desk takes on a thread of its own before what is left is drained on one. With none all is
-/// done on one.
+/// What is asked of the pipeline: how many payments, up to which amount the validator lets them through, and
+/// how many turns each desk takes on a thread of its own before what is left is drained on one. With none all
+/// is done on one.
 #[derive(Clone, Copy, Debug)]
 pub struct Task {
     pub payments: u64,
@@ -185,7 +186,8 @@ pub fn submit_next(crew: &mut Crew, books: &mut Books, payments: u64) -> Result<
     ensures goes_on { OnOk result (CrewGoesOn (shown behaviour) (shown registers) crew.old crew.new) }
     ensures add_up { OnOk result (AddUp books.new) }
     ensures few { OnOk result (books.new.submitted ≤ payments) }
-    ensures submits { OnOk result (SubmitsPayments books.old.submitted books.new.submitted crew.old crew.new) }
+    ensures submits { OnOk result
+        (SubmitsPayments books.old.submitted books.new.submitted crew.old crew.new) }
     ensures stops { IfErr result (StopsBehind books.old.submitted crew.old crew.new) }
 {
     for _one in 0..crew.room().rows {
@@ -315,10 +317,10 @@ fn run<R: Clock + Threads + Sync + AllocGlobal>(
     Err(PipelineFault::TooLong)
 }
 
-/// Works off so many payments with these boxes, whose registers are 0: a validator, a charger and two shippers.
-/// Over however many managers that goes, each box's registers are what its own effects made of the payments
-/// that it consumed, each once. They are what was due, and so are the books: all those payments were submitted,
-/// and each has its end.
+/// Works off so many payments with these boxes, whose registers are 0: a validator, a charger and two
+/// shippers. Over however many managers that goes, each box's registers are what its own effects made of the
+/// payments that it consumed, each once. They are what was due, and so are the books: all those payments were
+/// submitted, and each has its end.
 pub fn serve<R: Clock + Threads + Sync + AllocGlobal>(
     rt: &R,
     boxes: Vec<Boxed>,
@@ -343,8 +345,8 @@ pub fn serve<R: Clock + Threads + Sync + AllocGlobal>(
 
 /// What each payment adds to the servers' registers.
 fn each_payment()
-    ensures validated { (ceiling : ℕ) → Raises (validator ceiling) count_in one }
+    ensures validated { (ceiling : ℕ) → Raises (payment_validator ceiling) count_in one_payment }
     ensures takings { Raises charger takings_in payment_amount }
-    ensures charges { Raises charger charges_in one }
-    ensures shipped { Raises shipper count_in one }
+    ensures charges { Raises charger charges_in one_payment }
+    ensures shipped { Raises shipper count_in one_payment }
 {}

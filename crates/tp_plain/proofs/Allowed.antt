@@ -19,7 +19,7 @@ use Rattle.tp_model.specs.Drafts.{DraftView}
 use Rattle.tp_model.specs.History.{element_of, UnitClaim, UnitEnd, Committed, Aborted, end_of, rounds, status_of}
 use Rattle.tp_model.specs.Steps.{IsServerStage, IsBody, IsOpen, Step}
 use Rattle.tp_model.specs.Births.{IsWhole}
-use Rattle.tp_plain.specs.OneThread.{Answers, CallSubmit, CallClaim, CallClaimNext, CallCommit, CallAbort, CallKill, CallRelease, CallCollect, CallRequeue, CallRead, EndsByAbort, State, extended, pass_at, turn_of, next_row, ready, HasPlainRoom}
+use Rattle.tp_plain.specs.OneThread.{Answers, CallSubmit, CallClaim, CallClaimNext, CallCommit, CallAbort, CallKill, CallRelease, CallCollect, CallRequeue, CallRead, EndsByAbort, State, extended, pass_at, turn_of_pass, first_row, ready, HasPlainRoom}
 use Rattle.tp_plain.specs.Looks.{is_held_by, looks_after_all}
 use Rattle.tp_plain.specs.Reached.{IsReachable}
 use Rattle.tp_plain.specs.Computed.{is_server_stage, has_room, submit_of, with_request, next_waiting, claim_found, claim_of_stage, claim_next_found, claim_next_of_stage, abort_at, abort_of, commit_at, commit_of, unit_in_hand, kill_at, kill_found, release_at, release_found, collect_at, collect_found, requeue_at, requeue_found, read_found, ComputedAreAllowed}
@@ -49,7 +49,7 @@ module _ (s : State) (c : ℕ) (reached : IsReachable s) (is_pass : c < s.limits
   submit_allowed stage body whole = go (is_server_stage stage) (has_room s c 1) refl refl
     where
       go : (staged room : Bool) → is_server_stage stage ≡ staged → has_room s c 1 ≡ room
-          → let computed : Result ℕ Refusal × State = cond {A = Result ℕ Refusal × State} staged (cond {A = Result ℕ Refusal × State} room (Ok (next_row s c 1), with_request s c stage body) (Err refusal.Full, s)) (Err refusal.BadStage, s) in
+          → let computed : Result ℕ Refusal × State = cond {A = Result ℕ Refusal × State} staged (cond {A = Result ℕ Refusal × State} room (Ok (first_row s c 1), with_request s c stage body) (Err refusal.Full, s)) (Err refusal.BadStage, s) in
           Answers s (CallSubmit c stage body computed.0) computed.1
       go true true staged room =
           let below : HasPlainRoom s c 1 = leb-true 1 (ready s c 1).left room in
@@ -68,12 +68,12 @@ module _ (s : State) (c : ℕ) (reached : IsReachable s) (is_pass : c < s.limits
 
   claim_next_allowed : (stage : ℕ) → IsServerStage stage → (pass_at s c).holding ≡ None
       → Answers s (CallClaimNext c stage (Ok (claim_next_of_stage s c stage).0)) (claim_next_of_stage s c stage).1
-  claim_next_allowed stage good free = go (nat_lt (pass_at s c).claimed s.limits.units) (next_waiting s (turn_of s c stage) stage) refl refl
+  claim_next_allowed stage good free = go (nat_lt (pass_at s c).claimed s.limits.units) (next_waiting s (turn_of_pass s c stage) stage) refl refl
     where
-      go : (room : Bool) (found : Option Look) → nat_lt (pass_at s c).claimed s.limits.units ≡ room → next_waiting s (turn_of s c stage) stage ≡ found
+      go : (room : Bool) (found : Option Look) → nat_lt (pass_at s c).claimed s.limits.units ≡ room → next_waiting s (turn_of_pass s c stage) stage ≡ found
           → let computed : Claimed × State = cond {A = Claimed × State} room (claim_next_found s c stage found) (claimed.NoUnit, s) in
           Answers s (CallClaimNext c stage (Ok computed.0)) computed.1
-      go true None room is = (refl, leb-true (suc (pass_at s c).claimed) s.limits.units room, idle s (turn_of s c stage) stage reached.legal is)
+      go true None room is = (refl, leb-true (suc (pass_at s c).claimed) s.limits.units room, idle s (turn_of_pass s c stage) stage reached.legal is)
       go true (Some look) room is = claim_next_takes s c stage look reached is_pass good (leb-true (suc (pass_at s c).claimed) s.limits.units room) free is
       go false found room is = (refl, ltb-false (pass_at s c).claimed s.limits.units room)
 

@@ -18,8 +18,8 @@ use Rattle.tp_model.specs.declared.event.Event.TheVariants.{Claim}
 use Rattle.tp_model.specs.History.{births, born, UnitClaim, claim_by, claim_of, end_by, status_of}
 use Rattle.tp_model.specs.Counts.{is_waiting}
 use Rattle.tp_model.specs.Steps.{IsServerStage, IsOpen, Step, IsLegal, rows_of}
-use Rattle.tp_plain.specs.Computed.{next_waiting, with_claim, work_on}
-use Rattle.tp_plain.specs.OneThread.{IsPlainBefore, State, pass_at, next_unit, turn_of, Waits, PlainTakes, PlainTakesNext}
+use Rattle.tp_plain.specs.Computed.{next_waiting, with_claimed, work_on}
+use Rattle.tp_plain.specs.OneThread.{IsPlainBefore, State, pass_at, next_unit, turn_of_pass, Waits, PlainTakes, PlainTakesNext}
 use Rattle.tp_plain.specs.Reached.{PassFits, IsReachable}
 use Rattle.tp_plain.specs.Looks.{comes_before, look_at, look_after, looks_after_all, fresh_look, waits_in, sooner, attempts_in}
 use Rattle.tp_model.proofs.Lists.{first-snoc, if_same, if_other, some_if}
@@ -295,7 +295,7 @@ module _ (s : State) (c stage : ℕ) (look : Look) (reached : IsReachable s) (is
         waits = rw one_less (waits.waits);
       }
 
-  pub reached_claim : (turns : List ℕ) → IsReachable (with_claim s c look turns)
+  pub reached_claim : (turns : List ℕ) → IsReachable (with_claimed s c look turns)
   reached_claim turns =
       reached_moved s the_claim c _ reached may_claim refl is_pass (fits_claim s.limits s.history s.drawn c look.element.id (attempts_in look.status + 1) (pass_at s c) turns reached.legal (reached.fits c is_pass) room free) refl (λ y p. absurd (in_none p))
 
@@ -309,7 +309,7 @@ module _ (s : State) (c stage : ℕ) (look : Look) (reached : IsReachable s) (is
   one_less : (attempts_in look.status + 1) - 1 ≡ attempts_in look.status
   one_less = omega arith
 
-  pub claim_takes : next_waiting s 0 stage ≡ Some look → PlainTakes s c stage (work_on s c look) (with_claim s c look (pass_at s c).turns)
+  pub claim_takes : next_waiting s 0 stage ≡ Some look → PlainTakes s c stage (work_on s c look) (with_claimed s c look (pass_at s c).turns)
   claim_takes is =
       let waits = next_waits s 0 stage reached.legal look is in
       record {
@@ -321,15 +321,15 @@ module _ (s : State) (c stage : ℕ) (look : Look) (reached : IsReachable s) (is
         after = refl;
       }
 
-  pub claim_next_takes : next_waiting s (turn_of s c stage) stage ≡ Some look
-      → PlainTakesNext s c stage (work_on s c look) (with_claim s c look (slice_set (pass_at s c).turns stage (look.element.id + 1)))
+  pub claim_next_takes : next_waiting s (turn_of_pass s c stage) stage ≡ Some look
+      → PlainTakesNext s c stage (work_on s c look) (with_claimed s c look (slice_set (pass_at s c).turns stage (look.element.id + 1)))
   claim_next_takes is =
-      let waits = next_waits s (turn_of s c stage) stage reached.legal look is in
+      let waits = next_waits s (turn_of_pass s c stage) stage reached.legal look is in
       record {
         room = room;
         next = refl;
         waiting = rw one_less waits;
-        first = next_first s (turn_of s c stage) stage reached.legal look is;
+        first = next_first s (turn_of_pass s c stage) stage reached.legal look is;
         step = may_claim s c stage look reached is_pass good waits room free;
         after = refl;
       }

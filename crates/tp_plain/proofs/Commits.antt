@@ -21,7 +21,7 @@ use Rattle.tp_plain.specs.Computed.{commit_of}
 use Rattle.tp_model.specs.declared.types.Outcome.TheVariants as outcome
 use Rattle.tp_plain.proofs.Computations.{commit_goes}
 use Rattle.tp_model.specs.Births.{IsWhole, outputs}
-use Rattle.tp_plain.specs.OneThread.{root_of, State, pass_at, spent, Commits, HasPlainRoom, ready, with_draw}
+use Rattle.tp_plain.specs.OneThread.{root_of, State, pass_at, freed_after_use, PlainCommits, HasPlainRoom, ready, with_draw}
 use Rattle.tp_plain.specs.Reached.{PassFits, IsReachable}
 use Rattle.tp_plain.specs.Looks.{look_at, look_after, fresh_look, is_held_by}
 use Rattle.tp_model.proofs.Lists.{first-snoc, if_other, none_if}
@@ -76,7 +76,7 @@ held_claimed l h i u n legal is = go (claim_word h i) (sym (status_by_words l h 
     go (AgainWord r) e c = absurd (cc (e))
 
 fits_commit : (l : Limits) (h : List Event) (drawn c u root : ℕ) (ds : List DraftView) (used : PassState) → PassFits l h drawn c used → used.holding ≡ Some u → length ds ≤ used.left
-    → PassFits l (h ++ Commit c u (outputs u root used.next ds) ∷ []) drawn c (spent used (length ds))
+    → PassFits l (h ++ Commit c u (outputs u root used.next ds) ∷ []) drawn c (freed_after_use used (length ds))
 fits_commit l h drawn c u root ds used fits hand room =
     let outs = outputs u root used.next ds in
     let e : Event = Commit c u outs in
@@ -116,14 +116,14 @@ module _ (s : State) (looks : List Look) (c : ℕ) (reached : IsReachable s) (ag
   the_outputs x = outputs u look.element.root x.next ds
 
   abbrev pub committed_state : PassState → ℕ → State
-  committed_state x drawn = record { limits = l; history = h ++ Commit c u (the_outputs x) ∷ []; passes = slice_set s.passes c (spent x (length ds)); drawn = drawn }
+  committed_state x drawn = record { limits = l; history = h ++ Commit c u (the_outputs x) ∷ []; passes = slice_set s.passes c (freed_after_use x (length ds)); drawn = drawn }
 
   abbrev pub CommitLeft : PassState → ℕ → Type 0
   CommitLeft x drawn =
       IsReachable (committed_state x drawn)
       × (map (look_after l.attempts (Commit c u (the_outputs x))) (looks ++ map fresh_look (the_outputs x)) ≡ map (look_at l.attempts (h ++ Commit c u (the_outputs x) ∷ [])) (born (h ++ Commit c u (the_outputs x) ∷ [])))
       × ((pass_at s c).holding ≡ Some u)
-      × Commits s c u ds (if length ds == 0 then 0 else x.next) (length ds) (committed_state x drawn)
+      × PlainCommits s c u ds (if length ds == 0 then 0 else x.next) (length ds) (committed_state x drawn)
       × (commit_of s c ds ≡ (outcome.Committed (if length ds == 0 then 0 else x.next) (length ds), committed_state x drawn))
 
   -- the element in the unit's hand
@@ -163,7 +163,7 @@ module _ (s : State) (looks : List Look) (c : ℕ) (reached : IsReachable s) (ag
       } in
       let own = fits_commit l h drawn c u look.element.root ds x fits hand room in
       let root : root_of h u ≡ look.element.root = rw (o.1.claimed, the_item o.0 o.1) refl in (
-        reached_used s c (length ds) reached is_pass (Commit c u (the_outputs x)) (spent x (length ds)) step refl own (omega arith)
+        reached_used s c (length ds) reached is_pass (Commit c u (the_outputs x)) (freed_after_use x (length ds)) step refl own (omega arith)
             (λ y p. let t = outputs_in u look.element.root x.next ds y p in let low = t.0 in let high = t.1 in (omega arith, omega arith)),
         looks_committed l h c u (the_outputs x) looks reached.legal step agree,
         hand,

@@ -11,29 +11,29 @@ use Rattle.tp_model.specs.declared.event.Event.TheVariants.{Abort}
 use Rattle.tp_model.specs.Drafts.{DraftView}
 use Rattle.tp_model.specs.History.{Aborted, element_of, end_of, status_of}
 use Rattle.tp_model.specs.Steps.{IsServerStage}
-use Rattle.tp_plain.specs.OneThread.{State, pass_at, turn_of, HasPlainRoom, next_row, moved, with_pass, with_draw, ready, freed, spent}
-use Rattle.tp_plain.specs.Computed.{is_server_stage, submit_of, with_request, next_waiting, work_on, with_claim, claim_of_stage, claim_next_of_stage, abort_of, committed_by, commit_of, read_of}
+use Rattle.tp_plain.specs.OneThread.{State, pass_at, turn_of_pass, HasPlainRoom, first_row, moved, with_pass, with_draw, ready, freed, freed_after_use}
+use Rattle.tp_plain.specs.Computed.{is_server_stage, submit_of, with_request, next_waiting, work_on, with_claimed, claim_of_stage, claim_next_of_stage, abort_of, committed_by, commit_of, read_of}
 use Rattle.tp_model.proofs.Bridges.{element_of-id}
 
 module _ (s : State) (c : ℕ) where
   pub submit_goes : (stage : ℕ) (body : List ℕ) → IsServerStage stage → HasPlainRoom s c 1
-      → submit_of s c stage body ≡ (Ok (next_row s c 1), with_request s c stage body)
+      → submit_of s c stage body ≡ (Ok (first_row s c 1), with_request s c stage body)
   submit_goes stage body good room =
       let staged : is_server_stage stage ≡ true = and_from (nat_le 1 stage) (nat_le stage 14) (le-leb 1 stage good.0) (le-leb stage 14 good.1) in
       rw (staged, le-leb 1 (ready s c 1).left room) refl
 
   pub claim_works : (stage : ℕ) (look : Look) → (pass_at s c).claimed < s.limits.units → next_waiting s 0 stage ≡ Some look
-      → claim_of_stage s c stage ≡ (claimed.Work (work_on s c look), with_claim s c look (pass_at s c).turns)
+      → claim_of_stage s c stage ≡ (claimed.Work (work_on s c look), with_claimed s c look (pass_at s c).turns)
   claim_works stage look room is = rw (le-leb (suc (pass_at s c).claimed) s.limits.units room, is) refl
 
   pub claim_idle : (stage : ℕ) → (pass_at s c).claimed < s.limits.units → next_waiting s 0 stage ≡ None → claim_of_stage s c stage ≡ (claimed.Idle, s)
   claim_idle stage room none = rw (le-leb (suc (pass_at s c).claimed) s.limits.units room, none) refl
 
-  pub claim_next_works : (stage : ℕ) (look : Look) → (pass_at s c).claimed < s.limits.units → next_waiting s (turn_of s c stage) stage ≡ Some look
-      → claim_next_of_stage s c stage ≡ (claimed.Work (work_on s c look), with_claim s c look (slice_set (pass_at s c).turns stage (look.element.id + 1)))
+  pub claim_next_works : (stage : ℕ) (look : Look) → (pass_at s c).claimed < s.limits.units → next_waiting s (turn_of_pass s c stage) stage ≡ Some look
+      → claim_next_of_stage s c stage ≡ (claimed.Work (work_on s c look), with_claimed s c look (slice_set (pass_at s c).turns stage (look.element.id + 1)))
   claim_next_works stage look room is = rw (le-leb (suc (pass_at s c).claimed) s.limits.units room, is) refl
 
-  pub claim_next_idle : (stage : ℕ) → (pass_at s c).claimed < s.limits.units → next_waiting s (turn_of s c stage) stage ≡ None
+  pub claim_next_idle : (stage : ℕ) → (pass_at s c).claimed < s.limits.units → next_waiting s (turn_of_pass s c stage) stage ≡ None
       → claim_next_of_stage s c stage ≡ (claimed.Idle, s)
   claim_next_idle stage room none = rw (le-leb (suc (pass_at s c).claimed) s.limits.units room, none) refl
 
@@ -51,7 +51,7 @@ module _ (s : State) (c : ℕ) where
     commit_goes ds hand undecided room = rw (le-leb (length ds) (ready s c (length ds)).left room, hand, undecided) refl
 
     pub commit_lost : (ds : List DraftView) → (pass_at s c).holding ≡ Some u → end_of s.history u ≡ Some Aborted → HasPlainRoom s c (length ds)
-        → commit_of s c ds ≡ (outcome.Lost, with_pass (with_draw s c (length ds)) c (spent (ready s c (length ds)) (length ds)))
+        → commit_of s c ds ≡ (outcome.Lost, with_pass (with_draw s c (length ds)) c (freed_after_use (ready s c (length ds)) (length ds)))
     commit_lost ds hand gone room = rw (le-leb (length ds) (ready s c (length ds)).left room, hand, gone) refl
 
 -- a read of what is born, and of what isn't

@@ -13,7 +13,7 @@ use Rattle.tp_model.specs.History.{born, element_of, status_of}
 use Rattle.tp_model.specs.Steps.{IsLegal, IsServerStage, IsStage}
 use Rattle.tp_model.proofs.Bridges.{element_of-id, find_in}
 use Rattle.tp_model.proofs.Stages.{born_staged}
-use Rattle.tp_plain.specs.Computed.{claim_id_at, claim_id_found, claim_id_of, with_claim, work_on}
+use Rattle.tp_plain.specs.Computed.{claim_id_at, claim_id_found, claim_id_of, with_claimed, work_on}
 use Rattle.tp_plain.specs.OneThread.{Answers, CallClaimId, State, PlainTakesId, Waits, pass_at}
 use Rattle.tp_plain.specs.Reached.{IsReachable}
 use Rattle.tp_plain.proofs.Claims.{may_claim}
@@ -44,7 +44,7 @@ module _ (s : State) (c i : ℕ) (reached : IsReachable s) (is_pass : c < s.limi
   one_less : (n + 1) - 1 ≡ n
   one_less = omega arith
 
-  pub takes_id : PlainTakesId s c i (work_on s c look) (with_claim s c look (pass_at s c).turns)
+  pub takes_id : PlainTakesId s c i (work_on s c look) (with_claimed s c look (pass_at s c).turns)
   takes_id = record {
     room = room;
     next = refl;

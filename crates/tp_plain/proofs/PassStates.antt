@@ -14,7 +14,7 @@ use Rattle.tp_model.specs.declared.event.Event.TheVariants.{Enqueue, Claim, Comm
 use Rattle.tp_model.specs.History.{In, births, UnitClaim, claim_by, claim_of, Aborted, end_by, end_of, pass_of}
 use Rattle.tp_model.specs.Steps.{AreLimits, IsServerStage, IsBody, IsOpen, Step, block_first}
 use Rattle.tp_model.specs.Births.{request}
-use Rattle.tp_plain.specs.OneThread.{State, start, fresh_pass, no_pass, pass_at, moved, with_pass, draws, ready, next_row, with_draw, used_up, HasPlainRoom}
+use Rattle.tp_plain.specs.OneThread.{State, start, fresh_pass, no_pass, pass_at, moved, with_pass, draws_block, ready, first_row, with_draw, used_up, HasPlainRoom}
 use Rattle.tp_plain.specs.Reached.{PassFits, IsReachable, RunFits}
 use Rattle.tp_model.proofs.Areas.{one_area}
 use Rattle.tp_model.proofs.Lists.{first-snoc, first-kept, option_or-None, if_same, if_other}
@@ -124,7 +124,7 @@ module _ (s : State) (c k : ℕ) (reached : IsReachable s) (is_pass : c < s.limi
   there = rw reached.passes is_pass
 
   pub reached_ready : IsReachable (after_draw s c k)
-  reached_ready = go (draws s c k) refl
+  reached_ready = go (draws_block s c k) refl
     where
       old : PassState
       old = pass_at s c
@@ -200,7 +200,7 @@ module _ (s : State) (c k : ℕ) (reached : IsReachable s) (is_pass : c < s.limi
                 ]
               ]
 
-      go : (b : Bool) → draws s c k ≡ b
+      go : (b : Bool) → draws_block s c k ≡ b
           → IsReachable (record { limits = s.limits; history = s.history; passes = slice_set s.passes c (record { next = cond b (block_first s.limits s.drawn) old.next; left = cond b BLOCK_ROWS old.left; claimed = old.claimed; holding = old.holding; turns = old.turns }); drawn = cond b (s.drawn + 1) s.drawn })
       go true is = by_draw (leb-true (suc s.drawn) s.limits.spare (and_parts (nat_lt old.left k) (nat_lt s.drawn s.limits.spare) is).1)
       go false is = rw (set-get_or s.passes c no_pass) reached
@@ -220,10 +220,10 @@ module _ (s : State) (c k : ℕ) (reached : IsReachable s) (is_pass : c < s.limi
 
 -- a pass may submit where it has a row
 pub may_submit : (s : State) (c stage : ℕ) (body : List ℕ) → IsReachable s → c < s.limits.parts → IsServerStage stage → IsBody body → HasPlainRoom s c 1
-    → Step s.limits s.history (Enqueue c (request (next_row s c 1) stage body))
+    → Step s.limits s.history (Enqueue c (request (first_row s c 1) stage body))
 may_submit s c stage body reached is_pass good whole room =
     let run = (fits_ready s c 1 reached is_pass).run in
-    let at = next_row s c 1 in
+    let at = first_row s c 1 in
     record {
       row = may_use s.limits s.history (with_draw s c 1).drawn c at (ready s c 1).left run is_pass at (omega arith) (omega arith);
       unborn = run.unborn at (omega arith) (omega arith);

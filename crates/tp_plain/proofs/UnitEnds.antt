@@ -21,7 +21,7 @@ use Rattle.tp_model.proofs.Areas.{area_inside}
 use Rattle.tp_plain.specs.Computed.{abort_of}
 use Rattle.tp_model.specs.declared.types.Ended.TheVariants as ended
 use Rattle.tp_plain.proofs.Computations.{abort_goes}
-use Rattle.tp_plain.specs.OneThread.{State, no_pass, pass_at, moved, with_pass, ready, with_draw, HasPlainRoom, IsFull, freed, spent}
+use Rattle.tp_plain.specs.OneThread.{State, no_pass, pass_at, moved, with_pass, ready, with_draw, HasPlainRoom, IsFull, freed, freed_after_use}
 use Rattle.tp_plain.specs.Reached.{PassFits, IsReachable, RunFits}
 use Rattle.tp_plain.specs.Looks.{look_at, look_after, is_held_by}
 use Rattle.tp_model.proofs.Lists.{first-snoc, option_or-some, some_if, none_if}
@@ -161,7 +161,7 @@ fits_already l h drawn c u next left used fits hand gone run =
     }
 
 -- and k rows are used up
-fits_spent : (l : Limits) (h : List Event) (drawn c u k : ℕ) (used : PassState) → k ≤ used.left → PassFits l h drawn c used → used.holding ≡ Some u → end_of h u ≡ Some Aborted → PassFits l h drawn c (spent used k)
+fits_spent : (l : Limits) (h : List Event) (drawn c u k : ℕ) (used : PassState) → k ≤ used.left → PassFits l h drawn c used → used.holding ≡ Some u → end_of h u ≡ Some Aborted → PassFits l h drawn c (freed_after_use used k)
 fits_spent l h drawn c u k used few fits hand gone = fits_already l h drawn c u (used.next + k) (used.left - k) used fits hand gone (run_passed l h drawn c used.next used.left fits.run k few)
 
 -- after no event, where the run of pass c goes on
@@ -211,17 +211,17 @@ module _ (s : State) (looks : List Look) (c k : ℕ) (reached : IsReachable s) (
 
   -- what is lost
   pub lost_leaves : (u : ℕ) (used : PassState) (drawn : ℕ) → used ≡ ready s c k → drawn ≡ (with_draw s c k).drawn → used.holding ≡ Some u → k ≤ used.left → find (λ (l : Look). is_held_by u l.status) looks ≡ None
-      → let t : State = record { limits = s.limits; history = s.history; passes = slice_set s.passes c (spent used k); drawn = drawn } in
-      IsReachable t × ((pass_at s c).holding ≡ Some u) × HasPlainRoom s c k × (end_of s.history u ≡ Some Aborted) × (t ≡ with_pass (with_draw s c k) c (spent (ready s c k) k))
+      → let t : State = record { limits = s.limits; history = s.history; passes = slice_set s.passes c (freed_after_use used k); drawn = drawn } in
+      IsReachable t × ((pass_at s c).holding ≡ Some u) × HasPlainRoom s c k × (end_of s.history u ≡ Some Aborted) × (t ≡ with_pass (with_draw s c k) c (freed_after_use (ready s c k) k))
   lost_leaves u used drawn at count hand room none =
-      let same : record { limits = s.limits; history = s.history; passes = slice_set s.passes c (spent used k); drawn = drawn } ≡ with_pass (with_draw s c k) c (spent (ready s c k) k) =
-      λ i. record { limits = s.limits; history = s.history; passes = slice_set s.passes c (spent (at i) k); drawn = count i } in
+      let same : record { limits = s.limits; history = s.history; passes = slice_set s.passes c (freed_after_use used k); drawn = drawn } ≡ with_pass (with_draw s c k) c (freed_after_use (ready s c k) k) =
+      λ i. record { limits = s.limits; history = s.history; passes = slice_set s.passes c (freed_after_use (at i) k); drawn = count i } in
       let hand' : (pass_at s c).holding ≡ Some u = ap (λ (x : PassState). x.holding) (sym at) ∙ hand in
       let room' : HasPlainRoom s c k = subst (λ (x : PassState). k ≤ x.left) at room in
       let gone = aborted_of s looks reached agree c u is_pass hand' none in
       let own = fits_spent s.limits s.history (with_draw s c k).drawn c u k (ready s c k) room' (fits_ready s c k reached is_pass) hand' gone in
-      let left = reached_with_pass (after_draw s c k) c (spent (ready s c k) k) (reached_ready s c k reached is_pass) is_pass own (let ends = ap end_at (ready_at s c k reached is_pass) in omega arith) in (
-        subst IsReachable (sym same) (subst (λ ps. IsReachable (record { limits = s.limits; history = s.history; passes = ps; drawn = (with_draw s c k).drawn })) (set-set s.passes c (ready s c k) (spent (ready s c k) k)) left),
+      let left = reached_with_pass (after_draw s c k) c (freed_after_use (ready s c k) k) (reached_ready s c k reached is_pass) is_pass own (let ends = ap end_at (ready_at s c k reached is_pass) in omega arith) in (
+        subst IsReachable (sym same) (subst (λ ps. IsReachable (record { limits = s.limits; history = s.history; passes = ps; drawn = (with_draw s c k).drawn })) (set-set s.passes c (ready s c k) (freed_after_use (ready s c k) k)) left),
         hand',
         room',
         gone,

@@ -22,7 +22,7 @@ use Rattle.tp_model.proofs.Orders.{walk_more}
 use Rattle.tp_plain.specs.Computed.{read_found, read_of}
 use Rattle.tp_plain.specs.Looks.{is_consumed_by}
 use Rattle.tp_plain.specs.OneThread.{State}
-use Rattle.tp_plain.specs.Walks.{and_from, comes_from, consumed_one, is_ahead, is_reached, next_of_walk, walk_for, walk_of}
+use Rattle.tp_plain.specs.Walks.{and_one_more, comes_from, consumed_one, is_ahead, is_reached, next_of_walk, walk_for, walk_of}
 
 -- what isn't found by a read isn't born
 pub read_none : (s : State) (i : ℕ) (why : Refusal) → Err why ≡ read_of s i → element_of s.history i ≡ None
@@ -40,15 +40,15 @@ range_snoc a (suc n) =
 
 module _ (s : State) (root : ℕ) where
   -- one element more
-  pub walk_next : (n : ℕ) → walk_for s root (n + 1) ≡ and_from (walk_for s root n) (next_of_walk s root (walk_for s root n))
+  pub walk_next : (n : ℕ) → walk_for s root (n + 1) ≡ and_one_more (walk_for s root n) (next_of_walk s root (walk_for s root n))
   walk_next n =
       let one : n + 1 ≡ suc n = omega arith in
       ap (walk_for s root) one
       ∙ (ap (fold_on) (range_snoc 0 n)
-      ∙ fold-append (λ gone k. and_from gone (next_of_walk s root gone)) [] (range_with_len 0 n) ((0 + n) ∷ []))
+      ∙ fold-append (λ gone k. and_one_more gone (next_of_walk s root gone)) [] (range_with_len 0 n) ((0 + n) ∷ []))
     where
       fold_on : List ℕ → List ℕ
-      fold_on ks = fold (λ gone k. and_from gone (next_of_walk s root gone)) [] ks
+      fold_on ks = fold (λ gone k. and_one_more gone (next_of_walk s root gone)) [] ks
 
   -- once nothing is left it stays
   pub walk_stays : (n k : ℕ) → next_of_walk s root (walk_for s root n) ≡ None → walk_for s root (n + k) ≡ walk_for s root n
@@ -56,7 +56,7 @@ module _ (s : State) (root : ℕ) where
   walk_stays n (suc k) none =
       let e : n + suc k ≡ n + k + 1 = omega arith in
       let before = walk_stays n k none in
-      ap (walk_for s root) e ∙ (walk_next (n + k) ∙ (ap (λ xs. and_from xs (next_of_walk s root xs)) before ∙ ap (and_from (walk_for s root n)) none))
+      ap (walk_for s root) e ∙ (walk_next (n + k) ∙ (ap (λ xs. and_one_more xs (next_of_walk s root xs)) before ∙ ap (and_one_more (walk_for s root n)) none))
 
 -- the first number of a range that passes a test
 
@@ -259,7 +259,7 @@ module _ (s : State) (root : ℕ) (legal : IsLegal s.limits s.history) where
   on_walk : (n : ℕ) → IsWalk limit h root [] (walk_for s root n) → IsWalk limit h root [] (walk_for s root (n + 1))
   on_walk n w = subst (IsWalk limit h root []) (sym (walk_next s root n)) (go (next_of_walk s root (walk_for s root n)) refl)
     where
-      go : (o : Option ℕ) → next_of_walk s root (walk_for s root n) ≡ o → IsWalk limit h root [] (and_from (walk_for s root n) o)
+      go : (o : Option ℕ) → next_of_walk s root (walk_for s root n) ≡ o → IsWalk limit h root [] (and_one_more (walk_for s root n) o)
       go None is = w
       go (Some i) is = walk_more s.limits root h [] (walk_for s root n) i w (next_is (walk_for s root n) i is).0
 
@@ -309,7 +309,7 @@ module _ (s : State) (root : ℕ) (legal : IsLegal s.limits s.history) where
       go (Some i) is =
           let t = next_is (walk_for s root n) i is in
           let one = others_fewer (walk_for s root n) i t.1 t.0.fresh in
-          inr (subst (λ xs. others xs + (n + 1) ≤ rows_of s.limits) (sym (walk_next s root n ∙ ap (and_from (walk_for s root n)) is)) (omega arith))
+          inr (subst (λ xs. others xs + (n + 1) ≤ rows_of s.limits) (sym (walk_next s root n ∙ ap (and_one_more (walk_for s root n)) is)) (omega arith))
 
   nears : (n : ℕ) → Nears n
   nears zero =

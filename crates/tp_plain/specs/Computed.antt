@@ -34,8 +34,10 @@ use Rattle.tp_plain.specs.Looks.{look_at, sooner, attempts_in, is_unsettled_of, 
 use Rattle.tp_model.specs.Births.{IsWhole, request}
 use Rattle.tp_plain.specs.OneThread.{Answers, CallSubmit, CallClaim, CallClaimId, CallClaimNext, CallCommit}
 use Rattle.tp_plain.specs.OneThread.{CallAbort, CallKill, CallCancel, CallRelease, CallCollect, CallRequeue}
-use Rattle.tp_plain.specs.OneThread.{CallRead, State, pass_at, next_row, next_unit, taken, turn_of, moved}
-use Rattle.tp_plain.specs.OneThread.{with_pass, with_draw, ready, used_up, extended, freed, spent, made_of}
+use Rattle.tp_plain.specs.OneThread.{CallRead, State, pass_at, first_row, next_unit, having_taken}
+use Rattle.tp_plain.specs.OneThread.{turn_of_pass, moved}
+use Rattle.tp_plain.specs.OneThread.{with_pass, with_draw, ready, used_up, extended, freed, freed_after_use}
+use Rattle.tp_plain.specs.OneThread.{made_of}
 
 -- whether clients may submit to this stage
 abbrev pub is_server_stage : ℕ → Bool
@@ -44,7 +46,7 @@ is_server_stage stage = nat_le 1 stage && nat_le stage MAX_STAGE
 -- the state after a submit that goes through
 abbrev pub with_request : State → ℕ → ℕ → List ℕ → State
 with_request s c stage body = moved (with_draw s c 1)
-    (Enqueue c (request (next_row s c 1) stage body)) c (used_up (ready s c 1) 1)
+    (Enqueue c (request (first_row s c 1) stage body)) c (used_up (ready s c 1) 1)
 
 -- whether pass c has k rows to use
 abbrev pub has_room : State → ℕ → ℕ → Bool
@@ -54,7 +56,7 @@ has_room s c k = nat_le k (ready s c k).left
 abbrev pub submit_of : State → ℕ → ℕ → List ℕ → Result ℕ Refusal × State
 submit_of s c stage body =
     if is_server_stage stage
-    then (if has_room s c 1 then (Ok (next_row s c 1), with_request s c stage body)
+    then (if has_room s c 1 then (Ok (first_row s c 1), with_request s c stage body)
     else (Err refusal.Full, s))
     else (Err refusal.BadStage, s)
 
@@ -72,14 +74,15 @@ work_on s c look = record {
 }
 
 -- the state after a claim of a waiting element, with these places for the pass's claims in turn
-abbrev pub with_claim : State → ℕ → Look → List ℕ → State
-with_claim s c look turns =
-    moved s (Claim c (next_unit s c) look.element.id (attempts_in look.status + 1)) c (taken s c (work_on s c look) turns)
+abbrev pub with_claimed : State → ℕ → Look → List ℕ → State
+with_claimed s c look turns =
+    moved s (Claim c (next_unit s c) look.element.id (attempts_in look.status + 1)) c
+    (having_taken s c (work_on s c look) turns)
 
 -- a claim of what was found to wait
 abbrev pub claim_found : State → ℕ → Option Look → Claimed × State
 claim_found s c None = (claimed.Idle, s)
-claim_found s c (Some look) = (claimed.Work (work_on s c look), with_claim s c look (pass_at s c).turns)
+claim_found s c (Some look) = (claimed.Work (work_on s c look), with_claimed s c look (pass_at s c).turns)
 
 -- a claim
 abbrev pub claim_of_stage : State → ℕ → ℕ → Claimed × State
@@ -89,20 +92,23 @@ claim_of_stage s c stage = if nat_lt (pass_at s c).claimed s.limits.units
 -- a claim in turn of what was found to wait: the next one of the stage goes on after it
 abbrev pub claim_next_found : State → ℕ → ℕ → Option Look → Claimed × State
 claim_next_found s c stage None = (claimed.Idle, s)
-claim_next_found s c stage (Some look) = (claimed.Work (work_on s c look), with_claim s c look (slice_set (pass_at s c).turns stage (look.element.id + 1)))
+claim_next_found s c stage (Some look) = (
+  claimed.Work (work_on s c look),
+  with_claimed s c look (slice_set (pass_at s c).turns stage (look.element.id + 1)),
+)
 
 -- a claim in turn
 abbrev pub claim_next_of_stage : State → ℕ → ℕ → Claimed × State
 claim_next_of_stage s c stage =
     if nat_lt (pass_at s c).claimed s.limits.units
-    then claim_next_found s c stage (next_waiting s (turn_of s c stage) stage)
+    then claim_next_found s c stage (next_waiting s (turn_of_pass s c stage) stage)
     else (claimed.NoUnit, s)
 
 -- a claim of a given element of this status
 abbrev pub claim_id_at : State → ℕ → Element → Status → Result Work Refusal × State
 claim_id_at s c e (Waiting n) =
     let look : Look = record { element = e; status = Waiting n } in
-    (Ok (work_on s c look), with_claim s c look (pass_at s c).turns)
+    (Ok (work_on s c look), with_claimed s c look (pass_at s c).turns)
 claim_id_at s c e other = (Err refusal.NotWaiting, s)
 
 -- a claim of what was found under an id
@@ -138,9 +144,9 @@ abort_of s c = abort_at s c (unit_in_hand s c) (end_of s.history (unit_in_hand s
 abbrev pub committed_by : State → ℕ → ℕ → List DraftView → Outcome × State
 committed_by s c u drafts =
     let k = length drafts in (
-      outcome.Committed (if k == 0 then 0 else next_row s c k) k,
+      outcome.Committed (if k == 0 then 0 else first_row s c k) k,
       moved (with_draw s c k)
-          (Commit c u (made_of s c u drafts)) c (spent (ready s c k) k),
+          (Commit c u (made_of s c u drafts)) c (freed_after_use (ready s c k) k),
     )
 
 -- a commit, where the rows suffice, of a unit that ended so, or is undecided
@@ -149,7 +155,7 @@ commit_at s c u drafts None = committed_by s c u drafts
 commit_at s c u drafts (Some (Committed first count)) = committed_by s c u drafts
 commit_at s c u drafts (Some Aborted) = (
   outcome.Lost,
-  with_pass (with_draw s c (length drafts)) c (spent (ready s c (length drafts))
+  with_pass (with_draw s c (length drafts)) c (freed_after_use (ready s c (length drafts))
       (length drafts)),
 )
 
@@ -323,7 +329,8 @@ pub record AreAllowed (s : State) (c : ℕ) : Type 0 where
       (claim_next_of_stage s c stage).1
   pub claim_id : (i : ℕ) → (pass_at s c).holding ≡ None
       → Answers s (CallClaimId c i (claim_id_of s c i).0) (claim_id_of s c i).1
-  pub commit : (u : ℕ) (drafts : List DraftView) → (pass_at s c).holding ≡ Some u → length drafts ≤ MAX_OUTPUTS
+  pub commit : (u : ℕ) (drafts : List DraftView) → (pass_at s c).holding ≡ Some u
+      → length drafts ≤ MAX_OUTPUTS
       → All IsWhole drafts
       → Answers s (CallCommit c drafts (Ok (commit_of s c drafts).0)) (commit_of s c drafts).1
   pub abort : (u : ℕ) → (pass_at s c).holding ≡ Some u → Answers s (CallAbort c (abort_of s c).0)

@@ -73,8 +73,8 @@ abbrev pub next_unit : State → ℕ → ℕ
 next_unit s c = c * s.limits.units + (pass_at s c).claimed
 
 -- the row at which the next claim in turn of a stage by pass c begins
-abbrev pub turn_of : State → ℕ → ℕ → ℕ
-turn_of s c stage = slice_index (pass_at s c).turns stage
+abbrev pub turn_of_pass : State → ℕ → ℕ → ℕ
+turn_of_pass s c stage = slice_index (pass_at s c).turns stage
 
 -- what a pass holds after a claim with this answer
 abbrev pub held_after : Claimed → Option ℕ
@@ -116,24 +116,24 @@ with_pass s c used = record {
 }
 
 -- whether pass c draws the next spare block for k rows: its run has fewer, and a block is left
-abbrev pub draws : State → ℕ → ℕ → Bool
-draws s c k = nat_lt (pass_at s c).left k && nat_lt s.drawn s.limits.spare
+abbrev pub draws_block : State → ℕ → ℕ → Bool
+draws_block s c k = nat_lt (pass_at s c).left k && nat_lt s.drawn s.limits.spare
 
 -- pass c when it goes on to use k rows: a block that it draws for them is its run, and the rest of the old
 -- run stays unused
 abbrev pub ready : State → ℕ → ℕ → PassState
 ready s c k =
     record {
-      next = if draws s c k then block_first s.limits s.drawn else (pass_at s c).next;
-      left = if draws s c k then BLOCK_ROWS else (pass_at s c).left;
+      next = if draws_block s c k then block_first s.limits s.drawn else (pass_at s c).next;
+      left = if draws_block s c k then BLOCK_ROWS else (pass_at s c).left;
       claimed = (pass_at s c).claimed;
       holding = (pass_at s c).holding;
       turns = (pass_at s c).turns;
     }
 
 -- the id of the first of k rows that pass c uses next
-abbrev pub next_row : State → ℕ → ℕ → ℕ
-next_row s c k = (ready s c k).next
+abbrev pub first_row : State → ℕ → ℕ → ℕ
+first_row s c k = (ready s c k).next
 
 -- the state with that block drawn
 abbrev pub with_draw : State → ℕ → ℕ → State
@@ -141,7 +141,7 @@ with_draw s c k = record {
   limits = s.limits;
   history = s.history;
   passes = s.passes;
-  drawn = if draws s c k
+  drawn = if draws_block s c k
       then s.drawn + 1 else s.drawn;
 }
 
@@ -160,7 +160,7 @@ used_up used k = record used { next = used.next + k; left = used.left - k }
 -- a submit went through: the pass's next row is a new request
 pub record PlainSubmits (s : State) (c stage : ℕ) (body : List ℕ) (id : ℕ) (t : State) : Type 0 where
   pub room : HasPlainRoom s c 1
-  pub next : id ≡ next_row s c 1
+  pub next : id ≡ first_row s c 1
   pub step : Step s.limits s.history (Enqueue c (request id stage body))
   pub after : t ≡ moved (with_draw s c 1) (Enqueue c (request id stage body)) c (used_up (ready s c 1) 1)
 
@@ -178,8 +178,8 @@ pub record Waits (s : State) (stage : ℕ) (e : Element) (attempts : ℕ) : Type
   pub waits : status_of s.limits.attempts s.history e.id ≡ Waiting attempts
 
 -- pass c after it took the work, with these places for its claims in turn
-abbrev pub taken : State → ℕ → Work → List ℕ → PassState
-taken s c w turns = record (pass_at s c) {
+abbrev pub having_taken : State → ℕ → Work → List ℕ → PassState
+having_taken s c w turns = record (pass_at s c) {
   claimed = (pass_at s c).claimed + 1;
   holding = Some w.unit;
   turns = turns;
@@ -192,7 +192,7 @@ pub record PlainTakes (s : State) (c stage : ℕ) (w : Work) (t : State) : Type 
   pub waiting : Waits s stage w.element (w.attempt - 1)
   pub least : (e : Element) (n : ℕ) → Waits s stage e n → w.element.id ≤ e.id
   pub step : Step s.limits s.history (Claim c w.unit w.element.id w.attempt)
-  pub after : t ≡ moved s (Claim c w.unit w.element.id w.attempt) c (taken s c w (pass_at s c).turns)
+  pub after : t ≡ moved s (Claim c w.unit w.element.id w.attempt) c (having_taken s c w (pass_at s c).turns)
 
 -- where the ids are a circle, which begins at `from`, i comes before this id
 abbrev pub IsPlainBefore : ℕ → ℕ → ℕ → Type 0
@@ -204,14 +204,17 @@ pub record PlainTakesNext (s : State) (c stage : ℕ) (w : Work) (t : State) : T
   pub room : (pass_at s c).claimed < s.limits.units
   pub next : w.unit ≡ next_unit s c
   pub waiting : Waits s stage w.element (w.attempt - 1)
-  pub first : (e : Element) (n : ℕ) → Waits s stage e n → ¬ IsPlainBefore (turn_of s c stage) w.element.id e.id
+  pub first : (e : Element) (n : ℕ) → Waits s stage e n
+      → ¬ IsPlainBefore (turn_of_pass s c stage) w.element.id e.id
   pub step : Step s.limits s.history (Claim c w.unit w.element.id w.attempt)
-  pub after : t ≡ moved s (Claim c w.unit w.element.id w.attempt) c (taken s c w (slice_set (pass_at s c).turns stage (w.element.id + 1)))
+  pub after : t ≡ moved s (Claim c w.unit w.element.id w.attempt) c
+      (having_taken s c w (slice_set (pass_at s c).turns stage (w.element.id + 1)))
 
 -- a claim takes work, or is idle where nothing waits, or finds the pass's units used up
 abbrev pub PlainClaims : State → ℕ → ℕ → Claimed → State → Type 0
 PlainClaims s c stage (claimed.Work w) t = PlainTakes s c stage w t
-PlainClaims s c stage claimed.Idle t = (t ≡ s) × ((pass_at s c).claimed < s.limits.units) × ((e : Element) (n : ℕ)
+PlainClaims s c stage claimed.Idle t =
+    (t ≡ s) × ((pass_at s c).claimed < s.limits.units) × ((e : Element) (n : ℕ)
     → ¬ Waits s stage e n)
 PlainClaims s c stage claimed.NoUnit t = (t ≡ s) × (s.limits.units ≤ (pass_at s c).claimed)
 
@@ -229,7 +232,7 @@ pub record PlainTakesId (s : State) (c i : ℕ) (w : Work) (t : State) : Type 0 
   pub server : IsServerStage w.element.stage
   pub waiting : Waits s w.element.stage w.element (w.attempt - 1)
   pub step : Step s.limits s.history (Claim c w.unit w.element.id w.attempt)
-  pub after : t ≡ moved s (Claim c w.unit w.element.id w.attempt) c (taken s c w (pass_at s c).turns)
+  pub after : t ≡ moved s (Claim c w.unit w.element.id w.attempt) c (having_taken s c w (pass_at s c).turns)
 
 -- it is refused where the pass's units are used up, then where no such element is born, where it is a reply,
 -- and where it doesn't wait
@@ -249,8 +252,8 @@ abbrev pub freed : PassState → PassState
 freed used = record used { holding = None }
 
 -- and with k rows more used
-abbrev pub spent : PassState → ℕ → PassState
-spent used k = freed (used_up used k)
+abbrev pub freed_after_use : PassState → ℕ → PassState
+freed_after_use used k = freed (used_up used k)
 
 -- the root of the element that unit u claimed
 abbrev pub root_of : List Event → ℕ → ℕ
@@ -259,18 +262,18 @@ root_of h u = option_map_or (λ (e : Element). e.root)
 
 -- the outputs that a commit of unit u by pass c makes of these drafts
 abbrev pub made_of : State → ℕ → ℕ → List DraftView → List Element
-made_of s c u drafts = outputs u (root_of s.history u) (next_row s c (length drafts)) drafts
+made_of s c u drafts = outputs u (root_of s.history u) (first_row s c (length drafts)) drafts
 
 -- a commit went through: the drafts are born in the pass's next rows, with the root of the element that the
 -- unit claimed
-pub record Commits (s : State) (c u : ℕ) (drafts : List DraftView) (first count : ℕ)
+pub record PlainCommits (s : State) (c u : ℕ) (drafts : List DraftView) (first count : ℕ)
     (t : State) : Type 0 where
   pub room : HasPlainRoom s c (length drafts)
   pub count_is : count ≡ length drafts
-  pub first_is : first ≡ (if length drafts == 0 then 0 else next_row s c (length drafts))
+  pub first_is : first ≡ (if length drafts == 0 then 0 else first_row s c (length drafts))
   pub step : Step s.limits s.history (Commit c u (made_of s c u drafts))
   pub after : t ≡ moved (with_draw s c (length drafts))
-      (Commit c u (made_of s c u drafts)) c (spent (ready s c (length drafts)) (length drafts))
+      (Commit c u (made_of s c u drafts)) c (freed_after_use (ready s c (length drafts)) (length drafts))
 
 -- the unit in hand ends by an Abort, unless another pass has aborted it
 abbrev pub EndsByAbort : State → ℕ → ℕ → State → Type 0
@@ -281,10 +284,10 @@ EndsByAbort s c u t =
 -- a commit is full where too few rows are left and no block, then lost where another pass has aborted the
 -- unit, and else goes through
 abbrev pub AnswersCommit : State → ℕ → ℕ → List DraftView → Outcome → State → Type 0
-AnswersCommit s c u drafts (outcome.Committed first count) t = Commits s c u drafts first count t
+AnswersCommit s c u drafts (outcome.Committed first count) t = PlainCommits s c u drafts first count t
 AnswersCommit s c u drafts outcome.Lost t =
     HasPlainRoom s c (length drafts) × (end_of s.history u ≡ Some Aborted)
-    × (t ≡ with_pass (with_draw s c (length drafts)) c (spent (ready s c (length drafts))
+    × (t ≡ with_pass (with_draw s c (length drafts)) c (freed_after_use (ready s c (length drafts))
     (length drafts)))
 AnswersCommit s c u drafts outcome.Full t = IsFull s c (length drafts) × EndsByAbort s c u t
 
@@ -416,7 +419,8 @@ Answers s (CallClaimNext c stage r) t = MatchResult r (λ a. PlainClaimsNext s c
 Answers s (CallCommit c drafts r) t = (u : ℕ) × ((pass_at s c).holding ≡ Some u)
     × MatchResult r (λ a. AnswersCommit s c u drafts a t) (λ why. RefusesCommit s c u drafts why × (t ≡ s))
 Answers s (CallAbort c a) t = (u : ℕ) × ((pass_at s c).holding ≡ Some u) × GivesUp s c u a t
-Answers s (CallKill c i r) t = MatchResult r (λ k. PlainKills s c i k.units_aborted t) (λ why. RefusesKill s i why
+Answers s (CallKill c i r) t =
+    MatchResult r (λ k. PlainKills s c i k.units_aborted t) (λ why. RefusesKill s i why
     × (t ≡ s))
 Answers s (CallCancel c root r) t = MatchResult r (λ k. PlainCancels s c root k.killed t)
     (λ why. RefusesCancel s root why × (t ≡ s))

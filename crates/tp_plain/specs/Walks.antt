@@ -31,13 +31,13 @@ abbrev pub next_of_walk : State → ℕ → List ℕ → Option ℕ
 next_of_walk s root gone = find (is_ahead s root gone) (range_with_len 0 (rows_of s.limits))
 
 -- and has then gone on from one more, if there was one
-abbrev pub and_from : List ℕ → Option ℕ → List ℕ
-and_from gone None = gone
-and_from gone (Some i) = gone ++ i ∷ []
+abbrev pub and_one_more : List ℕ → Option ℕ → List ℕ
+and_one_more gone None = gone
+and_one_more gone (Some i) = gone ++ i ∷ []
 
 -- the walk after this many elements at most
 abbrev pub walk_for : State → ℕ → ℕ → List ℕ
-walk_for s root n = fold (λ gone k. and_from gone (next_of_walk s root gone)) [] (range_with_len 0 n)
+walk_for s root n = fold (λ gone k. and_one_more gone (next_of_walk s root gone)) [] (range_with_len 0 n)
 
 -- the whole of it
 abbrev pub walk_of : State → ℕ → List ℕ

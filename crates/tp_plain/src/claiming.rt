@@ -3,7 +3,7 @@ ghost use Rattle.std.specs.Prelude.{◌≡◌, ℕ, ◌<◌, ◌+◌, None, IfOk
 ghost use Rattle.tp_model.specs.declared.types.Element.{Element};
 ghost use Rattle.tp_model.specs.Steps.{IsServerStage};
 ghost use Rattle.tp_plain.specs.Computed.{IsComputedOk, claim_next_of_stage, claim_of_stage, next_waiting};
-ghost use Rattle.tp_plain.specs.Computed.{with_claim, work_on};
+ghost use Rattle.tp_plain.specs.Computed.{with_claimed, work_on};
 ghost use Rattle.tp_plain.specs.Looks.{attempts_in};
 ghost use Rattle.tp_plain.specs.OneThread.{Answers, CallClaim, CallClaimNext, Waits, held_after, pass_at};
 
@@ -105,7 +105,7 @@ impl Plain {
         requires stage { IsServerStage look.element.stage }
         requires waits { Waits self.old look.element.stage look.element (attempts_in look.status) }
         ensures work { result ≡ work_on self.old caller look }
-        ensures state { self.new ≡ with_claim self.old caller look turns }
+        ensures state { self.new ≡ with_claimed self.old caller look turns }
     {
         self.show_reached();
         let used = self.used_by(caller);

@@ -8,8 +8,8 @@ use crate::plain::Plain;
 use tp_model::types::Look;
 
 impl Plain {
-    /// The element of the request with this root that has the least id from this one on, and its status. `None`
-    /// where there is none.
+    /// The element of the request with this root that has the least id from this one on, and its status.
+    /// `None` where there is none.
     pub fn family(&self, root: u32, from: u32) -> Option<Look>
         ensures computed { result ≡ family_of self.now root from }
     {

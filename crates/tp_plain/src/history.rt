@@ -28,7 +28,7 @@ pub(crate) enum Note<'a> {
 }
 
 impl History {
-    ghost use Rattle.tp_plain.specs.Noted.{event_of};
+    ghost use Rattle.tp_plain.specs.Noted.{noted_event};
 
     /// The history in which nothing happened.
     pub(crate) fn new() -> History
@@ -39,7 +39,7 @@ impl History {
 
     /// The history with one event more.
     pub(crate) fn then(&self, _note: &Note<'_>) -> History
-        ensures { result.events ≡ self.now.events ++ event_of _note.now ∷ [] }
+        ensures { result.events ≡ self.now.events ++ noted_event _note.now ∷ [] }
     {
         History {}
     }

@@ -2,7 +2,7 @@
 ghost use Rattle.std.specs.Prelude.{◌≡◌, ◌==◌, if◌then◌else◌, ◌<◌, ◌+◌, ◌^◌, length, IfOk, map, Some};
 ghost use Rattle.std.specs.List.{find, fold, All};
 ghost use Rattle.tp_plain.specs.Listings.{reply_found};
-ghost use Rattle.tp_plain.specs.Noted.{event_of};
+ghost use Rattle.tp_plain.specs.Noted.{noted_event};
 ghost use Rattle.tp_plain.specs.Looks.{comes_before, look_after, sooner, attempts_in, is_held_by};
 ghost use Rattle.tp_plain.specs.Looks.{is_unsettled_of, fresh_look};
 ghost use Rattle.tp_model.specs.Births.{IsWhole, outputs};
@@ -20,7 +20,7 @@ pub(crate) fn look_of(looks: &[Look], id: u32) -> Option<Look>
 
 // A look after one more event.
 fn after(limit: u8, look: Look, note: &Note<'_>) -> Look
-    ensures { result ≡ look_after limit (event_of note.now) look }
+    ensures { result ≡ look_after limit (noted_event note.now) look }
 {
     let status = match *note {
         Note::Enqueue(_, _) => look.status,
@@ -71,7 +71,7 @@ fn after(limit: u8, look: Look, note: &Note<'_>) -> Look
 
 /// All looks after one more event.
 pub(crate) fn apply(limit: u8, looks: &mut [Look], note: &Note<'_>)
-    ensures { looks.new ≡ map (look_after limit (event_of note.now)) looks.old }
+    ensures { looks.new ≡ map (look_after limit (noted_event note.now)) looks.old }
 {
     for look in looks.iter_mut() {
         *look = after(limit, *look, note);

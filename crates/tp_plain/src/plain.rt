@@ -3,7 +3,7 @@ ghost use Rattle.tp_model.specs.declared.types.TheConstants.{MAX_OUTPUTS};
 ghost use Rattle.std.specs.Prelude.{◌≡◌, ℕ, nat_lt, ◌<◌, ◌≤◌, ◌↔◌, ◌⊎◌, length, map, IfOk, IfErr, IsSome};
 ghost use Rattle.std.specs.Prelude.{is_some, replicate};
 ghost use Rattle.std.specs.List.{range_with_len};
-ghost use Rattle.tp_plain.specs.Noted.{event_of};
+ghost use Rattle.tp_plain.specs.Noted.{noted_event};
 ghost use Rattle.tp_plain.specs.Computed.{IsComputed, IsComputedOk, submit_of, commit_of, abort_of, kill_of};
 ghost use Rattle.tp_plain.specs.Computed.{read_of};
 ghost use Rattle.tp_plain.specs.OneThread.{Answers, CallSubmit, CallAbort, CallCommit, CallKill, CallRead};
@@ -97,7 +97,8 @@ impl Plain {
         block_first(self.limits, self.limits.spare)
     }
 
-    /// Whether a pass has a unit of work in its hand: claimed, and neither committed nor given up by its own calls.
+    /// Whether a pass has a unit of work in its hand: claimed, and neither committed nor given up by its own
+    /// calls.
     pub fn has_open(&self, caller: u16) -> bool
         requires { caller < self.now.limits.parts }
         ensures { result ≡ is_some (pass_at self.now caller).holding }
@@ -113,7 +114,8 @@ impl Plain {
         self.passes[caller as usize].claimed < self.limits.units
     }
 
-    /// A client puts a new request into a stage. Where the run of the pass has no row left, the pass draws a block.
+    /// A client puts a new request into a stage. Where the run of the pass has no row left, the pass draws a
+    /// block.
     ///
     /// `BadStage` for a stage outside 1 to 14, `Full` where no spare block is left either, and `NoMemory`.
     pub fn submit(&mut self, caller: u16, stage: u8, body: Body) -> Result<u32, Refusal>
@@ -156,8 +158,8 @@ impl Plain {
         Ok(id)
     }
 
-    /// A pass ends the unit in its hand, and its drafts become elements, in rows of one run. Where its run has too
-    /// few rows left for them, the pass draws a block.
+    /// A pass ends the unit in its hand, and its drafts become elements, in rows of one run. Where its run
+    /// has too few rows left for them, the pass draws a block.
     pub fn commit(&mut self, caller: u16, drafts: &[Draft]) -> Result<Outcome, Refusal>
         requires pass { caller < self.old.limits.parts }
         requires holding { IsSome (pass_at self.old caller).holding }
@@ -281,9 +283,9 @@ impl Plain {
 
     // An Abort or a Kill by a pass with nothing in its hand.
     pub(crate) fn mark(&mut self, note: &Note<'_>)
-        requires step { Step self.old.limits self.old.history (event_of note.now) }
-        requires quiet { IsWithoutUnit self.old (event_of note.now) }
-        ensures { self.new ≡ extended self.old (event_of note.now) }
+        requires step { Step self.old.limits self.old.history (noted_event note.now) }
+        requires quiet { IsWithoutUnit self.old (noted_event note.now) }
+        ensures { self.new ≡ extended self.old (noted_event note.now) }
     {
         apply(self.limits.attempts, &mut self.looks, note);
         self.history = self.history.then(note);

@@ -1,7 +1,7 @@
 //! The rows that a pass goes on to use: those of its run, or of a spare block that it draws for them.
 ghost use Rattle.std.specs.Prelude.{◌≡◌, ◌<◌, ◌≤◌};
 ghost use Rattle.tp_model.specs.Steps.{AreLimits, block_first};
-ghost use Rattle.tp_plain.specs.OneThread.{draws, pass_at, ready, with_draw};
+ghost use Rattle.tp_plain.specs.OneThread.{draws_block, pass_at, ready, with_draw};
 
 use crate::pass_state::PassState;
 use crate::plain::Plain;
@@ -39,7 +39,7 @@ impl Plain {
     // Whether a pass draws the next spare block for this many rows.
     fn draws(&self, caller: u16, rows: usize) -> bool
         requires { caller < self.now.limits.parts }
-        ensures { result ≡ draws self.now caller rows }
+        ensures { result ≡ draws_block self.now caller rows }
     {
         (self.passes[caller as usize].left as usize) < rows && self.drawn < self.limits.spare
     }

@@ -1,5 +1,5 @@
-//! What tools/sweeps can't say of the built program: readers and writers that fail at each of their calls, over either
-//! manager.
+//! What tools/sweeps can't say of the built program: readers and writers that fail at each of their calls,
+//! over either manager.
 
 mod devices;
 mod faults;

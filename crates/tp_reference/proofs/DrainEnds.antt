@@ -17,7 +17,7 @@ use Rattle.tp_model.specs.History.{Aborted, Committed, UnitEnd, end_of}
 use Rattle.tp_plain.specs.declared.pass_state.PassState.{PassState}
 use Rattle.tp_plain.specs.Computed.{abort_at, abort_of, claim_found, claim_next_found, commit_at, commit_of, has_room, next_waiting, unit_in_hand}
 use Rattle.tp_plain.specs.OneThread as thread
-use Rattle.tp_plain.specs.OneThread.{no_pass, pass_at, turn_of}
+use Rattle.tp_plain.specs.OneThread.{no_pass, pass_at, turn_of_pass}
 use Rattle.tp_server.specs.declared.recipe.Recipe.{Recipe}
 use Rattle.tp_server.specs.declared.recipe.Declined.{Declined}
 use Rattle.tp_server.specs.Effect.{Effect, effect_of}
@@ -25,7 +25,7 @@ use Rattle.tp_desk.specs.declared.order.Order.{Order}
 use Rattle.tp_desk.specs.declared.order.Order.TheVariants.{LeastFirst, InTurn}
 use Rattle.tp_script.specs.Script.{ServerView}
 use Rattle.tp_reference.specs.declared.plain_desk.PlainDesk.{PlainDesk}
-use Rattle.tp_reference.specs.PlainDesks.{DeskAnswered, claim_in_order, committed_as, is_free, settle, settle_with, turn_as, turn_by}
+use Rattle.tp_reference.specs.PlainDesks.{DeskAnswered, claim_in_order, committed_as, takes_part, settle, settle_with, turn_as, turn_by}
 use Rattle.tp_reference.specs.PlainReport.{ReportState, has_claimed, most_rounds, round_below, round_of, round_turn, drain_rounds, worker}
 use Rattle.tp_reference.specs.DrainEnds.{DrainsEnd}
 
@@ -122,8 +122,8 @@ module _ (m : thread.State) (c : ℕ) (there : c < length m.passes) where
       go false is = spends_none m
   claim_spends InTurn stage = go (nat_lt (pass_at m c).claimed m.limits.units) refl
     where
-      go : (b : Bool) → nat_lt (pass_at m c).claimed m.limits.units ≡ b → let r = (if b then claim_next_found m c stage (next_waiting m (turn_of m c stage) stage) else (claimed.NoUnit, m)) in Spends (taken r.0) m r.1
-      go true is = next_spends stage (next_waiting m (turn_of m c stage) stage) (ltb-true _ _ is)
+      go : (b : Bool) → nat_lt (pass_at m c).claimed m.limits.units ≡ b → let r = (if b then claim_next_found m c stage (next_waiting m (turn_of_pass m c stage) stage) else (claimed.NoUnit, m)) in Spends (taken r.0) m r.1
+      go true is = next_spends stage (next_waiting m (turn_of_pass m c stage) stage) (ltb-true _ _ is)
       go false is = spends_none m
 
 -- what is done with work begins no unit
@@ -171,7 +171,7 @@ module _ (m : thread.State) (c : ℕ) (there : c < length m.passes) (recipe : Re
 -- a round
 module _ (order : Order) (servers : List ServerView) where
   free_spends : (server : ServerView) (desk : PlainDesk) (i : ℕ) (s : ReportState) → worker i < length s.manager.passes → let r = round_turn order (Some server) (Some desk) i s in Spends (counts r.0) s.manager r.1.manager
-  free_spends server desk i s there = go (is_free s.manager (worker i) desk)
+  free_spends server desk i s there = go (takes_part s.manager (worker i) desk)
     where
       done : DeskAnswered
       done = turn_by order server.recipe (worker i) s.manager desk

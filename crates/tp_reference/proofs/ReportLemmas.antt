@@ -10,7 +10,7 @@ use Rattle.tp_desk.specs.declared.order.Order.{Order}
 use Rattle.tp_plain.specs.OneThread as thread
 use Rattle.tp_reference.specs.declared.plain_desk.PlainDesk.{PlainDesk}
 use Rattle.tp_reference.specs.PlainDesks.{after_giving_up}
-use Rattle.tp_reference.specs.PlainReport.{ReportState, act_step, closing, ended_below, final_line, finals_below, reports, round_below, round_of, round_turn, drain_rounds}
+use Rattle.tp_reference.specs.PlainReport.{ReportState, act_step, closing, ended_below, desk_final_line, finals_below, reports, round_below, round_of, round_turn, drain_rounds}
 
 pub reports_more : (servers : List ServerView) (account : Bool) (cs : List Act) (i : ℕ) (c : Act) (s next : ReportState) (line : List ℕ) → i < length cs → act_step servers (get_or cs i c) s ≡ (line, next)
     → reports servers account (drop i cs) s ≡ line ++ reports servers account (drop (i + 1) cs) next
@@ -63,7 +63,7 @@ unfolding finals_below
 finals_none servers desks = refl
 
 pub finals_more : (servers : List ServerView) (desks : List PlainDesk) (i : ℕ)
-    → finals_below servers desks (i + 1) ≡ finals_below servers desks i ++ final_line (slice_get servers i) (slice_get desks i)
+    → finals_below servers desks (i + 1) ≡ finals_below servers desks i ++ desk_final_line (slice_get servers i) (slice_get desks i)
 unfolding finals_below
 finals_more servers desks i = rw (add-one i) refl
 

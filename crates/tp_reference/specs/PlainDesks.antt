@@ -46,8 +46,8 @@ abbrev pub work_in_hand : thread.State → ℕ → PlainDesk → Option Work
 work_in_hand m c d = if has_open m c then d.taken else None
 
 -- whether it takes part in a drain: it wasn't dropped, and has nothing in hand
-abbrev pub is_free : thread.State → ℕ → PlainDesk → Bool
-is_free m c d = not d.is_dropped && not (has_open m c)
+abbrev pub takes_part : thread.State → ℕ → PlainDesk → Bool
+takes_part m c d = not d.is_dropped && not (has_open m c)
 
 -- the desk with these registers and nothing in hand
 abbrev pub cleared : List ℕ → PlainDesk → PlainDesk

@@ -24,7 +24,8 @@ use Rattle.tp_report.specs.declared.answer.ServerAnswer.TheVariants as told
 use Rattle.tp_report.specs.Answer.{account_text, answer_text, balance_text, final_text, line, named_text}
 use Rattle.tp_reference.specs.declared.plain_desk.PlainDesk.{PlainDesk}
 use Rattle.tp_reference.specs.PlainClient.{client_step, counts_of}
-use Rattle.tp_reference.specs.PlainDesks.{DeskAnswered, does_unless_dropped, after_giving_up, is_free, turn_by}
+use Rattle.tp_reference.specs.PlainDesks.{DeskAnswered, does_unless_dropped, after_giving_up, takes_part}
+use Rattle.tp_reference.specs.PlainDesks.{turn_by}
 
 -- the manager of one thread, and a desk for each server
 pub record ReportState : Type 0 where
@@ -66,12 +67,12 @@ abbrev pub value_of : Option ℕ → ℕ
 value_of None = 0
 value_of (Some value) = value
 
-abbrev pub counted_value : ℕ → PlainDesk → ℕ
-counted_value k desk = if desk.is_dropped then 0 else value_of (slice_get desk.registers k)
+abbrev pub counted_at_desk : ℕ → PlainDesk → ℕ
+counted_at_desk k desk = if desk.is_dropped then 0 else value_of (slice_get desk.registers k)
 
 -- the sum of a register over all desks
-abbrev pub register_sum : ℕ → ReportState → ℕ
-register_sum k s = sum_by (counted_value k) s.desks
+abbrev pub sum_over_desks : ℕ → ReportState → ℕ
+sum_over_desks k s = sum_by (counted_at_desk k) s.desks
 
 -- ---- drains
 
@@ -84,8 +85,9 @@ has_claimed other = true
 -- the turn of a desk in a round, if it is free, and whether it claimed an element
 abbrev pub round_turn : Order → Option ServerView → Option PlainDesk → ℕ → ReportState → Bool × ReportState
 round_turn order (Some server) (Some desk) i s =
-    if is_free s.manager (worker i) desk
-    then (let done = turn_by order server.recipe (worker i) s.manager desk in (has_claimed done.answer, with_acted s i done))
+    if takes_part s.manager (worker i) desk
+    then (let done = turn_by order server.recipe (worker i) s.manager desk in
+    (has_claimed done.answer, with_acted s i done))
     else (false, s)
 round_turn order server desk i s = (false, s)
 
@@ -130,7 +132,7 @@ command_step servers (Balance server k) s = (
       (slice_get s.desks server) k,
   s,
 )
-command_step servers (Sum k) s = (line (answer_text (answer.Sum k (register_sum k s))), s)
+command_step servers (Sum k) s = (line (answer_text (answer.Sum k (sum_over_desks k s))), s)
 command_step servers (Race race) s = ([], s)
 command_step servers Rollover s = ([], s)
 command_step servers Drain s = (line (answer_text answer.Drained), drain_of LeastFirst servers s)
@@ -144,14 +146,14 @@ act_step servers other s = ([], s)
 -- ---- the whole report
 
 -- the final line of the server at a place; there is always one
-abbrev pub final_line : Option ServerView → Option PlainDesk → List ℕ
-final_line (Some server) (Some desk) = line (final_text server.name desk.registers)
-final_line server desk = []
+abbrev pub desk_final_line : Option ServerView → Option PlainDesk → List ℕ
+desk_final_line (Some server) (Some desk) = line (final_text server.name desk.registers)
+desk_final_line server desk = []
 
 -- the final lines of the servers before a place, in their order
 unfoldable pub finals_below : List ServerView → List PlainDesk → ℕ → List ℕ
 finals_below servers desks zero = []
-finals_below servers desks (suc i) = finals_below servers desks i ++ final_line (slice_get servers i)
+finals_below servers desks (suc i) = finals_below servers desks i ++ desk_final_line (slice_get servers i)
     (slice_get desks i)
 
 -- the manager when the desks before a place are ended: what each of them has in hand is given up
@@ -176,8 +178,8 @@ reports servers account (a ∷ others) s = let step = act_step servers a s in st
     ++ reports servers account others step.1
 
 -- a pass for the client, and one for each server
-abbrev pub limits_of : HeadView → Limits
-limits_of h = record {
+abbrev pub plain_limits : HeadView → Limits
+plain_limits h = record {
   parts = 1 + length h.servers;
   rows = h.settings.rows;
   units = h.settings.units;
@@ -196,7 +198,7 @@ new_desk server = record {
 
 -- before the first command
 abbrev pub begin : HeadView → ReportState
-begin h = record { manager = start (limits_of h); desks = map new_desk h.servers }
+begin h = record { manager = start (plain_limits h); desks = map new_desk h.servers }
 
 -- the report of a script that is run
 abbrev pub report_of : ScriptView → List ℕ

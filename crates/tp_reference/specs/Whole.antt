@@ -1,5 +1,6 @@
 -- What the whole run over the manager of one thread leaves.
-use Rattle.std.specs.Prelude.{◌≡◌, ◌||◌, ◌==◌, not, ℕ, Bool, true, false, List, length, Option, Result, Ok, Err}
+use Rattle.std.specs.Prelude.{◌≡◌, ◌||◌, ◌==◌, not, ℕ, Bool, true, false, List, length, Option, Result, Ok}
+use Rattle.std.specs.Prelude.{Err}
 use Rattle.std.specs.Prelude.{IsOk, IsErr}
 use Rattle.std.specs.List.{list_any}
 use Rattle.std.specs.Io.KnownBytes.{Appends, Keeps}
@@ -15,7 +16,8 @@ use Rattle.tp_reference.specs.declared.plain.PlainExit.{PlainExit}
 use Rattle.tp_reference.specs.declared.plain.PlainExit.TheVariants as exits
 use Rattle.tp_reference.specs.PlainReport.{report_of_read}
 
--- what one thread and one manager don't do: races, rollovers, and what is asked of workers, dumps and restores
+-- what one thread and one manager don't do: races, rollovers, and what is asked of workers, dumps and
+-- restores
 abbrev pub is_other : Act → Bool
 is_other (act.Command c) = is_race c || is_rollover c
 is_other other = true
@@ -26,8 +28,8 @@ is_beyond (Ok s) = not (length s.head.workers == 0) || list_any is_other s.acts
 is_beyond (Err r) = false
 
 -- Without fault the report is written and nothing else, where memory ran out or a write failed a prefix of
--- it, and after a failed read nothing. The exit says whether the script was refused, or wasn't run for what is
--- beyond it; then nothing is written.
+-- it, and after a failed read nothing. The exit says whether the script was refused, or wasn't run for what
+-- is beyond it; then nothing is written.
 abbrev pub Reports : Result PlainExit Fault → Result ScriptView Refused → Option (List ℕ) → Option (List ℕ)
     → Type 0
 Reports (Ok exits.Done) script old new = IsOk script × (is_beyond script ≡ false)

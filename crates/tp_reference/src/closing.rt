@@ -1,7 +1,7 @@
 //! What is printed after the commands of a script over the manager of one thread.
 ghost use Rattle.std.specs.Prelude.{◌≡◌, ◌<◌, map, length, string_bytes, IfOk, slice_get};
 ghost use Rattle.tp_script.specs.Script.{server_view};
-ghost use Rattle.tp_reference.specs.PlainReport.{account_line, closing, ended_below, final_line};
+ghost use Rattle.tp_reference.specs.PlainReport.{account_line, closing, ended_below, desk_final_line};
 ghost use Rattle.tp_reference.specs.PlainReport.{finals_below};
 ghost use Rattle.tp_reference.specs.PlainRunning.{state, IsSetUp};
 
@@ -24,7 +24,8 @@ impl PlainRun {
         requires ready { IsSetUp (map server_view servers.now) self.now }
         requires within { at < length servers.now }
         ensures { IfOk result (λ text. string_bytes text
-            ≡ final_line (slice_get (map server_view servers.now) at) (slice_get self.now.desks.items at)) }
+            ≡ desk_final_line (slice_get (map server_view servers.now) at)
+            (slice_get self.now.desks.items at)) }
     {
         let name = servers[at].name.as_str();
         let registers = self.desks[at].registers.as_slice();

@@ -18,13 +18,14 @@ pub enum PlainExit {
     Done,
     /// The script was refused, and the refusal written.
     Refused,
-    /// There is a race among its commands, which takes several threads, or a rollover, a dump or a restore, which
-    /// take two managers, or a worker. Nothing was run, and nothing written.
+    /// There is a race among its commands, which takes several threads, or a rollover, a dump or a restore,
+    /// which take two managers, or a worker. Nothing was run, and nothing written.
     NotRun,
 }
 
 /// Reads a script, runs it over the manager of one thread, and writes its report and nothing else. A script
-/// with a worker, a race, a rollover, a dump or a restore isn't run. The reader is asked at most 100,000 times.
+/// with a worker, a race, a rollover, a dump or a restore isn't run. The reader is asked at most 100,000
+/// times.
 pub fn run_plain<R: Source, W: Sink>(
     alloc: Global,
     reader: &mut R,

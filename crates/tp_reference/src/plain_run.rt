@@ -3,8 +3,9 @@ ghost use Rattle.std.specs.Prelude.{◌≡◌, ◌+◌, ◌<◌, ◌≤◌, map,
 ghost use Rattle.tp_script.specs.Ranges.{IsInRange, IsScriptAct};
 ghost use Rattle.tp_script.specs.declared.script.TheConstants.{MAX_SERVERS};
 ghost use Rattle.tp_script.specs.Script.{head_view, server_view};
-ghost use Rattle.tp_reference.specs.PlainReport.{act_step, balance_answer, begin, command_step, counted_value};
-ghost use Rattle.tp_reference.specs.PlainReport.{desk_step, new_desk, register_sum, worker};
+ghost use Rattle.tp_reference.specs.PlainReport.{act_step, balance_answer, begin, command_step};
+ghost use Rattle.tp_reference.specs.PlainReport.{counted_at_desk};
+ghost use Rattle.tp_reference.specs.PlainReport.{desk_step, new_desk, sum_over_desks, worker};
 ghost use Rattle.tp_reference.specs.PlainRunning.{state, IsSetUp};
 
 use crate::client_acts::client_line;
@@ -108,7 +109,8 @@ impl PlainRun {
     ) -> Result<String, AllocError>
         requires ready { IsSetUp (map server_view servers.now) self.now }
         requires within { at < length servers.now }
-        ensures { IfOk result (λ text. string_bytes text ≡ balance_answer (slice_get (map server_view servers.now) at)
+        ensures { IfOk result
+            (λ text. string_bytes text ≡ balance_answer (slice_get (map server_view servers.now) at)
             (slice_get self.now.desks.items at) k) }
     {
         let name = servers[at].name.as_str();
@@ -123,7 +125,7 @@ impl PlainRun {
 
     // The sum of a register over all desks.
     fn sum(&self, k: u64) -> u128
-        ensures { result ≡ register_sum k (state self.now) }
+        ensures { result ≡ sum_over_desks k (state self.now) }
     {
         let mut sum = 0;
         for desk in &self.desks {
@@ -176,7 +178,8 @@ impl PlainRun {
         act: &Act,
     ) -> Result<String, AllocError>
         requires ready { IsSetUp (map server_view script.now.head.servers.items) self.old }
-        requires in_range { IsScriptAct (vec_len script.now.head.servers) (vec_len script.now.head.workers) act.now }
+        requires in_range { IsScriptAct (vec_len script.now.head.servers) (vec_len script.now.head.workers)
+            act.now }
         ensures step { IfOk result (λ text.
             act_step (map server_view script.now.head.servers.items) act.now (state self.old)
             ≡ (string_bytes text, state self.new)) }
@@ -192,7 +195,7 @@ impl PlainRun {
 
 // What a desk adds to the sum of a register.
 fn counted_value(desk: &PlainDesk, k: u64) -> u64
-    ensures { result ≡ counted_value k desk.now }
+    ensures { result ≡ counted_at_desk k desk.now }
 {
     if desk.is_dropped {
         return 0;

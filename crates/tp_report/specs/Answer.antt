@@ -67,16 +67,20 @@ refusal_text why = codes "refused " <> decimal (refusal_number why) <> codes " "
 abbrev pub turned_text : Turned → List ℕ
 turned_text turned.Idle = codes "idle"
 turned_text turned.NoUnit = codes "nounit"
-turned_text (turned.Done unit element first count) = codes "done " <> decimal element <> codes " unit " <> decimal unit <> codes " outputs " <> decimal first <> codes " " <> decimal count
-turned_text (turned.Refused element why) = codes "refused " <> decimal element <> codes " " <> declined_name why
+turned_text (turned.Done unit element first count) = codes "done " <> decimal element <> codes " unit "
+    <> decimal unit <> codes " outputs " <> decimal first <> codes " " <> decimal count
+turned_text (turned.Refused element why) =
+    codes "refused " <> decimal element <> codes " " <> declined_name why
 turned_text (turned.Lost element) = codes "lost " <> decimal element
 turned_text (turned.Full element) = codes "full " <> decimal element
 
 -- what a command on a server came to
 abbrev pub server_text : ServerAnswer → List ℕ
 server_text (server.Turned turned) = turned_text turned
-server_text (server.Work element unit attempt) = codes "work " <> decimal element <> codes " unit " <> decimal unit <> codes " attempt " <> decimal attempt
-server_text (server.NotTaken element why) = codes "refused " <> decimal element <> codes " " <> refusal_name why
+server_text (server.Work element unit attempt) =
+    codes "work " <> decimal element <> codes " unit " <> decimal unit <> codes " attempt " <> decimal attempt
+server_text (server.NotTaken element why) =
+    codes "refused " <> decimal element <> codes " " <> refusal_name why
 server_text server.Busy = codes "busy"
 server_text server.NoneOpen = codes "none"
 server_text server.Ready = codes "ready"
@@ -114,24 +118,29 @@ is_short body = (slice_index body 2 == 0) && (slice_index body 3 == 0)
 
 -- a body as it was read
 abbrev pub two_words_text : List ℕ → List ℕ
-two_words_text body = codes " key " <> decimal (slice_index body 0) <> codes " amount " <> decimal (slice_index body 1)
+two_words_text body =
+    codes " key " <> decimal (slice_index body 0) <> codes " amount " <> decimal (slice_index body 1)
 
 abbrev pub more_words_text : List ℕ → List ℕ
-more_words_text body = if is_short body then [] else codes " more " <> decimal (slice_index body 2) <> codes " " <> decimal (slice_index body 3)
+more_words_text body = if is_short body then [] else codes " more " <> decimal (slice_index body 2)
+    <> codes " " <> decimal (slice_index body 3)
 
 -- an element as it was read
 unfoldable pub element_text : Element → List ℕ
-element_text e = (decimal e.id <> codes " stage " <> decimal e.stage <> codes " root " <> decimal e.root <> two_words_text e.body) <> more_words_text e.body <> codes " by "
+element_text e = (decimal e.id <> codes " stage " <> decimal e.stage <> codes " root " <> decimal e.root
+    <> two_words_text e.body) <> more_words_text e.body <> codes " by "
 
 abbrev pub look_text : Look → List ℕ
-look_text look = element_text look.element <> maker_text look.element.by <> codes " " <> status_text look.status
+look_text look =
+    element_text look.element <> maker_text look.element.by <> codes " " <> status_text look.status
 
 -- a reply: its id, and its body
 abbrev pub two_words : List ℕ → List ℕ
 two_words body = codes ":" <> decimal (slice_index body 0) <> codes ":" <> decimal (slice_index body 1)
 
 abbrev pub more_words : List ℕ → List ℕ
-more_words body = if is_short body then [] else codes ":" <> decimal (slice_index body 2) <> codes ":" <> decimal (slice_index body 3)
+more_words body = if is_short body then [] else codes ":" <> decimal (slice_index body 2) <> codes ":"
+    <> decimal (slice_index body 3)
 
 abbrev pub reply_text : Element → List ℕ
 reply_text e = (codes " " <> decimal e.id <> two_words e.body) <> more_words e.body
@@ -154,7 +163,8 @@ state_text status.Killed = codes "killed"
 
 -- an element of a request: its id, its stage, and its status
 abbrev pub member_text : Look → List ℕ
-member_text look = (codes " " <> decimal look.element.id <> codes ":" <> decimal look.element.stage <> codes ":") <> state_text look.status
+member_text look = (codes " " <> decimal look.element.id <> codes ":" <> decimal look.element.stage
+    <> codes ":") <> state_text look.status
 
 -- the elements of a request
 abbrev pub family_text : ℕ → List Look → List ℕ
@@ -173,7 +183,8 @@ abbrev pub is_empty : Depth → Bool
 is_empty d = (d.waiting == 0) && (d.held == 0) && (d.parked == 0)
 
 abbrev pub depth_text : Depth → List ℕ
-depth_text d = if is_empty d then [] else codes " " <> decimal d.stage <> codes ":" <> decimal d.waiting <> codes ":" <> decimal d.held <> codes ":" <> decimal d.parked
+depth_text d = if is_empty d then [] else codes " " <> decimal d.stage <> codes ":" <> decimal d.waiting
+    <> codes ":" <> decimal d.held <> codes ":" <> decimal d.parked
 
 -- the stages in which there is anything
 abbrev pub depths_text : List Depth → List ℕ
@@ -181,7 +192,9 @@ depths_text depths = codes "depth" <> flat_map depth_text depths
 
 -- how many elements have each status
 abbrev pub counts_text : Counts → List ℕ
-counts_text c = codes "waiting " <> decimal c.waiting <> codes " held " <> decimal c.held <> codes " consumed " <> decimal c.consumed <> codes " parked " <> decimal c.parked <> codes " killed " <> decimal c.killed
+counts_text c = codes "waiting " <> decimal c.waiting <> codes " held " <> decimal c.held
+    <> codes " consumed " <> decimal c.consumed <> codes " parked " <> decimal c.parked <> codes " killed "
+    <> decimal c.killed
 
 -- how many are born, and how many have each status
 abbrev pub account_text : Counts → List ℕ
@@ -191,7 +204,8 @@ account_text c = codes "account born " <> decimal (all_in c) <> codes " " <> cou
 
 -- a register of a server
 abbrev pub balance_text : List ℕ → ℕ → Option ℕ → List ℕ
-balance_text name k (Some value) = codes "balance " <> name <> codes " " <> decimal k <> codes " " <> decimal value
+balance_text name k (Some value) =
+    codes "balance " <> name <> codes " " <> decimal k <> codes " " <> decimal value
 balance_text name k None = codes "balance " <> name <> codes " " <> decimal k <> codes " none"
 
 -- the registers of a server at the end
@@ -217,9 +231,11 @@ answer_text (answer.Refused why) = refusal_text why
 answer_text (answer.Server name told) = named_text name.now told
 answer_text (answer.Replies root replies) = replies_text root replies.now
 answer_text (answer.Killed id aborted) = codes "killed " <> decimal id <> codes " aborted " <> decimal aborted
-answer_text (answer.Cancelled root killed) = codes "cancelled " <> decimal root <> codes " killed " <> decimal killed
+answer_text (answer.Cancelled root killed) =
+    codes "cancelled " <> decimal root <> codes " killed " <> decimal killed
 answer_text (answer.Requeued id round) = codes "requeued " <> decimal id <> codes " round " <> decimal round
-answer_text (answer.Released id unit attempt) = codes "released " <> decimal id <> codes " unit " <> decimal unit <> codes " attempt " <> decimal attempt
+answer_text (answer.Released id unit attempt) =
+    codes "released " <> decimal id <> codes " unit " <> decimal unit <> codes " attempt " <> decimal attempt
 answer_text (answer.Collected root replies) = collected_text root replies.now
 answer_text (answer.Family root looks) = family_text root looks.now
 answer_text (answer.Read look) = look_text look

@@ -20,8 +20,8 @@ use Rattle.tp_model.proofs.Bridges.{in_one, unborn_before}
 use Rattle.tp_model.proofs.Histories.{by_steps, element_of-snoc, status_of-snoc}
 use Rattle.tp_model.proofs.Lists.{if_other, if_same}
 use Rattle.tp_model.proofs.WordProofs.{rounds-snoc}
-use Rattle.tp_plain.specs.Computed.{claim_id_at, claim_id_found, claim_id_of, has_room, is_server_stage, with_claim, with_request}
-use Rattle.tp_plain.specs.OneThread.{HasPlainRoom, State, next_row, no_pass, pass_at, ready, used_up, with_draw}
+use Rattle.tp_plain.specs.Computed.{claim_id_at, claim_id_found, claim_id_of, has_room, is_server_stage, with_claimed, with_request}
+use Rattle.tp_plain.specs.OneThread.{HasPlainRoom, State, first_row, no_pass, pass_at, ready, used_up, with_draw}
 use Rattle.tp_plain.specs.Reached.{IsReachable}
 use Rattle.tp_plain.specs.declared.pass_state.PassState.{PassState}
 use Rattle.tp_plain.proofs.Given.{served}
@@ -35,7 +35,7 @@ pub record Uses (s t : State) (c k : ℕ) : Type 0 where
   pub reached : IsReachable t
   pub limits : t.limits ≡ s.limits
   pub room : k ≤ (ready s c k).left
-  pub next : (pass_at t c).next ≡ next_row s c k + k
+  pub next : (pass_at t c).next ≡ first_row s c k + k
   pub left : (pass_at t c).left + k ≡ (ready s c k).left
   pub drawn : t.drawn ≡ (with_draw s c k).drawn
   pub others : (d : ℕ) → d ≢ c → ((pass_at t d).next ≡ (pass_at s d).next) × ((pass_at t d).left ≡ (pass_at s d).left)
@@ -59,7 +59,7 @@ no_rounds_after h i l legal = by_steps l (λ z. element_of z i ≡ None → roun
 
 pub record Submitted (s t : State) (c stage : ℕ) (body : List ℕ) (id : ℕ) : Type 0 where
   pub uses : Uses s t c 1
-  pub id_is : id ≡ next_row s c 1
+  pub id_is : id ≡ first_row s c 1
   pub there : element_of t.history id ≡ Some (request id stage body)
   pub unborn : element_of s.history id ≡ None
   pub elements : (i : ℕ) → i ≢ id → element_of t.history i ≡ element_of s.history i
@@ -78,9 +78,9 @@ module _ (s : State) (c : ℕ) (reached : IsReachable s) (is_pass : c < s.limits
   stage_is : (stage : ℕ) → is_server_stage stage ≡ true → IsServerStage stage
   stage_is stage is = grind (arith, nat_tests)
 
-  requested : (stage : ℕ) (body : List ℕ) → IsBody body → IsServerStage stage → HasPlainRoom s c 1 → Submitted s (with_request s c stage body) c stage body (next_row s c 1)
+  requested : (stage : ℕ) (body : List ℕ) → IsBody body → IsServerStage stage → HasPlainRoom s c 1 → Submitted s (with_request s c stage body) c stage body (first_row s c 1)
   requested stage body whole good room =
-      let id = next_row s c 1 in
+      let id = first_row s c 1 in
       let x = request id stage body in
       let e : Event = Enqueue c x in
       let step = may_submit s c stage body reached is_pass good whole room in
@@ -111,10 +111,10 @@ module _ (s : State) (c : ℕ) (reached : IsReachable s) (is_pass : c < s.limits
   pub submitted_so : (stage : ℕ) (body : List ℕ) (id : ℕ) (t : State) → IsBody body → submitted c stage body s ≡ Some (id, t) → Submitted s t c stage body id
   submitted_so stage body id t whole is = go (is_server_stage stage) (has_room s c 1) refl refl is
     where
-      go : (a b : Bool) → is_server_stage stage ≡ a → has_room s c 1 ≡ b → given (cond a (cond b (Ok (next_row s c 1), with_request s c stage body) (Err refusal.Full, s)) (Err refusal.BadStage, s)) ≡ Some (id, t) → Submitted s t c stage body id
+      go : (a b : Bool) → is_server_stage stage ≡ a → has_room s c 1 ≡ b → given (cond a (cond b (Ok (first_row s c 1), with_request s c stage body) (Err refusal.Full, s)) (Err refusal.BadStage, s)) ≡ Some (id, t) → Submitted s t c stage body id
       go true true staged room is =
           let made = requested stage body whole (stage_is stage staged) (leb-true 1 (ready s c 1).left room) in
-          let both : ℕ × State = (next_row s c 1, with_request s c stage body) in
+          let both : ℕ × State = (first_row s c 1, with_request s c stage body) in
           let got : ℕ × State = (id, t) in
           subst (λ (z : ℕ × State). Submitted s z.1 c stage body z.0) (same_some both got is) made
       go true false staged room is = absurd cc
@@ -129,7 +129,7 @@ pub record Claimed (s t : State) (c i : ℕ) : Type 0 where
   pub was : status_in s i ≡ Waiting tries
   pub room : (pass_at s c).claimed < s.limits.units
   pub served : item.stage ≢ 15
-  pub same : with_claim s c (record { element = item; status = Waiting tries }) (pass_at s c).turns ≡ t
+  pub same : with_claimed s c (record { element = item; status = Waiting tries }) (pass_at s c).turns ≡ t
 
 pub claimed_so : (s : State) (c i : ℕ) (w : Work) (t : State) → given (claim_id_of s c i) ≡ Some (w, t) → Claimed s t c i
 claimed_so s c i w t is = go (nat_lt (pass_at s c).claimed s.limits.units) refl is

@@ -9,17 +9,16 @@ use Rattle.tp_model.specs.History.{In, events_by, here, there}
 use Rattle.tp_model.specs.Steps.{IsLegal}
 use Rattle.tp_model.proofs.Later.{births_inside}
 use Rattle.tp_manager.specs.Accounts.{AreAll, AreNumberedFrom, Gathers}
-use Rattle.tp_manager.specs.Shown.{IsOf, KeeperShown, ManagerShown, PassShown}
+use Rattle.tp_manager.specs.Shown.{IsOf, KeeperShown, ManagerShown, PassShown, numbers}
 use Rattle.tp_alone.specs.Thread.{AreTogether, Stays}
 use Rattle.tp_alone.proofs.Apart.{zip_left}
 use Rattle.tp_alone.proofs.Gatherings.{gathered_together}
 use Rattle.tp_alone.proofs.Idle.{alone_idle}
 use Rattle.tp_rollover.specs.Answers.{IsHistoryOf, IsReadyToKill, Rolls}
 use Rattle.tp_rollover.specs.Checks.{CountsOnly}
-use Rattle.tp_rollover.specs.Closing.{AreLiving, Buries}
+use Rattle.tp_rollover.specs.Closing.{AreMovedLiving, Buries}
 use Rattle.tp_rollover.specs.Alike.{StandAlike, StandUnheld}
 use Rattle.tp_rollover.specs.Finding.{AreSurvivorsOf, CountsAlive}
-use Rattle.tp_rollover.specs.Passes.{numbers}
 use Rattle.tp_rollover.specs.Rolls.{RollsOver}
 use Rattle.tp_rollover.specs.Survivors.{AreSurvivors, StandAgain}
 use Rattle.tp_rollover.specs.Told.{ToldFirst, seen_first}
@@ -91,7 +90,7 @@ rolled l k h h' g survivors moved limit legal' new_legal found again buries = re
 }
 
 -- what stands again was alive
-pub all_living : (l k : Limits) (h g : List Event) (survivors : List Survivor) (moved : List Moved) → AreSurvivors l h survivors → StandAgain k g survivors moved → AreLiving l.attempts h moved
+pub all_living : (l k : Limits) (h g : List Event) (survivors : List Survivor) (moved : List Moved) → AreSurvivors l h survivors → StandAgain k g survivors moved → AreMovedLiving l.attempts h moved
 all_living l k h g survivors moved found again = record { each = λ m p. carried_living l k h g m (all_carried l k h g survivors moved found again m p); once = again.once.0 }
 
 -- the history that the old passes had made

@@ -10,7 +10,7 @@ use Rattle.tp_model.specs.declared.types.Refusal.TheVariants as refusal
 use Rattle.tp_model.specs.declared.types.TheConstants.{BLOCK_ROWS}
 use Rattle.tp_plain.specs.declared.pass_state.PassState.{PassState}
 use Rattle.tp_plain.specs.Computed.{has_room, is_server_stage, with_request}
-use Rattle.tp_plain.specs.OneThread.{State, draws, next_row, no_pass, pass_at, ready, used_up}
+use Rattle.tp_plain.specs.OneThread.{State, draws_block, first_row, no_pass, pass_at, ready, used_up}
 use Rattle.tp_manager.specs.Bounds.{gather_steps, submit_steps}
 use Rattle.tp_manager.specs.Shown.{KeeperShown, PassShown}
 use Rattle.tp_rollover.specs.Anew.{Bearing, Placing, born_from, carrier_by, given, has_left, home_of, named_in, next_born, next_pass, placed_by, root_or_group, group_born, start_at, submitted, units_unclaimed}
@@ -43,7 +43,7 @@ module _ (s : State) (c stage : ℕ) (body : List ℕ) where
   left_after : (k : ℕ) → suc k ≤ (pass_at s c).left → k ≤ (pass_at (with_request s c stage body) c).left
   left_after k some =
       let set : pass_at (with_request s c stage body) c ≡ used_up (ready s c 1) 1 = get_or-set_same s.passes c (used_up (ready s c 1) 1) no_pass (there_is s.passes c (omega (arith, some))) in
-      let none : draws s c 1 ≡ false = and_left (nat_lt (pass_at s c).left 1) (nat_lt s.drawn s.limits.spare) (le-ltb (pass_at s c).left 1 (omega (arith, some))) in
+      let none : draws_block s c 1 ≡ false = and_left (nat_lt (pass_at s c).left 1) (nat_lt s.drawn s.limits.spare) (le-ltb (pass_at s c).left 1 (omega (arith, some))) in
       let left : (ready s c 1).left ≡ (pass_at s c).left = ap (λ b. cond b BLOCK_ROWS (pass_at s c).left) none in
       let now : (pass_at (with_request s c stage body) c).left ≡ (ready s c 1).left - 1 = ap (λ (p : PassState). p.left) set in
       omega (arith, some, left, now)
@@ -51,8 +51,8 @@ module _ (s : State) (c stage : ℕ) (body : List ℕ) where
   submitted_is : (id : ℕ) (s' : State) → submitted c stage body s ≡ Some (id, s') → s' ≡ with_request s c stage body
   submitted_is id s' e = go (is_server_stage stage) (has_room s c 1) e
     where
-      go : (a b : Bool) → given (cond a (cond b (Ok (next_row s c 1), with_request s c stage body) (Err refusal.Full, s)) (Err refusal.BadStage, s)) ≡ Some (id, s') → s' ≡ with_request s c stage body
-      go true true e = sym (same_state (next_row s c 1, with_request s c stage body) (id, s') e)
+      go : (a b : Bool) → given (cond a (cond b (Ok (first_row s c 1), with_request s c stage body) (Err refusal.Full, s)) (Err refusal.BadStage, s)) ≡ Some (id, s') → s' ≡ with_request s c stage body
+      go true true e = sym (same_state (first_row s c 1, with_request s c stage body) (id, s') e)
       go true false e = absurd cc
       go false b e = absurd cc
 

@@ -8,7 +8,7 @@ use Rattle.tp_model.specs.declared.types.TheConstants.{BLOCK_ROWS}
 use Rattle.tp_model.specs.Steps.{block_first}
 use Rattle.std.proofs.lemmas.List.FromFn.{get_or-map-range_with_len}
 use Rattle.tp_plain.specs.declared.pass_state.PassState.{PassState}
-use Rattle.tp_plain.specs.OneThread.{State, fresh_pass, no_pass, draws, next_row, pass_at, ready, start}
+use Rattle.tp_plain.specs.OneThread.{State, fresh_pass, no_pass, draws_block, first_row, pass_at, ready, start}
 use Rattle.tp_plain.specs.Reached.{IsReachable}
 use Rattle.tp_plain.proofs.Rooms.{run_below}
 use Rattle.tp_rollover.specs.Anew.{drawer, first_from, found_at, has_left, last_below, least_units, next_pass, start_at, units_unclaimed, would_draw}
@@ -101,7 +101,7 @@ later_part a b n less = let e : a + 1 ≤ b = omega arith in let f : (a + 1) * n
 
 module _ (p : ℕ) (s t : State) (k : ℕ) (cursor : Cursor) (c : ℕ) (cursor' : Cursor) (low : ℕ) (reached : IsReachable s) (many : p ≤ s.limits.parts) (climbs : Climbs p s cursor low) (uses : Uses s t c k) where
   abbrev Goes : Cursor → Type 0
-  Goes cur = (low ≤ next_row s c k) × Climbs p t cur (next_row s c k + k)
+  Goes cur = (low ≤ first_row s c k) × Climbs p t cur (first_row s c k + k)
 
   same_rows : t.limits.rows ≡ s.limits.rows
   same_rows = ap (λ (l : Limits). l.rows) uses.limits
@@ -110,23 +110,23 @@ module _ (p : ℕ) (s t : State) (k : ℕ) (cursor : Cursor) (c : ℕ) (cursor' 
   same_block n = ap (λ (l : Limits). block_first l n) uses.limits
 
   -- without a new block
-  undrawn_next : draws s c k ≡ false → next_row s c k ≡ (pass_at s c).next
+  undrawn_next : draws_block s c k ≡ false → first_row s c k ≡ (pass_at s c).next
   undrawn_next still = ap (λ b. if b then block_first s.limits s.drawn else (pass_at s c).next) still
 
-  undrawn_left : draws s c k ≡ false → (ready s c k).left ≡ (pass_at s c).left
+  undrawn_left : draws_block s c k ≡ false → (ready s c k).left ≡ (pass_at s c).left
   undrawn_left still = ap (λ b. if b then BLOCK_ROWS else (pass_at s c).left) still
 
-  undrawn_same : draws s c k ≡ false → t.drawn ≡ s.drawn
+  undrawn_same : draws_block s c k ≡ false → t.drawn ≡ s.drawn
   undrawn_same still = uses.drawn ∙ ap (λ b. if b then s.drawn + 1 else s.drawn) still
 
   -- with one
-  drawn_next : draws s c k ≡ true → next_row s c k ≡ block_first s.limits s.drawn
+  drawn_next : draws_block s c k ≡ true → first_row s c k ≡ block_first s.limits s.drawn
   drawn_next new = ap (λ b. if b then block_first s.limits s.drawn else (pass_at s c).next) new
 
-  drawn_left : draws s c k ≡ true → (ready s c k).left ≡ BLOCK_ROWS
+  drawn_left : draws_block s c k ≡ true → (ready s c k).left ≡ BLOCK_ROWS
   drawn_left new = ap (λ b. if b then BLOCK_ROWS else (pass_at s c).left) new
 
-  drawn_more : draws s c k ≡ true → t.drawn ≡ s.drawn + 1
+  drawn_more : draws_block s c k ≡ true → t.drawn ≡ s.drawn + 1
   drawn_more new = uses.drawn ∙ ap (λ b. if b then s.drawn + 1 else s.drawn) new
 
   -- in a part
@@ -142,7 +142,7 @@ module _ (p : ℕ) (s t : State) (k : ℕ) (cursor : Cursor) (c : ℕ) (cursor' 
     },
   )
     where
-      still : draws s c k ≡ false
+      still : draws_block s c k ≡ false
       still = ap (λ b. b && nat_lt s.drawn s.limits.spare) (not_less (pass_at s c).left k room)
         where
           not_less : (a b : ℕ) → b ≤ a → nat_lt a b ≡ false
@@ -157,13 +157,13 @@ module _ (p : ℕ) (s t : State) (k : ℕ) (cursor : Cursor) (c : ℕ) (cursor' 
       at_part : (cursor.at ≡ c) ⊎ (cursor.at < c)
       at_part = ⊎_elim (λ q. inl q.1) (λ q. inr (let not : cursor.at ≢ c = q.1 in omega arith)) (eqb_tells cursor.at c)
 
-      next_is : next_row s c k ≡ (pass_at s c).next
+      next_is : first_row s c k ≡ (pass_at s c).next
       next_is = undrawn_next still
 
       left_is : (ready s c k).left ≡ (pass_at s c).left
       left_is = undrawn_left still
 
-      first : low ≤ next_row s c k
+      first : low ≤ first_row s c k
       first =
           let low_at = climbs.part at_less in let n = next_is in
           ⊎_elim (λ same. let e = ap (λ n. (pass_at s n).next) same in omega arith)
@@ -181,12 +181,12 @@ module _ (p : ℕ) (s t : State) (k : ℕ) (cursor : Cursor) (c : ℕ) (cursor' 
 
   -- in spare blocks
   in_a_block : c < p → (cursor.block ≡ Some c) ⊎ ((pass_at s c).left < k) → Goes (record { at = p; block = Some c; kept = cursor.kept })
-  in_a_block inside how = go (draws s c k) refl
+  in_a_block inside how = go (draws_block s c k) refl
     where
-      at_c : (d : ℕ) → Some c ≡ Some d → (pass_at t d).next ≡ next_row s c k + k
+      at_c : (d : ℕ) → Some c ≡ Some d → (pass_at t d).next ≡ first_row s c k + k
       at_c d is = let same : c ≡ d = cc in ap (λ n. (pass_at t n).next) (sym same) ∙ uses.next
 
-      on : low ≤ next_row s c k → next_row s c k + k ≤ block_first t.limits t.drawn → Goes (record { at = p; block = Some c; kept = cursor.kept })
+      on : low ≤ first_row s c k → first_row s c k + k ≤ block_first t.limits t.drawn → Goes (record { at = p; block = Some c; kept = cursor.kept })
       on first end = (
         first,
         record {
@@ -198,7 +198,7 @@ module _ (p : ℕ) (s t : State) (k : ℕ) (cursor : Cursor) (c : ℕ) (cursor' 
         },
       )
 
-      go : (b : Bool) → draws s c k ≡ b → Goes (record { at = p; block = Some c; kept = cursor.kept })
+      go : (b : Bool) → draws_block s c k ≡ b → Goes (record { at = p; block = Some c; kept = cursor.kept })
       go true new =
           let a = drawn_next new in let b = drawn_left new in let d = drawn_more new in let e = same_block t.drawn in let f = ap (block_first s.limits) d in
           let room = uses.room in let u = climbs.undrawn in on (omega arith) (omega arith)

@@ -20,9 +20,9 @@ use Rattle.tp_model.proofs.Bridges.{element_of-id, new_claim}
 use Rattle.tp_model.proofs.Histories.{element_of-snoc, status_of-snoc}
 use Rattle.tp_model.proofs.Lists.{if_other, if_same}
 use Rattle.tp_model.proofs.WordProofs.{rounds-snoc}
-use Rattle.tp_plain.specs.Computed.{abort_of, claim_id_of, commit_of, has_room, requeue_at, requeue_found, requeue_of, with_claim}
+use Rattle.tp_plain.specs.Computed.{abort_of, claim_id_of, commit_of, has_room, requeue_at, requeue_found, requeue_of, with_claimed}
 use Rattle.tp_plain.specs.Looks.{is_held_by, looks_after_all}
-use Rattle.tp_plain.specs.OneThread.{HasPlainRoom, State, extended, made_of, moved, next_row, next_unit, no_pass, pass_at, ready, root_of, spent, taken, with_draw}
+use Rattle.tp_plain.specs.OneThread.{HasPlainRoom, State, extended, made_of, moved, first_row, next_unit, no_pass, pass_at, ready, root_of, freed_after_use, having_taken, with_draw}
 use Rattle.tp_plain.specs.Reached.{IsReachable}
 use Rattle.tp_plain.specs.declared.pass_state.PassState.{PassState}
 use Rattle.tp_model.specs.declared.types.Ended.TheVariants as ended
@@ -82,13 +82,13 @@ module _ (s s1 : State) (c i : ℕ) (reached : IsReachable s) (is_pass : c < s.l
   look = record { element = claimed.item; status = Waiting claimed.tries }
 
   abbrev after : State
-  after = with_claim s c look (pass_at s c).turns
+  after = with_claimed s c look (pass_at s c).turns
 
   abbrev event : Event
   event = Claim c unit claimed.item.id (claimed.tries + 1)
 
   abbrev used : PassState
-  used = taken s c (record { unit = unit; element = claimed.item; attempt = claimed.tries + 1 }) (pass_at s c).turns
+  used = having_taken s c (record { unit = unit; element = claimed.item; attempt = claimed.tries + 1 }) (pass_at s c).turns
 
   id : claimed.item.id ≡ i
   id = element_of-id s.history i claimed.item claimed.taken
@@ -195,9 +195,9 @@ module _ (s s1 : State) (c i : ℕ) (reached : IsReachable s) (is_pass : c < s.l
   -- ---- or it is committed
   module _ (drafts : List DraftView) (whole : All IsWhole drafts) (few : length drafts ≤ 4) where
     abbrev outs : List Element
-    outs = outputs unit claimed.item.root (next_row s c (length drafts)) drafts
+    outs = outputs unit claimed.item.root (first_row s c (length drafts)) drafts
 
-    ready_next : next_row after c (length drafts) ≡ next_row s c (length drafts)
+    ready_next : first_row after c (length drafts) ≡ first_row s c (length drafts)
     ready_next = rw own refl
 
     ready_left : (ready after c (length drafts)).left ≡ (ready s c (length drafts)).left
@@ -210,15 +210,15 @@ module _ (s s1 : State) (c i : ℕ) (reached : IsReachable s) (is_pass : c < s.l
     made_is = rw (root_is, ready_next) refl
 
     abbrev done : State
-    done = moved (with_draw after c (length drafts)) (Commit c unit (made_of after c unit drafts)) c (spent (ready after c (length drafts)) (length drafts))
+    done = moved (with_draw after c (length drafts)) (Commit c unit (made_of after c unit drafts)) c (freed_after_use (ready after c (length drafts)) (length drafts))
 
-    own_done : pass_at done c ≡ spent (ready after c (length drafts)) (length drafts)
-    own_done = get_or-set_same after.passes c (spent (ready after c (length drafts)) (length drafts)) no_pass (rw (reached_after.passes) is_pass)
+    own_done : pass_at done c ≡ freed_after_use (ready after c (length drafts)) (length drafts)
+    own_done = get_or-set_same after.passes c (freed_after_use (ready after c (length drafts)) (length drafts)) no_pass (rw (reached_after.passes) is_pass)
 
     other_done : (d : ℕ) → d ≢ c → pass_at done d ≡ pass_at s d
-    other_done d not = get_or-set_other after.passes c d (spent (ready after c (length drafts)) (length drafts)) no_pass not ∙ get_or-set_other s.passes c d used no_pass not
+    other_done d not = get_or-set_other after.passes c d (freed_after_use (ready after c (length drafts)) (length drafts)) no_pass not ∙ get_or-set_other s.passes c d used no_pass not
 
-    commit_is : HasPlainRoom after c (length drafts) → commit_of after c drafts ≡ (outcome.Committed (if length drafts == 0 then 0 else next_row after c (length drafts)) (length drafts), done)
+    commit_is : HasPlainRoom after c (length drafts) → commit_of after c drafts ≡ (outcome.Committed (if length drafts == 0 then 0 else first_row after c (length drafts)) (length drafts), done)
     commit_is room = commit_goes after c unit drafts hand undecided room
 
     reached_done : HasPlainRoom after c (length drafts) → IsReachable done
@@ -226,12 +226,12 @@ module _ (s s1 : State) (c i : ℕ) (reached : IsReachable s) (is_pass : c < s.l
         let left = left_by_commit after (looks_after_all s.limits.attempts after.history) c reached_after refl is_pass unit the_look.0 the_look.1 drafts whole few hand room in
         subst IsReachable left.3.after left.0
 
-    unborn_rows : HasPlainRoom after c (length drafts) → (j : ℕ) → next_row s c (length drafts) ≤ j → j < next_row s c (length drafts) + length drafts → element_of s.history j ≡ None
+    unborn_rows : HasPlainRoom after c (length drafts) → (j : ℕ) → first_row s c (length drafts) ≤ j → j < first_row s c (length drafts) + length drafts → element_of s.history j ≡ None
     unborn_rows room j low high =
         let a = ready_left in
         (fits_ready s c (length drafts) reached is_pass).run.unborn j low (omega arith)
 
-    pub committed_then : HasPlainRoom after c (length drafts) → Borne s done c i drafts (next_row s c (length drafts))
+    pub committed_then : HasPlainRoom after c (length drafts) → Borne s done c i drafts (first_row s c (length drafts))
     committed_then room = record {
       uses = record {
         reached = reached_done room;
@@ -266,33 +266,33 @@ attempted_so s c i t reached is_pass idle is =
     subst (λ (z : State). Attempted s z c i) (sym (ap (λ (y : Ended × State). y.1) there) ∙ at) (attempted_then s x.0.1 c i reached is_pass (idle c) claimed)
 
 pub born_so : (s : State) (c i : ℕ) (drafts : List DraftView) (first : ℕ) (t : State) → IsReachable s → c < s.limits.parts → AreIdle s → All IsWhole drafts → 1 ≤ length drafts → length drafts ≤ 4
-    → born_by c i drafts s ≡ Some (first, t) → Borne s t c i drafts first × (first ≡ next_row s c (length drafts))
+    → born_by c i drafts s ≡ Some (first, t) → Borne s t c i drafts first × (first ≡ first_row s c (length drafts))
 born_so s c i drafts first t reached is_pass idle whole some few is =
     let x = and_then_some (λ (claimed : Work × State). first_given (commit_of claimed.1 c drafts)) (given (claim_id_of s c i)) (first, t) (free_made s c _ (first, t) is) in
     let claimed = claimed_so s c i x.0.0 x.0.1 x.1 in
     at claimed (subst (λ (z : State). first_given (commit_of z c drafts) ≡ Some (first, t)) (sym claimed.same) x.2)
   where
-    at : {s1 : State} (claimed : Claimed s s1 c i) → first_given (commit_of (after s s1 c i reached is_pass (idle c) claimed) c drafts) ≡ Some (first, t) → Borne s t c i drafts first × (first ≡ next_row s c (length drafts))
+    at : {s1 : State} (claimed : Claimed s s1 c i) → first_given (commit_of (after s s1 c i reached is_pass (idle c) claimed) c drafts) ≡ Some (first, t) → Borne s t c i drafts first × (first ≡ first_row s c (length drafts))
     at {s1 = s1} claimed got = go (has_room s' c (length drafts)) refl
       where
         s' : State
         s' = after s s1 c i reached is_pass (idle c) claimed
 
         row : ℕ
-        row = if length drafts == 0 then 0 else next_row s' c (length drafts)
+        row = if length drafts == 0 then 0 else first_row s' c (length drafts)
 
-        row_is : row ≡ next_row s c (length drafts)
-        row_is = if_other (length drafts) 0 0 (next_row s' c (length drafts)) (λ same. omega (arith, same, some)) ∙ ready_next s s1 c i reached is_pass (idle c) claimed drafts whole few
+        row_is : row ≡ first_row s c (length drafts)
+        row_is = if_other (length drafts) 0 0 (first_row s' c (length drafts)) (λ same. omega (arith, same, some)) ∙ ready_next s s1 c i reached is_pass (idle c) claimed drafts whole few
 
-        go : (b : Bool) → has_room s' c (length drafts) ≡ b → Borne s t c i drafts first × (first ≡ next_row s c (length drafts))
+        go : (b : Bool) → has_room s' c (length drafts) ≡ b → Borne s t c i drafts first × (first ≡ first_row s c (length drafts))
         go false room = absurd (let q : first_given (commit_of s' c drafts) ≡ None = rw room refl in let r = sym q ∙ got in cc)
         go true room =
             let fits = leb-true (length drafts) (ready s' c (length drafts)).left room in
             let both : ℕ × State = (row, done s s1 c i reached is_pass (idle c) claimed drafts whole few) in
             let got' : ℕ × State = (first, t) in
             let same : both ≡ got' = same_some both got' (sym (ap first_given (commit_is s s1 c i reached is_pass (idle c) claimed drafts whole few fits)) ∙ got) in
-            let is : first ≡ next_row s c (length drafts) = sym (ap (λ (z : ℕ × State). z.0) same) ∙ row_is in
-            (subst (λ f. Borne s t c i drafts f) (sym is) (subst (λ (z : State). Borne s z c i drafts (next_row s c (length drafts))) (ap (λ (z : ℕ × State). z.1) same) (committed_then s s1 c i reached is_pass (idle c) claimed drafts whole few fits)), is)
+            let is : first ≡ first_row s c (length drafts) = sym (ap (λ (z : ℕ × State). z.0) same) ∙ row_is in
+            (subst (λ f. Borne s t c i drafts f) (sym is) (subst (λ (z : State). Borne s z c i drafts (first_row s c (length drafts))) (ap (λ (z : ℕ × State). z.1) same) (committed_then s s1 c i reached is_pass (idle c) claimed drafts whole few fits)), is)
 
 -- ---- a further round
 

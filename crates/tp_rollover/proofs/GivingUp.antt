@@ -20,7 +20,7 @@ use Rattle.tp_manager.specs.Bounds.{abort_steps}
 use Rattle.tp_manager.specs.Shown.{KeeperShown, ManagerShown, PassShown}
 use Rattle.tp_alone.specs.Thread.{AreTogether, not_given, thread_of}
 use Rattle.tp_rollover.specs.Bounds.{gathered, give_up_steps}
-use Rattle.tp_rollover.specs.Closing.{AreLiving, Buries, hand_given_up}
+use Rattle.tp_rollover.specs.Closing.{AreMovedLiving, Buries, hand_given_up}
 use Rattle.tp_rollover.specs.Lone.{AreLone, lone}
 use Rattle.tp_rollover.specs.Rolls.{IsGivenUp, kills}
 use Rattle.tp_rollover.specs.Survivors.{IsLiving}
@@ -116,9 +116,9 @@ aborted_lives limit u (Consumed v) lives = absurd lives
 aborted_lives limit u (Parked n) lives = tt
 aborted_lives limit u Killed lives = absurd lives
 
-pub live_on : (limit c : ℕ) (h es : List Event) (ms : List Moved) → IsGivenUp limit h c es → AreLiving limit h ms → AreLiving limit (h ++ es) ms
-live_on limit c h es ms (inl none) live = subst (λ z. AreLiving limit z ms) (sym (ap (λ z. h ++ z) none ∙ append_nil h)) live
-live_on limit c h es ms (inr t) live = subst (λ z. AreLiving limit (h ++ z) ms) (sym t.4) (record {
+pub live_on : (limit c : ℕ) (h es : List Event) (ms : List Moved) → IsGivenUp limit h c es → AreMovedLiving limit h ms → AreMovedLiving limit (h ++ es) ms
+live_on limit c h es ms (inl none) live = subst (λ z. AreMovedLiving limit z ms) (sym (ap (λ z. h ++ z) none ∙ append_nil h)) live
+live_on limit c h es ms (inr t) live = subst (λ z. AreMovedLiving limit (h ++ z) ms) (sym t.4) (record {
   each = λ m p. (let one = live.each m p in record {
     item = one.item;
     born = element_of-kept h (Abort c t.1 ∷ []) m.old one.item one.born;

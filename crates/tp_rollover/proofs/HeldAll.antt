@@ -15,8 +15,8 @@ use Rattle.tp_model.specs.History.{In, element_of, here, there}
 use Rattle.tp_model.proofs.Bridges.{element_of-id, in_cons, in_none}
 use Rattle.tp_model.proofs.Histories.{element_of-snoc, status_of-snoc}
 use Rattle.tp_model.proofs.Lists.{if_other}
-use Rattle.tp_plain.specs.Computed.{claim_id_at, with_claim, work_on}
-use Rattle.tp_plain.specs.OneThread.{State, next_unit, no_pass, pass_at, taken}
+use Rattle.tp_plain.specs.Computed.{claim_id_at, with_claimed, work_on}
+use Rattle.tp_plain.specs.OneThread.{State, next_unit, no_pass, pass_at, having_taken}
 use Rattle.tp_plain.specs.declared.pass_state.PassState.{PassState}
 use Rattle.tp_plain.proofs.Given.{computes}
 use Rattle.tp_rollover.specs.Anew.{all_held, claimed_for, given, held_by, kept_for, with_holder}
@@ -43,7 +43,7 @@ CanHold p s one m = (c : ℕ) → one.holder ≡ Some c → CanClaim p s c m.new
 
 module _ (p : ℕ) (s : State) (c i : ℕ) (can : CanClaim p s c i) where
   abbrev after : State
-  after = with_claim s c (record { element = can.item; status = Waiting can.tries }) (pass_at s c).turns
+  after = with_claimed s c (record { element = can.item; status = Waiting can.tries }) (pass_at s c).turns
 
   goes : held_by p (Some c) i s ≡ Some after
   goes =
@@ -55,7 +55,7 @@ module _ (p : ℕ) (s : State) (c i : ℕ) (can : CanClaim p s c i) where
   still : (d j : ℕ) → d ≢ c → j ≢ i → CanClaim p s d j → CanClaim p after d j
   still d j other apart claim =
       let event : Event = Claim c (next_unit s c) can.item.id (can.tries + 1) in
-      let used : PassState = taken s c (work_on s c (record { element = can.item; status = Waiting can.tries })) (pass_at s c).turns in
+      let used : PassState = having_taken s c (work_on s c (record { element = can.item; status = Waiting can.tries })) (pass_at s c).turns in
       let same : pass_at after d ≡ pass_at s d = get_or-set_other s.passes c d used no_pass other in
       let id = element_of-id s.history i can.item can.born in
       record {

@@ -20,8 +20,8 @@ use Rattle.tp_model.proofs.Bridges.{element_of-id}
 use Rattle.tp_model.proofs.Histories.{element_of-snoc, status_of-snoc}
 use Rattle.tp_model.proofs.Lists.{if_other, if_same}
 use Rattle.tp_model.proofs.WordProofs.{rounds-snoc}
-use Rattle.tp_plain.specs.Computed.{claim_id_at, claim_id_found, with_claim, work_on}
-use Rattle.tp_plain.specs.OneThread.{State, next_unit, no_pass, pass_at, taken}
+use Rattle.tp_plain.specs.Computed.{claim_id_at, claim_id_found, with_claimed, work_on}
+use Rattle.tp_plain.specs.OneThread.{State, next_unit, no_pass, pass_at, having_taken}
 use Rattle.tp_plain.specs.declared.pass_state.PassState.{PassState}
 use Rattle.tp_rollover.specs.Alike.{StandsUnheld}
 use Rattle.tp_rollover.specs.Anew.{all_held, given, held_by, claimed_for}
@@ -62,13 +62,13 @@ none_not o u none some = let q : None ≡ Some u = sym none ∙ some in absurd c
 
 module _ (p : ℕ) (s t : State) (c i : ℕ) (status : Status) (stands : status_in s i ≡ status) (one_of : c < p) (inside : c < length s.passes) (free : (pass_at s c).holding ≡ None) where
   claimed_by : (e : Element) (n : ℕ) → element_of s.history i ≡ Some e → status_in s i ≡ Waiting n → (pass_at s c).claimed < s.limits.units
-      → OneHeld p s (with_claim s c (record { element = e; status = Waiting n }) (pass_at s c).turns) i status (Some c)
+      → OneHeld p s (with_claimed s c (record { element = e; status = Waiting n }) (pass_at s c).turns) i status (Some c)
   claimed_by e n is waits room =
       let look : Look = record { element = e; status = Waiting n } in
       let event : Event = Claim c (next_unit s c) e.id (n + 1) in
-      let used : PassState = taken s c (work_on s c look) (pass_at s c).turns in
-      let own : pass_at (with_claim s c look (pass_at s c).turns) c ≡ used = get_or-set_same s.passes c used no_pass inside in
-      let other : (d : ℕ) → d ≢ c → pass_at (with_claim s c look (pass_at s c).turns) d ≡ pass_at s d = λ d not. get_or-set_other s.passes c d used no_pass not in
+      let used : PassState = having_taken s c (work_on s c look) (pass_at s c).turns in
+      let own : pass_at (with_claimed s c look (pass_at s c).turns) c ≡ used = get_or-set_same s.passes c used no_pass inside in
+      let other : (d : ℕ) → d ≢ c → pass_at (with_claimed s c look (pass_at s c).turns) d ≡ pass_at s d = λ d not. get_or-set_other s.passes c d used no_pass not in
       record {
         limits = refl;
         long = length-set s.passes c used;
@@ -94,7 +94,7 @@ module _ (p : ℕ) (s t : State) (c i : ℕ) (status : Status) (stands : status_
 
   at : (e : Element) → element_of s.history i ≡ Some e → (pass_at s c).claimed < s.limits.units → (st : Status) → status_in s i ≡ st → option_and_then (λ claimed. Some claimed.1) (given (claim_id_at s c e st)) ≡ Some t → OneHeld p s t i status (Some c)
   at e is room (Waiting n) waits got =
-      let same : with_claim s c (record { element = e; status = Waiting n }) (pass_at s c).turns ≡ t = cc in
+      let same : with_claimed s c (record { element = e; status = Waiting n }) (pass_at s c).turns ≡ t = cc in
       subst (λ z. OneHeld p s z i status (Some c)) same (claimed_by e n is waits room)
   at e is room (Held u n) waits got = absurd cc
   at e is room (Consumed u) waits got = absurd cc

@@ -14,8 +14,8 @@ use Rattle.tp_model.specs.declared.types.Status.TheVariants.{Waiting, Held, Cons
 use Rattle.tp_model.specs.declared.types.Work.{Work}
 use Rattle.tp_model.specs.declared.event.Event.TheVariants.{Requeue}
 use Rattle.tp_model.specs.History.{Aborted, Committed, UnitEnd, element_of, end_of, rounds, status_of}
-use Rattle.tp_plain.specs.Computed.{abort_at, abort_of, claim_id_at, claim_id_found, claim_id_of, commit_at, commit_of, has_room, is_server_stage, requeue_at, requeue_found, requeue_of, unit_in_hand, with_claim, with_request}
-use Rattle.tp_plain.specs.OneThread.{State, extended, fresh_pass, next_row, no_pass, pass_at, start}
+use Rattle.tp_plain.specs.Computed.{abort_at, abort_of, claim_id_at, claim_id_found, claim_id_of, commit_at, commit_of, has_room, is_server_stage, requeue_at, requeue_found, requeue_of, unit_in_hand, with_claimed, with_request}
+use Rattle.tp_plain.specs.OneThread.{State, extended, fresh_pass, first_row, no_pass, pass_at, start}
 use Rattle.tp_plain.specs.declared.pass_state.PassState.{PassState}
 use Rattle.tp_rollover.specs.Anew.{Bearing, Placing, all_born, all_replayed, attempted, attempts_made, born_by, born_from, born_next, carrier_by, drafts_of, family_at, first_from, first_given, given, group_born, group_size, has_left, home_of, if_free, kept_for, made_unheld, named_in, next_born, next_pass, placed_by, renewed, replayed, requeued, root_or_group, submitted, submitted_next}
 use Rattle.tp_rollover.specs.Bounds.{attempts_had}
@@ -56,7 +56,7 @@ module _ (s : State) (c : ℕ) where
   claim_at : (e : Element) (st : Status) (w : Work) (t : State) → given (claim_id_at s c e st) ≡ Some (w, t) → AreIdle s → AreIdleBut c t
   claim_at e (Waiting n) w t is idle =
       let look : Look = record { element = e; status = Waiting n } in
-      let same : with_claim s c look (pass_at s c).turns ≡ t = second_of _ (w, t) is in
+      let same : with_claimed s c look (pass_at s c).turns ≡ t = second_of _ (w, t) is in
       λ d not. subst (λ (z : State). (pass_at z d).holding ≡ None) same (ap (λ (p : PassState). p.holding) (get_or-set_other s.passes c d _ no_pass not) ∙ idle d)
   claim_at e (Held u n) w t is idle = absurd cc
   claim_at e (Consumed u) w t is idle = absurd cc
@@ -98,7 +98,7 @@ module _ (s : State) (c : ℕ) where
   pub submit_idle : (stage : ℕ) (body : List ℕ) (id : ℕ) (t : State) → submitted c stage body s ≡ Some (id, t) → AreIdle s → AreIdle t
   submit_idle stage body id t is idle = go (is_server_stage stage) (has_room s c 1) is
     where
-      go : (a b : Bool) → given (cond a (cond b (Ok (next_row s c 1), with_request s c stage body) (Err refusal.Full, s)) (Err refusal.BadStage, s)) ≡ Some (id, t) → AreIdle t
+      go : (a b : Bool) → given (cond a (cond b (Ok (first_row s c 1), with_request s c stage body) (Err refusal.Full, s)) (Err refusal.BadStage, s)) ≡ Some (id, t) → AreIdle t
       go true true is = subst AreIdle (second_of _ (id, t) is) (set_none s.passes c _ (idle c) (λ d not. idle d))
       go true false is = absurd cc
       go false b is = absurd cc

@@ -19,8 +19,8 @@ use Rattle.tp_model.specs.Steps.{IsLegal, rows_of}
 use Rattle.tp_model.proofs.Areas.{use_inside}
 use Rattle.tp_model.proofs.Bridges.{births_of}
 use Rattle.tp_model.proofs.Histories.{legal_at}
-use Rattle.tp_plain.specs.Computed.{abort_of, claim_id_at, claim_id_found, claim_id_of, commit_at, commit_of, has_room, is_server_stage, unit_in_hand, with_claim, with_request, work_on}
-use Rattle.tp_plain.specs.OneThread.{State, made_of, next_row, no_pass, pass_at, taken}
+use Rattle.tp_plain.specs.Computed.{abort_of, claim_id_at, claim_id_found, claim_id_of, commit_at, commit_of, has_room, is_server_stage, unit_in_hand, with_claimed, with_request, work_on}
+use Rattle.tp_plain.specs.OneThread.{State, made_of, first_row, no_pass, pass_at, having_taken}
 use Rattle.tp_plain.specs.declared.pass_state.PassState.{PassState}
 use Rattle.tp_rollover.specs.Anew.{first_given, given, if_free, submitted}
 
@@ -30,9 +30,9 @@ module _ (s t : State) (c i : ℕ) (w : Work) (inside : c < length s.passes) whe
   busy_at : (e : Element) (st : Status) → (Ok w, t) ≡ claim_id_at s c e st → IsSome (pass_at t c).holding
   busy_at e (Waiting n) is =
       let look : Look = record { element = e; status = Waiting n } in
-      let used : PassState = taken s c (work_on s c look) (pass_at s c).turns in
-      let same : t ≡ with_claim s c look (pass_at s c).turns = ap (λ x. x.1) is in
-      let own : pass_at (with_claim s c look (pass_at s c).turns) c ≡ used = get_or-set_same s.passes c used no_pass inside in
+      let used : PassState = having_taken s c (work_on s c look) (pass_at s c).turns in
+      let same : t ≡ with_claimed s c look (pass_at s c).turns = ap (λ x. x.1) is in
+      let own : pass_at (with_claimed s c look (pass_at s c).turns) c ≡ used = get_or-set_same s.passes c used no_pass inside in
       subst (λ (z : State). IsSome (pass_at z c).holding) (sym same) (subst (λ (p : PassState). IsSome p.holding) (sym own) refl)
   busy_at e (Held u n) is = let q : Ok w ≡ Err refusal.NotWaiting = ap (λ x. x.0) is in absurd cc
   busy_at e (Consumed u) is = let q : Ok w ≡ Err refusal.NotWaiting = ap (λ x. x.0) is in absurd cc
@@ -82,7 +82,7 @@ module _ (l : Limits) where
     same_id x y e = cc
 
     abbrev made : ℕ × State
-    made = (next_row s c 1, with_request s c stage body)
+    made = (first_row s c 1, with_request s c stage body)
 
     abbrev got : ℕ × State
     got = (id, t)
@@ -90,12 +90,12 @@ module _ (l : Limits) where
     request_below : IsLegal l t.history → got ≡ made → id < rows_of l
     request_below legal is =
         let legal' = subst (λ (x : State). IsLegal l x.history) (ap (λ (x : ℕ × State). x.1) is) legal in
-        subst (λ n. n < rows_of l) (sym (ap (λ (x : ℕ × State). x.0) is)) (births_below s.history (Enqueue c (request (next_row s c 1) stage body)) (request (next_row s c 1) stage body) legal' here)
+        subst (λ n. n < rows_of l) (sym (ap (λ (x : ℕ × State). x.0) is)) (births_below s.history (Enqueue c (request (first_row s c 1) stage body)) (request (first_row s c 1) stage body) legal' here)
 
     pub submitted_below : IsLegal l t.history → submitted c stage body s ≡ Some (id, t) → id < rows_of l
     submitted_below legal e = go (is_server_stage stage) (has_room s c 1) e
       where
-        go : (a b : Bool) → given (cond a (cond b (Ok (next_row s c 1), with_request s c stage body) (Err refusal.Full, s)) (Err refusal.BadStage, s)) ≡ Some (id, t) → id < rows_of l
+        go : (a b : Bool) → given (cond a (cond b (Ok (first_row s c 1), with_request s c stage body) (Err refusal.Full, s)) (Err refusal.BadStage, s)) ≡ Some (id, t) → id < rows_of l
         go true true e = request_below legal (sym (same_id made got e))
         go true false e = absurd cc
         go false b e = absurd cc
@@ -118,7 +118,7 @@ module _ (l : Limits) where
     same_given x y e = cc
 
     abbrev row : ℕ
-    row = next_row s c (length drafts)
+    row = first_row s c (length drafts)
 
     row_is : (if length drafts == 0 then 0 else row) ≡ row
     row_is = elim (eqb_tells (length drafts) 0) [

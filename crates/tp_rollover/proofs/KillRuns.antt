@@ -22,7 +22,7 @@ use Rattle.tp_alone.proofs.Kills.{alone_kill}
 use Rattle.tp_alone.proofs.Middles.{alone_middle, mids}
 use Rattle.tp_alone.proofs.Turns.{first_alone}
 use Rattle.tp_rollover.specs.Checks.{AscendFrom, IsNamed}
-use Rattle.tp_rollover.specs.Closing.{AreLiving, KillsAllMoved, KillsOne, KillsShort}
+use Rattle.tp_rollover.specs.Closing.{AreMovedLiving, KillsAllMoved, KillsOne, KillsShort}
 use Rattle.tp_rollover.specs.Finding.{StandsLiving}
 use Rattle.tp_rollover.specs.Lone.{AreLone, lone}
 use Rattle.tp_rollover.specs.Rolls.{kills}
@@ -169,7 +169,7 @@ module _ (m : ManagerShown) (keeper keeper' : KeeperShown) (olds news : List Pas
   up_to ms mid ran rest = middle m.limits keeper keeper' news keeper'.seen at new together.0 ms olds (take at olds) (drop (suc at) olds) keeper.seen old mid is.together (at_place olds at d less) (before_place olds at less) together.1 ran rest
 
   -- the history goes on by the kills
-  pub all_buried : (ms : List Moved) → AreLiving m.limits.attempts keeper.seen ms → KillsAllMoved m.limits ms old new → keeper'.seen ≡ keeper.seen ++ kills m.limits.attempts keeper.seen at ms
+  pub all_buried : (ms : List Moved) → AreMovedLiving m.limits.attempts keeper.seen ms → KillsAllMoved m.limits ms old new → keeper'.seen ≡ keeper.seen ++ kills m.limits.attempts keeper.seen at ms
   all_buried ms live ran =
       let t = up_to ms new ran (goes_same new) in
       let idle = alone_idle m.limits keeper keeper' t.passes news t.seen keeper'.seen t.together (subst (λ ps. AllZip Stays ps news) (sym t.are) t.others) together.0 in
@@ -177,7 +177,7 @@ module _ (m : ManagerShown) (keeper keeper' : KeeperShown) (olds news : List Pas
       idle.0 ∙ (ap (λ (s : State). s.history) (sym t.killed) ∙ done.history)
 
   -- and none of them is refused
-  pub none_refused : (ms : List Moved) → AreLiving m.limits.attempts keeper.seen ms → KillsShort m.limits ms old new → ⊥
+  pub none_refused : (ms : List Moved) → AreMovedLiving m.limits.attempts keeper.seen ms → KillsShort m.limits ms old new → ⊥
   none_refused ms live ran =
       let call = ran.refused in
       let t = up_to ran.done ran.middle ran.all (goes m.limits ran.next.old (Err ran.why) ran.middle new call) in

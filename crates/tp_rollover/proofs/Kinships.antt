@@ -9,7 +9,7 @@ use Rattle.tp_model.specs.declared.types.Limits.{Limits}
 use Rattle.tp_model.specs.History.{In, here, there}
 use Rattle.tp_model.specs.Steps.{rows_of}
 use Rattle.tp_rollover.specs.Anew.{families_of, family_at, family_counted, highest_root, unborn}
-use Rattle.tp_rollover.specs.Fits.{AreApart, MayBeBorn}
+use Rattle.tp_rollover.specs.Fits.{AreApart, HasFamilyPlace}
 use Rattle.tp_rollover.specs.declared.births.Family.{Family}
 use Rattle.tp_rollover.specs.declared.survivors.Survivor.{Survivor}
 use Rattle.tp_rollover.proofs.BirthsGroups.{blank}
@@ -89,5 +89,5 @@ counted_on fs ss i f less is all so_far =
     ∙ (sym (ap (fold family_counted fs) (drop_here ss i blank less)) ∙ so_far)
 
 -- a table that is as long has the same places
-pub may_still : (ss : List Survivor) (fs fs' : List Family) → All (MayBeBorn fs) ss → length fs' ≡ length fs → All (MayBeBorn fs') ss
+pub may_still : (ss : List Survivor) (fs fs' : List Family) → All (HasFamilyPlace fs) ss → length fs' ≡ length fs → All (HasFamilyPlace fs') ss
 may_still ss fs fs' may long i d less = let one = may i d less in let at = one.0 in (omega (arith, at, long), one.1)

@@ -14,7 +14,7 @@ use Rattle.tp_model.proofs.Lists.{none_if, some_if}
 use Rattle.std.specs.List.{AllZip}
 use Rattle.tp_rollover.specs.Checks.{AreFamilies, AreOnly, IsNamed}
 use Rattle.tp_rollover.specs.Survivors.{AreSurvivors, IsLiving, IsSurvivor, StandAgain, StandsAgain}
-use Rattle.tp_rollover.specs.Worked.{WorkedPair, anew, before, described, first_moved, output, second_moved, small, survivor, word}
+use Rattle.tp_rollover.specs.Worked.{WorkedPair, anew, before, described, first_moved, worked_output, second_moved, small, survivor, word}
 use Rattle.tp_rollover.specs.declared.survivors.Survivor.{Survivor}
 use Rattle.tp_rollover.specs.declared.moved.Moved.{Moved}
 use Rattle.tp_rollover.proofs.Assembly.{rolled}
@@ -60,10 +60,10 @@ legal_once : IsLegal small claimed_once
 legal_once = legal_more small first_event _ (legal_more small [] _ (legal_empty small) first_step) claim_step
 
 abbrev three : List Element
-three = output 1 2 10 ∷ output 2 2 20 ∷ output 3 3 30 ∷ []
+three = worked_output 1 2 10 ∷ worked_output 2 2 20 ∷ worked_output 3 3 30 ∷ []
 
 abbrev two : List Element
-two = output 1 2 20 ∷ output 2 3 30 ∷ []
+two = worked_output 1 2 20 ∷ worked_output 2 3 30 ∷ []
 
 bear_three : Step small claimed_once (Commit 0 0 three)
 bear_three =
@@ -101,10 +101,10 @@ abbrev with_two : List Event
 with_two = claimed_once ++ Commit 0 0 two ∷ []
 
 claim_next : Step small with_three (Claim 0 1 1 1)
-claim_next = record { unit = (lit< tt, lit≤ tt, lit< tt); unused = refl; alone = λ v t own. none_by_commit three v t; item = output 1 2 10; born = refl; stage = (lit≤ tt, lit≤ tt); attempt = lit≤ tt; waits = refl }
+claim_next = record { unit = (lit< tt, lit≤ tt, lit< tt); unused = refl; alone = λ v t own. none_by_commit three v t; item = worked_output 1 2 10; born = refl; stage = (lit≤ tt, lit≤ tt); attempt = lit≤ tt; waits = refl }
 
 consume_next : Step small (with_three ++ Claim 0 1 1 1 ∷ []) (Commit 0 1 [])
-consume_next = record { taking = record { pass = 0; item = 1; attempt = 1 }; open_unit = record { claimed = refl; unfinished = refl }; own = refl; item = output 1 2 10; taken = refl; few = lit≤ tt; outputs = tt }
+consume_next = record { taking = record { pass = 0; item = 1; attempt = 1 }; open_unit = record { claimed = refl; unfinished = refl }; own = refl; item = worked_output 1 2 10; taken = refl; few = lit≤ tt; outputs = tt }
 
 abbrev with_consumed : List Event
 with_consumed = (with_three ++ Claim 0 1 1 1 ∷ []) ++ Commit 0 1 [] ∷ []
@@ -113,7 +113,7 @@ none_by_consume : NoneOpen with_consumed
 none_by_consume = closed with_three 0 1 1 1 (Commit 0 1 []) (none_by_commit three) (λ v t q. absurd cc) (λ v e. none_if 1 v _ e)
 
 claim_last : Step small with_consumed (Claim 0 2 3 1)
-claim_last = record { unit = (lit< tt, lit≤ tt, lit< tt); unused = refl; alone = λ v t own. none_by_consume v t; item = output 3 3 30; born = refl; stage = (lit≤ tt, lit≤ tt); attempt = lit≤ tt; waits = refl }
+claim_last = record { unit = (lit< tt, lit≤ tt, lit< tt); unused = refl; alone = λ v t own. none_by_consume v t; item = worked_output 3 3 30; born = refl; stage = (lit≤ tt, lit≤ tt); attempt = lit≤ tt; waits = refl }
 
 park_last : Step small (with_consumed ++ Claim 0 2 3 1 ∷ []) (Abort 0 2)
 park_last = record { pass = lit< tt; taking = record { pass = 0; item = 3; attempt = 1 }; open_unit = record { claimed = refl; unfinished = refl } }
@@ -123,16 +123,16 @@ legal_before =
     legal_more small _ _ (legal_more small _ _ (legal_more small _ _ (legal_more small _ _ (legal_more small claimed_once _ legal_once bear_three) claim_next) consume_next) claim_last) park_last
 
 kill_first : Step small before (Kill 0 2)
-kill_first = record { pass = lit< tt; item = output 2 2 20; born = refl; free = tt }
+kill_first = record { pass = lit< tt; item = worked_output 2 2 20; born = refl; free = tt }
 
 kill_second : Step small (before ++ Kill 0 2 ∷ []) (Kill 0 3)
-kill_second = record { pass = lit< tt; item = output 3 3 30; born = refl; free = tt }
+kill_second = record { pass = lit< tt; item = worked_output 3 3 30; born = refl; free = tt }
 
 legal_after : IsLegal small (before ++ Kill 0 2 ∷ Kill 0 3 ∷ [])
 legal_after = legal_more small (before ++ Kill 0 2 ∷ []) _ (legal_more small before _ legal_before kill_first) kill_second
 
 claim_anew : Step small with_two (Claim 0 1 2 1)
-claim_anew = record { unit = (lit< tt, lit≤ tt, lit< tt); unused = refl; alone = λ v t own. none_by_commit two v t; item = output 2 3 30; born = refl; stage = (lit≤ tt, lit≤ tt); attempt = lit≤ tt; waits = refl }
+claim_anew = record { unit = (lit< tt, lit≤ tt, lit< tt); unused = refl; alone = λ v t own. none_by_commit two v t; item = worked_output 2 3 30; born = refl; stage = (lit≤ tt, lit≤ tt); attempt = lit≤ tt; waits = refl }
 
 park_anew : Step small (with_two ++ Claim 0 1 2 1 ∷ []) (Abort 0 1)
 park_anew = record { pass = lit< tt; taking = record { pass = 0; item = 2; attempt = 1 }; open_unit = record { claimed = refl; unfinished = refl } }
@@ -156,16 +156,16 @@ so_described : AreSurvivors small before described
 so_described = record {
   each = λ x is alive. each_element x is alive;
   described = λ s p. from_each (IsSurvivor small before) described s (
-    record { item = output 2 2 20; born = refl; root = refl; stage = refl; body = refl; stands = (refl, tt); rounds_are = refl; request = request 0 1 (word 5); began = refl; root_stage = refl; root_body = refl },
-    (record { item = output 3 3 30; born = refl; root = refl; stage = refl; body = refl; stands = (refl, tt); rounds_are = refl; request = request 0 1 (word 5); began = refl; root_stage = refl; root_body = refl }, tt),
+    record { item = worked_output 2 2 20; born = refl; root = refl; stage = refl; body = refl; stands = (refl, tt); rounds_are = refl; request = request 0 1 (word 5); began = refl; root_stage = refl; root_body = refl },
+    (record { item = worked_output 3 3 30; born = refl; root = refl; stage = refl; body = refl; stands = (refl, tt); rounds_are = refl; request = request 0 1 (word 5); began = refl; root_stage = refl; root_body = refl }, tt),
   ) p;
   once = (lit≤ tt, (lit≤ tt, tt));
 }
 
 stand_both : AllZip (StandsAgain small anew) described both
 stand_both = (
-  record { named = (refl, refl); holder = refl; item = output 1 2 20; born = refl; root = refl; stage = refl; body = refl; stands = (refl, tt); rounds_are = refl; request = request 0 1 (word 5); began = refl; by_client = refl; root_stage = refl; root_body = refl; itself = λ e. absurd cc },
-  (record { named = (refl, refl); holder = refl; item = output 2 3 30; born = refl; root = refl; stage = refl; body = refl; stands = (refl, tt); rounds_are = refl; request = request 0 1 (word 5); began = refl; by_client = refl; root_stage = refl; root_body = refl; itself = λ e. absurd cc }, tt),
+  record { named = (refl, refl); holder = refl; item = worked_output 1 2 20; born = refl; root = refl; stage = refl; body = refl; stands = (refl, tt); rounds_are = refl; request = request 0 1 (word 5); began = refl; by_client = refl; root_stage = refl; root_body = refl; itself = λ e. absurd cc },
+  (record { named = (refl, refl); holder = refl; item = worked_output 2 3 30; born = refl; root = refl; stage = refl; body = refl; stands = (refl, tt); rounds_are = refl; request = request 0 1 (word 5); began = refl; by_client = refl; root_stage = refl; root_body = refl; itself = λ e. absurd cc }, tt),
 )
 
 -- both are of the family of 0, in either manager
@@ -197,5 +197,5 @@ pair = record {
   parked = refl;
   counts_before = refl;
   counts_anew = refl;
-  left_out = λ r. (let t = r.each (output 3 3 30) refl tt in let one = ap (λ (m : Moved). m.old) (in_one t.1) in let no : 2 ≡ 3 = sym one ∙ t.2 in absurd cc);
+  left_out = λ r. (let t = r.each (worked_output 3 3 30) refl tt in let one = ap (λ (m : Moved). m.old) (in_one t.1) in let no : 2 ≡ 3 = sym one ∙ t.2 in absurd cc);
 }

@@ -7,7 +7,7 @@ use Rattle.tp_plain.specs.OneThread.{State, start}
 use Rattle.tp_plain.specs.declared.pass_state.PassState.{PassState}
 use Rattle.tp_rollover.specs.Alike.{StandsUnheld}
 use Rattle.tp_rollover.specs.Carries.{IsMadeAlike}
-use Rattle.tp_rollover.specs.Worked.{WorkedAlike, anew, both_in_hand, described, described_in_hand, first_moved, in_hand_anew, moved_in_hand, output, second_moved, small, survivor, survivor_in_hand, twice, word}
+use Rattle.tp_rollover.specs.Worked.{WorkedAlike, anew, both_in_hand, described, described_in_hand, first_moved, in_hand_anew, moved_in_hand, worked_output, second_moved, small, survivor, survivor_in_hand, twice, word}
 use Rattle.tp_rollover.specs.declared.moved.Moved.{Moved}
 use Rattle.tp_rollover.proofs.Worked as worked
 use Rattle.tp_rollover.proofs.WorkedHeld as in_hand
@@ -28,7 +28,7 @@ first_stands : StandsUnheld 1 anew (survivor 2 2 20 (Waiting 0)) first_moved
 first_stands = record {
   named = (refl, refl);
   holder = refl;
-  item = output 1 2 20;
+  item = worked_output 1 2 20;
   born = refl;
   root = refl;
   stage = refl;
@@ -48,7 +48,7 @@ second_stands : StandsUnheld 1 anew (survivor 3 3 30 (Parked 1)) second_moved
 second_stands = record {
   named = (refl, refl);
   holder = refl;
-  item = output 2 3 30;
+  item = worked_output 2 3 30;
   born = refl;
   root = refl;
   stage = refl;

@@ -45,7 +45,8 @@ if_free c s made = if is_none (pass_at s c).holding then made else None
 
 -- pass c claims the carrier and commits it with these drafts
 abbrev pub born_by : ℕ → ℕ → List DraftView → State → Option (ℕ × State)
-born_by c carrier drafts s = if_free c s (option_and_then (λ claimed. first_given (commit_of claimed.1 c drafts))
+born_by c carrier drafts s =
+    if_free c s (option_and_then (λ claimed. first_given (commit_of claimed.1 c drafts))
     (given (claim_id_of s c carrier)))
 
 -- pass c claims the element and gives it up
@@ -277,7 +278,8 @@ all_born l p survivors s = born_from l p (length survivors) survivors [] (record
 abbrev pub attempts_made : ℕ → List Bool → ℕ → ℕ → ℕ × State → Option (ℕ × State)
 attempts_made p kept id zero x = Some x
 attempts_made p kept id (suc n) x =
-    option_and_then (λ c. option_and_then (λ after. attempts_made p kept id n (c, after)) (attempted c id x.1))
+    option_and_then (λ c. option_and_then (λ after. attempts_made p kept id n (c, after))
+    (attempted c id x.1))
     (first_from (has_left kept x.1 0 1) x.0 (p - x.0))
 
 -- it is given n rounds of all attempts

@@ -22,7 +22,7 @@ abbrev pub hand_given_up : ℕ → State → State
 hand_given_up c s = if is_some (pass_at s c).holding then (abort_of s c).1 else s
 
 -- each of these was alive after this history, and their ids ascend
-pub record AreLiving (limit : ℕ) (h : List Event) (moved : List Moved) : Type 0 where
+pub record AreMovedLiving (limit : ℕ) (h : List Event) (moved : List Moved) : Type 0 where
   pub each : (m : Moved) → In m moved → StandsLiving limit m.old h
   pub once : AscendFrom (λ m. m.old) 0 moved
 

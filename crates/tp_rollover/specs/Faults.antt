@@ -66,9 +66,9 @@ IsSurveyDue passes NoPass = passes ≡ []
 IsSurveyDue passes NoMemory = Unit {0}
 IsSurveyDue passes other = ⊥
 
--- When each fault of a restoration comes: the first one before any call; Unequal, where nothing had happened in
--- the manager, only of descriptions that aren't fit, or of which what is computed isn't as they say: of what
--- was found alive, and is fit, only where nothing is computed.
+-- When each fault of a restoration comes: the first one before any call; Unequal, where nothing had happened
+-- in the manager, only of descriptions that aren't fit, or of which what is computed isn't as they say: of
+-- what was found alive, and is fit, only where nothing is computed.
 abbrev pub IsRestoreDue : Limits → List Survivor → List PassShown → List PassShown → RollFault → Type 0
 IsRestoreDue k survivors passes passes' NoPass = passes ≡ []
 IsRestoreDue k survivors passes passes' Unequal = AreFresh k passes

@@ -72,8 +72,8 @@ abbrev pub AreSurvivorsOf : Limits → ℕ → List Event → List Survivor → 
 AreSurvivorsOf l n h survivors = IsLegal l h → CountsAlive n (counts l.attempts h)
     → AreSurvivors l h survivors
 
--- a look at what is alive stopped: for want of memory, or since this isn't so of what the pass had seen, or it
--- has seen something new
+-- a look at what is alive stopped: for want of memory, or since this isn't so of what the pass had seen, or
+-- it has seen something new
 abbrev pub StopsLooking : PassShown → PassShown → (List Event → Type 0) → Stop → Type 0
 StopsLooking old new Holds NoMemory = Unit {0}
 StopsLooking old new Holds Full = ⊥

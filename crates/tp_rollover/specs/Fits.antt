@@ -1,5 +1,5 @@
--- What descriptions are fit to be made alive: those of elements that one manager, with limits l, can have alive
--- at once, and that another one, with limits k, can have too.
+-- What descriptions are fit to be made alive: those of elements that one manager, with limits l, can have
+-- alive at once, and that another one, with limits k, can have too.
 use Rattle.std.specs.Prelude.{◌≢◌, ◌<◌, All, List, length}
 use Rattle.tp_model.specs.declared.types.Limits.{Limits}
 use Rattle.tp_model.specs.History.{In}
@@ -29,8 +29,8 @@ pub record AreFit (l k : Limits) (survivors : List Survivor) : Type 0 where
   pub apart : AreApart survivors
 
 -- its family has a place in this table, and its stage is one of those that outputs have
-abbrev pub MayBeBorn : List Family → Survivor → Type 0
-MayBeBorn families s = (s.root < length families) × IsStage s.stage
+abbrev pub HasFamilyPlace : List Family → Survivor → Type 0
+HasFamilyPlace families s = (s.root < length families) × IsStage s.stage
 
 -- births of these haven't begun: for want of memory, or since these aren't fit
 abbrev pub StopsUnfit : Limits → Limits → List Survivor → Stop → Type 0

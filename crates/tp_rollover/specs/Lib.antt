@@ -2,7 +2,6 @@ pub mod Rolls
 pub mod Laws
 pub mod Worked
 pub mod Told
-pub mod Passes
 pub mod Finding
 pub mod Holds
 pub mod Checks

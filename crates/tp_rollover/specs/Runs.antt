@@ -63,7 +63,8 @@ pub record RunsShort (l : Limits) (roots : List Survivor) (old new : PassShown) 
   pub refused : RootSubmitted l next (Err why) middle new
 
 -- what a run of them leaves
-abbrev pub SubmitsRun : {A : Type 0} → Limits → List Survivor → List Moved → List Moved → PassShown → PassShown
+abbrev pub SubmitsRun : {A : Type 0} → Limits → List Survivor → List Moved → List Moved → PassShown
+    → PassShown
     → Result A Stop → Type 0
 SubmitsRun l roots moved moved' old new (Ok x) = RunsThrough l roots moved moved' old new
 SubmitsRun l roots moved moved' old new (Err NoMemory) = Unit {0}

@@ -24,13 +24,14 @@ abbrev pub word : ℕ → List ℕ
 word w = w ∷ 0 ∷ 0 ∷ 0 ∷ []
 
 -- an output of the request's unit, 0
-abbrev pub output : ℕ → ℕ → ℕ → Element
-output id stage w = record { id = id; stage = stage; root = 0; body = word w; by = Some 0 }
+abbrev pub worked_output : ℕ → ℕ → ℕ → Element
+worked_output id stage w = record { id = id; stage = stage; root = 0; body = word w; by = Some 0 }
 
 -- a request of which three elements are born: one is consumed, one waits, and one is parked
 abbrev pub before : List Event
-before = Enqueue 0 (request 0 1 (word 5)) ∷ Claim 0 0 0 1 ∷ Commit 0 0 (output 1 2 10 ∷ output 2 2 20
-    ∷ output 3 3 30 ∷ []) ∷ Claim 0 1 1 1 ∷ Commit 0 1 [] ∷ Claim 0 2 3 1 ∷ Abort 0 2 ∷ []
+before =
+    Enqueue 0 (request 0 1 (word 5)) ∷ Claim 0 0 0 1 ∷ Commit 0 0 (worked_output 1 2 10 ∷ worked_output 2 2 20
+    ∷ worked_output 3 3 30 ∷ []) ∷ Claim 0 1 1 1 ∷ Commit 0 1 [] ∷ Claim 0 2 3 1 ∷ Abort 0 2 ∷ []
 
 -- the two that are alive, and what they are in the new manager
 abbrev pub first_moved : Moved
@@ -41,7 +42,8 @@ second_moved = record { old = 3; new = 2; old_root = 0; new_root = 0; holder = N
 
 -- there a carrier is their root, and the second one has its attempt
 abbrev pub anew : List Event
-anew = Enqueue 0 (request 0 1 (word 5)) ∷ Claim 0 0 0 1 ∷ Commit 0 0 (output 1 2 20 ∷ output 2 3 30 ∷ [])
+anew = Enqueue 0 (request 0 1 (word 5)) ∷ Claim 0 0 0 1
+    ∷ Commit 0 0 (worked_output 1 2 20 ∷ worked_output 2 3 30 ∷ [])
     ∷ Claim 0 1 2 1 ∷ Abort 0 1 ∷ []
 
 -- how many elements have each status before it, and in the new manager
@@ -122,8 +124,8 @@ survivor_in_hand id c waited w = record {
 abbrev pub described_in_hand : List Survivor
 described_in_hand = survivor_in_hand 1 1 1 5 ∷ survivor_in_hand 2 0 0 6 ∷ []
 
--- This is a rollover too, and these descriptions are of what is in hand. It would be none where the second one
--- were in its first attempt there, waited, or were held by the other pass.
+-- This is a rollover too, and these descriptions are of what is in hand. It would be none where the second
+-- one were in its first attempt there, waited, or were held by the other pass.
 pub record HeldPair : Type 0 where
   pub described_so : AreSurvivors twice in_hand described_in_hand
   pub again : StandAgain twice in_hand_anew described_in_hand both_in_hand

@@ -1,6 +1,6 @@
 //! What was described is born in a manager, in whose passes' order, by groups.
 ghost use Rattle.std.specs.Prelude.{◌≡◌, ◌≢◌, ◌+◌, ◌-◌, ◌*◌, ◌<◌, ◌≤◌, ◌++◌, All, IfErr, IfOk, OnOk};
-ghost use Rattle.std.specs.Prelude.{List, None, Some, length, map, nat_lt, replicate, take, true};
+ghost use Rattle.std.specs.Prelude.{List, None, Some, length, take, true};
 ghost use Rattle.std.specs.Prelude.{vec_capacity};
 ghost use Rattle.tp_model.specs.declared.event.Event.{Event};
 ghost use Rattle.tp_model.specs.Steps.{IsStage, rows_of};
@@ -8,24 +8,25 @@ ghost use Rattle.tp_plain.specs.OneThread.{pass_at};
 ghost use Rattle.tp_manager.specs.Bounds.{submit_steps};
 ghost use Rattle.tp_manager.specs.Shown.{IsOf};
 ghost use Rattle.tp_alone.specs.Thread.{thread_of};
-ghost use Rattle.tp_rollover.specs.Anew.{all_born, born_next, carrier_by, survivor_draft, drafts_of};
-ghost use Rattle.tp_rollover.specs.Anew.{filler, group_size, home_of, named_in, neighbours_in};
+ghost use Rattle.tp_rollover.specs.Anew.{all_born, born_next, carrier_by, drafts_of};
+ghost use Rattle.tp_rollover.specs.Anew.{home_of, named_in};
 ghost use Rattle.tp_rollover.specs.Anew.{next_born, submitted_next};
 ghost use Rattle.tp_rollover.specs.Bounds.{AllMake, bear_steps, commit_on_steps, gathered};
 ghost use Rattle.tp_rollover.specs.Births.{born_of};
-ghost use Rattle.tp_rollover.specs.Fits.{AreFit, IsFit, MayBeBorn};
+ghost use Rattle.tp_rollover.specs.Fits.{AreFit, IsFit, HasFamilyPlace};
 ghost use Rattle.tp_rollover.specs.Lone.{Agrees, AgreesUnless, AreLone, bearing, lone, placing};
 ghost use Rattle.tp_rollover.specs.Runs.{BearsOn, StaysInPart, newly};
 ghost use Rattle.tp_rollover.specs.declared.stops.Stop.TheVariants as stops;
 
 use crate::calls::{bear_by, submit_by, submit_run};
 use crate::fitting::families_for;
+use crate::groups::{drafts_of, home_of, next_group};
 use crate::moved::Moved;
 use crate::places::{Cursor, begin, kept_for};
 use crate::stops::Stop;
 use crate::survivors::Survivor;
 use tp_manager::{Keeper, Manager, Pass};
-use tp_model::types::{Body, Draft, Limits};
+use tp_model::types::Limits;
 
 /// What stands of a family in the new manager.
 #[derive(Clone, Copy, Debug, PartialEq, Eq)]
@@ -51,63 +52,14 @@ struct Unborn<'s> {
     rest: &'s [Survivor],
 }
 
-/// Those that are born next: of which element, by the next pass from which on, and whether a further carrier is
-/// born with them.
+/// Those that are born next: of which element, by the next pass from which on, and whether a further carrier
+/// is born with them.
 #[derive(Clone, Copy, Debug, PartialEq, Eq)]
 struct Birth<'s> {
     group: &'s [Survivor],
     more: bool,
     carrier: u32,
     home: usize,
-}
-
-/// The pass in whose part the row lies, or as many as there are parts for a spare one.
-fn home_of(limits: Limits, id: u32) -> usize
-    ensures { result ≡ home_of limits id }
-{
-    let home = id / u32::from(limits.rows).max(1);
-    home.min(u32::from(limits.parts)) as usize
-}
-
-/// How many of these, at most four, are neighbours of one pass and one family.
-fn neighbours(limits: Limits, rest: &[Survivor]) -> usize
-    requires some { 1 ≤ length rest.now }
-    ensures few { result ≤ 4 }
-    ensures some { 1 ≤ result }
-    ensures inside { result ≤ length rest.now }
-    ensures counted { result ≡ neighbours_in limits rest.now }
-{
-    let first = rest[0];
-    let home = home_of(limits, first.id);
-    let end = rest.len().min(4);
-    for place in 1..end {
-        let next = rest[place];
-        if next.root != first.root {
-            return place;
-        }
-        if home_of(limits, next.id) != home {
-            return place;
-        }
-    }
-    end
-}
-
-/// How many of these are born next, where so many of the family are left; and whether a carrier is born with
-/// them, for more of it.
-fn next_group(limits: Limits, rest: &[Survivor], left: usize) -> (usize, bool)
-    requires some { 1 ≤ length rest.now }
-    ensures few { result.0 ≤ 4 }
-    ensures room { result.1 ≡ true → result.0 ≤ 3 }
-    ensures some { 1 ≤ result.0 }
-    ensures inside { result.0 ≤ length rest.now }
-    ensures size { result.0 ≡ group_size limits rest.now left }
-    ensures more { result.1 ≡ nat_lt result.0 left }
-{
-    let count = neighbours(limits, rest);
-    if count == 4 && left > 4 {
-        return (3, true);
-    }
-    (count, left > count)
 }
 
 /// A copy of this one's root is submitted, by the next pass from `home` on. Its id.
@@ -162,31 +114,6 @@ fn carrier_of(
     }
 }
 
-/// A draft for a stage that outputs have.
-fn draft(stage: u8, body: Body) -> Draft
-    requires stage { IsStage stage }
-    ensures { result ≡ record { stage = stage; body = body } }
-{
-    let Some(draft) = Draft::new(stage, body) else {
-        unreachable!();
-    };
-    draft
-}
-
-/// Drafts of these, and for what is left of four fillers, of which one is a carrier: it waits until its
-/// family's next turn.
-fn drafts_of(group: &[Survivor]) -> [Draft; 4]
-    requires few { length group.now ≤ 4 }
-    requires stages { All (λ s. IsStage s.stage) group.now }
-    ensures drafts { result ≡ map survivor_draft group.now ++ replicate (4 - length group.now) filler }
-{
-    let mut drafts = [draft(1, [0; 4]); 4];
-    for place in 0..group.len() {
-        drafts[place] = draft(group[place].stage, group[place].body);
-    }
-    drafts
-}
-
 /// These are born. The id of the first.
 fn bear_group(
     birth: &Birth,
@@ -207,7 +134,8 @@ fn bear_group(
     ensures rows { let n = length birth.now.group.now in
         IfOk result (λ first. first + n ≤ rows_of manager.now.limits) }
     ensures gives { Agrees result (λ first. (first, placing manager.now keeper.new passes.new cursor.new))
-        (born_next (length passes.old) (drafts_of birth.now.group.now birth.now.more) birth.now.carrier birth.now.home
+        (born_next (length passes.old) (drafts_of birth.now.group.now birth.now.more) birth.now.carrier
+        birth.now.home
         (placing manager.now keeper.old passes.old cursor.old)) }
     ensures memory { IfErr result (λ stop. stop ≢ stops.NoMemory) }
 {
@@ -229,7 +157,7 @@ fn bear_next(
 ) -> Result<Group, Stop>
     requires lone { AreLone manager.now keeper.old passes.old }
     requires some { 1 ≤ length unborn.now.rest.now }
-    requires may { All (MayBeBorn families.old) unborn.now.rest.now }
+    requires may { All (HasFamilyPlace families.old) unborn.now.rest.now }
     ensures lone { AreLone manager.now keeper.new passes.new × (keeper.new.given ≡ keeper.old.given) }
     ensures long { length families.new ≡ length families.old }
     ensures inside { IfOk result (λ group. (1 ≤ group.count) × (group.count ≤ length unborn.now.rest.now)) }
@@ -375,13 +303,14 @@ fn bear_turn(
 ) -> Result<(), Stop>
     requires lone { AreLone manager.now keeper.old passes.old }
     requires some { 1 ≤ length unborn.now.rest.now }
-    requires may { All (MayBeBorn families.old) unborn.now.rest.now }
+    requires may { All (HasFamilyPlace families.old) unborn.now.rest.now }
     ensures lone { AreLone manager.now keeper.new passes.new × (keeper.new.given ≡ keeper.old.given) }
     ensures long { length families.new ≡ length families.old }
     ensures steps { let n = newly unborn.now.rest.now moved.old.items moved.new.items result in
         AllMake (n * bear_steps manager.now.limits keeper.old.given 1)
         keeper.old passes.old keeper.new passes.new }
-    ensures on { BearsOn unborn.now.limits (length passes.old) unborn.now.rest.now moved.old.items moved.new.items
+    ensures on { BearsOn unborn.now.limits (length passes.old) unborn.now.rest.now moved.old.items
+        moved.new.items
         (bearing manager.now keeper.old passes.old cursor.old families.old)
         (bearing manager.now keeper.new passes.new cursor.new families.new) result }
     ensures memory { IfErr result (λ stop. stop ≡ stops.NoMemory
@@ -422,7 +351,8 @@ pub(crate) fn bear_all(
         AllMake (n * bear_steps manager.now.limits keeper.old.given 1)
         keeper.old passes.old keeper.new passes.new }
     ensures gives { let l = of.now.limits in
-        let computed = all_born l (length passes.old) survivors.now (lone manager.now keeper.old passes.old) in
+        let computed = all_born l (length passes.old) survivors.now
+        (lone manager.now keeper.old passes.old) in
         AgreesUnless (AreFit l manager.now.limits survivors.now → computed ≡ None) result
         (λ _. (moved.new.items, lone manager.now keeper.new passes.new)) computed }
 {

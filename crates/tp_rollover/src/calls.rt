@@ -172,7 +172,8 @@ fn commit_by(
     ensures steps { let l = manager.now.limits in
         AllMake (gathered l keeper.old.given (commit_steps l (length drafts.now)))
         keeper.old passes.old keeper.new passes.new }
-    ensures rows { let n = length drafts.now in IfOk result (λ first. first + n ≤ rows_of manager.now.limits) }
+    ensures rows { let n = length drafts.now in IfOk result
+        (λ first. first + n ≤ rows_of manager.now.limits) }
     ensures gives { Agrees result (λ first. (first, lone manager.now keeper.new passes.new))
         (first_given (commit_of (lone manager.now keeper.old passes.old) at drafts.now)) }
     ensures memory { IfErr result (λ stop. stop ≢ stops.NoMemory) }
@@ -249,7 +250,8 @@ pub(crate) fn bear_by(
     requires few { length drafts.now ≤ 4 }
     requires some { 1 ≤ length drafts.now }
     ensures lone { AreLone manager.now keeper.new passes.new × (keeper.new.given ≡ keeper.old.given) }
-    ensures rows { let n = length drafts.now in IfOk result (λ first. first + n ≤ rows_of manager.now.limits) }
+    ensures rows { let n = length drafts.now in IfOk result
+        (λ first. first + n ≤ rows_of manager.now.limits) }
     ensures steps { AllMake (commit_on_steps manager.now.limits keeper.old.given (length drafts.now))
         keeper.old passes.old keeper.new passes.new }
     ensures gives { Agrees result (λ first. (first, lone manager.now keeper.new passes.new))

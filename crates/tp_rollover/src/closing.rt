@@ -4,7 +4,7 @@ ghost use Rattle.tp_plain.specs.OneThread.{pass_at};
 ghost use Rattle.tp_manager.specs.Bounds.{gather_steps, kill_steps};
 ghost use Rattle.tp_manager.specs.Shown.{IsOf};
 ghost use Rattle.tp_rollover.specs.Bounds.{AllMake, PassMakes, gathered, give_up_steps};
-ghost use Rattle.tp_rollover.specs.Closing.{AreLiving, Buries, KillsAllMoved, KillsShort};
+ghost use Rattle.tp_rollover.specs.Closing.{AreMovedLiving, Buries, KillsAllMoved, KillsShort};
 ghost use Rattle.tp_rollover.specs.Lone.{AreLone, lone};
 ghost use Rattle.tp_rollover.specs.Rolls.{kills};
 
@@ -36,7 +36,7 @@ fn kill_all(manager: &Manager, keeper: &mut Keeper, passes: &mut [Pass], moved: 
     requires lone { AreLone manager.now keeper.old passes.old }
     requires some { 1 ≤ length passes.old }
     requires free { (pass_at (lone manager.now keeper.old passes.old) 0).holding ≡ None }
-    requires living { AreLiving manager.now.limits.attempts keeper.old.seen moved.now }
+    requires living { AreMovedLiving manager.now.limits.attempts keeper.old.seen moved.now }
     ensures lone { AreLone manager.now keeper.new passes.new × (keeper.new.given ≡ keeper.old.given) }
     ensures steps { let l = manager.now.limits in
         AllMake (gathered l keeper.old.given (length moved.now * kill_steps l))
@@ -56,7 +56,7 @@ fn kill_all(manager: &Manager, keeper: &mut Keeper, passes: &mut [Pass], moved: 
 pub(crate) fn bury(manager: &Manager, keeper: &mut Keeper, passes: &mut [Pass], moved: &[Moved])
     requires lone { AreLone manager.now keeper.old passes.old }
     requires some { 1 ≤ length passes.old }
-    requires living { AreLiving manager.now.limits.attempts keeper.old.seen moved.now }
+    requires living { AreMovedLiving manager.now.limits.attempts keeper.old.seen moved.now }
     ensures lone { AreLone manager.now keeper.new passes.new × (keeper.new.given ≡ keeper.old.given) }
     ensures steps { let l = manager.now.limits in
         AllMake (give_up_steps l keeper.old.given passes.old

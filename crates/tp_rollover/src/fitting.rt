@@ -6,7 +6,7 @@ ghost use Rattle.tp_model.specs.Steps.{IsKillable, rows_of};
 ghost use Rattle.tp_rollover.specs.Anew.{families_of, highest_root};
 ghost use Rattle.tp_rollover.specs.Bounds.{IsWithinLimits, attempts_had};
 ghost use Rattle.tp_rollover.specs.declared.stops.Stop.TheVariants as stops;
-ghost use Rattle.tp_rollover.specs.Fits.{AreApart, AreFit, IsFit, MayBeBorn, StopsUnfit};
+ghost use Rattle.tp_rollover.specs.Fits.{AreApart, AreFit, IsFit, HasFamilyPlace, StopsUnfit};
 
 use crate::births::Family;
 use crate::space::refill;
@@ -139,8 +139,8 @@ fn are_apart(limits: Limits, survivors: &[Survivor], families: &[Family]) -> boo
     true
 }
 
-/// The families of these, where they are fit to be made alive in this manager. `Unequal` where they aren't. `of`
-/// is the manager in which they are.
+/// The families of these, where they are fit to be made alive in this manager. `Unequal` where they aren't.
+/// `of` is the manager in which they are.
 pub(crate) fn families_for(
     families: &mut Vec<Family>,
     of: &Manager,
@@ -148,7 +148,7 @@ pub(crate) fn families_for(
     survivors: &[Survivor],
 ) -> Result<(), Stop>
     ensures counted { OnOk result (families.new.items ≡ families_of of.now.limits survivors.now) }
-    ensures may { OnOk result (All (MayBeBorn families.new.items) survivors.now) }
+    ensures may { OnOk result (All (HasFamilyPlace families.new.items) survivors.now) }
     ensures memory { IfErr result (λ stop. stop ≡ stops.NoMemory
         → vec_capacity families.old < rows_of of.now.limits) }
     ensures space { vec_capacity families.old ≤ vec_capacity families.new }

@@ -38,7 +38,8 @@ pub fn restored_is_rolled_over()
 
 /// A worked rollover, of a family of which one element waits and one is parked, with what is counted in both
 /// managers, and how it is described in between. The laws are of such pairs. Where one that was alive is left
-/// out, it is none. And one of two requests that passes have in hand. What is computed of either is as described.
+/// out, it is none. And one of two requests that passes have in hand. What is computed of either is as
+/// described.
 pub fn worked_pair()
     ensures worked { WorkedPair }
     ensures held { HeldPair }

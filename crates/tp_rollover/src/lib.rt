@@ -8,6 +8,7 @@ mod checking;
 mod closing;
 mod families;
 mod fitting;
+mod groups;
 mod holds;
 pub mod laws;
 mod looks;

@@ -325,7 +325,8 @@ impl Managed {
     /// A manager with these limits, its keeper and all its passes, in which what was described (`survey`) is
     /// alive, each element once, and nothing else is; and what each is there, in their order (`restore`).
     /// `BadLimits` exactly where a limit is outside its range; `Full` where these limits have not the rows or
-    /// the units; `Unequal` where the descriptions contradict each other or the limits (`restore`); `NoMemory`.
+    /// the units; `Unequal` where the descriptions contradict each other or the limits (`restore`);
+    /// `NoMemory`.
     pub fn restored(
         alloc: Global,
         limits: Limits,

@@ -30,7 +30,8 @@ fn attempts(
     ensures steps { AllMake (times * attempt_steps manager.now.limits keeper.old.given)
         keeper.old passes.old keeper.new passes.new }
     ensures gives { Agrees result (λ _. (from.new, lone manager.now keeper.new passes.new))
-        (attempts_made (length passes.old) kept.now id times (from.old, lone manager.now keeper.old passes.old)) }
+        (attempts_made (length passes.old) kept.now id times
+        (from.old, lone manager.now keeper.old passes.old)) }
     ensures memory { IfErr result (λ stop. stop ≢ stops.NoMemory) }
 {
     for _time in 0..times {

@@ -23,7 +23,7 @@ use Rattle.tp_rule.specs.Plays.{exchanges_commit, exchanges_abort}
 use Rattle.tp_rule.specs.Rule.{AreasHold, HaveIdsFrom, HandHolds, Holds, RowsHold, Rule, WordIs, UnitsHold, drawn_in}
 use Rattle.tp_model.specs.Passes.{Ascend, IsOwnArea}
 use Rattle.tp_rule.specs.declared.view.Known.TheVariants.{RowHead}
-use Rattle.tp_rule.specs.Steps.{IsOut, after, unchanged, with_end, with_lost, IsOwnWork, IsClaimed, committed, Grew, LosesUnit, HasCleared}
+use Rattle.tp_rule.specs.Steps.{IsOut, after, unchanged, with_end, with_lost, IsOwnWork, IsClaimed, commit_event, Grew, LosesUnit, HasCleared}
 use Rattle.tp_rule.specs.Views.{IsOnePass, hand}
 use Rattle.tp_rule.specs.declared.view.Hand.{Hand}
 use Rattle.tp_rule.specs.declared.view.View.{View}
@@ -234,7 +234,7 @@ module _ (k : Limits) where
       → Permits k v p (λ x. either (eqb x 0) new x) (exchanges_commit p 0 new v)
   commits_go v p new u first count fair one lim held work few f_is c_is cleared room place to s r id at = let t : Turn k = record { state = s; rule = r; id = id; view = v; at = at; one = one } in let a : Hand = hand v in let x : ℕ = get_or s.words p 0 in let h = r.history in
       let seat = seat_holds k t in let mine = hand_holds k t in let ds : List Element = a.drafts in let word : p ≡ unit_place v.limits u = place ∙ ap (λ (l : Limits). unit_place l u) (sym lim) in dite (ℕ_discrete x 0)
-      (λ hit. let e : Event = committed v u in let undecided = open_unit t p u place room hit in let rows = mine.rows in let count_is = rows.counted in let bottom = rows.begins in let top = rows.ends in
+      (λ hit. let e : Event = commit_event v u in let undecided = open_unit t p u place room hit in let rows = mine.rows in let count_is = rows.counted in let bottom = rows.begins in let top = rows.ends in
       let drafts_own : (y : Element) → In y ds → IsMine k t y.id = λ y q. (let b = in_run a.first_draft ds y rows.run q in let l = b.0 in let m = b.1 in (omega arith, omega arith)) in let inside = own_inside k a.number a.blocks mine.first mine.end mine.area in
       let item = found_later v.seen h seat.seen work.taking.item work.item work.taken in
       let st : Step k h e = record {

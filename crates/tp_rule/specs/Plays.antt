@@ -36,7 +36,8 @@ stores_word word number second v r w = (i : ℕ) × (k : ℕ) × (k < BODY_WORDS
     × (w ≡ drafted (with_word k number) v)
 
 abbrev pub stores_head : Telling
-stores_head word packed second v r w = (stage : ℕ) × (root : ℕ) × (u : ℕ) × (stage ≤ REPLY_STAGE) × (root < 65536)
+stores_head word packed second v r w =
+    (stage : ℕ) × (root : ℕ) × (u : ℕ) × (stage ≤ REPLY_STAGE) × (root < 65536)
     × (packed ≡ pack_head (Filled stage root (Some u))) × Drafts v stage root u w
 
 abbrev pub publishes : Telling

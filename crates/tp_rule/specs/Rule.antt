@@ -111,7 +111,8 @@ pub record AreasHold (l : Limits) (h : List Event) (ws : List ℕ) (a : Hand) : 
       → i < end → NamesUnit ws i stage root u → end_of h u ≡ Some (Committed from count)
       → (from ≤ i) × (i < from + count)
   -- no head is empty in those that its run has left, but in the rows that it left unused at last
-  pub cleared : (first end i : ℕ) → IsOwnArea l a.number a.blocks first end → end ≢ a.next + a.left → first ≤ i
+  pub cleared : (first end i : ℕ) → IsOwnArea l a.number a.blocks first end → end ≢ a.next + a.left
+      → first ≤ i
       → i < end → (slice_index ws (head_place i) ≢ 0) ⊎ ((a.passed_from ≤ i) × (i < a.passed_to))
   -- nor there, before the area of an element that it made
   pub headed : (first end i : ℕ) (e : Event) (x : Element) → IsOwnArea l a.number a.blocks first end

@@ -12,7 +12,8 @@ use Rattle.tp_model.specs.declared.event.Event.{Event}
 use Rattle.tp_model.specs.declared.event.Event.TheVariants.{Enqueue, Claim, Commit, Abort, Kill, Requeue}
 use Rattle.tp_model.specs.declared.trace.StepKind.{StepKind}
 use Rattle.tp_model.specs.declared.trace.StepKind.TheVariants as kinds
-use Rattle.tp_model.specs.History.{Aborted, Committed, In, IsSettled, IsUnborn, status_of, UnitClaim, UnitEnd, claim_of}
+use Rattle.tp_model.specs.History.{Aborted, Committed, In, IsSettled, IsUnborn, status_of, UnitClaim, UnitEnd}
+use Rattle.tp_model.specs.History.{claim_of}
 use Rattle.tp_model.specs.History.{births, element_of, end_of, events_by, pass_of}
 use Rattle.tp_model.specs.Passes.{AreEnded, Ascend, IsOwnArea, IsOwnOpen, IsRun}
 use Rattle.tp_model.specs.Words.{ClaimWord, claim_word, round_in, word_status}
@@ -328,8 +329,8 @@ FindsOther kind v i found now w = Grew kind unchanged [] v w × (now ≢ found) 
     × IsFitClaim now
 
 -- the event of a commit exchange: the drafts are born
-abbrev pub committed : View → ℕ → Event
-committed v u = Commit (hand v).number u (hand v).drafts
+abbrev pub commit_event : View → ℕ → Event
+commit_event v u = Commit (hand v).number u (hand v).drafts
 
 -- the open unit has ended by the pass's own event; its drafts are drafts no more
 abbrev pub with_end : Event → Hand → Hand
@@ -340,7 +341,7 @@ abbrev pub with_lost : Hand → Hand
 with_lost a = record a { first_draft = a.next; drafts = []; open_unit = None }
 
 abbrev pub MakesCommit : View → ℕ → View → Type 0
-MakesCommit v u w = Grew kinds.CommitExchange (with_end (committed v u)) (committed v u ∷ []) v w
+MakesCommit v u w = Grew kinds.CommitExchange (with_end (commit_event v u)) (commit_event v u ∷ []) v w
 
 -- an exchange on the open unit that failed: another pass had aborted it
 abbrev pub LosesUnit : StepKind → View → ℕ → View → Type 0
@@ -430,7 +431,8 @@ pub record DrawsNone (v : View) (b n : ℕ) (w : View) : Type 0 where
 
 -- row i is in an area of the pass that its run has left
 abbrev pub IsLeftBehind : Limits → Hand → ℕ → Type 0
-IsLeftBehind l a i = (first : ℕ) × (end : ℕ) × IsOwnArea l a.number a.blocks first end × (first ≤ i) × (i < end)
+IsLeftBehind l a i =
+    (first : ℕ) × (end : ℕ) × IsOwnArea l a.number a.blocks first end × (first ≤ i) × (i < end)
     × (end ≢ a.next + a.left)
 
 -- the seat knows that no row is empty that the pass left unused when it drew its last block
@@ -503,7 +505,8 @@ pub record SeatsMeet (v w v' w' : View) : Type 0 where
   pub second_saw : IsPrefix w.seen v'.seen
   -- the first made the three steps, and the second was there at the one between; nothing else changed
   pub first_one : IsOnePass v'
-  pub first_is : hand v' ≡ noted kinds.SeatLoad v'.seen (noted kinds.Load v'.seen (noted kinds.SeatLoad v.seen (hand v)))
+  pub first_is : hand v' ≡ noted kinds.SeatLoad v'.seen
+      (noted kinds.Load v'.seen (noted kinds.SeatLoad v.seen (hand v)))
   pub second_one : IsOnePass w'
   pub second_is : hand w' ≡ noted kinds.Load v'.seen (hand w)
   pub limits : (v'.limits ≡ v.limits) × (w'.limits ≡ v.limits)

@@ -30,8 +30,8 @@ impl Words {
     ghost use Rattle.tp_model.specs.declared.types.TheConstants.{MAX_OUTPUTS};
     ghost use Rattle.tp_rule.specs.Tables.{table_limits, IsSeatOf, IsPassOf};
 
-    /// Looks at the word of the pass's next unit, which is thereby the spare one: the next claim is made with it. The
-    /// history does not change.
+    /// Looks at the word of the pass's next unit, which is thereby the spare one: the next claim is made with
+    /// it. The history does not change.
     #[inline(always)]
     pub fn choose_unit(&self, seat: &mut Seat, unit: u16)
         requires own { IsSeatOf self.now seat.old }
@@ -98,7 +98,8 @@ impl Words {
         requires cleared { HasCleared (view_of seat.old) }
         ensures same { IsSameSeat seat.old seat.new }
         ensures hit { result ≡ true → MakesCommit (view_of seat.old) unit (view_of seat.new) }
-        ensures miss { result ≡ false → LosesUnit kinds.CommitExchange (view_of seat.old) unit (view_of seat.new) }
+        ensures miss { result ≡ false → LosesUnit kinds.CommitExchange (view_of seat.old) unit
+            (view_of seat.new) }
     {
         let word = self.places.unit(unit);
         let committed = UnitWord::Committed { first, count }.pack();

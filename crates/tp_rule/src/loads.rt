@@ -23,7 +23,8 @@ use tp_words::{FoundClaim, Head, UnitWord};
 impl Words {
     ghost use Rattle.tp_rule.specs.Tables.{table_limits, IsSeatOf, IsPassOf};
 
-    /// Reads the word at a place. The seat may stand for several passes: each has one more entry in its trace.
+    /// Reads the word at a place. The seat may stand for several passes: each has one more entry in its
+    /// trace.
     #[inline(always)]
     pub fn load(&self, seat: &mut Seat, word: usize) -> u64
         requires own { IsSeatOf self.now seat.old }

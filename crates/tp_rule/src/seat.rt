@@ -174,7 +174,8 @@ impl SharedTable {
     pub(crate) fn join<J: Join<View>>(&self, seat: &mut Seat, other: &mut Seat)
         requires own { (seat.old.table ≡ id_of self.now) × (other.old.table ≡ id_of self.now) }
         requires room { 0 < (id_of self.now).words }
-        requires permits { MayJoin (key_of self.now) seat.old.view other.old.view (J.both seat.old.view other.old.view) }
+        requires permits { MayJoin (key_of self.now) seat.old.view other.old.view
+            (J.both seat.old.view other.old.view) }
         requires spent { J.spent ≡ no_seat.view }
         ensures joins { seat.new ≡ record {
           table = seat.old.table;

@@ -15,8 +15,8 @@ use tp_words::Head;
 impl Words {
     ghost use Rattle.tp_rule.specs.Tables.{table_limits, IsPassOf, IsSeatOf};
 
-    /// Stores a word of the body of the row that the pass draws next. The row is not born, so the history does not
-    /// change, and the seat sees nothing new.
+    /// Stores a word of the body of the row that the pass draws next. The row is not born, so the history
+    /// does not change, and the seat sees nothing new.
     fn store_draft_word(&self, seat: &mut Seat, row: u32, word: usize, number: u64)
         requires own { IsSeatOf self.now seat.old }
         requires one { IsOnePass (view_of seat.old) }
@@ -46,8 +46,8 @@ impl Words {
         }
     }
 
-    /// Stores the body of the row that the pass draws next, of which no word is stored: each word that isn't 0. At most
-    /// four steps.
+    /// Stores the body of the row that the pass draws next, of which no word is stored: each word that isn't
+    /// 0. At most four steps.
     pub fn store_draft_body(&self, seat: &mut Seat, row: u32, body: Body)
         requires own { IsSeatOf self.now seat.old }
         requires one { IsOnePass (view_of seat.old) }

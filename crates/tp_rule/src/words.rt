@@ -13,8 +13,8 @@ use tp_words::Places;
 /// The words that all passes share. Every step is a method that takes `&self` and the seat that makes it, so
 /// the words can lie behind a shared reference while many threads step.
 ///
-/// Each method that makes a step changes the view of that one seat, and adds one entry to its trace. A view can be
-/// changed in no other way, since the table lies behind its one door.
+/// Each method that makes a step changes the view of that one seat, and adds one entry to its trace. A view
+/// can be changed in no other way, since the table lies behind its one door.
 #[derive(Drop)]
 pub struct Words {
     pub(crate) table: SharedTable,
@@ -26,8 +26,8 @@ pub struct Words {
 impl Words {
     ghost use Rattle.tp_rule.specs.Tables.{table_limits, table_of, IsSeatOf, IsPassOf};
 
-    /// The words of a table in which nothing has happened, all 0, and the keeper's seat, which stands for all passes.
-    /// The one error is out of memory.
+    /// The words of a table in which nothing has happened, all 0, and the keeper's seat, which stands for all
+    /// passes. The one error is out of memory.
     pub fn new(alloc: Global, places: Places) -> Result<(Words, Seat), AllocError>
         ensures limits { IfOk result (λ made. table_limits made.0 ≡ places.limits) }
         ensures seat { IfOk result (λ made. IsSeatOf made.0 made.1) }
@@ -39,8 +39,8 @@ impl Words {
         Ok((Words { table, places }, seat))
     }
 
-    /// The first of the passes that the keeper's seat stands for, in a seat of its own. The keeper keeps the others.
-    /// The load that this costs is the first entry in the trace of the pass.
+    /// The first of the passes that the keeper's seat stands for, in a seat of its own. The keeper keeps the
+    /// others. The load that this costs is the first entry in the trace of the pass.
     pub fn hand_out(&self, keeper: &mut Seat) -> Seat
         requires own { IsSeatOf self.now keeper.old }
         ensures same { IsSameSeat keeper.old keeper.new }
@@ -51,8 +51,8 @@ impl Words {
         self.table.split::<HandOut>(keeper)
     }
 
-    /// Cuts a seat that stands for several passes: the first stays, and the others are in the new seat. This costs a
-    /// load by the one that stays.
+    /// Cuts a seat that stands for several passes: the first stays, and the others are in the new seat. This
+    /// costs a load by the one that stays.
     pub fn part(&self, seat: &mut Seat) -> Seat
         requires own { IsSeatOf self.now seat.old }
         ensures same { IsSameSeat seat.old seat.new }
@@ -63,8 +63,9 @@ impl Words {
         self.table.split::<Part>(seat)
     }
 
-    /// One seat takes in the passes of another, which is empty afterwards. This costs a load by the one that remains.
-    /// What the other had seen is remembered apart: which of the two saw more comes out at the next load alone.
+    /// One seat takes in the passes of another, which is empty afterwards. This costs a load by the one that
+    /// remains. What the other had seen is remembered apart: which of the two saw more comes out at the next
+    /// load alone.
     pub fn join(&self, seat: &mut Seat, other: &mut Seat)
         requires own { IsSeatOf self.now seat.old × IsSeatOf self.now other.old }
         requires pass { HasPass (view_of seat.old) }
@@ -75,8 +76,8 @@ impl Words {
         self.table.join::<Together>(seat, other);
     }
 
-    /// Two passes meet, by a join, a load and a split: both have then seen one legal history, which begins with what
-    /// each had seen.
+    /// Two passes meet, by a join, a load and a split: both have then seen one legal history, which begins
+    /// with what each had seen.
     pub fn meet(&self, seat: &mut Seat, other: &mut Seat)
         requires own { IsSeatOf self.now seat.old × IsSeatOf self.now other.old }
         requires one { IsPassOf self.now seat.old × IsPassOf self.now other.old }

@@ -14,7 +14,8 @@ use Rattle.tp_script.specs.declared.script.DeskAct.TheVariants as desk
 use Rattle.tp_model.specs.declared.types.TheConstants.{MAX_PART_ROWS, MAX_PASSES, MAX_STAGE}
 use Rattle.tp_script.specs.Script.{HeadView}
 use Rattle.tp_script.specs.ServerLines.{server_at}
-use Rattle.tp_script.specs.LineWords.{◌>>=◌, require, no_word, one_word, two, number_at, any_stage_at, body_numbers, is_name}
+use Rattle.tp_script.specs.LineWords.{◌>>=◌, require, no_word, one_word, two, number_at, any_stage_at}
+use Rattle.tp_script.specs.LineWords.{body_numbers, is_name}
 
 -- the server of this name
 unfoldable pub server_named : List ℕ → HeadView → Result ℕ LineFault

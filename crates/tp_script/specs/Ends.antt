@@ -95,8 +95,8 @@ unended_worker name h = do
 abbrev pub with_end_line : EndLine → HeadView → HeadView
 with_end_line line h = record h { ends = h.ends ++ line ∷ [] }
 
--- `ended NAME done E U F C`, `ended NAME aborted E`, `ended NAME lost E` or `ended NAME full E`: the words come
--- first, then the name, then the numbers
+-- `ended NAME done E U F C`, `ended NAME aborted E`, `ended NAME lost E` or `ended NAME full E`: the words
+-- come first, then the name, then the numbers
 unfoldable pub ended_line : List (List ℕ) → HeadView → Result HeadView LineFault
 ended_line ws h = do
   w ← ended_words ws

@@ -36,7 +36,8 @@ use Rattle.tp_script.specs.Places.{join_line, leave_line, worker_name, workers_l
 use Rattle.tp_script.specs.Script.{HeadView}
 use Rattle.tp_script.specs.ServerLines.{server_line, shape_at, start_line, worker_at}
 use Rattle.tp_script.specs.Text.{words}
-use Rattle.tp_script.specs.LineWords.{◌>>=◌, require, known, no_word, one_word, two, three, number_at, is_name}
+use Rattle.tp_script.specs.LineWords.{◌>>=◌, require, known, no_word, one_word, two, three, number_at}
+use Rattle.tp_script.specs.LineWords.{is_name}
 
 -- ---- words
 
@@ -106,8 +107,8 @@ with_alive line h =
 unfoldable pub alive_line : List (List ℕ) → HeadView → Result HeadView LineFault
 alive_line ws h = alive_at ws >>= λ line. with_alive line h
 
--- `held NAME ID ATTEMPTS ROUNDS OUT` or `held NAME ID ATTEMPTS ROUNDS OUT ROOT OUT`: the words come first, then
--- the name, then the numbers, then how many are alive
+-- `held NAME ID ATTEMPTS ROUNDS OUT` or `held NAME ID ATTEMPTS ROUNDS OUT ROOT OUT`: the words come first,
+-- then the name, then the numbers, then how many are alive
 unfoldable pub held_line : List (List ℕ) → HeadView → Result HeadView LineFault
 held_line ws h = do
   w ← held_words ws
@@ -205,15 +206,15 @@ ends_head h said = said >>= λ a. Ok (h, Some a)
 abbrev pub names_an_id : ClientNote → Bool
 names_an_id note = is_some note.element || is_some note.reply || is_some note.root
 
--- whether the head says what `restore` alone brings back: what is alive or was lost, clients' requests and the
--- elements that their notes name, and how workers' last units ended
+-- whether the head says what `restore` alone brings back: what is alive or was lost, clients' requests and
+-- the elements that their notes name, and how workers' last units ended
 abbrev pub waits_for_restore : HeadView → Bool
 waits_for_restore h =
     not (length h.alive == 0) || not (length h.lost == 0) || not (length h.requests == 0)
     || not (length h.ends == 0) || list_any names_an_id h.clients
 
--- Then `restore` alone may be the first command. Another is out of order, unless it says nothing that a command
--- could.
+-- Then `restore` alone may be the first command. Another is out of order, unless it says nothing that a
+-- command could.
 abbrev pub unless_waiting : Bool → Result Act LineFault → Result Act LineFault
 unless_waiting false said = said
 unless_waiting true (Err Syntax) = Err Syntax
@@ -238,11 +239,14 @@ head_keyword driver first.Client ws h = in_head (client_line ws h)
 head_keyword driver first.Request ws h = in_head (two ws >>= λ w. request_line w h)
 head_keyword driver first.Ended ws h = in_head (ended_line ws h)
 head_keyword driver first.Register ws h = in_head (one_word ws >>= λ w. register_line w h)
-head_keyword driver (first.Noted v) ws h = ends_head h (unless_waiting (waits_for_restore h) (noted_at v ws h))
-head_keyword driver (first.Do v) ws h = ends_head h (unless_waiting (waits_for_restore h) (act_said driver v ws h))
+head_keyword driver (first.Noted v) ws h =
+    ends_head h (unless_waiting (waits_for_restore h) (noted_at v ws h))
+head_keyword driver (first.Do v) ws h =
+    ends_head h (unless_waiting (waits_for_restore h) (act_said driver v ws h))
 head_keyword driver first.Dump ws h = ends_head h (unless_waiting (waits_for_restore h) (dump_at ws))
 head_keyword driver first.Account ws h = ends_head h (unless_waiting (waits_for_restore h) (account_at ws))
-head_keyword driver (first.Overview what) ws h = ends_head h (unless_waiting (waits_for_restore h) (overview_at what ws))
+head_keyword driver (first.Overview what) ws h =
+    ends_head h (unless_waiting (waits_for_restore h) (overview_at what ws))
 head_keyword driver first.Restore ws h = ends_head h (restore_at ws)
 
 -- the words of a line of the head
@@ -289,7 +293,8 @@ body_keyword driver (first.Do v) ws h = act_said driver v ws h
 -- the words of such a line, which asks for nothing where there are none
 unfoldable pub body_words : Driver → List (List ℕ) → HeadView → Result (Option Act) LineFault
 body_words driver [] h = Ok None
-body_words driver (w ∷ ws) h = known (keyword w) Syntax >>= λ k. body_keyword driver k ws h >>= λ a. Ok (Some a)
+body_words driver (w ∷ ws) h =
+    known (keyword w) Syntax >>= λ k. body_keyword driver k ws h >>= λ a. Ok (Some a)
 
 -- ---- a line of a session behind its head
 
@@ -305,10 +310,11 @@ late_keyword first.Leave ws clients h = with_head (one_word ws >>= λ w. leave_l
 late_keyword k ws clients h = ends_head h (body_keyword drivers.Session k ws h)
 
 -- the words of such a line, which asks for nothing where there are none
-unfoldable pub late_words : List (List ℕ) → List ClientNote → HeadView → Result (HeadView × Option Act) LineFault
+unfoldable pub late_words : List (List ℕ) → List ClientNote → HeadView
+    → Result (HeadView × Option Act) LineFault
 late_words [] clients h = Ok (h, None)
 late_words (w ∷ ws) clients h = known (keyword w) Syntax >>= λ k. late_keyword k ws clients h
 
 -- what such a line leaves of the head, and what it asks for, where notes are kept of these clients
-unfoldable pub body_at : List ℕ → List ClientNote → HeadView → Result (HeadView × Option Act) LineFault
-body_at line clients h = line_words line >>= λ ws. late_words ws clients h
+unfoldable pub late_line : List ℕ → List ClientNote → HeadView → Result (HeadView × Option Act) LineFault
+late_line line clients h = line_words line >>= λ ws. late_words ws clients h

@@ -3,7 +3,8 @@ use Rattle.std.specs.Prelude.{ℕ, List, [], ◌∷◌, Option, option_map, find
 use Rattle.std.specs.Str.{bytes_eq}
 use Rattle.tp_script.specs.declared.keyword.Keyword.{Keyword}
 use Rattle.tp_script.specs.declared.keyword.Keyword.TheVariants.{Rows, Units, Limit, Spare, Server, Start, Do}
-use Rattle.tp_script.specs.declared.keyword.Keyword.TheVariants.{Worker, Workers, Leave, Alive, Held, Lost, Restore, Dump}
+use Rattle.tp_script.specs.declared.keyword.Keyword.TheVariants.{Worker, Workers, Leave, Alive, Held, Lost}
+use Rattle.tp_script.specs.declared.keyword.Keyword.TheVariants.{Restore, Dump}
 use Rattle.tp_script.specs.declared.keyword.Keyword.TheVariants.{Account, Client, Request, Ended, Overview}
 use Rattle.tp_script.specs.declared.keyword.Keyword.TheVariants.{Register, Noted}
 use Rattle.tp_script.specs.declared.keyword.NotedVerb.TheVariants as noted

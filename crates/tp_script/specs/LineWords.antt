@@ -101,15 +101,18 @@ is_name w = not (length w == 0) && nat_le (length w) 8 && list_all (λ b. nat_le
 
 -- `eager` or `lazy`
 unfoldable pub kind_at : List ℕ → Result Kind LineFault
-kind_at w = if bytes_eq w (codes "eager") then Ok Eager else if bytes_eq w (codes "lazy") then Ok Lazy else Err Syntax
+kind_at w =
+    if bytes_eq w (codes "eager") then Ok Eager else if bytes_eq w (codes "lazy") then Ok Lazy else Err Syntax
 
 -- `add`, `take` or `pass`
 unfoldable pub act_named : List ℕ → Result Act LineFault
-act_named w = if bytes_eq w (codes "add") then Ok Add else if bytes_eq w (codes "take") then Ok Take else if bytes_eq w (codes "pass") then Ok Pass else Err Syntax
+act_named w = if bytes_eq w (codes "add") then Ok Add else if bytes_eq w (codes "take") then Ok Take
+    else if bytes_eq w (codes "pass") then Ok Pass else Err Syntax
 
 -- the place of the amount in a body: `1`, `2` or `3`
 unfoldable pub place_at : List ℕ → Result ℕ LineFault
-place_at w = if bytes_eq w (codes "1") then Ok 1 else if bytes_eq w (codes "2") then Ok 2 else if bytes_eq w (codes "3") then Ok 3 else Err Syntax
+place_at w = if bytes_eq w (codes "1") then Ok 1 else if bytes_eq w (codes "2") then Ok 2
+    else if bytes_eq w (codes "3") then Ok 3 else Err Syntax
 
 -- an act, and the place of its amount: 1 where none is said
 abbrev pub act_words : List (List ℕ) → Result (List ℕ × List ℕ) LineFault
@@ -133,9 +136,11 @@ key_at w = if bytes_eq w (codes "same") then Ok keys.Same else do
 
 -- the amount of an output: `same`, `after` or a number
 unfoldable pub amount_at : List ℕ → Result AmountFrom LineFault
-amount_at w = if bytes_eq w (codes "same") then Ok amounts.Same else if bytes_eq w (codes "after") then Ok amounts.After else do
-  n ← number_at (2 ^ 64 - 1) w
-  Ok (amounts.Fixed n)
+amount_at w =
+    if bytes_eq w (codes "same") then Ok amounts.Same
+    else if bytes_eq w (codes "after") then Ok amounts.After else do
+      n ← number_at (2 ^ 64 - 1) w
+      Ok (amounts.Fixed n)
 
 -- an output has exactly two colons
 abbrev pub has_two_colons : List ℕ → Bool

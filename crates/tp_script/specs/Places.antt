@@ -1,6 +1,8 @@
 -- The places of workers: those that a head makes, and who takes or leaves one behind it. Each has a pass.
-use Rattle.std.specs.Prelude.{ℕ, zero, suc, ◌-◌, ◌^◌, List, [], ◌∷◌, ◌++◌, length, not, ◌&&◌, Option, Some, None}
-use Rattle.std.specs.Prelude.{Result, Ok, codes, decimal, nat_le, position, slice_get, slice_set, if◌then◌else◌}
+use Rattle.std.specs.Prelude.{ℕ, zero, suc, ◌-◌, ◌^◌, List, [], ◌∷◌, ◌++◌, length, not, ◌&&◌, Option, Some}
+use Rattle.std.specs.Prelude.{None}
+use Rattle.std.specs.Prelude.{Result, Ok, codes, decimal, nat_le, position, slice_get, slice_set}
+use Rattle.std.specs.Prelude.{if◌then◌else◌}
 use Rattle.std.specs.List.{list_any}
 use Rattle.std.specs.Str.{bytes_eq}
 use Rattle.tp_script.specs.declared.fault.LineFault.{LineFault}

@@ -9,7 +9,8 @@ use Rattle.tp_script.specs.declared.script.Command.{Command}
 use Rattle.tp_script.specs.declared.script.Command.TheVariants.{Desk, Balance, Race}
 use Rattle.tp_script.specs.Passes.{is_race}
 
--- one of this many servers, where it is a command on a server; a race's stage is one that clients may submit to
+-- one of this many servers, where it is a command on a server; a race's stage is one that clients may submit
+-- to
 abbrev pub IsInRange : ℕ → Command → Type 0
 IsInRange servers (Desk server act) = server < servers
 IsInRange servers (Balance server k) = server < servers

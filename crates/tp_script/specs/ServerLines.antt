@@ -11,7 +11,8 @@ use Rattle.tp_script.specs.declared.fault.LineFault.{LineFault}
 use Rattle.tp_script.specs.declared.fault.LineFault.TheVariants.{Syntax, BadLimits, BadRecipe, BadName}
 use Rattle.tp_script.specs.declared.script.Kind.{Kind}
 use Rattle.tp_script.specs.declared.script.TheConstants.{MAX_SERVERS}
-use Rattle.tp_script.specs.LineWords.{◌>>=◌, require, known, number_at, is_name, kind_at, act_and_place, has_two_colons}
+use Rattle.tp_script.specs.LineWords.{◌>>=◌, require, known, number_at, is_name, kind_at, act_and_place}
+use Rattle.tp_script.specs.LineWords.{has_two_colons}
 use Rattle.tp_script.specs.LineWords.{outputs_at}
 use Rattle.tp_script.specs.Notes.{NameView}
 use Rattle.tp_script.specs.Once.{is_note_of}
@@ -103,7 +104,8 @@ server_line ws h = do
   recipe ← recipe_at shape
   _ ← require (nat_lt (length h.servers) MAX_SERVERS) BadLimits
   registers ← registers_for recipe
-  Ok (with_server (record { name = name.letters; kind = shape.kind; recipe = recipe; registers = registers }) h)
+  Ok (with_server (record { name = name.letters; kind = shape.kind; recipe = recipe; registers = registers })
+      h)
 
 -- register k of a server begins with v
 unfoldable pub with_start : ℕ → ℕ → ServerView → Result ServerView LineFault

@@ -1,5 +1,6 @@
 -- What a script says, line by line, or its first fault.
-use Rattle.std.specs.Prelude.{ℕ, ◌+◌, List, [], ◌∷◌, ◌++◌, length, true, false, Option, Some, None, Result, Ok}
+use Rattle.std.specs.Prelude.{ℕ, ◌+◌, List, [], ◌∷◌, ◌++◌, length, true, false, Option, Some, None, Result}
+use Rattle.std.specs.Prelude.{Ok}
 use Rattle.std.specs.Prelude.{Err, nat_lt, nat_le, ◌==◌, if◌then◌else◌}
 use Rattle.tp_model.specs.declared.types.TheConstants.{MAX_PASSES}
 use Rattle.tp_script.specs.declared.source.TheConstants.{MAX_SCRIPT_BYTES}
@@ -39,7 +40,8 @@ behind_account said s = Err Order
 
 -- the words of a line of the head, up to the first command
 abbrev pub in_head_words : List (List ℕ) → ScriptView → Result ScriptView LineFault
-in_head_words ws s = head_words drivers.Script ws s.head >>= λ said. with_said said.1 (record s { head = said.0 })
+in_head_words ws s =
+    head_words drivers.Script ws s.head >>= λ said. with_said said.1 (record s { head = said.0 })
 
 -- and behind it
 abbrev pub in_body_words : List (List ℕ) → ScriptView → Result ScriptView LineFault

@@ -1,7 +1,8 @@
 //! The command lines.
 ghost use Rattle.std.specs.Prelude.{◌<◌, ◌≤◌, ℕ, map, vec_len, IfOk};
 ghost use Rattle.tp_model.specs.declared.types.TheConstants.{MAX_STAGE};
-ghost use Rattle.tp_script.specs.Commands.{server_named, one_server, one_id, submit_at, submit_body, submit_words};
+ghost use Rattle.tp_script.specs.Commands.{server_named, one_server, one_id, submit_at, submit_body};
+ghost use Rattle.tp_script.specs.Commands.{submit_words};
 ghost use Rattle.tp_script.specs.Commands.{balance_at, command_at, drain_at, list_at, list_words, race_at};
 ghost use Rattle.tp_script.specs.Commands.{race_words, stage_at, take_at};
 ghost use Rattle.tp_script.specs.Ranges.{IsInRange};

@@ -168,15 +168,16 @@ impl Head {
     fn with_end(&mut self, line: EndLine) -> Result<(), LineError>
         requires by { line.worker < vec_len self.old.workers }
         requires fresh { has_ended line.worker (head_view self.old) ≡ false }
-        ensures gives { Gives (λ _. head_view self.new) result (Ok (with_end_line line (head_view self.old))) }
+        ensures gives { Gives (λ _. head_view self.new) result
+            (Ok (with_end_line line (head_view self.old))) }
         ensures kept { OnErr result (head_view self.new ≡ head_view self.old) }
     {
         self.ends.push(line)?;
         Ok(())
     }
 
-    /// `ended NAME done E U F C`, `ended NAME aborted E`, `ended NAME lost E` or `ended NAME full E`. Of several
-    /// faults that of the words comes first, then that of the name, then that of a number.
+    /// `ended NAME done E U F C`, `ended NAME aborted E`, `ended NAME lost E` or `ended NAME full E`. Of
+    /// several faults that of the words comes first, then that of the name, then that of a number.
     #[tactic(auto, unfolding(crate::specs::Ends::ended_line))]
     pub(crate) fn ended_line(&mut self, words: &[&[u8]]) -> Result<(), LineError>
         ensures gives { Gives (λ _. head_view self.new) result

@@ -1,18 +1,20 @@
-//! What a line says: in the head, and behind it. Scripts and live sessions have the same lines, but for races.
-ghost use Rattle.std.specs.Prelude.{◌≡◌, ◌≤◌, ◌&&◌, None, Result, Some, map, nat_le, vec_len, ℕ, IfOk, IfSome};
+//! What a line says: in the head, and behind it. Scripts and live sessions have the same lines, but for
+//! races.
+ghost use Rattle.std.specs.Prelude.{◌≡◌, ◌&&◌, None, Result, Some, map, nat_le, vec_len, ℕ, IfOk};
+ghost use Rattle.std.specs.Prelude.{IfSome};
 ghost use Rattle.std.specs.Prelude.{OnErr};
 ghost use Rattle.std.specs.List.{list_all, list_any};
 ghost use Rattle.tp_script.specs.declared.fault.LineFault.{LineFault};
 ghost use Rattle.tp_script.specs.declared.fault.LineFault.TheVariants.{Syntax};
 ghost use Rattle.tp_script.specs.declared.head.Act.{Act};
 ghost use Rattle.tp_script.specs.Grammar.{account_at, act_said, body_keyword, body_words, dump_at, given_by};
-ghost use Rattle.tp_script.specs.Grammar.{head_at, head_keyword, head_words, is_comment, limit_line, line_words};
-ghost use Rattle.tp_script.specs.Grammar.{out_of_order, restore_at, rows_line, setting_at, spare_line, units_line};
+ghost use Rattle.tp_script.specs.Grammar.{head_at, head_keyword, head_words, is_comment, line_words};
+ghost use Rattle.tp_script.specs.Grammar.{out_of_order, restore_at};
 ghost use Rattle.tp_script.specs.Grammar.{names_an_id, overview_at, unless_waiting, waits_for_restore};
 ghost use Rattle.tp_script.specs.Keyword.{keyword};
 ghost use Rattle.tp_script.specs.LineWords.{known, one_word};
 ghost use Rattle.tp_script.specs.Ranges.{IsActInRange, IsActOf, IsInRange};
-ghost use Rattle.tp_script.specs.Reading.{Gives, GivesHead};
+ghost use Rattle.tp_script.specs.Reading.{Gives};
 ghost use Rattle.tp_script.specs.Script.{head_view};
 
 use crate::alive::alive_words;
@@ -22,13 +24,12 @@ use crate::fault::{LineError, LineFault};
 use crate::hands::held_words;
 use crate::head::{Act, Driver, Head};
 use crate::keyword::{Keyword, Verb};
-use crate::line_words::{none, number_at, one, three, two};
+use crate::line_words::{none, one, three, two};
 use crate::script::{Command, Overview};
 use crate::servers::shape_at;
 use crate::text::words;
 use crate::worker_lines::worker_act;
 use std::alloc::Global;
-use tp_model::types::{MAX_ATTEMPTS, MAX_BLOCKS, MAX_PART_ROWS, MAX_UNITS};
 
 // ---- words
 
@@ -142,64 +143,6 @@ fn late_setting(words: &[&[u8]]) -> Result<Act, LineError>
 }
 
 impl Head {
-    // ---- settings
-
-    // A setting comes before servers, and is `least` to `most`.
-    #[tactic(auto, unfolding(crate::specs::Grammar::setting_at))]
-    fn setting_at(&self, word: &[u8], least: u16, most: u16) -> Result<u16, LineError>
-        ensures gives { Gives (λ n. n) result (setting_at least most word.now (head_view self.now)) }
-        ensures bounds { IfOk result (λ n. (least ≤ n) × (n ≤ most)) }
-    {
-        if !self.servers.is_empty() {
-            return Err(LineFault::Order.into());
-        }
-        let n = number_at(word, u64::MAX)?;
-        if !(u64::from(least)..=u64::from(most)).contains(&n) {
-            return Err(LineFault::BadLimits.into());
-        }
-        Ok(n as u16)
-    }
-
-    // `rows N`
-    #[tactic(auto, unfolding(crate::specs::Grammar::rows_line))]
-    fn rows_line(&mut self, word: &[u8]) -> Result<(), LineError>
-        ensures gives { GivesHead self.new result (rows_line word.now (head_view self.old)) }
-        ensures kept { OnErr result (head_view self.new ≡ head_view self.old) }
-    {
-        self.settings.rows = self.setting_at(word, 1, MAX_PART_ROWS)?;
-        Ok(())
-    }
-
-    // `units N`
-    #[tactic(auto, unfolding(crate::specs::Grammar::units_line))]
-    fn units_line(&mut self, word: &[u8]) -> Result<(), LineError>
-        ensures gives { GivesHead self.new result (units_line word.now (head_view self.old)) }
-        ensures kept { OnErr result (head_view self.new ≡ head_view self.old) }
-    {
-        self.settings.units = self.setting_at(word, 1, MAX_UNITS)?;
-        Ok(())
-    }
-
-    // `limit N`
-    #[tactic(auto, unfolding(crate::specs::Grammar::limit_line))]
-    fn limit_line(&mut self, word: &[u8]) -> Result<(), LineError>
-        ensures gives { GivesHead self.new result (limit_line word.now (head_view self.old)) }
-        ensures kept { OnErr result (head_view self.new ≡ head_view self.old) }
-    {
-        self.settings.attempts = self.setting_at(word, 1, u16::from(MAX_ATTEMPTS))? as u8;
-        Ok(())
-    }
-
-    // `spare S`
-    #[tactic(auto, unfolding(crate::specs::Grammar::spare_line))]
-    fn spare_line(&mut self, word: &[u8]) -> Result<(), LineError>
-        ensures gives { GivesHead self.new result (spare_line word.now (head_view self.old)) }
-        ensures kept { OnErr result (head_view self.new ≡ head_view self.old) }
-    {
-        self.settings.spare = self.setting_at(word, 0, MAX_BLOCKS)?;
-        Ok(())
-    }
-
     // ---- commands
 
     // The command of this first word, with the words after it.

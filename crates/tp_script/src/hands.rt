@@ -111,7 +111,8 @@ impl Head {
     fn with_lost(&mut self, line: LostLine) -> Result<(), LineError>
         requires by { IsLostBy (vec_len self.old.workers) line }
         requires free { has_in_hand line.worker (head_view self.old) ≡ false }
-        ensures gives { Gives (λ _. head_view self.new) result (Ok (with_lost_line line (head_view self.old))) }
+        ensures gives { Gives (λ _. head_view self.new) result
+            (Ok (with_lost_line line (head_view self.old))) }
         ensures kept { OnErr result (head_view self.new ≡ head_view self.old) }
     {
         self.lost.push(line)?;

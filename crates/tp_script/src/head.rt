@@ -35,8 +35,8 @@ pub const MAX_ALIVE: usize = 10_240;
 /// place that no worker has, whose pass is free.
 #[derive(Drop)]
 pub struct WorkerLine {
-    /// 1 to 8 small letters, which no other worker or server has; of a free place a minus and its number among
-    /// the places, from 0 on.
+    /// 1 to 8 small letters, which no other worker or server has; of a free place a minus and its number
+    /// among the places, from 0 on.
     pub name: String,
     /// The stage whose elements it takes, 1 to 14; of a free place any.
     pub stage: u8,

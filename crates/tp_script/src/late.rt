@@ -1,6 +1,6 @@
 //! A line of a live session behind its head. Workers come and go there.
 ghost use Rattle.std.specs.Prelude.{◌≡◌, map, IfOk, IfSome, OnErr, vec_len};
-ghost use Rattle.tp_script.specs.Grammar.{body_at, late_keyword, late_words};
+ghost use Rattle.tp_script.specs.Grammar.{late_line, late_keyword, late_words};
 ghost use Rattle.tp_script.specs.Ranges.{IsActInRange};
 ghost use Rattle.tp_script.specs.Reading.{Gives};
 ghost use Rattle.tp_script.specs.Script.{head_view};
@@ -61,10 +61,10 @@ impl Head {
         Ok(Some(act))
     }
 
-    /// What a line of a session behind its head asks for, if it isn't empty or a comment, where notes are kept
-    /// of these clients. A worker that comes takes the first free place, and leaves it free when it goes; each
-    /// place stays. A faulty line leaves the head as it was.
-    #[tactic(auto, unfolding(crate::specs::Grammar::body_at))]
+    /// What a line of a session behind its head asks for, if it isn't empty or a comment, where notes are
+    /// kept of these clients. A worker that comes takes the first free place, and leaves it free when it
+    /// goes; each place stays. A faulty line leaves the head as it was.
+    #[tactic(auto, unfolding(crate::specs::Grammar::late_line))]
     pub fn body_line(
         &mut self,
         alloc: Global,
@@ -72,7 +72,7 @@ impl Head {
         clients: &[ClientNote],
     ) -> Result<Option<Act>, LineError>
         ensures gives { Gives (λ a. (head_view self.new, a)) result
-            (body_at line.now clients.now (head_view self.old)) }
+            (late_line line.now clients.now (head_view self.old)) }
         ensures kept { OnErr result (head_view self.new ≡ head_view self.old) }
         ensures servers { self.new.servers ≡ self.old.servers }
         ensures places { vec_len self.new.workers ≡ vec_len self.old.workers }

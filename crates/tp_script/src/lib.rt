@@ -19,6 +19,7 @@ mod parse;
 mod places;
 mod script;
 mod servers;
+mod setting_lines;
 mod source;
 mod text;
 mod whole;

@@ -4,9 +4,12 @@ ghost use Rattle.std.specs.Prelude.{◌≡◌, ◌≤◌, ◌-◌, ◌^◌, ◌&
 ghost use Rattle.std.specs.List.{list_all};
 ghost use Rattle.std.specs.Str.{bytes_eq};
 ghost use Rattle.tp_script.specs.Reading.{Gives};
-ghost use Rattle.tp_script.specs.LineWords.{no_word, one_word, two, three, number_at, is_name, kind_at, act_named};
-ghost use Rattle.tp_script.specs.LineWords.{place_at, act_words, act_and_place, key_at, amount_at, has_two_colons};
-ghost use Rattle.tp_script.specs.LineWords.{any_stage_at, body_at, body_numbers, four, id_or_gone, ordinal_at};
+ghost use Rattle.tp_script.specs.LineWords.{no_word, one_word, two, three, number_at, is_name, kind_at};
+ghost use Rattle.tp_script.specs.LineWords.{act_named};
+ghost use Rattle.tp_script.specs.LineWords.{place_at, act_words, act_and_place, key_at, amount_at};
+ghost use Rattle.tp_script.specs.LineWords.{has_two_colons};
+ghost use Rattle.tp_script.specs.LineWords.{any_stage_at, body_at, body_numbers, four, id_or_gone};
+ghost use Rattle.tp_script.specs.LineWords.{ordinal_at};
 ghost use Rattle.tp_script.specs.LineWords.{output_at, outputs_at};
 
 use crate::fault::{LineError, LineFault};

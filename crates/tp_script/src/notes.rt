@@ -60,8 +60,8 @@ impl Name {
     }
 }
 
-/// What is noted of a client. An id is `None` where a rollover has left the element behind, and where there was
-/// none.
+/// What is noted of a client. An id is `None` where a rollover has left the element behind, and where there
+/// was none.
 #[derive(Drop)]
 pub struct ClientNote {
     /// The client's name.

@@ -1,7 +1,9 @@
 //! The places of workers: those that a head makes, and who takes or leaves one behind it.
-ghost use Rattle.std.specs.Prelude.{◌≡◌, ◌<◌, ◌≤◌, map, not, position, IfOk, IfSome, OnErr, slice_get, string_bytes, vec_len};
+ghost use Rattle.std.specs.Prelude.{◌≡◌, ◌<◌, ◌≤◌, map, not, position, IfOk, IfSome, OnErr, slice_get};
+ghost use Rattle.std.specs.Prelude.{string_bytes, vec_len};
 ghost use Rattle.tp_script.specs.LineWords.{is_name};
-ghost use Rattle.tp_script.specs.Places.{first_places, free_at, free_place, join_line, leave_line, place_name};
+ghost use Rattle.tp_script.specs.Places.{first_places, free_at, free_place, join_line, leave_line};
+ghost use Rattle.tp_script.specs.Places.{place_name};
 ghost use Rattle.tp_script.specs.Places.{place_or_free, worker_name, workers_line};
 ghost use Rattle.tp_script.specs.Ranges.{IsActInRange};
 ghost use Rattle.tp_script.specs.Reading.{Gives};

@@ -1,7 +1,8 @@
 //! What lines set and ask for: settings, servers and commands.
 ghost use Rattle.std.specs.Prelude.{◌≡◌, ◌≤◌, Ok, length};
 ghost use Rattle.tp_server.specs.Check.{check_of};
-ghost use Rattle.tp_model.specs.declared.types.TheConstants.{MAX_ATTEMPTS, MAX_BLOCKS, MAX_PART_ROWS, MAX_UNITS};
+ghost use Rattle.tp_model.specs.declared.types.TheConstants.{MAX_ATTEMPTS, MAX_BLOCKS, MAX_PART_ROWS};
+ghost use Rattle.tp_model.specs.declared.types.TheConstants.{MAX_UNITS};
 
 use std::string::String;
 use tp_model::types::Body;

@@ -181,7 +181,8 @@ impl Head {
     /// `start NAME K V`
     #[tactic(auto, unfolding(crate::specs::ServerLines::start_line))]
     pub(crate) fn start_line(&mut self, words: (&[u8], &[u8], &[u8])) -> Result<(), LineError>
-        ensures gives { GivesHead self.new result (start_line (words.entry.0.now, words.entry.1.now, words.entry.2.now) (head_view self.old)) }
+        ensures gives { GivesHead self.new result
+            (start_line (words.entry.0.now, words.entry.1.now, words.entry.2.now) (head_view self.old)) }
         ensures kept { OnErr result (head_view self.new ≡ head_view self.old) }
     {
         if !is_name(words.0) {

@@ -22,8 +22,8 @@ pub trait Source {
 
     ghost has_failed: { Self → Bool };
 
-    /// Puts the next bytes into the beginning of the buffer, and answers how many: 0 at the end of the bytes, or
-    /// where the buffer is empty. `Failed` where the reader failed.
+    /// Puts the next bytes into the beginning of the buffer, and answers how many: 0 at the end of the bytes,
+    /// or where the buffer is empty. `Failed` where the reader failed.
     fn read(&mut self, buffer: &mut [u8]) -> Result<usize, Failed>
         requires { asked self.old + 1 < 2 ^ 64 }
         ensures count { IfOk result (λ n. n ≤ length buffer.new) }

@@ -34,7 +34,8 @@ impl Script {
     ghost use Rattle.tp_script.specs.Grammar.{head_words};
     ghost use Rattle.tp_script.specs.Reading.{Gives, GivesScript};
     ghost use Rattle.tp_script.specs.Script.{ScriptView, head_view, passes, script_view};
-    ghost use Rattle.tp_script.specs.Whole.{behind_account, line_at, no_lines, with_act, with_said, words_line};
+    ghost use Rattle.tp_script.specs.Whole.{behind_account, line_at, no_lines, with_act, with_said};
+    ghost use Rattle.tp_script.specs.Whole.{words_line};
 
     /// A script without lines.
     pub(crate) fn new(alloc: Global) -> Script
@@ -59,7 +60,8 @@ impl Script {
     /// How many passes its races need, 0 without races.
     pub fn racers(&self) -> u16
         ensures value { result ≡ racing self.now.acts.items }
-        ensures bound { 1 + vec_len self.now.head.servers + vec_len self.now.head.workers + result ≤ MAX_PASSES }
+        ensures bound { 1 + vec_len self.now.head.servers + vec_len self.now.head.workers + result
+            ≤ MAX_PASSES }
     {
         self.racers
     }
@@ -118,7 +120,8 @@ impl Script {
     // What the words of a line say.
     #[tactic(auto, unfolding(crate::specs::Whole::words_line))]
     fn words_line(&mut self, alloc: Global, words: &[&[u8]]) -> Result<(), LineError>
-        ensures { GivesScript self.new result (words_line (map (λ x. x.now) words.now) (script_view self.old)) }
+        ensures { GivesScript self.new result
+            (words_line (map (λ x. x.now) words.now) (script_view self.old)) }
     {
         if self.account {
             return Script::behind_account(self.head.body_words(alloc, Driver::Script, words));

@@ -3,7 +3,8 @@ ghost use Rattle.std.specs.Prelude.{◌≡◌, ◌<◌, map, IfSome, OnErr, posi
 ghost use Rattle.std.specs.Str.{bytes_eq};
 ghost use Rattle.tp_script.specs.declared.keyword.Verb.TheVariants as verbs;
 ghost use Rattle.tp_script.specs.Reading.{Gives};
-ghost use Rattle.tp_script.specs.Grammar.{is_named, worker_act, worker_commit, worker_line, worker_of, worker_take};
+ghost use Rattle.tp_script.specs.Grammar.{is_named, worker_act, worker_commit, worker_line, worker_of};
+ghost use Rattle.tp_script.specs.Grammar.{worker_take};
 ghost use Rattle.tp_script.specs.Script.{head_view};
 ghost use Rattle.tp_script.specs.ServerLines.{worker_at};
 

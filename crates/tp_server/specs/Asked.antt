@@ -3,8 +3,8 @@ use Rattle.std.specs.Prelude.{◌≡◌, ℕ, Bool, true, List, [], ◌∷◌, �
 use Rattle.tp_model.specs.declared.types.Element.{Element}
 use Rattle.tp_server.specs.Pending.{Pending}
 
--- one call that changes a server: to prepare the work of this element, with these registers of committed work;
--- to commit this prepared work; or to undo it
+-- one call that changes a server: to prepare the work of this element, with these registers of committed
+-- work; to commit this prepared work; or to undo it
 pub data Asked : Type 0 where
   Prepare : Element → List ℕ → Asked
   Commit : Pending → Asked
@@ -19,8 +19,8 @@ abbrev pub commit_asked : Option Pending → List Asked
 commit_asked None = []
 commit_asked (Some p) = Commit p ∷ []
 
--- what the handler of a server is asked that was asked these: the effect at each prepare, to take note at each
--- commit, and nothing at an undo
+-- what the handler of a server is asked that was asked these: the effect at each prepare, to take note at
+-- each commit, and nothing at an undo
 abbrev pub handled : List Asked → List Asked
 handled [] = []
 handled (Prepare element registers ∷ all) = Prepare element registers ∷ handled all

@@ -42,9 +42,9 @@ register_after recipe registers element = act_at recipe.act (slice_get registers
     (slice_index element.body recipe.word)
 
 -- an output's key: the element's own, or a fixed one
-abbrev pub key_of : KeyFrom → ℕ → ℕ
-key_of Same key = key
-key_of (Fixed k) key = k
+abbrev pub output_key : KeyFrom → ℕ → ℕ
+output_key Same key = key
+output_key (Fixed k) key = k
 
 -- an output's amount: the element's own, the register's value after the act, or a fixed one
 abbrev pub amount_of : AmountFrom → ℕ → ℕ → ℕ
@@ -56,7 +56,8 @@ amount_of (FixedAmount n) amount after = n
 -- word at this place
 abbrev pub body_of : ℕ → List ℕ → ℕ → Output → List ℕ
 body_of word body after output =
-    slice_set (slice_set body 0 (key_of output.key (key_in body))) word (amount_of output.amount (slice_index body word) after)
+    slice_set (slice_set body 0 (output_key output.key (key_in body))) word
+    (amount_of output.amount (slice_index body word) after)
 
 -- the draft of one output of a recipe whose amount is the word at this place, where the act leaves the
 -- register at after

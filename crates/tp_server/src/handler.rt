@@ -61,7 +61,8 @@ pub trait Handler<const N: usize>: Drop {
     /// What it does with an element.
     ghost behaviour: { Self → Behaviour };
 
-    /// What it may have been asked and told so far, the last call first, as `asked` of `Server`. Leave it out.
+    /// What it may have been asked and told so far, the last call first, as `asked` of `Server`. Leave it
+    /// out.
     ghost asked: { Self → List Asked → Bool } = { λ _ _. true };
 
     /// The stage whose elements it takes, 1 to 14.
@@ -70,9 +71,9 @@ pub trait Handler<const N: usize>: Drop {
         ensures low { 1 ≤ result }
         ensures high { result ≤ 14 };
 
-    /// What the element comes to, where these are the registers. It is asked once for each preparation. It may
-    /// ask the outside, and must do nothing there that can't be undone: the work can still be called off, and
-    /// no call reports that.
+    /// What the element comes to, where these are the registers. It is asked once for each preparation. It
+    /// may ask the outside, and must do nothing there that can't be undone: the work can still be called off,
+    /// and no call reports that.
     fn effect(&mut self, element: &Element, registers: &[u64; N]) -> Result<Effect<N>, Declined>
         ensures behaviour { behaviour self.new ≡ behaviour self.old }
         ensures allowed { Allows (behaviour self.old) registers.now element.now result }

@@ -1,5 +1,6 @@
 //! What a server is to those who use one.
-ghost use Rattle.std.specs.Prelude.{◌≡◌, ◌≤◌, List, [], ◌∷◌, ℕ, Bool, true, Option, None, Some, length, IsSome, is_some, IfOk};
+ghost use Rattle.std.specs.Prelude.{◌≡◌, ◌≤◌, List, [], ◌∷◌, ℕ, Bool, true, Option, None, Some, length};
+ghost use Rattle.std.specs.Prelude.{IsSome, is_some, IfOk};
 ghost use Rattle.std.specs.Prelude.{IfErr, OnOk, OnErr, Err, slice_get};
 
 use crate::recipe::Declined;
@@ -80,7 +81,8 @@ pub trait Server: Drop {
             (registers self.old) element.now (Err why)) }
         ensures prepared { OnOk result (IsSome (pending self.new)) }
         ensures unprepared { OnErr result (pending self.new ≡ None) }
-        ensures asked { Asks (Prepare element.now (registers self.old) ∷ []) (asked self.old) (asked self.new) };
+        ensures asked { Asks (Prepare element.now (registers self.old) ∷ []) (asked self.old)
+            (asked self.new) };
 
     /// Makes the prepared work committed work.
     fn commit(&mut self)

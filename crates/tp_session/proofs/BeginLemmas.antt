@@ -24,7 +24,7 @@ use Rattle.tp_perform.proofs.Beginnings.{all_new, new_behaviours, new_registers,
 use Rattle.tp_perform.proofs.Gatherings.{all_in}
 use Rattle.tp_session.specs.declared.hand.Holding.{Holding}
 use Rattle.tp_session.specs.declared.hand.Holding.TheVariants.{Nothing}
-use Rattle.tp_session.specs.Conversed.{IsNewManaged, LiveBegins, limits_of}
+use Rattle.tp_session.specs.Conversed.{IsNewInMemory, LiveBegins, limits_of}
 use Rattle.tp_session.specs.Live.{IsHeldBySession, IsLive, Live}
 use Rattle.tp_session.specs.Notes.{notes_of, notes_view}
 use Rattle.tp_session.specs.declared.held.Held.{Held}
@@ -35,14 +35,14 @@ pub as_many : {A B C : Type 0} (f : A → C) (g : B → C) (xs : List A) (ys : L
 as_many f g xs ys same = sym (length-map xs f) ∙ (ap length same ∙ length-map ys g)
 
 -- the client's pass, and one for each server
-pub enough : (head : Head) (racers : ℕ) (m : Managed) (n : ℕ) → IsNewManaged (limits_of (head_view head) racers) m → n ≡ length head.servers.items → 1 + n ≤ length m.passes.items
+pub enough : (head : Head) (racers : ℕ) (m : Managed) (n : ℕ) → IsNewInMemory (limits_of (head_view head) racers) m → n ≡ length head.servers.items → 1 + n ≤ length m.passes.items
 enough head racers m n new count =
     let limit : length m.passes.items ≡ (limits_of (head_view head) racers).parts = new.managed.parts ∙ ap (λ l. l.parts) new.limits in
     let first : length (head_view head).servers ≡ length head.servers.items = length-map head.servers.items server_view in
     omega (arith, limit, first, count)
 
 module _ {X : Type 0} {F : X → Type 0} (behaviour : DynBox X Global F → Behaviour) (registers : DynBox X Global F → List ℕ) (pending : DynBox X Global F → Option Pending)
-    (head : Head) (racers : ℕ) (h : Held X F) (new : IsNewManaged (limits_of (head_view head) racers) h.managed)
+    (head : Head) (racers : ℕ) (h : Held X F) (new : IsNewInMemory (limits_of (head_view head) racers) h.managed)
     (recipes : map behaviour h.servers.items ≡ map (λ (x : ScriptServer). behaviour_of x.recipe) head.servers.items) (begun : map registers h.servers.items ≡ map (λ (x : ScriptServer). x.registers) head.servers.items)
     (lie : AllLie behaviour registers pending (workers (length h.servers.items) h.managed.passes.items) h.servers.items h.places.items)
     (shown : places_shown behaviour registers pending (workers (length h.servers.items) h.managed.passes.items) h.servers.items h.places.items ≡ new_places behaviour registers pending (workers (length h.servers.items) h.managed.passes.items) h.servers.items)

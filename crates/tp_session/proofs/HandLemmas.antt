@@ -8,7 +8,7 @@ use Rattle.tp_manager.specs.Shown.{IsOf, ManagerShown, PassShown}
 use Rattle.tp_desk.specs.Turns.{EndsOpen}
 use Rattle.tp_workers.specs.Free.{IsFreePass}
 use Rattle.tp_report.specs.declared.answer.ServerAnswer.TheVariants as told
-use Rattle.tp_session.specs.Hands.{AbortsHand, AllHold, WorkerGivesUp, Hand, HearsLost, IsHand, WorkerTellsAbort, hands, unit_of}
+use Rattle.tp_session.specs.Hands.{AbortsHand, AllHold, WorkerGivesUp, WorkerHand, HearsLost, IsHand, WorkerTellsAbort, hands, unit_of}
 use Rattle.tp_session.specs.declared.hand.Holding.{Holding}
 use Rattle.tp_session.specs.declared.hand.Holding.TheVariants.{Nothing}
 use Rattle.tp_session.specs.declared.hand.WorkerAnswer.{WorkerAnswer}
@@ -18,27 +18,27 @@ heads_tails : (a b : Option ℕ) (xs ys : List (Option ℕ)) → a ∷ xs ≡ b 
 heads_tails a b xs ys e = (cc, cc)
 
 -- an abort of what is in hand, if there is something
-aborted : (m : ManagerShown) (ended : Ended) (element : ℕ) (old new : Hand) → IsHand m old → IsHand m new → AbortsHand m.limits ended element old new → WorkerGivesUp old new
+aborted : (m : ManagerShown) (ended : Ended) (element : ℕ) (old new : WorkerHand) → IsHand m old → IsHand m new → AbortsHand m.limits ended element old new → WorkerGivesUp old new
 aborted m ended element old new was is t = record {
   ends = subst (λ o. EndsOpen o old.pass new.pass) (sym (was.held ∙ ap unit_of t.held)) (ended, t.answer);
   free = is.held ∙ ap unit_of t.none_left;
   none_left = t.none_left;
 }
 
-hears : (m : ManagerShown) (element : ℕ) (old new : Hand) → IsHand m old → IsHand m new → HearsLost element old new → WorkerGivesUp old new
+hears : (m : ManagerShown) (element : ℕ) (old new : WorkerHand) → IsHand m old → IsHand m new → HearsLost element old new → WorkerGivesUp old new
 hears m element old new was is t = record {
   ends = subst (λ o. EndsOpen o old.pass new.pass) (sym (was.held ∙ ap unit_of t.lost)) t.same;
   free = is.held ∙ ap unit_of t.none_left;
   none_left = t.none_left;
 }
 
-pub gives_up : (m : ManagerShown) (old new : Hand) (a : WorkerAnswer) → IsHand m old → IsHand m new → WorkerTellsAbort m.limits old a new → WorkerGivesUp old new
+pub gives_up : (m : ManagerShown) (old new : WorkerHand) (a : WorkerAnswer) → IsHand m old → IsHand m new → WorkerTellsAbort m.limits old a new → WorkerGivesUp old new
 gives_up m old new (Told (told.Aborted element)) was is t = aborted m endeds.Aborted element old new was is t
 gives_up m old new (Told (told.AlreadyAborted element)) was is t = ⊎_elim (aborted m endeds.AlreadyAborted element old new was is) (hears m element old new was is) t
 gives_up m old new (Told told.NoneOpen) was is t =
-    let none : new.work ≡ Nothing = ap (λ (h : Hand). h.work) t.1 ∙ t.0 in
+    let none : new.work ≡ Nothing = ap (λ (h : WorkerHand). h.work) t.1 ∙ t.0 in
     record {
-      ends = subst (λ o. EndsOpen o old.pass new.pass) (sym (was.held ∙ ap unit_of t.0)) (ap (λ (h : Hand). h.pass) t.1);
+      ends = subst (λ o. EndsOpen o old.pass new.pass) (sym (was.held ∙ ap unit_of t.0)) (ap (λ (h : WorkerHand). h.pass) t.1);
       free = is.held ∙ ap unit_of none;
       none_left = none;
     }
@@ -56,7 +56,7 @@ hands_hold m (p ∷ ps) (w ∷ ws) own same =
     (record { own = All-head (IsOf m) p ps own; held = parts.0 }, hands_hold m ps ws (All-tail (IsOf m) p ps own) parts.1)
 
 -- passes are free where nothing is in hand any more
-pub free_hands : (m : ManagerShown) (ps : List PassShown) (ws : List Holding) (olds : List Hand) → AllHold m ps ws → AllZip WorkerGivesUp olds (hands ps ws) → All (IsFreePass m) ps
+pub free_hands : (m : ManagerShown) (ps : List PassShown) (ws : List Holding) (olds : List WorkerHand) → AllHold m ps ws → AllZip WorkerGivesUp olds (hands ps ws) → All (IsFreePass m) ps
 free_hands m [] ws olds hold given = All-nil (IsFreePass m)
 free_hands m (p ∷ ps) [] olds hold given = absurd hold
 free_hands m (p ∷ ps) (w ∷ ws) [] hold given = absurd given

@@ -4,7 +4,7 @@ use Rattle.std.proofs.lemmas.Bool.{cases_lt, lt-leb}
 use Rattle.std.proofs.lemmas.List.{length-take, take_all}
 use Rattle.tp_script.specs.LineWords.{◌>>=◌}
 use Rattle.tp_script.specs.Script.{HeadView, head_view}
-use Rattle.tp_script.specs.Grammar.{body_at, head_at, head_words, late_words, line_words}
+use Rattle.tp_script.specs.Grammar.{late_line, head_at, head_words, late_words, line_words}
 use Rattle.tp_script.specs.declared.fault.LineFault.TheVariants.{TooLong}
 use Rattle.tp_script.specs.declared.head.Driver.TheVariants as drivers
 use Rattle.tp_session.specs.Told.{BodyLines, HeadLine, HeadLines, LineTold, Now, said_now}
@@ -45,5 +45,5 @@ unfolding head_at
 kept_head kept line h is = ap (λ r. r >>= λ ws. head_words drivers.Session ws h) (ap line_words is ∙ kept_words line)
 
 pub kept_body : (kept line : List ℕ) (at : Now) → kept ≡ take MAX_KEPT line → said_now kept at ≡ said_now line at
-unfolding body_at
+unfolding late_line
 kept_body kept line at is = ap (λ r. r >>= λ ws. late_words ws at.live.notes.clients (head_view at.head)) (ap line_words is ∙ kept_words line)

@@ -6,7 +6,7 @@ use Rattle.std.specs.declared.alloc.Global.{Global}
 use Rattle.std.specs.declared.dyn_box.DynBox.{DynBox}
 use Rattle.tp_server.specs.Behaviour.{Behaviour}
 use Rattle.tp_server.specs.Pending.{Pending}
-use Rattle.tp_script.specs.Grammar.{body_at}
+use Rattle.tp_script.specs.Grammar.{late_line}
 use Rattle.tp_script.specs.Reading.{Fails}
 use Rattle.tp_script.specs.Script.{HeadView, head_view}
 use Rattle.tp_script.specs.declared.script.ScriptServer.{ScriptServer}
@@ -29,8 +29,8 @@ Said = Result (HeadView × Option Act) LineFault
 
 -- what a line says by the clients of whom notes are kept in memory
 pub said_so : {X : Type 0} {F : X → Type 0} (behaviour : DynBox X Global F → Behaviour) (registers : DynBox X Global F → List ℕ) (pending : DynBox X Global F → Option Pending) (line : List ℕ) (head : Head) (h : Held X F) (l : Live) (said : Said)
-    → IsLive behaviour registers pending h l → body_at line h.notes.clients.items (head_view head) ≡ said → said_now line (now head l) ≡ said
-said_so behaviour registers pending line head h l said is read = ap (λ (n : NotesView). body_at line n.clients (head_view head)) is.notes ∙ read
+    → IsLive behaviour registers pending h l → late_line line h.notes.clients.items (head_view head) ≡ said → said_now line (now head l) ≡ said
+said_so behaviour registers pending line head h l said is read = ap (λ (n : NotesView). late_line line n.clients (head_view head)) is.notes ∙ read
 
 pub told_silent : (n : ℕ) (said : Said) (head left : Head) (l : Live) → said ≡ Ok (head_view left, None) → LineTold n said (now head l) [] (now left l)
 told_silent n said head left l is = subst (λ r. LineTold n r (now head l) [] (now left l)) (sym is) (refl, refl, refl)

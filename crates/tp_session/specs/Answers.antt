@@ -16,15 +16,19 @@ use Rattle.tp_session.specs.declared.hand.WorkerAnswer.TheVariants.{Took, Told}
 
 -- the line of a faulty line, by its number among all lines
 abbrev pub refused_line : ℕ → LineFault → List ℕ
-refused_line number fault = codes "refused line " <> decimal number <> codes ": " <> line_fault_text fault <> codes "\n"
+refused_line number fault =
+    codes "refused line " <> decimal number <> codes ": " <> line_fault_text fault <> codes "\n"
 
 -- all words of a body
 abbrev pub body_text : List ℕ → List ℕ
-body_text body = decimal (slice_index body 0) <> codes ":" <> decimal (slice_index body 1) <> codes ":" <> decimal (slice_index body 2) <> codes ":" <> decimal (slice_index body 3)
+body_text body = decimal (slice_index body 0) <> codes ":" <> decimal (slice_index body 1) <> codes ":"
+    <> decimal (slice_index body 2) <> codes ":" <> decimal (slice_index body 3)
 
 -- the line of what a worker took
 abbrev pub took_line : List ℕ → Work → List ℕ
-took_line name w = name <> codes " work " <> decimal w.element.id <> codes " unit " <> decimal w.unit <> codes " attempt " <> decimal w.attempt <> codes " root " <> decimal w.element.root <> codes " body " <> body_text w.element.body <> codes "\n"
+took_line name w = name <> codes " work " <> decimal w.element.id <> codes " unit " <> decimal w.unit
+    <> codes " attempt " <> decimal w.attempt <> codes " root " <> decimal w.element.root <> codes " body "
+    <> body_text w.element.body <> codes "\n"
 
 -- the line of what a worker is answered
 abbrev pub worker_answer_line : List ℕ → WorkerAnswer → List ℕ

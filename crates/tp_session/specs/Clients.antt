@@ -22,7 +22,8 @@ use Rattle.tp_script.specs.declared.notes.TheConstants.{MAX_CLIENTS}
 use Rattle.tp_session.specs.Answers.{body_text}
 use Rattle.tp_session.specs.NoteTexts.{forgotten_text, id_text, last_text, received_text, registered_text}
 use Rattle.tp_session.specs.NoteTexts.{last_reply_text, sent_text}
-use Rattle.tp_session.specs.Notes.{NotesView, client_place, number_standing, with_new_client, with_received, with_sent}
+use Rattle.tp_session.specs.Notes.{NotesView, client_place, number_standing, with_new_client, with_received}
+use Rattle.tp_session.specs.Notes.{with_sent}
 use Rattle.tp_session.specs.Notes.{without_client}
 use Rattle.tp_session.specs.declared.notes.Standing.{Standing}
 use Rattle.tp_session.specs.declared.notes.Standing.TheVariants.{Next, Again, Earlier, Later}
@@ -67,7 +68,8 @@ send_text name number (answer.Submitted id) = sent_text name number (decimal id)
 send_text name number other = answer_text other
 
 -- the element was submitted, and that is noted; or the submit was refused
-pub record Sends (l : Limits) (name : NameView) (place : ℕ) (c : ClientNote) (number stage : ℕ) (body : List ℕ)
+pub record Sends (l : Limits) (name : NameView) (place : ℕ) (c : ClientNote) (number stage : ℕ)
+    (body : List ℕ)
     (old : Noting) (text : List ℕ) (new : Noting) : Type 0 where
   pub a : Answer
   pub submits : TellsSubmit l stage body old.pass new.pass a
@@ -93,7 +95,8 @@ taken_text None = codes "none"
 taken_text (Some e) = decimal e.id <> codes " " <> decimal e.root <> codes " " <> body_text e.body
 
 -- the least reply that was asked for was taken, and that is noted; or there was none
-pub record ReceivesNoted (l : Limits) (name : NameView) (root : Option ℕ) (place : ℕ) (c : ClientNote) (number : ℕ)
+pub record ReceivesNoted (l : Limits) (name : NameView) (root : Option ℕ) (place : ℕ) (c : ClientNote)
+    (number : ℕ)
     (old : Noting) (text : List ℕ) (new : Noting) : Type 0 where
   pub found : Option Element
   pub takes : TellsReceived l (λ r. asks_for old.notes.requests name root r) old.pass found new.pass

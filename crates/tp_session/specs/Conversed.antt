@@ -75,7 +75,7 @@ pub record IsNew (l : Limits) (s : Stand) : Type 0 where
   pub new : All IsNewPass (passes_in s.scene)
 
 -- the same in memory
-pub record IsNewManaged (l : Limits) (m : Managed) : Type 0 where
+pub record IsNewInMemory (l : Limits) (m : Managed) : Type 0 where
   pub managed : IsManaged m
   pub limits : m.manager.limits ≡ l
   pub seen : m.keeper.seen ≡ []
@@ -97,8 +97,8 @@ pub record LiveBegins (h : HeadView) (racers : ℕ) (first : Live) : Type 0 wher
 
 -- ---- the end
 
--- the workers gave up what they had in hand, and the desks were ended: the registers that are left are the fold
--- of what each desk has committed since it began
+-- the workers gave up what they had in hand, and the desks were ended: the registers that are left are the
+-- fold of what each desk has committed since it began
 pub record LiveEnds (last : Live) (registers : List (List ℕ)) : Type 0 where
   pub passes : List PassShown
   pub ended : AllEnded last.stand.scene.places passes registers
@@ -140,8 +140,8 @@ BodyFront head past begun come Told =
 
 -- ---- a whole session
 
--- The first line behind a head is a command. What it asks for was done, and then the other lines were answered,
--- behind so many others.
+-- The first line behind a head is a command. What it asks for was done, and then the other lines were
+-- answered, behind so many others.
 abbrev pub CommandLines : ℕ → List (List ℕ) → Now → List ℕ → Now → Type 0
 CommandLines past [] old text new = (text ≡ []) × (new ≡ old)
 CommandLines past (line ∷ others) old text new =
@@ -185,8 +185,8 @@ pub record SessionPart (bytes : List ℕ) (Told : List ℕ → Type 0) : Type 0 
 abbrev pub Conversed : List ℕ → Option (List ℕ) → Option (List ℕ) → Type 0
 Conversed bytes before after = Session bytes (Appends before after)
 
--- After a fault a front of the answers to some first lines is written: to lines of the head, to some behind it
--- too, or to all, with the final lines.
+-- After a fault a front of the answers to some first lines is written: to lines of the head, to some behind
+-- it too, or to all, with the final lines.
 abbrev pub ConversedFront : List ℕ → Option (List ℕ) → Option (List ℕ) → Type 0
 ConversedFront bytes before after =
     ((head : HeadView) × HeadLinesTold (HearsFront (Some bytes)) no_head head (AppendsFront before after))

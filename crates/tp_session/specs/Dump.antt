@@ -191,8 +191,8 @@ drop_lines servers dropped (suc n) =
 
 -- ---- all of them
 
--- The lines of a session whose servers have these registers now, whose desks were dropped or not, whose workers
--- have this in hand, in which this is noted, and this is alive. Behind `restore` stand the commands.
+-- The lines of a session whose servers have these registers now, whose desks were dropped or not, whose
+-- workers have this in hand, in which this is noted, and this is alive. Behind `restore` stand the commands.
 abbrev pub dump_lines : HeadView → List (List ℕ) → List Bool → List Holding → NotesView → List Survivor
     → List (List ℕ)
 dump_lines h registers dropped works notes survivors =
@@ -200,7 +200,8 @@ dump_lines h registers dropped works notes survivors =
     let first = 1 + length servers in
     settings_lines h.settings ++ map server_dump_line servers
     ++ all_starts servers registers (length servers) ++ map worker_text h.workers
-    ++ map (life_text h.workers first) survivors ++ lost_lines h.workers first works survivors (length h.workers)
+    ++ map (life_text h.workers first) survivors ++ lost_lines h.workers first works survivors
+    (length h.workers)
     ++ note_lines h.workers notes survivors
     ++ (codes "restore" ∷ drop_lines servers dropped (length servers))
 
@@ -210,7 +211,8 @@ quoted_line text = codes "> " <> line text
 
 -- how many lines there are, each with a text, and each of them
 abbrev pub dump_by : {A : Type 0} → (A → List ℕ) → List A → List ℕ
-dump_by text lines = line (codes "dumped " <> decimal (length lines)) <> flat_map (λ l. quoted_line (text l)) lines
+dump_by text lines =
+    line (codes "dumped " <> decimal (length lines)) <> flat_map (λ l. quoted_line (text l)) lines
 
 -- the lines of a dump
 abbrev pub dump_text : List (List ℕ) → List ℕ

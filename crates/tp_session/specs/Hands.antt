@@ -1,5 +1,5 @@
--- What a worker outside of the program is answered, and what its pass did for it. `old` is what is in its hand
--- before the command, and `new` what is in it after.
+-- What a worker outside of the program is answered, and what its pass did for it. `old` is what is in its
+-- hand before the command, and `new` what is in it after.
 use Rattle.std.specs.Prelude.{◌≡◌, ◌⊎◌, ℕ, Bool, true, false, List, [], ◌∷◌, Option, Some, None, is_some}
 use Rattle.std.specs.Prelude.{length}
 use Rattle.tp_model.specs.Drafts.{DraftView}
@@ -29,15 +29,15 @@ use Rattle.tp_session.specs.declared.hand.WorkerAnswer.{WorkerAnswer}
 use Rattle.tp_session.specs.declared.hand.WorkerAnswer.TheVariants.{Took, Told}
 
 -- a worker's pass, and what the worker has in hand
-pub record Hand : Type 0 where
+pub record WorkerHand : Type 0 where
   pub pass : PassShown
   pub work : Holding
 
-abbrev pub worker_hand : PassShown → Holding → Hand
+abbrev pub worker_hand : PassShown → Holding → WorkerHand
 worker_hand pass work = record { pass = pass; work = work }
 
 -- those of all workers
-abbrev pub hands : List PassShown → List Holding → List Hand
+abbrev pub hands : List PassShown → List Holding → List WorkerHand
 hands (p ∷ ps) (w ∷ ws) = worker_hand p w ∷ hands ps ws
 hands ps ws = []
 
@@ -56,7 +56,7 @@ abbrev pub has_unit : Holding → Bool
 has_unit work = is_some (unit_of work)
 
 -- the pass is of this manager, and has the unit open that is in hand
-pub record IsHand (m : ManagerShown) (h : Hand) : Type 0 where
+pub record IsHand (m : ManagerShown) (h : WorkerHand) : Type 0 where
   pub own : IsOf m h.pass
   pub held : h.pass.open_unit ≡ unit_of h.work
 
@@ -68,28 +68,28 @@ AllHold m (p ∷ ps) [] = ⊥
 AllHold m (p ∷ ps) (w ∷ ws) = IsHand m (worker_hand p w) × AllHold m ps ws
 
 -- a claim from the worker's stage that took this
-pub record ClaimTook (l : Limits) (stage : ℕ) (work : Work) (old new : Hand) : Type 0 where
+pub record ClaimTook (l : Limits) (stage : ℕ) (work : Work) (old new : WorkerHand) : Type 0 where
   pub idle : old.work ≡ Nothing
   pub called : Called l (claim_steps l) old.pass new.pass
   pub answer : Claims l stage old.pass new.pass (claimeds.Work work)
   pub held : new.work ≡ Open work.unit work.element.id
 
 -- a claim of at most n steps that took nothing
-pub record TookNothing (l : Limits) (n : ℕ) (Answers : Type 0) (old new : Hand) : Type 0 where
+pub record TookNothing (l : Limits) (n : ℕ) (Answers : Type 0) (old new : WorkerHand) : Type 0 where
   pub idle : old.work ≡ Nothing
   pub called : Called l n old.pass new.pass
   pub answer : Answers
   pub held : new.work ≡ Nothing
 
 -- nothing was done, since something is in hand
-abbrev pub IsWorkerBusy : Hand → Hand → Type 0
+abbrev pub IsWorkerBusy : WorkerHand → WorkerHand → Type 0
 IsWorkerBusy old new = (is_busy old.work ≡ true) × (new ≡ old)
 
 -- nothing was done, since nothing is in hand
-abbrev pub IsWorkerIdle : Hand → Hand → Type 0
+abbrev pub IsWorkerIdle : WorkerHand → WorkerHand → Type 0
 IsWorkerIdle old new = (old.work ≡ Nothing) × (new ≡ old)
 
-abbrev pub WorkerTellsClaim : Limits → ℕ → Hand → WorkerAnswer → Hand → Type 0
+abbrev pub WorkerTellsClaim : Limits → ℕ → WorkerHand → WorkerAnswer → WorkerHand → Type 0
 WorkerTellsClaim l stage old (Took work) new = ClaimTook l stage work old new
 WorkerTellsClaim l stage old (Told (told.Turned turneds.Idle)) new =
     TookNothing l (claim_steps l) (Claims l stage old.pass new.pass claimeds.Idle) old new
@@ -99,7 +99,8 @@ WorkerTellsClaim l stage old (Told told.Busy) new = IsWorkerBusy old new
 WorkerTellsClaim l stage old other new = ⊥
 
 -- a claim in turn from the worker's stage that was answered so, and what is in hand then
-pub record NextAnswered (l : Limits) (stage : ℕ) (claimed : Claimed) (held : Holding) (old new : Hand) : Type 0 where
+pub record NextAnswered (l : Limits) (stage : ℕ) (claimed : Claimed) (held : Holding) (old new : WorkerHand)
+    : Type 0 where
   pub idle : old.work ≡ Nothing
   pub of_servers : IsServerStage stage
   pub follows : Follows (claim_next_steps l) old.pass new.pass
@@ -107,22 +108,24 @@ pub record NextAnswered (l : Limits) (stage : ℕ) (claimed : Claimed) (held : H
   pub answer : ClaimsNext l stage old.pass new.pass claimed
   pub held_is : new.work ≡ held
 
-abbrev pub WorkerTellsNext : Limits → ℕ → Hand → WorkerAnswer → Hand → Type 0
+abbrev pub WorkerTellsNext : Limits → ℕ → WorkerHand → WorkerAnswer → WorkerHand → Type 0
 WorkerTellsNext l stage old (Took work) new =
     NextAnswered l stage (claimeds.Work work) (Open work.unit work.element.id) old new
-WorkerTellsNext l stage old (Told (told.Turned turneds.Idle)) new = NextAnswered l stage claimeds.Idle Nothing old new
-WorkerTellsNext l stage old (Told (told.Turned turneds.NoUnit)) new = NextAnswered l stage claimeds.NoUnit Nothing old new
+WorkerTellsNext l stage old (Told (told.Turned turneds.Idle)) new =
+    NextAnswered l stage claimeds.Idle Nothing old new
+WorkerTellsNext l stage old (Told (told.Turned turneds.NoUnit)) new =
+    NextAnswered l stage claimeds.NoUnit Nothing old new
 WorkerTellsNext l stage old (Told told.Busy) new = IsWorkerBusy old new
 WorkerTellsNext l stage old other new = ⊥
 
 -- a claim of the element with this id that took it
-pub record TakeTook (l : Limits) (id : ℕ) (work : Work) (old new : Hand) : Type 0 where
+pub record TakeTook (l : Limits) (id : ℕ) (work : Work) (old new : WorkerHand) : Type 0 where
   pub idle : old.work ≡ Nothing
   pub called : Called l claim_id_steps old.pass new.pass
   pub answer : TakesId l id work old.pass new.pass
   pub held : new.work ≡ Open work.unit work.element.id
 
-abbrev pub WorkerTellsTake : Limits → ℕ → Hand → WorkerAnswer → Hand → Type 0
+abbrev pub WorkerTellsTake : Limits → ℕ → WorkerHand → WorkerAnswer → WorkerHand → Type 0
 WorkerTellsTake l id old (Took work) new = TakeTook l id work old new
 WorkerTellsTake l id old (Told (told.Turned turneds.NoUnit)) new =
     TookNothing l claim_id_steps (ClaimIdFails l id old.pass new.pass refusals.NoUnit) old new
@@ -133,43 +136,43 @@ WorkerTellsTake l id old (Told told.Busy) new = IsWorkerBusy old new
 WorkerTellsTake l id old other new = ⊥
 
 -- the unit had been lost before a rollover, and the worker hears of it
-pub record HearsLost (element : ℕ) (old new : Hand) : Type 0 where
+pub record HearsLost (element : ℕ) (old new : WorkerHand) : Type 0 where
   pub lost : old.work ≡ Lost element
   pub same : new.pass ≡ old.pass
   pub none_left : new.work ≡ Nothing
 
 -- the unit in hand was committed with just these drafts, which came to this
 pub record CommitsHand (l : Limits) (drafts : List DraftView) (outcome : Outcome) (unit element : ℕ)
-    (old new : Hand) : Type 0 where
+    (old new : WorkerHand) : Type 0 where
   pub held : old.work ≡ Open unit element
   pub called : Called l (commit_steps l (length drafts)) old.pass new.pass
   pub answer : Settles drafts old.pass new.pass outcome
   pub none_left : new.work ≡ Nothing
 
 -- it was, and this is the answer
-abbrev pub WorkerTellsSettled : Limits → List DraftView → Hand → Turned → Hand → Type 0
+abbrev pub WorkerTellsSettled : Limits → List DraftView → WorkerHand → Turned → WorkerHand → Type 0
 WorkerTellsSettled l drafts old turned new = (unit element : ℕ) × (outcome : Outcome)
     × CommitsHand l drafts outcome unit element old new × (turned ≡ settled_as unit element outcome)
 
 -- the worker hears of a unit that was lost before
-abbrev pub WorkerTellsLost : Hand → Turned → Hand → Type 0
+abbrev pub WorkerTellsLost : WorkerHand → Turned → WorkerHand → Type 0
 WorkerTellsLost old turned new = (element : ℕ) × HearsLost element old new × (turned ≡ turneds.Lost element)
 
-abbrev pub WorkerTellsCommit : Limits → List DraftView → Hand → WorkerAnswer → Hand → Type 0
+abbrev pub WorkerTellsCommit : Limits → List DraftView → WorkerHand → WorkerAnswer → WorkerHand → Type 0
 WorkerTellsCommit l drafts old (Told (told.Turned turned)) new =
     WorkerTellsSettled l drafts old turned new ⊎ WorkerTellsLost old turned new
 WorkerTellsCommit l drafts old (Told told.NoneOpen) new = IsWorkerIdle old new
 WorkerTellsCommit l drafts old other new = ⊥
 
 -- the unit in hand, which had taken this element, was given up
-pub record AbortsHand (l : Limits) (ended : Ended) (element : ℕ) (old new : Hand) : Type 0 where
+pub record AbortsHand (l : Limits) (ended : Ended) (element : ℕ) (old new : WorkerHand) : Type 0 where
   pub unit : ℕ
   pub held : old.work ≡ Open unit element
   pub called : Called l abort_steps old.pass new.pass
   pub answer : AnswersAbort old.pass new.pass ended
   pub none_left : new.work ≡ Nothing
 
-abbrev pub WorkerTellsAbort : Limits → Hand → WorkerAnswer → Hand → Type 0
+abbrev pub WorkerTellsAbort : Limits → WorkerHand → WorkerAnswer → WorkerHand → Type 0
 WorkerTellsAbort l old (Told (told.Aborted element)) new = AbortsHand l endeds.Aborted element old new
 WorkerTellsAbort l old (Told (told.AlreadyAborted element)) new =
     AbortsHand l endeds.AlreadyAborted element old new ⊎ HearsLost element old new
@@ -177,7 +180,7 @@ WorkerTellsAbort l old (Told told.NoneOpen) new = IsWorkerIdle old new
 WorkerTellsAbort l old other new = ⊥
 
 -- what a worker of a stage was asked
-abbrev pub WorkerDoes : Limits → ℕ → WorkerAct → Hand → WorkerAnswer → Hand → Type 0
+abbrev pub WorkerDoes : Limits → ℕ → WorkerAct → WorkerHand → WorkerAnswer → WorkerHand → Type 0
 WorkerDoes l stage acts.Claim old a new = WorkerTellsClaim l stage old a new
 WorkerDoes l stage acts.Next old a new = WorkerTellsNext l stage old a new
 WorkerDoes l stage (acts.Take id) old a new = WorkerTellsTake l id old a new
@@ -185,7 +188,7 @@ WorkerDoes l stage (acts.Commit drafts) old a new = WorkerTellsCommit l drafts.i
 WorkerDoes l stage acts.Abort old a new = WorkerTellsAbort l old a new
 
 -- the worker gave up what it had in hand
-pub record WorkerGivesUp (old new : Hand) : Type 0 where
+pub record WorkerGivesUp (old new : WorkerHand) : Type 0 where
   pub ends : EndsOpen old.pass.open_unit old.pass new.pass
   pub free : new.pass.open_unit ≡ None
   pub none_left : new.work ≡ Nothing

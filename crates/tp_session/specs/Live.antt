@@ -47,7 +47,7 @@ use Rattle.tp_session.specs.Answers.{joined_line, left_line, restored_text, unit
 use Rattle.tp_session.specs.Carried.{lost_works, works_after}
 use Rattle.tp_session.specs.Clients.{NotedDoes, noting}
 use Rattle.tp_session.specs.Dump.{dump_lines, dump_text}
-use Rattle.tp_session.specs.Hands.{Hand, WorkerDoes, has_unit, unit_of}
+use Rattle.tp_session.specs.Hands.{WorkerHand, WorkerDoes, has_unit, unit_of}
 use Rattle.tp_session.specs.Lasts.{HandRead, end_at}
 use Rattle.tp_session.specs.NoteTexts.{last_hand}
 use Rattle.tp_session.specs.Notes.{NotesView, notes_in, notes_view, with_unit_end, without_end}
@@ -58,8 +58,8 @@ use Rattle.tp_session.specs.declared.hand.Holding.TheVariants.{Nothing}
 use Rattle.tp_session.specs.declared.hand.WorkerAnswer.{WorkerAnswer}
 use Rattle.tp_session.specs.declared.held.Held.{Held}
 
--- what is there between two lines: the manager with its keeper and all passes, of which those of the workers and
--- then those of races come last, what each of these has in hand, and what is noted of clients and workers
+-- what is there between two lines: the manager with its keeper and all passes, of which those of the workers
+-- and then those of races come last, what each of these has in hand, and what is noted of clients and workers
 pub record Live : Type 0 where
   pub stand : Stand
   pub works : List Holding
@@ -89,7 +89,8 @@ pub record LiveGathers (old new : Live) : Type 0 where
   pub works : new.works ≡ old.works
   pub notes : new.notes ≡ old.notes
 
--- the line is that of the command, and the workers have what they had; a race takes passes behind so many others
+-- the line is that of the command, and the workers have what they had; a race takes passes behind so many
+-- others
 pub record CommandTold (h : HeadView) (c : Command) (raced : ℕ) (old : Live) (text : List ℕ) (new : Live)
     : Type 0 where
   pub performs : PerformsAll old.stand.manager h c raced old.stand.keeper old.stand.scene text
@@ -109,15 +110,16 @@ abbrev pub works_in : Stand → List Moved → List Holding → List Holding
 works_in new moved works =
     works_after moved (first_worker new) (map (λ p. p.open_unit) new.scene.racers) works
 
--- What was alive has gone on in another manager, the workers have in hand what their passes have, and the line
--- tells what each element is called, and which of them each worker has.
+-- What was alive has gone on in another manager, the workers have in hand what their passes have, and the
+-- line tells what each element is called, and which of them each worker has.
 pub record RolledLive (h : HeadView) (old : Live) (text : List ℕ) (new : Live) : Type 0 where
   pub moved : List Moved
   pub rolled : RolledOver old.stand moved new.stand
   pub works : new.works ≡ works_in new.stand moved old.works
   pub notes : new.notes ≡ notes_in moved old.notes
   pub text_is : text
-      ≡ line (rolled_text (map renamed moved) <> roots_text (roots_of moved) <> units_text h.workers new.works)
+      ≡ line (rolled_text (map renamed moved) <> roots_text (roots_of moved)
+      <> units_text h.workers new.works)
 
 -- it was refused, and nothing has changed, but that this is noted
 pub record RefusedLive (is_due : Scene → RollFault → Type 0) (notes : NotesView) (old : Live) (text : List ℕ)
@@ -139,10 +141,10 @@ TellsBy false h c = CommandTold h c 0
 -- a worker did what it was asked, and all else is as it was
 pub record WorkerDid (it : WorkerLine) (act : WorkerAct) (at : ℕ) (old : Live) (answer : WorkerAnswer)
     (new : Live) : Type 0 where
-  pub before : Hand
+  pub before : WorkerHand
   pub pass : slice_get old.stand.scene.racers at ≡ Some before.pass
   pub work : slice_get old.works at ≡ Some before.work
-  pub after : Hand
+  pub after : WorkerHand
   pub does : WorkerDoes old.stand.manager.limits it.stage act before answer after
   pub stand : new.stand ≡ record old.stand {
     scene =
@@ -162,8 +164,8 @@ pub record WorkerTold (workers : List WorkerLine) (act : WorkerAct) (at : ℕ) (
   pub text_is : text ≡ worker_answer_line (string_bytes it.name) answer
   pub gathers : LiveGathers done new
 
--- The worker whose place is free now has given up what it had in hand, and nothing is noted any more of its last
--- unit. The line tells, with its name, what its abort was answered.
+-- The worker whose place is free now has given up what it had in hand, and nothing is noted any more of its
+-- last unit. The line tells, with its name, what its abort was answered.
 pub record LeaveTold (workers : List WorkerLine) (at : ℕ) (name : NameView) (old : Live) (text : List ℕ)
     (new : Live) : Type 0 where
   pub it : WorkerLine
@@ -228,15 +230,16 @@ survivor_of limit first a = record {
 abbrev pub survivors_of : HeadView → List Survivor
 survivors_of h = map (survivor_of h.settings.attempts (1 + length h.servers)) h.alive
 
--- This stands again in another manager, the workers have in hand what their passes have, or have lost what the
--- head says, and the line tells what each element is called, and which of them each worker has.
+-- This stands again in another manager, the workers have in hand what their passes have, or have lost what
+-- the head says, and the line tells what each element is called, and which of them each worker has.
 pub record RestoredLive (h : HeadView) (old : Live) (text : List ℕ) (new : Live) : Type 0 where
   pub moved : List Moved
   pub restored : Restored (survivors_of h) old.stand moved new.stand
   pub works : new.works ≡ works_in new.stand moved (lost_works h.lost 0 old.works)
   pub notes : new.notes ≡ notes_in moved old.notes
   pub text_is : text
-      ≡ line (restored_text (map renamed moved) <> roots_text (roots_of moved) <> units_text h.workers new.works)
+      ≡ line (restored_text (map renamed moved) <> roots_text (roots_of moved)
+      <> units_text h.workers new.works)
 
 -- or it was refused, and nothing has changed, but that no id goes on that the head has noted
 pub record RestoreTold (h : HeadView) (old : Live) (text : List ℕ) (new : Live) : Type 0 where
@@ -258,10 +261,11 @@ pub record LiveLooks (old new : Live) : Type 0 where
 -- the lines that lead to this state, where this is alive
 abbrev pub lines_of : HeadView → Live → List Survivor → List (List ℕ)
 lines_of h l survivors = let places = l.stand.scene.places in
-    dump_lines h (map (λ p. p.desk.registers) places) (map (λ p. p.is_dropped) places) l.works l.notes survivors
+    dump_lines h (map (λ p. p.desk.registers) places) (map (λ p. p.is_dropped) places) l.works l.notes
+    survivors
 
--- All that is alive was found, each element once, and a pass that holds one has a unit open: so it is after all
--- that the passes had done, which all of them have seen.
+-- All that is alive was found, each element once, and a pass that holds one has a unit open: so it is after
+-- all that the passes had done, which all of them have seen.
 pub record FoundAlive (old : Live) (survivors : List Survivor) (new : Live) : Type 0 where
   pub found : AreSurvivors old.stand.manager.limits new.stand.keeper.seen survivors
   pub in_hand : AreInHand (passes_in old.stand.scene) survivors
@@ -295,20 +299,23 @@ pub record DumpTold (h : HeadView) (old : Live) (text : List ℕ) (new : Live) :
 -- ---- clients of whom notes are kept, and what workers are told of theirs
 
 -- the client of this name did that, by the session's own pass, and all else is as it was
-pub record NotedDid (name : NameView) (act : NotedAct) (old : Live) (text : List ℕ) (new : Live) : Type 0 where
+pub record NotedDid (name : NameView) (act : NotedAct) (old : Live) (text : List ℕ) (new : Live)
+    : Type 0 where
   pub client : PassShown
   pub does : NotedDoes old.stand.manager.limits name act (noting old.stand.scene.client old.notes) text
       (noting client new.notes)
   pub stand : new.stand ≡ record old.stand { scene = record old.stand.scene { client = client } }
   pub works : new.works ≡ old.works
 
-pub record NotedTold (name : NameView) (act : NotedAct) (old : Live) (text : List ℕ) (new : Live) : Type 0 where
+pub record NotedTold (name : NameView) (act : NotedAct) (old : Live) (text : List ℕ) (new : Live)
+    : Type 0 where
   pub done : Live
   pub did : NotedDid name act old text done
   pub gathers : LiveGathers done new
 
 -- the line says what the worker at a place has in hand, and how its last unit ended; nothing has changed
-pub record LastDid (workers : List WorkerLine) (at : ℕ) (old : Live) (text : List ℕ) (new : Live) : Type 0 where
+pub record LastDid (workers : List WorkerLine) (at : ℕ) (old : Live) (text : List ℕ) (new : Live)
+    : Type 0 where
   pub it : WorkerLine
   pub named : slice_get workers at ≡ Some it
   pub work : Holding
@@ -321,7 +328,8 @@ pub record LastDid (workers : List WorkerLine) (at : ℕ) (old : Live) (text : L
   pub notes : new.notes ≡ old.notes
   pub text_is : text ≡ line (last_hand (string_bytes it.name) hand (end_at old.notes.ends at))
 
-pub record LastTold (workers : List WorkerLine) (at : ℕ) (old : Live) (text : List ℕ) (new : Live) : Type 0 where
+pub record LastTold (workers : List WorkerLine) (at : ℕ) (old : Live) (text : List ℕ) (new : Live)
+    : Type 0 where
   pub done : Live
   pub did : LastDid workers at old text done
   pub gathers : LiveGathers done new
@@ -331,13 +339,15 @@ pub record LastTold (workers : List WorkerLine) (at : ℕ) (old : Live) (text : 
 -- what is told of what is there, for which the client's pass may read what is in hand
 abbrev pub TellsOverview : HeadView → Overview → Live → List ℕ → PassShown → Type 0
 TellsOverview h overviews.Room old text client =
-    (text ≡ room_told h old.stand.manager.limits (passes_in old.stand.scene)) × (client ≡ old.stand.scene.client)
+    (text ≡ room_told h old.stand.manager.limits (passes_in old.stand.scene))
+    × (client ≡ old.stand.scene.client)
 TellsOverview h overviews.Holds old text client = let names = names_of h in
     FoundLine (HoldersRead old.stand.manager.limits names (in_hands old.stand.scene old.works) (length names))
     holds_text old.stand.scene.client text client
 
 -- so it was, and all else is as it was
-pub record OverviewDid (h : HeadView) (what : Overview) (old : Live) (text : List ℕ) (new : Live) : Type 0 where
+pub record OverviewDid (h : HeadView) (what : Overview) (old : Live) (text : List ℕ) (new : Live)
+    : Type 0 where
   pub client : PassShown
   pub tells : TellsOverview h what old text client
   pub stand : new.stand ≡ record old.stand { scene = record old.stand.scene { client = client } }
@@ -345,7 +355,8 @@ pub record OverviewDid (h : HeadView) (what : Overview) (old : Live) (text : Lis
   pub notes : new.notes ≡ old.notes
 
 -- each worker has a pass
-pub record OverviewTold (h : HeadView) (what : Overview) (old : Live) (text : List ℕ) (new : Live) : Type 0 where
+pub record OverviewTold (h : HeadView) (what : Overview) (old : Live) (text : List ℕ) (new : Live)
+    : Type 0 where
   pub each : length h.workers ≤ length old.stand.scene.racers
   pub done : Live
   pub did : OverviewDid h what old text done

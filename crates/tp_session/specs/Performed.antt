@@ -1,5 +1,6 @@
 -- What a script's acts are told, one after another, and how it ends.
-use Rattle.std.specs.Prelude.{◌≡◌, ◌⊎◌, ℕ, zero, suc, ◌+◌, Bool, true, false, if◌then◌else◌, List, [], ◌∷◌, ◌++◌}
+use Rattle.std.specs.Prelude.{◌≡◌, ◌⊎◌, ℕ, zero, suc, ◌+◌, Bool, true, false, if◌then◌else◌, List, [], ◌∷◌}
+use Rattle.std.specs.Prelude.{◌++◌}
 use Rattle.std.specs.Prelude.{Option, Some, None, Result, Ok, Err, length, slice_get, take}
 use Rattle.std.specs.Io.KnownBytes.{Appends, Keeps}
 use Rattle.tp_model.specs.Accounts.{account_of}
@@ -28,7 +29,8 @@ use Rattle.tp_session.specs.declared.hand.WorkerAnswer.{WorkerAnswer}
 
 -- ---- acts
 
--- What is asked for was done, one after another, behind races that took so many passes, and this is what is told.
+-- What is asked for was done, one after another, behind races that took so many passes, and this is what is
+-- told.
 abbrev pub ActsTold : Head → ℕ → List Act → Live → List ℕ → Live → Type 0
 ActsTold head raced [] old text new = (text ≡ []) × (new ≡ old)
 ActsTold head raced (a ∷ others) old text new =
@@ -84,19 +86,19 @@ pub record LiveCounts (old : Live) (account : Account) (new : Live) : Type 0 whe
   pub notes : new.notes ≡ old.notes
 
 -- so it was where the account is asked for, and else nothing was done
-abbrev pub Counts : Bool → Live → Option Account → Live → Type 0
-Counts false old account new = (account ≡ None) × (new ≡ old)
-Counts true old None new = ⊥
-Counts true old (Some account) new = LiveCounts old account new
+abbrev pub CountsAtEnd : Bool → Live → Option Account → Live → Type 0
+CountsAtEnd false old account new = (account ≡ None) × (new ≡ old)
+CountsAtEnd true old None new = ⊥
+CountsAtEnd true old (Some account) new = LiveCounts old account new
 
--- Behind the last act what is in hand was given up, the account was taken, where it is asked for, and the desks
--- were ended, which left these registers.
+-- Behind the last act what is in hand was given up, the account was taken, where it is asked for, and the
+-- desks were ended, which left these registers.
 pub record SessionEnded (s : Script) (account : Option Account) (last : Live) (registers : List (List ℕ))
     : Type 0 where
   pub closed : Live
   pub closes : SessionCloses s.head last closed
   pub counted : Live
-  pub counts : Counts s.account closed account counted
+  pub counts : CountsAtEnd s.account closed account counted
   pub ends : LiveEnds counted registers
 
 -- ---- the report
@@ -110,8 +112,8 @@ abbrev pub closing_text : Option Account → List ℕ
 closing_text None = []
 closing_text (Some account) = line (account_text account.total)
 
--- Over a new manager all was done that the script asks for, and its end, and this is what was told: the line of
--- each act, the final lines, and the account's.
+-- Over a new manager all was done that the script asks for, and its end, and this is what was told: the line
+-- of each act, the final lines, and the account's.
 pub record Report (s : Script) (Told : List ℕ → Type 0) : Type 0 where
   pub first : Live
   pub begins : LiveBegins (head_view s.head) (racing s.acts.items) first
@@ -141,8 +143,8 @@ abbrev pub RanFront : ScriptView → Option (List ℕ) → Option (List ℕ) →
 RanFront v old new = AppendsFront old new []
     ⊎ ((s : Script) × (script_view s ≡ v) × ReportFront s (AppendsFront old new))
 
--- What a run leaves: of a script that was read its report, of a refused one the one line of its refusal; after a
--- fault a front of that, and nothing where the script wasn't read.
+-- What a run leaves: of a script that was read its report, of a refused one the one line of its refusal;
+-- after a fault a front of that, and nothing where the script wasn't read.
 abbrev pub Ran : Result Exit Fault → Result ScriptView Refused → Option (List ℕ) → Option (List ℕ) → Type 0
 Ran (Ok exits.Done) (Ok v) old new = (s : Script) × (script_view s ≡ v) × Report s (Appends old new)
 Ran (Ok exits.Done) (Err refused) old new = ⊥

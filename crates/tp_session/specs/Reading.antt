@@ -39,7 +39,8 @@ most_asks l rest = length rest + length (unused l ++ rest) + 1
 abbrev pub Spends : ℕ → Lines → Option (List ℕ) → Lines → Option (List ℕ) → Type 0
 Spends n old None new after = Unit {0}
 Spends n old (Some before) new None = ⊥
-Spends n old (Some before) new (Some after) = old.left + most_asks new after ≤ new.left + most_asks old before + n
+Spends n old (Some before) new (Some after) =
+    old.left + most_asks new after ≤ new.left + most_asks old before + n
 
 -- a look for a line that finds the end of the input may have asked once besides
 abbrev pub besides : Bool → ℕ

@@ -1,5 +1,6 @@
 -- The roots of what was carried over, of those that weren't carried over themselves.
-use Rattle.std.specs.Prelude.{◌==◌, ◌||◌, ℕ, zero, suc, Bool, if◌then◌else◌, List, [], ◌∷◌, ◌++◌, Option, Some, None}
+use Rattle.std.specs.Prelude.{◌==◌, ◌||◌, ℕ, zero, suc, Bool, if◌then◌else◌, List, [], ◌∷◌, ◌++◌, Option}
+use Rattle.std.specs.Prelude.{Some, None}
 use Rattle.std.specs.Prelude.{codes, length, slice_get, take}
 use Rattle.std.specs.List.{flat_map, list_any}
 use Rattle.tp_rollover.specs.declared.moved.Moved.{Moved}
@@ -15,8 +16,8 @@ is_carried id moved = list_any (λ m. m.old == id) moved
 abbrev pub has_root : ℕ → List Moved → Bool
 has_root root moved = list_any (λ m. m.old_root == root) moved
 
--- the root of an element, by its id before and its id now, unless it is one of all elements, or the root of one of
--- those before
+-- the root of an element, by its id before and its id now, unless it is one of all elements, or the root of
+-- one of those before
 abbrev pub root_at : List Moved → List Moved → Option Moved → List Renamed
 root_at moved before None = []
 root_at moved before (Some m) = if is_carried m.old_root moved || has_root m.old_root before then []

@@ -2,7 +2,7 @@
 use Rattle.std.specs.Prelude.{◌≡◌, ℕ, ◌+◌, List, [], ◌∷◌, ◌++◌, Option, Some, None, Result, Ok, Err}
 use Rattle.std.specs.Option.{option_map}
 use Rattle.tp_script.specs.Script.{HeadView, head_view}
-use Rattle.tp_script.specs.Grammar.{body_at, head_at}
+use Rattle.tp_script.specs.Grammar.{late_line, head_at}
 use Rattle.tp_script.specs.declared.fault.LineFault.{LineFault}
 use Rattle.tp_script.specs.declared.head.Act.{Act}
 use Rattle.tp_script.specs.declared.head.Head.{Head}
@@ -12,8 +12,8 @@ use Rattle.tp_session.specs.declared.first.First.{First}
 
 -- ---- the head
 
--- A line of the head has no answer where the head takes it. A faulty one is refused, by its number, and leaves
--- the head as it was. The first command is no line of the head.
+-- A line of the head has no answer where the head takes it. A faulty one is refused, by its number, and
+-- leaves the head as it was. The first command is no line of the head.
 abbrev pub HeadLine : ℕ → Result (HeadView × Option Act) LineFault → HeadView → List ℕ → HeadView → Type 0
 HeadLine n (Ok (taken, None)) old text new = (text ≡ []) × (new ≡ taken)
 HeadLine n (Ok (taken, Some act)) old text new = ⊥
@@ -49,7 +49,7 @@ now head l = record { head = head; live = l }
 
 -- what a line of these bytes leaves of the head, and what it asks for
 abbrev pub said_now : List ℕ → Now → Result (HeadView × Option Act) LineFault
-said_now line at = body_at line at.live.notes.clients (head_view at.head)
+said_now line at = late_line line at.live.notes.clients (head_view at.head)
 
 -- A line behind the head has no answer where it asks for nothing. A faulty one is refused, by its number, and
 -- leaves all as it was. Else its answer is what was done, under the head that it leaves.

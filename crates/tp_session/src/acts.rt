@@ -1,5 +1,6 @@
 //! What a line of a session asks for, performed, and the line of its answer. All passes gather after it.
-ghost use Rattle.std.specs.Prelude.{◌≡◌, ◌<◌, ◌||◌, List, ℕ, IfOk, IfSome, false, is_some, slice_get, string_bytes};
+ghost use Rattle.std.specs.Prelude.{◌≡◌, ◌<◌, ◌||◌, List, ℕ, IfOk, IfSome, false, is_some, slice_get};
+ghost use Rattle.std.specs.Prelude.{string_bytes};
 ghost use Rattle.std.specs.Prelude.{vec_len};
 ghost use Rattle.std.specs.List.{list_any};
 ghost use Rattle.tp_commands.specs.Acting.{work_in};
@@ -10,7 +11,8 @@ ghost use Rattle.tp_script.specs.Ranges.{IsActInRange};
 ghost use Rattle.tp_workers.specs.Free.{IsFreePass};
 ghost use Rattle.tp_session.specs.Hands.{has_unit};
 ghost use Rattle.tp_session.specs.Left.{ActDone, OrSame, Reaches, began_in};
-ghost use Rattle.tp_session.specs.Live.{AccountTold, ClientCounts, CommandTold, IsHeldBySession, Leads, LiveGathers};
+ghost use Rattle.tp_session.specs.Live.{AccountTold, ClientCounts, CommandTold, IsHeldBySession, Leads};
+ghost use Rattle.tp_session.specs.Live.{LiveGathers};
 ghost use Rattle.tp_session.specs.Live.{TellsAccount, TellsAct, TellsBy, WorkerDid, WorkerTold};
 
 use crate::answers::worker_line;

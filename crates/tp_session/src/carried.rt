@@ -63,8 +63,8 @@ fn hand_after(unit: Option<u16>, element: Option<u32>, old: Holding) -> Holding
     Holding::Open { unit, element }
 }
 
-/// Workers have in hand what was carried over for their passes, of which the first has this number. What they had
-/// and what isn't carried over is lost.
+/// Workers have in hand what was carried over for their passes, of which the first has this number. What they
+/// had and what isn't carried over is lost.
 pub(crate) fn go_on_all(passes: &[Pass], first: usize, moved: &[Moved], works: &mut [Holding])
     requires few { first + length passes.now ≤ MAX_PASSES }
     ensures { works.new

@@ -113,7 +113,8 @@ fn send(
     ensures tells { IfOk result (λ text. (c : ClientNote)
         → slice_get (notes_view notes.old).clients by.entry.place ≡ Some c
         → Sends manager.now.limits by.entry.name.now by.entry.place c by.entry.number stage body
-        (noting pass.old (notes_view notes.old)) (string_bytes text) (noting pass.new (notes_view notes.new))) }
+        (noting pass.old (notes_view notes.old)) (string_bytes text)
+        (noting pass.new (notes_view notes.new))) }
 {
     let answer = submit(manager, pass, stage, body);
     note_sent(notes, by, &answer)?;
@@ -138,7 +139,8 @@ fn send_by(
         → slice_get (notes_view notes.old).clients by.entry.place ≡ Some c
         → SendBy (number_standing by.entry.number c.sent) manager.now.limits by.entry.name.now stage body
         by.entry.number by.entry.place c
-        (noting pass.old (notes_view notes.old)) (string_bytes text) (noting pass.new (notes_view notes.new))) }
+        (noting pass.old (notes_view notes.old)) (string_bytes text)
+        (noting pass.new (notes_view notes.new))) }
 {
     let note = &notes.clients[by.place];
     match Standing::of(by.number, note.sent) {
@@ -211,7 +213,8 @@ fn take_reply(
     ensures tells { IfOk result (λ text. (c : ClientNote)
         → slice_get (notes_view notes.old).clients by.entry.place ≡ Some c
         → ReceivesNoted manager.now.limits by.entry.name.now root by.entry.place c by.entry.number
-        (noting pass.old (notes_view notes.old)) (string_bytes text) (noting pass.new (notes_view notes.new))) }
+        (noting pass.old (notes_view notes.old)) (string_bytes text)
+        (noting pass.new (notes_view notes.new))) }
 {
     let asked = Asked {
         requests: notes.requests.as_slice(),
@@ -241,7 +244,8 @@ fn receive_by(
         → slice_get (notes_view notes.old).clients by.entry.place ≡ Some c
         → ReceiveBy (number_standing by.entry.number c.received) manager.now.limits by.entry.name.now root
         by.entry.number by.entry.place c
-        (noting pass.old (notes_view notes.old)) (string_bytes text) (noting pass.new (notes_view notes.new))) }
+        (noting pass.old (notes_view notes.old)) (string_bytes text)
+        (noting pass.new (notes_view notes.new))) }
 {
     let note = &notes.clients[by.place];
     match Standing::of(by.number, note.received) {
@@ -315,7 +319,8 @@ fn client_does(
     ensures free { IsFreePass manager.now pass.new }
     ensures number { pass.new.number ≡ pass.old.number }
     ensures tells { IfOk result (λ text. NotedDoes manager.now.limits name.now act
-        (noting pass.old (notes_view notes.old)) (string_bytes text) (noting pass.new (notes_view notes.new))) }
+        (noting pass.old (notes_view notes.old)) (string_bytes text)
+        (noting pass.new (notes_view notes.new))) }
 {
     match act {
         NotedAct::Register => register(alloc, notes, name),
@@ -357,7 +362,8 @@ pub(crate) fn noted_act(
     ensures free { IsFreePass manager.now pass.new }
     ensures number { pass.new.number ≡ pass.old.number }
     ensures tells { IfOk result (λ text. NotedDoes manager.now.limits name.now act
-        (noting pass.old (notes_view notes.old)) (string_bytes text) (noting pass.new (notes_view notes.new))) }
+        (noting pass.old (notes_view notes.old)) (string_bytes text)
+        (noting pass.new (notes_view notes.new))) }
 {
     match place_of(name, notes.clients.as_slice()) {
         Some(place) => client_does(alloc, manager, pass, notes, name, place, act),

@@ -2,7 +2,7 @@
 ghost use Rattle.std.specs.Prelude.{◌≡◌, ◌<◌, length, vec_len};
 ghost use Rattle.tp_session.specs.Left.{began_in};
 ghost use Rattle.tp_session.specs.Live.{IsHeldBySession, Leads};
-ghost use Rattle.tp_session.specs.Performed.{SessionCloses, Counts, DesksClose, WorkerCloses};
+ghost use Rattle.tp_session.specs.Performed.{SessionCloses, CountsAtEnd, DesksClose, WorkerCloses};
 
 use crate::acts::{gather, worker_does};
 use crate::held::Held;
@@ -60,7 +60,7 @@ pub(crate) fn take_account(is_asked: bool, head: &Head, held: &mut Held) -> Opti
     requires held { IsHeldBySession behaviour registers pending head.now held.old }
     ensures held { IsHeldBySession behaviour registers pending head.now held.new }
     ensures began { began_in registers held.new ≡ began_in registers held.old }
-    ensures counts { Leads behaviour registers pending (λ old new. Counts is_asked old result new)
+    ensures counts { Leads behaviour registers pending (λ old new. CountsAtEnd is_asked old result new)
         held.old held.new }
 {
     if !is_asked {

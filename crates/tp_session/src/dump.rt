@@ -5,7 +5,8 @@ ghost use Rattle.tp_script.specs.Script.{head_view};
 ghost use Rattle.tp_session.specs.Dump.{dump_lines, dump_text};
 ghost use Rattle.tp_session.specs.Notes.{notes_view};
 ghost use Rattle.tp_session.specs.Left.{began_in};
-ghost use Rattle.tp_session.specs.Live.{DumpTold, FoundAlive, IsHeldBySession, Leads, LiveLooks, Surveyed, TellsDump};
+ghost use Rattle.tp_session.specs.Live.{DumpTold, FoundAlive, IsHeldBySession, Leads, LiveLooks, Surveyed};
+ghost use Rattle.tp_session.specs.Live.{TellsDump};
 ghost use Rattle.tp_session.specs.Live.{Unsurveyed, has_desk_open};
 
 use crate::acts::{gather, has_place};
@@ -27,8 +28,8 @@ use tp_rollover::{RollFault, Survivor};
 use tp_script::Head;
 use tp_server::Server;
 
-/// The lines that lead to the state in which the servers and desks are these, the workers have this in hand, and
-/// this is alive.
+/// The lines that lead to the state in which the servers and desks are these, the workers have this in hand,
+/// and this is alive.
 fn dump_text(
     alloc: Global,
     head: &Head,
@@ -114,8 +115,8 @@ fn dump_line(alloc: Global, head: &Head, held: &mut Held) -> Result<String, Allo
 }
 
 /// Tells `dumped N` and N lines, each behind `> `: sent to a new session they lead to the state to which a
-/// rollover leads here. With a unit of work open at a desk it is refused with `Busy`, and without the memory for
-/// what is alive with `NoMemory`. Nothing has changed, and all passes gather.
+/// rollover leads here. With a unit of work open at a desk it is refused with `Busy`, and without the memory
+/// for what is alive with `NoMemory`. Nothing has changed, and all passes gather.
 pub(crate) fn dump_told(alloc: Global, head: &Head, held: &mut Held) -> Result<String, AllocError>
     requires held { IsHeldBySession behaviour registers pending head.now held.old }
     ensures held { IsHeldBySession behaviour registers pending head.now held.new }

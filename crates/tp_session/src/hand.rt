@@ -18,8 +18,8 @@ pub enum Holding {
     Nothing,
     /// The unit of work that its pass has open, and the element that it took.
     Open { unit: u16, element: u32 },
-    /// It had a unit of work that was lost before a rollover, and hasn't heard of it. The element that it took
-    /// is called as the worker knew it.
+    /// It had a unit of work that was lost before a rollover, and hasn't heard of it. The element that it
+    /// took is called as the worker knew it.
     Lost { element: u32 },
 }
 

@@ -18,8 +18,8 @@ use std::alloc::Global;
 use tp_report::Fault;
 use tp_script::{Act, Head, LineError};
 
-/// Takes the line that was read last, whose number this is, into the head, or refuses it. Answers what it asks
-/// for where it is the first command, which leaves the head as it is.
+/// Takes the line that was read last, whose number this is, into the head, or refuses it. Answers what it
+/// asks for where it is the first command, which leaves the head as it is.
 fn take_line(
     alloc: Global,
     head: &mut Head,
@@ -46,8 +46,8 @@ fn take_line(
     }
 }
 
-/// Reads the head: its lines are taken or refused, up to the first command or to the end of the input. Answers
-/// the first command, if there is one.
+/// Reads the head: its lines are taken or refused, up to the first command or to the end of the input.
+/// Answers the first command, if there is one.
 pub(crate) fn read_head<W: Wire>(
     alloc: Global,
     head: &mut Head,

@@ -1,5 +1,5 @@
-//! Scripts and live sessions over the shared manager: a script is read and checked whole, and then performed; of
-//! a session each line is answered before the next one is asked for.
+//! Scripts and live sessions over the shared manager: a script is read and checked whole, and then performed;
+//! of a session each line is answered before the next one is asked for.
 #![tactic(auto)]
 
 mod acts;

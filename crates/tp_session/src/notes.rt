@@ -7,7 +7,8 @@ ghost use Rattle.tp_session.specs.Notes.{client_in, noted_end, end_in, end_moved
 ghost use Rattle.tp_session.specs.Notes.{has_name, lost_one};
 ghost use Rattle.tp_session.specs.Notes.{new_client, new_id, new_root, noted_id, notes_in, notes_of};
 ghost use Rattle.tp_session.specs.Notes.{notes_view};
-ghost use Rattle.tp_session.specs.Notes.{client_place, request_in, number_standing, with_new_client, with_unit_end};
+ghost use Rattle.tp_session.specs.Notes.{client_place, request_in, number_standing, with_new_client};
+ghost use Rattle.tp_session.specs.Notes.{with_unit_end};
 ghost use Rattle.tp_session.specs.Notes.{without_client, without_end};
 
 use crate::hand::{Holding, WorkerAnswer};

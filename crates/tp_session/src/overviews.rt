@@ -8,7 +8,8 @@ ghost use Rattle.tp_manager.specs.Shown.{IsOf};
 ghost use Rattle.tp_script.specs.Fault.{◌<>◌};
 ghost use Rattle.tp_script.specs.Script.{head_view};
 ghost use Rattle.tp_workers.specs.Free.{IsFreePass};
-ghost use Rattle.tp_session.specs.Overviews.{HolderRead, HoldersRead, attempt_told, attempt_text, desk_holding};
+ghost use Rattle.tp_session.specs.Overviews.{HolderRead, HoldersRead, attempt_told, attempt_text};
+ghost use Rattle.tp_session.specs.Overviews.{desk_holding};
 ghost use Rattle.tp_session.specs.Overviews.{holder_text, holds_text, left_text, left_texts, names_of};
 ghost use Rattle.tp_session.specs.Overviews.{pass_names, room_of, room_told};
 
@@ -103,7 +104,8 @@ fn spare_left(manager: &Manager, passes: &[Pass]) -> u16
 
 /// What `room` tells, where this is left to the passes.
 fn room_text(alloc: Global, left: &str, spare: u16) -> Result<String, AllocError>
-    ensures { IfOk result (λ s. string_bytes s ≡ codes "room" <> left.now <> codes " spare " <> decimal spare) }
+    ensures { IfOk result
+        (λ s. string_bytes s ≡ codes "room" <> left.now <> codes " spare " <> decimal spare) }
 {
     format!(in alloc; "room{left} spare {spare}")
 }
@@ -117,7 +119,8 @@ pub(crate) fn room_line(
 ) -> Result<String, AllocError>
     requires own { All (IsOf manager.now) passes.now }
     requires each { 1 + vec_len head.now.servers + vec_len head.now.workers ≤ length passes.now }
-    ensures { IfOk result (λ s. string_bytes s ≡ room_told (head_view head.now) manager.now.limits passes.now) }
+    ensures { IfOk result
+        (λ s. string_bytes s ≡ room_told (head_view head.now) manager.now.limits passes.now) }
 {
     let left = left_texts(alloc, head, manager, passes)?;
     let spare = spare_left(manager, passes);
@@ -146,7 +149,8 @@ pub(crate) fn in_hands(
     places: &[Place],
     works: &[Holding],
 ) -> Result<Vec<Holding>, AllocError>
-    ensures { IfOk result (λ all. all.items ≡ map (λ p. desk_holding (work_in p.aside)) places.now ++ works.now) }
+    ensures { IfOk result
+        (λ all. all.items ≡ map (λ p. desk_holding (work_in p.aside)) places.now ++ works.now) }
 {
     let mut all = Vec::new(alloc);
     for place in places {
@@ -202,7 +206,8 @@ fn holder_text(
     format!(in alloc; " {name}:{element}:{unit}:{attempt}")
 }
 
-/// The same where this is an open unit, and else nothing. How the element stands is read by the client's pass.
+/// The same where this is an open unit, and else nothing. How the element stands is read by the client's
+/// pass.
 fn holder_read(
     alloc: Global,
     manager: &Manager,

@@ -40,7 +40,8 @@ fn perform_all<T: Threads + Sync, W: Sink>(
         × ActsTold script.now.head 0 script.now.acts.items old text new
         × Appends (W.contents writer.old) (W.contents writer.new) text) held.old held.new) }
     ensures front { OnErr result (Begins behaviour registers pending (λ old last.
-        ActsDone script.now old last (AppendsFront (W.contents writer.old) (W.contents writer.new))) held.old) }
+        ActsDone script.now old last (AppendsFront (W.contents writer.old) (W.contents writer.new)))
+        held.old) }
     ensures write { IsErrOf result Fault.Write → IsTrue (W.has_failed writer.new) }
     ensures no_read { ¬ (IsErrOf result Fault.Read) }
 {
@@ -56,11 +57,11 @@ fn perform_all<T: Threads + Sync, W: Sink>(
     Ok(())
 }
 
-/// Performs a script, and writes a line for each act as it comes. Of all passes those of races come last. When
-/// all is done, and after a fault, what is in hand is given up, the account is taken, where the script asks for
-/// it, and all desks are ended: each server's registers are then what its behaviour makes of what its pass has
-/// committed since its desk began, at the beginning or at the last rollover, where the registers stay the same.
-/// What was done before a fault stands.
+/// Performs a script, and writes a line for each act as it comes. Of all passes those of races come last.
+/// When all is done, and after a fault, what is in hand is given up, the account is taken, where the script
+/// asks for it, and all desks are ended: each server's registers are then what its behaviour makes of what
+/// its pass has committed since its desk began, at the beginning or at the last rollover, where the registers
+/// stay the same. What was done before a fault stands.
 pub fn perform<T: Threads + Sync, W: Sink>(
     rt: &T,
     alloc: Global,
@@ -81,9 +82,11 @@ pub fn perform<T: Threads + Sync, W: Sink>(
     ensures told { IfOk result (λ account. Begins behaviour registers pending (λ old last. (text : List ℕ)
         × ActsTold script.now.head 0 script.now.acts.items old text last
         × Appends (W.contents writer.old) (W.contents writer.new) text
-        × SessionEnded script.now account last (map (λ server. registers server) held.new.servers.items)) held.old) }
+        × SessionEnded script.now account last (map (λ server. registers server) held.new.servers.items))
+        held.old) }
     ensures front { OnErr result (Begins behaviour registers pending (λ old last.
-        ActsDone script.now old last (AppendsFront (W.contents writer.old) (W.contents writer.new))) held.old) }
+        ActsDone script.now old last (AppendsFront (W.contents writer.old) (W.contents writer.new)))
+        held.old) }
     ensures write { IsErrOf result Fault.Write → IsTrue (W.has_failed writer.new) }
     ensures no_read { ¬ (IsErrOf result Fault.Read) }
 {

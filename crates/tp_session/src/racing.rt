@@ -27,7 +27,8 @@ fn race_told<T: Threads + Sync>(
     requires held { IsHeldBySession behaviour registers pending head.now held.old }
     requires in_range { IsInRange (vec_len head.now.servers) command }
     requires race { is_race command ≡ true }
-    requires room { vec_len head.now.workers + raced + racers_of_command command ≤ length held.old.works.items }
+    requires room { vec_len head.now.workers + raced + racers_of_command command
+        ≤ length held.old.works.items }
     ensures held { IsHeldBySession behaviour registers pending head.now held.new }
     ensures began { began_in registers held.new ≡ began_in registers held.old }
     ensures tells { IfOk result (λ text. Leads behaviour registers pending (λ old new.

@@ -50,7 +50,8 @@ impl Lines {
     ghost use Rattle.std.specs.Io.KnownBytes.{Appends, Consumes, IsAtEnd};
     ghost use Rattle.tp_report.specs.Written.{AppendsFront};
     ghost use Rattle.tp_session.specs.Heard.{Next, Tells};
-    ghost use Rattle.tp_session.specs.Reading.{IsLong, IsOver, Spends, TakesLine, besides, room, to_come, unused};
+    ghost use Rattle.tp_session.specs.Reading.{IsLong, IsOver, Spends, TakesLine, besides, room, to_come};
+    ghost use Rattle.tp_session.specs.Reading.{unused};
 
     /// Nothing was read yet.
     pub fn new(alloc: Global) -> Lines

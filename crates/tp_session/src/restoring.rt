@@ -16,7 +16,8 @@ ghost use Rattle.tp_session.specs.Carried.{lost_works};
 ghost use Rattle.tp_session.specs.Hands.{unit_of};
 ghost use Rattle.tp_session.specs.declared.hand.Holding.TheVariants.{Nothing};
 ghost use Rattle.tp_session.specs.Left.{OrSame, Reaches};
-ghost use Rattle.tp_session.specs.Live.{HoldsUnits, IsHeldBySession, Leads, RestoreTold, status_at, status_before};
+ghost use Rattle.tp_session.specs.Live.{HoldsUnits, IsHeldBySession, Leads, RestoreTold, status_at};
+ghost use Rattle.tp_session.specs.Live.{status_before};
 ghost use Rattle.tp_session.specs.Live.{survivor_of};
 ghost use Rattle.tp_session.specs.Live.{survivors_of, works_in};
 
@@ -106,9 +107,9 @@ fn survivors_of(
     Ok(survivors)
 }
 
-/// This stands again in a new manager, in which the desks begin anew, and workers have in hand what it says, or
-/// have lost what these lines say. Answers what each element is there. The passes are the client's, one for each
-/// server, and one for each of these works.
+/// This stands again in a new manager, in which the desks begin anew, and workers have in hand what it says,
+/// or have lost what these lines say. Answers what each element is there. The passes are the client's, one
+/// for each server, and one for each of these works.
 fn restore_works(
     alloc: Global,
     managed: &mut Managed,
@@ -219,9 +220,9 @@ fn stand_again(
 }
 
 /// What the head says is alive stands again in a new manager of the same limits, each element once, and the
-/// desks begin anew there. Workers have in hand what the head says. Answers `restored N OLD:NEW ..`, and where
-/// workers have units open ` units NAME:ID ..` behind it; or why it was refused: then nothing has changed, but
-/// that no id goes on that the head has noted.
+/// desks begin anew there. Workers have in hand what the head says. Answers `restored N OLD:NEW ..`, and
+/// where workers have units open ` units NAME:ID ..` behind it; or why it was refused: then nothing has
+/// changed, but that no id goes on that the head has noted.
 pub(crate) fn restore_told(
     alloc: Global,
     head: &Head,

@@ -1,4 +1,5 @@
-//! The command `rollover`: what is alive goes on in a new manager, and what workers have in hand in their hands.
+//! The command `rollover`: what is alive goes on in a new manager, and what workers have in hand in their
+//! hands.
 ghost use Rattle.std.specs.Prelude.{◌≡◌, ◌+◌, List, ℕ, All, IfErr, IfOk, drop, length, map, string_bytes};
 ghost use Rattle.tp_report.specs.Answer.{line};
 ghost use Rattle.tp_rollover.specs.Managed.{IsManaged};
@@ -25,9 +26,9 @@ use tp_rollover::{Managed, Moved, RollFault};
 use tp_script::Head;
 use tp_server::Server;
 
-/// What is alive goes on in a new manager, in which the desks begin anew and workers have in hand what they had.
-/// Answers what was carried over. The passes are the client's, one for each server, and one for each of these
-/// works.
+/// What is alive goes on in a new manager, in which the desks begin anew and workers have in hand what they
+/// had. Answers what was carried over. The passes are the client's, one for each server, and one for each of
+/// these works.
 fn roll_over_works(
     alloc: Global,
     managed: &mut Managed,
@@ -93,8 +94,9 @@ fn roll_over_held(alloc: Global, head: &Head, held: &mut Held) -> Result<Vec<Mov
     )
 }
 
-/// Has what is alive, each element once, go on in a new manager. Answers `rolled over N OLD:NEW ..`, and where
-/// workers have units open ` units NAME:ID ..` behind it; or why it was refused: then nothing has changed.
+/// Has what is alive, each element once, go on in a new manager. Answers `rolled over N OLD:NEW ..`, and
+/// where workers have units open ` units NAME:ID ..` behind it; or why it was refused: then nothing has
+/// changed.
 pub(crate) fn rollover_told(
     alloc: Global,
     head: &Head,

@@ -1,5 +1,6 @@
 //! The whole run of a script, from the reader's bytes to the writer's.
-ghost use Rattle.std.specs.Prelude.{◌≡◌, ◌+◌, ◌++◌, ◌^◌, ◌<◌, ◌≤◌, None, Result, All, IfSome, IsErrOf, IsTrue};
+ghost use Rattle.std.specs.Prelude.{◌≡◌, ◌+◌, ◌++◌, ◌^◌, ◌<◌, ◌≤◌, None, Result, All, IfSome, IsErrOf};
+ghost use Rattle.std.specs.Prelude.{IsTrue};
 ghost use Rattle.std.specs.Prelude.{OnErr, OnOk, length, map};
 ghost use Rattle.std.specs.Io.KnownBytes.{Appends};
 ghost use Rattle.tp_report.specs.Faults.{TellsFault, exit_status};
@@ -11,7 +12,7 @@ ghost use Rattle.tp_script.specs.Script.{head_view};
 ghost use Rattle.tp_script.specs.Whole.{script};
 ghost use Rattle.tp_script.specs.declared.source.TheConstants.{MAX_READS};
 ghost use Rattle.tp_server.specs.Behaviour.{behaviour_of};
-ghost use Rattle.tp_session.specs.Conversed.{IsNewManaged, limits_of};
+ghost use Rattle.tp_session.specs.Conversed.{IsNewInMemory, limits_of};
 ghost use Rattle.tp_session.specs.Performed.{Ran, Report, ReportFront, closing_text, finals_text};
 
 use crate::ending::tell_finals;
@@ -114,7 +115,8 @@ fn serve_by<T: Threads + Sync, W: Sink>(
     managed: Managed,
     writer: &mut W,
 ) -> Result<(), Fault>
-    requires new { IsNewManaged (limits_of (head_view script.now.head) (racing script.now.acts.items)) managed }
+    requires new { IsNewInMemory (limits_of (head_view script.now.head) (racing script.now.acts.items))
+        managed }
     ensures told { OnOk result (Report script.now (Appends (W.contents writer.old) (W.contents writer.new))) }
     ensures front { OnErr result
         (ReportFront script.now (AppendsFront (W.contents writer.old) (W.contents writer.new))) }
@@ -140,7 +142,8 @@ fn serve_with<T: Threads + Sync, W: Sink>(
     servers: Vec<Box<dyn Server + Send>>,
     writer: &mut W,
 ) -> Result<(), Fault>
-    requires new { IsNewManaged (limits_of (head_view script.now.head) (racing script.now.acts.items)) managed }
+    requires new { IsNewInMemory (limits_of (head_view script.now.head) (racing script.now.acts.items))
+        managed }
     requires behaviours { map (λ server. behaviour server) servers.items
         ≡ map (λ line. behaviour_of line.recipe) script.now.head.servers.items }
     requires registers { map (λ server. registers server) servers.items

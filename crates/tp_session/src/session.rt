@@ -1,6 +1,7 @@
 //! A session from its first line to its final lines: its head is read, what it needs is made, and each line
 //! is answered.
-ghost use Rattle.std.specs.Prelude.{◌≡◌, ◌+◌, ◌*◌, ◌<◌, ◌≤◌, ◌^◌, ◌++◌, ◌⊎◌, None, All, IfSome, IsErrOf, IsTrue};
+ghost use Rattle.std.specs.Prelude.{◌≡◌, ◌+◌, ◌*◌, ◌<◌, ◌≤◌, ◌^◌, ◌++◌, ◌⊎◌, None, All, IfSome, IsErrOf};
+ghost use Rattle.std.specs.Prelude.{IsTrue};
 ghost use Rattle.std.specs.Prelude.{OnErr, OnOk, Result, length, map, vec_len};
 ghost use Rattle.std.specs.Io.KnownBytes.{Appends};
 ghost use Rattle.tp_model.specs.declared.types.TheConstants.{MAX_PASSES};
@@ -14,7 +15,7 @@ ghost use Rattle.tp_script.specs.Ranges.{IsActInRange};
 ghost use Rattle.tp_script.specs.Script.{head_view};
 ghost use Rattle.tp_script.specs.declared.head.Head.{Head};
 ghost use Rattle.tp_session.specs.Conversed.{BodyFront, BodyWhole, Conversed, ConversedAs, ConversedFront};
-ghost use Rattle.tp_session.specs.Conversed.{IsNewManaged, LiveEnds, limits_of};
+ghost use Rattle.tp_session.specs.Conversed.{IsNewInMemory, LiveEnds, limits_of};
 ghost use Rattle.tp_session.specs.Heard.{HearsFront, IsAllOf, IsSilent, Tells};
 ghost use Rattle.tp_commands.specs.Places.{workers};
 ghost use Rattle.tp_perform.specs.Told.{AllLeftAt};
@@ -43,7 +44,8 @@ use tp_script::{Head, Kind};
 use tp_server::Server;
 
 /// Answers a whole session: reads its head, makes the manager, the passes and the servers that it needs, and
-/// answers each line behind it. At the end of the input what is open is ended, and the final lines are written.
+/// answers each line behind it. At the end of the input what is open is ended, and the final lines are
+/// written.
 pub fn converse<W: Wire>(alloc: Global, wire: &mut W) -> Result<(), Fault>
     requires ready { W.ready wire.old }
     requires asked { W.asked wire.old + MAX_ASKED < 2 ^ 64 }
@@ -64,8 +66,8 @@ pub fn converse<W: Wire>(alloc: Global, wire: &mut W) -> Result<(), Fault>
     hold(alloc, &mut head, first, &mut lines, wire)
 }
 
-/// Answers a session as `converse` does, writes the line of a fault to the second writer, and answers the exit
-/// status.
+/// Answers a session as `converse` does, writes the line of a fault to the second writer, and answers the
+/// exit status.
 pub fn converse_to_end<W: Wire, E: Sink>(alloc: Global, wire: &mut W, faults: &mut E) -> u8
     requires ready { W.ready wire.old }
     requires asked { W.asked wire.old + MAX_ASKED < 2 ^ 64 }
@@ -149,7 +151,7 @@ fn with_managed<W: Wire>(
     wire: &mut W,
 ) -> Result<(), Fault>
     requires ready { W.ready wire.old }
-    requires new { IsNewManaged (limits_of (head_view head.old) 0) managed }
+    requires new { IsNewInMemory (limits_of (head_view head.old) 0) managed }
     requires asked { W.asked wire.old + lines.old.left < 2 ^ 64 }
     requires in_range { IfSome (first_act first) (IsActInRange
         (vec_len head.old.servers) (vec_len head.old.workers)) }
@@ -190,7 +192,7 @@ fn with_servers<W: Wire>(
     wire: &mut W,
 ) -> Result<(), Fault>
     requires ready { W.ready wire.old }
-    requires new { IsNewManaged (limits_of (head_view head.old) 0) managed }
+    requires new { IsNewInMemory (limits_of (head_view head.old) 0) managed }
     requires behaviours { map (λ server. behaviour server) servers.items
         ≡ map (λ line. behaviour_of line.recipe) head.old.servers.items }
     requires registers { map (λ server. registers server) servers.items
@@ -229,10 +231,10 @@ fn with_servers<W: Wire>(
     finals(alloc, head, held.servers.as_slice(), lines, wire)
 }
 
-/// Answers the lines behind the head. At the end, and after a fault, the desks are ended, and the workers give
-/// up what they have in hand: each server's registers are then what its behaviour makes of what its pass has
-/// committed since its desk began, at the beginning or at the last rollover, where the registers stay the same.
-/// What was done before a fault stands.
+/// Answers the lines behind the head. At the end, and after a fault, the desks are ended, and the workers
+/// give up what they have in hand: each server's registers are then what its behaviour makes of what its pass
+/// has committed since its desk began, at the beginning or at the last rollover, where the registers stay the
+/// same. What was done before a fault stands.
 pub fn answer_to_end<W: Wire>(
     alloc: Global,
     head: &mut Head,

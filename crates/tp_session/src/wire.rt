@@ -8,8 +8,8 @@ use tp_report::{Sink, write_all};
 use tp_script::{Failed, Source};
 
 /// A reader of lines and a writer of answers in one, so that it knows which answers were written before which
-/// bytes were read. Contracts see the bytes that it has left and what it has written, where these are known, how
-/// often it was asked, and whether reading or writing has failed.
+/// bytes were read. Contracts see the bytes that it has left and what it has written, where these are known,
+/// how often it was asked, and whether reading or writing has failed.
 pub trait Wire {
     ghost rest: { Self → Option (List ℕ) };
 
@@ -24,8 +24,8 @@ pub trait Wire {
     /// What holds between two calls.
     ghost ready: { Self → Type 0 };
 
-    /// Puts the next bytes into the beginning of the buffer, and answers how many: 0 at the end of the bytes, or
-    /// where the buffer is empty. `Failed` where reading failed.
+    /// Puts the next bytes into the beginning of the buffer, and answers how many: 0 at the end of the bytes,
+    /// or where the buffer is empty. `Failed` where reading failed.
     fn read(&mut self, buffer: &mut [u8]) -> Result<usize, Failed>
         requires asked { asked self.old + 1 < 2 ^ 64 }
         requires ready { ready self.old }

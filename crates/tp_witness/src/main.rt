@@ -3,8 +3,8 @@
 //! each element stands at the end. Then what is alive goes on in a second manager, at which they do the same.
 //! What the logs say is for another to judge, who trusts nothing here: `tools/witness`.
 //!
-//! `tp_witness SEED ROUNDS TURNS` makes this many pairs of managers, one after another, and each thread takes this
-//! many turns at each.
+//! `tp_witness SEED ROUNDS TURNS` makes this many pairs of managers, one after another, and each thread takes
+//! this many turns at each.
 #![tactic(auto)]
 
 ghost use Rattle.std.specs.Prelude.{◌≡◌, All, None, OnOk};
@@ -215,8 +215,8 @@ fn end(manager: &Manager, pass: &mut Pass, diary: &mut Diary) -> Result<(), Prog
     Ok(())
 }
 
-/// The status of each element at the end, as the manager shows it. Of those that are held still about half are
-/// released.
+/// The status of each element at the end, as the manager shows it. Of those that are held still about half
+/// are released.
 fn read_all(manager: &Manager, pass: &mut Pass, diary: &mut Diary) -> Result<(), ProgramFault>
     requires own { IsOf manager.now pass.old }
     ensures own { IsOf manager.now pass.new }

@@ -61,7 +61,8 @@ pack_unit (Some Aborted) = UNIT_ABORTED
 abbrev pub IsFitHead : Head → Type 0
 IsFitHead Empty = Unit {0}
 IsFitHead Void = Unit {0}
-IsFitHead (Filled stage root by) = (1 ≤ stage) × (stage ≤ REPLY_STAGE) × (root ≤ MAX_ID) × (pack_by by ≤ MAX_UNIT + 1)
+IsFitHead (Filled stage root by) =
+    (1 ≤ stage) × (stage ≤ REPLY_STAGE) × (root ≤ MAX_ID) × (pack_by by ≤ MAX_UNIT + 1)
 
 -- the values that claim words have: an element that was taken is so for the first time or a later one, one
 -- that was killed without being taken in its round has no unit, and one that was given a round has one beside

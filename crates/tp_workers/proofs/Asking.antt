@@ -20,7 +20,7 @@ use Rattle.tp_desk.specs.Turns.{EndsOpen}
 use Rattle.tp_workers.specs.declared.tally.Shift.{Shift}
 use Rattle.tp_workers.specs.Asking.{AsksTurns, TurnAsks}
 use Rattle.tp_workers.specs.Calling.{Chain, MadeCalls}
-use Rattle.tp_workers.specs.Desks.{IsResting, Place, TakesTurn, place, desk_place}
+use Rattle.tp_workers.specs.Desks.{IsResting, DeskPlace, TakesTurn, place, desk_place}
 use Rattle.tp_workers.specs.Ran.{RanAll, RanEach}
 use Rattle.tp_workers.specs.Tally.{empty_shift, plus, turn_count}
 use Rattle.tp_workers.proofs.Calling.{called_none, called_one, called_then}
@@ -31,18 +31,18 @@ pub asks_then : (s t : List Asked) (a b c : List Asked → Bool) → Asks s a b 
 asks_then s t a b c first then = λ all is. subst (λ (l : List Asked). c l ≡ true) (sym (append_assoc t s all)) (then (s ++ all) (first all is))
 
 -- the same turns, where more had been asked before
-chain_behind : (order : Order) (l : Limits) (before : List Asked) (ts : List Turned) (x y : Place × List Asked) → Chain (TurnAsks order l) x ts y
+chain_behind : (order : Order) (l : Limits) (before : List Asked) (ts : List Turned) (x y : DeskPlace × List Asked) → Chain (TurnAsks order l) x ts y
     → Chain (TurnAsks order l) (x.0, x.1 ++ before) ts (y.0, y.1 ++ before)
-chain_behind order l before [] x y h = ap (λ (z : Place × List Asked). (z.0, z.1 ++ before)) h
+chain_behind order l before [] x y h = ap (λ (z : DeskPlace × List Asked). (z.0, z.1 ++ before)) h
 chain_behind order l before (t ∷ ts) x y h =
     ((h.0.0, h.0.1 ++ before), record { turn = h.1.turn; adds = ap (λ (a : List Asked). a ++ before) h.1.adds ∙ append_assoc (turn_asks t h.0.0.pass.seen x.0.registers h.0.0.registers) x.1 before }, chain_behind order l before ts h.0 y h.2)
 
-calls_behind : (order : Order) (l : Limits) (before since : List Asked) (n : ℕ) (p q : Place) (s : Shift) → MadeCalls (TurnAsks order l) turn_count n (p, []) s (q, since)
+calls_behind : (order : Order) (l : Limits) (before since : List Asked) (n : ℕ) (p q : DeskPlace) (s : Shift) → MadeCalls (TurnAsks order l) turn_count n (p, []) s (q, since)
     → MadeCalls (TurnAsks order l) turn_count n (p, before) s (q, since ++ before)
 calls_behind order l before since n p q s h = record { answers = h.answers; each = chain_behind order l before h.answers (p, []) (q, since) h.each; made = h.made; counted = h.counted }
 
 module _ {B : Type 0} (behaviour : B → Behaviour) (registers : B → List ℕ) (pending : B → Option Pending) (asked : B → List Asked → Bool) (m : ManagerShown) (order : Order) where
-  abbrev at : PassShown × B → Place
+  abbrev at : PassShown × B → DeskPlace
   at x = place behaviour registers pending x
 
   abbrev Asking : PassShown × B → Shift → PassShown × B → Type 0
@@ -78,7 +78,7 @@ module _ {B : Type 0} (behaviour : B → Behaviour) (registers : B → List ℕ)
   asks_left x y z s h same asks = record {
     taken = h.taken;
     since = h.since;
-    calls = subst (λ (p : Place). MadeCalls (TurnAsks order m.limits) turn_count h.taken (at x, []) s (p, h.since)) same h.calls;
+    calls = subst (λ (p : DeskPlace). MadeCalls (TurnAsks order m.limits) turn_count h.taken (at x, []) s (p, h.since)) same h.calls;
     asks = asks_then h.since [] (asked x.1) (asked y.1) (asked z.1) h.asks asks;
   }
 

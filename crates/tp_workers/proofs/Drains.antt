@@ -6,16 +6,16 @@ use Rattle.tp_model.specs.Steps.{AreLimits}
 use Rattle.tp_server.specs.Behaviour.{Behaviour}
 use Rattle.tp_server.specs.Pending.{Pending}
 use Rattle.tp_manager.specs.Calls.{claims_in}
-use Rattle.tp_manager.specs.Shown.{ManagerShown, PassShown}
+use Rattle.tp_manager.specs.Shown.{ManagerShown, PassShown, numbers}
 use Rattle.tp_desk.specs.Serving.{AreUnitsEnded, Leaves, Serves, gained}
 use Rattle.tp_desk.proofs.Serves.{ended_none, leaves_then, serves_none}
 use Rattle.tp_desk.specs.declared.order.Order.{Order}
 use Rattle.tp_workers.specs.declared.plan.Plan.{Plan}
 use Rattle.tp_workers.specs.declared.tally.Shift.{Shift}
 use Rattle.tp_workers.specs.Calling.{MadeCalls}
-use Rattle.tp_workers.specs.Desks.{DeskWorked, IsDeskOf, Place, TakesTurn, place}
+use Rattle.tp_workers.specs.Desks.{DeskWorked, IsDeskOf, DeskPlace, TakesTurn, place}
 use Rattle.tp_workers.specs.Drained.{DeskDrained, EndsIdle, LastTurn, TookTurn}
-use Rattle.tp_workers.specs.Free.{IsFreePass, numbers}
+use Rattle.tp_workers.specs.Free.{IsFreePass}
 use Rattle.tp_workers.specs.Gains.{commits_in}
 use Rattle.tp_workers.specs.Ran.{RanAll, RanEach}
 use Rattle.tp_workers.specs.Tally.{claimed_in_all, empty_shift, plus, turn_count}
@@ -60,7 +60,7 @@ module _ {B : Type 0} (behaviour : B → Behaviour) (registers : B → List ℕ)
   abbrev Took : PassShown × B → Shift → PassShown × B → Type 0
   Took x s y = TookTurn behaviour registers pending m order x s y
 
-  abbrev at : PassShown × B → Place
+  abbrev at : PassShown × B → DeskPlace
   at x = place behaviour registers pending x
 
   -- the units that are left to the pass

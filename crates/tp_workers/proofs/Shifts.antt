@@ -7,7 +7,7 @@ use Rattle.tp_model.specs.declared.types.Refusal.{Refusal}
 use Rattle.tp_model.specs.declared.types.Refusal.TheVariants as refusals
 use Rattle.tp_server.specs.Behaviour.{Behaviour}
 use Rattle.tp_server.specs.Pending.{Pending}
-use Rattle.tp_manager.specs.Shown.{ManagerShown, PassShown}
+use Rattle.tp_manager.specs.Shown.{ManagerShown, PassShown, numbers}
 use Rattle.tp_desk.specs.declared.turned.Turned.{Turned}
 use Rattle.tp_desk.specs.declared.turned.Turned.TheVariants as turneds
 use Rattle.tp_workers.specs.declared.killer.KillJob.{KillJob}
@@ -16,7 +16,7 @@ use Rattle.tp_workers.specs.declared.tally.Shift.{Shift}
 use Rattle.tp_workers.specs.Clients.{ClientRan, IsClientJob, IsClientOf, JobShown}
 use Rattle.tp_workers.specs.Desks.{DeskRan, IsDeskOf}
 use Rattle.tp_workers.specs.Killers.{IsKillJob, IsKillerOf, KillerRan}
-use Rattle.tp_workers.specs.Free.{IsFreePass, numbers}
+use Rattle.tp_workers.specs.Free.{IsFreePass}
 use Rattle.tp_workers.specs.Ran.{AreTold, RanAll, RanEach}
 use Rattle.tp_workers.specs.Sums.{calls_of, client_part, desk_part, killer_part, size_of_range}
 use Rattle.tp_workers.specs.Tally.{kill_count, empty_shift, plus, refusal_count, submit_count, total, turn_count}

@@ -26,7 +26,7 @@ use Rattle.tp_desk.specs.Turns.{EndsOpen, Turns, Works, WorksOff}
 use Rattle.tp_workers.specs.declared.plan.Plan.{Plan}
 use Rattle.tp_workers.specs.declared.tally.Shift.{Shift}
 use Rattle.tp_workers.specs.Calling.{AllButLast, MadeCalls, Chain}
-use Rattle.tp_workers.specs.Desks.{DeskRan, DeskWorked, HadUnit, HadWork, IsDeskOf, IsResting, Place, TakesTurn, TakesTurns, DeskWorksOn, place, desk_place}
+use Rattle.tp_workers.specs.Desks.{DeskRan, DeskWorked, HadUnit, HadWork, IsDeskOf, IsResting, DeskPlace, TakesTurn, TakesTurns, DeskWorksOn, place, desk_place}
 use Rattle.tp_workers.specs.Drained.{TookTurn}
 use Rattle.tp_workers.specs.Gains.{commits_in, is_commit}
 use Rattle.tp_workers.specs.Tally.{claimed_in_all, empty_shift, plus, total, turn_count}
@@ -100,15 +100,15 @@ room_then u a b c (inl few) (inr same) = inl (omega (arith, few, same))
 room_then u a b c (inr before) (inr same) = inr (same ∙ before)
 
 -- turns one after another count their commits, and their claims
-module _ (order : Order) (l : Limits) (n : ℕ) (x y : Place) (s : Shift) (h : MadeCalls (TakesTurn order l) turn_count n x s y) where
+module _ (order : Order) (l : Limits) (n : ℕ) (x y : DeskPlace) (s : Shift) (h : MadeCalls (TakesTurn order l) turn_count n x s y) where
   pub turns_commit : s.done + commits_in x.pass ≡ commits_in y.pass
   turns_commit =
-      called_gains (TakesTurn order l) turn_count (λ (c : Shift). c.done) (λ (p : Place). commits_in p.pass) refl (λ a b. refl)
+      called_gains (TakesTurn order l) turn_count (λ (c : Shift). c.done) (λ (p : DeskPlace). commits_in p.pass) refl (λ a b. refl)
       (λ p t q r. (turn_adds order l p.behaviour p.registers p.pass q.pass t q.registers r.answer).done_is) n x y s h
 
   pub turns_claim : claimed_in_all s + claims_in x.pass.mine ≡ claims_in y.pass.mine
   turns_claim =
-      called_gains (TakesTurn order l) turn_count claimed_in_all (λ (p : Place). claims_in p.pass.mine) refl (λ a b. omega arith)
+      called_gains (TakesTurn order l) turn_count claimed_in_all (λ (p : DeskPlace). claims_in p.pass.mine) refl (λ a b. omega arith)
       (λ p t q r. turn_claims order l p.behaviour p.registers p.pass q.pass t q.registers r.answer) n x y s h
 
   -- no more units are used up than there are, where any is
@@ -125,10 +125,10 @@ module _ {X : Type 0} {F : X → Type 0} (behaviour : (x : X) × F x → Behavio
   abbrev Lent : Type 0
   Lent = PassShown × DynBox X Global F
 
-  abbrev at : Lent → Place
+  abbrev at : Lent → DeskPlace
   at x = place (shown behaviour) (shown registers) (shown pending) x
 
-  abbrev of_desk : Desk X F → Place
+  abbrev of_desk : Desk X F → DeskPlace
   of_desk d = desk_place behaviour registers pending d
 
   -- the desk took n turns so far
@@ -214,7 +214,7 @@ module _ {X : Type 0} {F : X → Type 0} (behaviour : (x : X) × F x → Behavio
     ended = left_as e y lending.resting lending.ends lending.behaviour_is lending.registers_are
 
     -- what the turns made of the pass and the server
-    lent_as : (R : Place → Place → Type 0) → R (of_desk d) (of_desk e) → R (at x) (at y)
+    lent_as : (R : DeskPlace → DeskPlace → Type 0) → R (of_desk d) (of_desk e) → R (at x) (at y)
     lent_as R h = subst (λ a. R a (at y)) begun (subst (R (of_desk d)) ended h)
 
     lent_leaves : shown behaviour y.1 ≡ shown behaviour x.1 → Leaves (shown behaviour x.1) (shown registers x.1) (shown registers y.1) x.0 y.0
@@ -225,8 +225,8 @@ module _ {X : Type 0} {F : X → Type 0} (behaviour : (x : X) × F x → Behavio
         (subst (λ (s : DynBox X Global F). Leaves (shown behaviour y.1) (shown registers s) (shown registers y.1) x.0 y.0) start
         (subst (λ (p : PassShown). Leaves (shown behaviour y.1) (shown registers e.first_server.value) (shown registers y.1) p y.0) first lending.left))
 
-    same_behaviour : (order : Order) (ts : List Turned) (l : Limits) (p q : Place) → Chain (TakesTurn order l) p ts q → q.behaviour ≡ p.behaviour
-    same_behaviour order [] l p q h = ap (λ (r : Place). r.behaviour) h
+    same_behaviour : (order : Order) (ts : List Turned) (l : Limits) (p q : DeskPlace) → Chain (TakesTurn order l) p ts q → q.behaviour ≡ p.behaviour
+    same_behaviour order [] l p q h = ap (λ (r : DeskPlace). r.behaviour) h
     same_behaviour order (t ∷ ts) l p q h = same_behaviour order ts l h.0 q h.2 ∙ h.1.behaviour_is
 
     pub desk_ran : (plan : Plan) (counts : Shift) → TakesTurns plan d.manager.now.limits (of_desk d) counts (of_desk e)

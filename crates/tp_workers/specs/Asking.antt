@@ -10,13 +10,13 @@ use Rattle.tp_desk.specs.declared.order.Order.{Order}
 use Rattle.tp_desk.specs.declared.turned.Turned.{Turned}
 use Rattle.tp_workers.specs.declared.tally.Shift.{Shift}
 use Rattle.tp_workers.specs.Calling.{MadeCalls}
-use Rattle.tp_workers.specs.Desks.{Place, TakesTurn, place}
+use Rattle.tp_workers.specs.Desks.{DeskPlace, TakesTurn, place}
 use Rattle.tp_workers.specs.Tally.{turn_count}
 
 -- A turn was taken at this place, and what it asks was added to what had been asked there, the last call
 -- first.
-pub record TurnAsks (order : Order) (l : Limits) (old : Place × List Asked) (turned : Turned)
-    (new : Place × List Asked) : Type 0 where
+pub record TurnAsks (order : Order) (l : Limits) (old : DeskPlace × List Asked) (turned : Turned)
+    (new : DeskPlace × List Asked) : Type 0 where
   pub turn : TakesTurn order l old.0 turned new.0
   pub adds : new.1 ≡ turn_asks turned new.0.pass.seen old.0.registers new.0.registers ++ old.1
 

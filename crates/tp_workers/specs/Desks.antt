@@ -20,13 +20,14 @@ use Rattle.tp_workers.specs.Gains.{commits_in}
 use Rattle.tp_workers.specs.Tally.{turn_count}
 
 -- what a pass and its server show
-pub record Place : Type 0 where
+pub record DeskPlace : Type 0 where
   pub pass : PassShown
   pub behaviour : Behaviour
   pub registers : List ℕ
 
 -- a turn was taken there, whose claim was in this order, with this answer
-pub record TakesTurn (order : Order) (l : Limits) (old : Place) (turned : Turned) (new : Place) : Type 0 where
+pub record TakesTurn (order : Order) (l : Limits) (old : DeskPlace) (turned : Turned) (new : DeskPlace)
+    : Type 0 where
   pub answer : Turns order l old.behaviour old.registers old.pass new.pass turned new.registers
   pub follows : Follows (turn_steps order l) old.pass new.pass
   pub keeps_turn : KeepsTurn order old.pass new.pass
@@ -41,7 +42,8 @@ HadWork turned = (turn_count turned).idle + (turn_count turned).nounit ≡ 0
 
 -- At most as many turns as planned were taken there, in the planned order. It stopped with the first one that
 -- found no unit left, and else took all.
-pub record TakesTurns (plan : Plan) (l : Limits) (old : Place) (counts : Shift) (new : Place) : Type 0 where
+pub record TakesTurns (plan : Plan) (l : Limits) (old : DeskPlace) (counts : Shift) (new : DeskPlace)
+    : Type 0 where
   pub taken : ℕ
   pub calls : MadeCalls (TakesTurn plan.order l) turn_count taken old counts new
   pub at_most : taken ≤ plan.turns
@@ -49,7 +51,8 @@ pub record TakesTurns (plan : Plan) (l : Limits) (old : Place) (counts : Shift) 
   pub stops : AllButLast HadUnit calls.answers
 
 -- the same, where it stopped also with the first one that found nothing to wait
-pub record DeskWorksOn (plan : Plan) (l : Limits) (old : Place) (counts : Shift) (new : Place) : Type 0 where
+pub record DeskWorksOn (plan : Plan) (l : Limits) (old : DeskPlace) (counts : Shift) (new : DeskPlace)
+    : Type 0 where
   pub taken : ℕ
   pub calls : MadeCalls (TakesTurn plan.order l) turn_count taken old counts new
   pub at_most : taken ≤ plan.turns
@@ -60,7 +63,7 @@ pub record DeskWorksOn (plan : Plan) (l : Limits) (old : Place) (counts : Shift)
 -- work, and its prepared work.
 module _ {B : Type 0} (behaviour : B → Behaviour) (registers : B → List ℕ) (pending : B
     → Option Pending) where
-  abbrev pub place : PassShown × B → Place
+  abbrev pub place : PassShown × B → DeskPlace
   place x = record { pass = x.0; behaviour = behaviour x.1; registers = registers x.1 }
 
   -- a desk can be made of this pass and this server: the pass is free, and nothing is prepared
@@ -92,7 +95,7 @@ module _ {X : Type 0} {F : X → Type 0} (behaviour : (x : X) × F x → Behavio
     → List ℕ)
     (pending : (x : X) × F x → Option Pending) where
   -- what the pass and the server of a desk show
-  abbrev pub desk_place : Desk X F → Place
+  abbrev pub desk_place : Desk X F → DeskPlace
   desk_place d = place (shown behaviour) (shown registers) (shown pending) (d.pass.now, d.server.now)
 
   -- the desk is steady, and has no work in hand

@@ -10,16 +10,16 @@ use Rattle.tp_desk.specs.declared.turned.Turned.{Turned}
 use Rattle.tp_desk.specs.Serving.{Leaves}
 use Rattle.tp_workers.specs.declared.tally.Shift.{Shift}
 use Rattle.tp_workers.specs.Calling.{MadeCalls}
-use Rattle.tp_workers.specs.Desks.{IsDeskOf, Place, TakesTurn, place}
+use Rattle.tp_workers.specs.Desks.{IsDeskOf, DeskPlace, TakesTurn, place}
 use Rattle.tp_workers.specs.Gains.{commits_in}
 use Rattle.tp_workers.specs.Tally.{claimed_in_all, turn_count}
 use Rattle.tp_model.specs.declared.types.TheConstants.{MAX_UNITS}
 
 -- turns were taken there, whose claims were in this order, and the last found nothing to claim
-pub record EndsIdle (order : Order) (l : Limits) (old new : Place) : Type 0 where
+pub record EndsIdle (order : Order) (l : Limits) (old new : DeskPlace) : Type 0 where
   pub taken : ℕ
   pub counts : Shift
-  pub before : Place
+  pub before : DeskPlace
   pub calls : MadeCalls (TakesTurn order l) turn_count taken old counts before
   pub last : Turned
   pub turn : TakesTurn order l before last new
@@ -31,7 +31,8 @@ module _ {B : Type 0} (behaviour : B → Behaviour) (registers : B → List ℕ)
   -- a desk of this pass and this server took one turn, which is counted
   pub record TookTurn (old : PassShown × B) (counts : Shift) (new : PassShown × B) : Type 0 where
     pub turned : Turned
-    pub turn : TakesTurn order m.limits (place behaviour registers pending old) turned (place behaviour registers pending new)
+    pub turn : TakesTurn order m.limits (place behaviour registers pending old) turned
+        (place behaviour registers pending new)
     pub limits : AreLimits m.limits
     pub counted : counts ≡ turn_count turned
     pub leaves : Leaves (behaviour old.1) (registers old.1) (registers new.1) old.0 new.0
@@ -49,7 +50,8 @@ module _ {B : Type 0} (behaviour : B → Behaviour) (registers : B → List ℕ)
   -- the pass has consumed since led to.
   pub record DeskDrained (old : PassShown × B) (counts : Shift) (new : PassShown × B) : Type 0 where
     pub taken : ℕ
-    pub calls : MadeCalls (TakesTurn order m.limits) turn_count taken (place behaviour registers pending old) counts
+    pub calls : MadeCalls (TakesTurn order m.limits) turn_count taken (place behaviour registers pending old)
+        counts
         (place behaviour registers pending new)
     pub done : counts.done + commits_in old.0 ≡ commits_in new.0
     pub few : counts.done ≤ MAX_UNITS

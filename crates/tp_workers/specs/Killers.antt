@@ -58,7 +58,8 @@ pub record KillerRan (m : ManagerShown) (old : PassShown × KillJob) (counts : S
     : Type 0 where
   pub calls : MadeCalls (KillsNext m.limits) kill_count (old.1.end - old.1.first)
       (killing old.1.first old.0) counts (killing old.1.end new.0)
-  pub gains : GainsOnly (IsKillWork m.limits old.0.number old.1.first old.1.end old.0.seen new.0.seen) old.0 new.0
+  pub gains : GainsOnly (IsKillWork m.limits old.0.number old.1.first old.1.end old.0.seen new.0.seen) old.0
+      new.0
   pub killed : counts.killed + kills_in old.0 ≡ kills_in new.0
   pub number : new.0.number ≡ old.0.number
   pub same_job : new.1 ≡ old.1

@@ -27,4 +27,5 @@ abbrev pub client_part : Shift → Shift
 client_part s = record empty_shift { submitted = s.submitted; submit_full = s.submit_full }
 
 abbrev pub killer_part : Shift → Shift
-killer_part s = record empty_shift { killed = s.killed; late = s.late; already = s.already; missing = s.missing }
+killer_part s =
+    record empty_shift { killed = s.killed; late = s.late; already = s.already; missing = s.missing }

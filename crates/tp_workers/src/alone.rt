@@ -22,7 +22,8 @@ pub fn work_off(
     plan: Plan,
 ) -> Shift
     requires ready { IsDeskOf behaviour registers pending manager.now (pass.old, server.old) }
-    ensures worked { DeskWorked behaviour registers pending manager.now plan (pass.old, server.old) result (pass.new, server.new) }
+    ensures worked { DeskWorked behaviour registers pending manager.now plan (pass.old, server.old) result
+        (pass.new, server.new) }
     ensures asked { AsksTurns behaviour registers pending asked manager.now plan.order
         (pass.old, server.old) result (pass.new, server.new) }
 {
@@ -36,8 +37,10 @@ fn turns_until_idle(desk: &mut Desk, plan: Plan) -> Shift
     requires resting { IsResting behaviour registers pending desk.old }
     ensures same { IsSameDesk desk.old desk.new }
     ensures turns { DeskWorksOn plan desk.old.manager.now.limits
-        (desk_place behaviour registers pending desk.old) result (desk_place behaviour registers pending desk.new) }
-    ensures asked { AsksTurns (shown behaviour) (shown registers) (shown pending) (shown asked) desk.old.manager.now
+        (desk_place behaviour registers pending desk.old) result
+        (desk_place behaviour registers pending desk.new) }
+    ensures asked { AsksTurns (shown behaviour) (shown registers) (shown pending) (shown asked)
+        desk.old.manager.now
         plan.order (desk.old.pass.now, desk.old.server.now) result (desk.new.pass.now, desk.new.server.now) }
     ensures resting { IsResting behaviour registers pending desk.new }
 {

@@ -59,7 +59,8 @@ fn submit_at<G: Gate>(
     requires within { at < length job.now.bodies }
     requires own { IsOf manager.now pass.old }
     ensures own { IsOf manager.now pass.new }
-    ensures call { SubmitsOnce manager.now.limits job.now.stage (get_or job.now.bodies at []) pass.old result pass.new }
+    ensures call { SubmitsOnce manager.now.limits job.now.stage (get_or job.now.bodies at []) pass.old result
+        pass.new }
 {
     gate.pause(worker, Point::Start);
     let answer = manager.submit(pass, job.stage, job.bodies[at]);

@@ -31,7 +31,8 @@ pub(crate) fn run_desk<G: Gate>(
     gate: &G,
 ) -> Shift
     requires ready { IsDeskOf behaviour registers pending manager.now (pass.old, server.old) }
-    ensures ran { DeskRan behaviour registers pending manager.now plan (pass.old, server.old) result (pass.new, server.new) }
+    ensures ran { DeskRan behaviour registers pending manager.now plan (pass.old, server.old) result
+        (pass.new, server.new) }
     ensures asked { AsksTurns behaviour registers pending asked manager.now plan.order
         (pass.old, server.old) result (pass.new, server.new) }
     ensures bound { total result ≤ plan.turns }
@@ -50,7 +51,8 @@ pub(crate) fn take_turn(
     order: Order,
 ) -> Shift
     requires ready { IsDeskOf behaviour registers pending manager.now (pass.old, server.old) }
-    ensures took { TookTurn behaviour registers pending manager.now order (pass.old, server.old) result (pass.new, server.new) }
+    ensures took { TookTurn behaviour registers pending manager.now order (pass.old, server.old) result
+        (pass.new, server.new) }
     ensures asked { AsksTurns behaviour registers pending asked manager.now order
         (pass.old, server.old) result (pass.new, server.new) }
 {
@@ -64,8 +66,10 @@ fn take_turns<G: Gate>(desk: &mut Desk, plan: Plan, worker: u32, gate: &G) -> Sh
     requires resting { IsResting behaviour registers pending desk.old }
     ensures same { IsSameDesk desk.old desk.new }
     ensures turns { TakesTurns plan desk.old.manager.now.limits
-        (desk_place behaviour registers pending desk.old) result (desk_place behaviour registers pending desk.new) }
-    ensures asked { AsksTurns (shown behaviour) (shown registers) (shown pending) (shown asked) desk.old.manager.now
+        (desk_place behaviour registers pending desk.old) result
+        (desk_place behaviour registers pending desk.new) }
+    ensures asked { AsksTurns (shown behaviour) (shown registers) (shown pending) (shown asked)
+        desk.old.manager.now
         plan.order (desk.old.pass.now, desk.old.server.now) result (desk.new.pass.now, desk.new.server.now) }
     ensures resting { IsResting behaviour registers pending desk.new }
     ensures bound { total result ≤ plan.turns }
@@ -86,9 +90,11 @@ pub(crate) fn turn_at<G: Gate>(desk: &mut Desk, order: Order, worker: u32, gate:
     requires resting { IsResting behaviour registers pending desk.old }
     ensures same { IsSameDesk desk.old desk.new }
     ensures turn { TakesTurn order desk.old.manager.now.limits
-        (desk_place behaviour registers pending desk.old) result (desk_place behaviour registers pending desk.new) }
+        (desk_place behaviour registers pending desk.old) result
+        (desk_place behaviour registers pending desk.new) }
     ensures asked { Asks (turn_asks result desk.new.pass.now.seen (shown registers desk.old.server.now)
-        (shown registers desk.new.server.now)) (shown asked desk.old.server.now) (shown asked desk.new.server.now) }
+        (shown registers desk.new.server.now)) (shown asked desk.old.server.now)
+        (shown asked desk.new.server.now) }
     ensures resting { IsResting behaviour registers pending desk.new }
 {
     gate.pause(worker, Point::Start);
@@ -104,12 +110,14 @@ fn claim_at<G: Gate>(desk: &mut Desk, order: Order, worker: u32, gate: &G) -> Tu
     ensures behaviour { shown behaviour desk.new.server.now ≡ shown behaviour desk.old.server.now }
     ensures free { desk.new.work ≡ None }
     ensures turn { KeepsTurn order desk.old.pass.now desk.new.pass.now }
-    ensures follows { Follows (turn_steps order desk.old.manager.now.limits) desk.old.pass.now desk.new.pass.now }
+    ensures follows { Follows (turn_steps order desk.old.manager.now.limits) desk.old.pass.now
+        desk.new.pass.now }
     ensures answer { Turns order desk.old.manager.now.limits (shown behaviour desk.old.server.now)
         (shown registers desk.old.server.now) desk.old.pass.now desk.new.pass.now result
         (shown registers desk.new.server.now) }
     ensures asked { Asks (turn_asks result desk.new.pass.now.seen (shown registers desk.old.server.now)
-        (shown registers desk.new.server.now)) (shown asked desk.old.server.now) (shown asked desk.new.server.now) }
+        (shown registers desk.new.server.now)) (shown asked desk.old.server.now)
+        (shown asked desk.new.server.now) }
     ensures steady { SteadyDesk (shown behaviour) (shown registers) (shown pending) desk.new }
 {
     match desk.claim_by(order) {
@@ -132,7 +140,8 @@ fn work_at<G: Gate>(desk: &mut Desk, work: Work, worker: u32, gate: &G) -> Turne
     ensures answer { WorksOff (shown behaviour desk.old.server.now) (shown registers desk.old.server.now) work
         desk.old.pass.now desk.new.pass.now result (shown registers desk.new.server.now) }
     ensures asked { Asks (turn_asks result desk.new.pass.now.seen (shown registers desk.old.server.now)
-        (shown registers desk.new.server.now)) (shown asked desk.old.server.now) (shown asked desk.new.server.now) }
+        (shown registers desk.new.server.now)) (shown asked desk.old.server.now)
+        (shown asked desk.new.server.now) }
     ensures steady { SteadyDesk (shown behaviour) (shown registers) (shown pending) desk.new }
 {
     gate.pause(worker, Point::Claimed);

@@ -146,11 +146,13 @@ fn fork_two<
     }
     let mut one = || -> Shift
         requires { MayRun F.Fn run_x.now xs.now xs_by.now }
-        ensures { RanEach (Runs F.Fn run_x.entry.now) xs.entry.now xs_by.entry.now result xs.exit.now xs_by.exit.now }
+        ensures { RanEach (Runs F.Fn run_x.entry.now) xs.entry.now xs_by.entry.now result xs.exit.now
+            xs_by.exit.now }
     { fork(rt, run_x, low, xs, xs_by, &mut []) };
     let mut other = || -> Shift
         requires { MayRun H.Fn run_y.now ys.now ys_by.now }
-        ensures { RanEach (Runs H.Fn run_y.entry.now) ys.entry.now ys_by.entry.now result ys.exit.now ys_by.exit.now }
+        ensures { RanEach (Runs H.Fn run_y.entry.now) ys.entry.now ys_by.entry.now result ys.exit.now
+            ys_by.exit.now }
     { fork(rt, run_y, high, ys, ys_by, &mut []) };
     join_mut(rt, &mut one, &mut other)
 }
@@ -190,7 +192,8 @@ pub(crate) fn fork_three<
     ensures xs_ran { RanEach (Runs F.Fn run_x.now) xs.old xs_by.old result.0 xs.new xs_by.new }
     ensures ys_ran { RanEach (Runs H.Fn run_y.now) ys.old ys_by.old result.1.0 ys.new ys_by.new }
     ensures zs_ran { RanEach (Runs K.Fn run_z.now) zs.old zs_by.old result.1.1 zs.new zs_by.new }
-    ensures xs_told { AreTold (Runs F.Fn run_x.now) xs.old xs_by.old xs_told.old result.0 xs.new xs_by.new xs_told.new }
+    ensures xs_told { AreTold (Runs F.Fn run_x.now) xs.old xs_by.old xs_told.old result.0 xs.new xs_by.new
+        xs_told.new }
 {
     if ys.is_empty() {
         if zs.is_empty() {
@@ -201,14 +204,17 @@ pub(crate) fn fork_three<
     }
     let mut one = || -> Shift
         requires { MayRun F.Fn run_x.now xs.now xs_by.now }
-        ensures { RanEach (Runs F.Fn run_x.entry.now) xs.entry.now xs_by.entry.now result xs.exit.now xs_by.exit.now
+        ensures { RanEach (Runs F.Fn run_x.entry.now) xs.entry.now xs_by.entry.now result xs.exit.now
+            xs_by.exit.now
             × AreTold (Runs F.Fn run_x.entry.now) xs.entry.now xs_by.entry.now xs_told.entry.now result
             xs.exit.now xs_by.exit.now xs_told.exit.now }
     { fork(rt, run_x, first, xs, xs_by, xs_told) };
     let mut other = || -> (Shift, Shift)
         requires { MayRun H.Fn run_y.now ys.now ys_by.now × MayRun K.Fn run_z.now zs.now zs_by.now }
-        ensures { RanEach (Runs H.Fn run_y.entry.now) ys.entry.now ys_by.entry.now result.0 ys.exit.now ys_by.exit.now
-            × RanEach (Runs K.Fn run_z.entry.now) zs.entry.now zs_by.entry.now result.1 zs.exit.now zs_by.exit.now }
+        ensures { RanEach (Runs H.Fn run_y.entry.now) ys.entry.now ys_by.entry.now result.0 ys.exit.now
+            ys_by.exit.now
+            × RanEach (Runs K.Fn run_z.entry.now) zs.entry.now zs_by.entry.now result.1 zs.exit.now
+            zs_by.exit.now }
     { fork_two(rt, run_y, run_z, second, third, ys, ys_by, zs, zs_by) };
     join_mut(rt, &mut one, &mut other)
 }

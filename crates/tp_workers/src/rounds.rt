@@ -3,7 +3,8 @@ ghost use Rattle.std.specs.Prelude.{◌≡◌, ◌+◌, ◌*◌, ◌<◌, ◌^�
 ghost use Rattle.tp_workers.specs.Asking.{AsksTurns};
 ghost use Rattle.tp_workers.specs.Desks.{DeskWorked, IsDeskOf};
 ghost use Rattle.tp_workers.specs.Drained.{DeskDrained, LastTurn, TookTurn};
-ghost use Rattle.tp_workers.specs.Free.{IsFreePass, numbers};
+ghost use Rattle.tp_workers.specs.Free.{IsFreePass};
+ghost use Rattle.tp_manager.specs.Shown.{numbers};
 ghost use Rattle.tp_workers.specs.Gains.{commits_in};
 ghost use Rattle.tp_workers.specs.declared.tally.Shift.{Shift};
 ghost use Rattle.tp_workers.specs.Ran.{RanEach};
@@ -27,11 +28,11 @@ pub struct Drained {
     pub nounit: u32,
 }
 
-/// Has a desk of each pass with the server at its place take turns on the caller's thread, whose claims are in
-/// this order. After a round of one turn each, one desk after another goes on until it finds nothing; then
+/// Has a desk of each pass with the server at its place take turns on the caller's thread, whose claims are
+/// in this order. After a round of one turn each, one desk after another goes on until it finds nothing; then
 /// comes the next round. It ends after a whole round that claims nothing: each desk's last turn found nothing
-/// to wait, or no unit left. All passes come from this manager's keeper and have no unit open, and the servers
-/// have nothing prepared; so it is afterwards.
+/// to wait, or no unit left. All passes come from this manager's keeper and have no unit open, and the
+/// servers have nothing prepared; so it is afterwards.
 pub fn drain(
     manager: &Manager,
     passes: &mut [Pass],
@@ -43,11 +44,14 @@ pub fn drain(
     requires clear { All (λ server. pending server ≡ None) servers.old }
     requires fit { length passes.old * 1024 < 2 ^ 32 }
     ensures desks { (counts : Shift) × (result.done ≡ counts.done)
-        × RanEach (DeskDrained behaviour registers pending manager.now order) passes.old servers.old counts passes.new servers.new }
+        × RanEach (DeskDrained behaviour registers pending manager.now order) passes.old servers.old counts
+        passes.new servers.new }
     ensures last_turns { (counts : Shift) × (result.nounit ≡ counts.nounit)
-        × RanEach (LastTurn behaviour registers pending manager.now order) passes.old servers.old counts passes.new servers.new }
+        × RanEach (LastTurn behaviour registers pending manager.now order) passes.old servers.old counts
+        passes.new servers.new }
     ensures asked { (counts : Shift) × (result.done ≡ counts.done)
-        × RanEach (AsksTurns behaviour registers pending asked manager.now order) passes.old servers.old counts passes.new servers.new }
+        × RanEach (AsksTurns behaviour registers pending asked manager.now order) passes.old servers.old
+        counts passes.new servers.new }
     ensures free { All (IsFreePass manager.now) passes.new }
     ensures clear { All (λ server. pending server ≡ None) servers.new }
     ensures numbered { numbers passes.new ≡ numbers passes.old }
@@ -99,8 +103,8 @@ fn round(
     in_turn(&run, 0, passes, servers)
 }
 
-/// Each desk in its turn works on until it finds nothing to wait, or no unit left, in as many turns as planned
-/// at most.
+/// Each desk in its turn works on until it finds nothing to wait, or no unit left, in as many turns as
+/// planned at most.
 fn work_off_each(
     manager: &Manager,
     passes: &mut [Pass],

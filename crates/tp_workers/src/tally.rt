@@ -2,7 +2,8 @@
 ghost use Rattle.std.specs.Prelude.{◌≡◌, ◌+◌, ◌<◌, ◌^◌, true, false};
 ghost use Rattle.std.specs.Bool.{OnTrue, OnFalse};
 ghost use Rattle.tp_workers.specs.Sums.{client_part, desk_part, killer_part};
-ghost use Rattle.tp_workers.specs.Tally.{claimed_in_all, kill_count, empty_shift, plus, submit_count, total, turn_count};
+ghost use Rattle.tp_workers.specs.Tally.{claimed_in_all, kill_count, empty_shift, plus, submit_count, total};
+ghost use Rattle.tp_workers.specs.Tally.{turn_count};
 
 use tp_desk::Turned;
 use tp_model::types::{Killed, Refusal};

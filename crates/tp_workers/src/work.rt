@@ -3,7 +3,8 @@ ghost use Rattle.std.specs.Prelude.{◌≡◌, ◌+◌, ◌-◌, ◌*◌, ◌<�
 ghost use Rattle.tp_workers.specs.Asking.{AsksTurns};
 ghost use Rattle.tp_workers.specs.Clients.{ClientRan, IsClientJob, IsClientOf};
 ghost use Rattle.tp_workers.specs.Desks.{DeskRan, IsDeskOf};
-ghost use Rattle.tp_workers.specs.Free.{IsFreePass, numbers};
+ghost use Rattle.tp_workers.specs.Free.{IsFreePass};
+ghost use Rattle.tp_manager.specs.Shown.{numbers};
 ghost use Rattle.tp_workers.specs.Gains.{commits_in, enqueues_in, kills_in};
 ghost use Rattle.tp_workers.specs.Killers.{IsKillJob, IsKillerOf, KillerRan};
 ghost use Rattle.tp_workers.specs.Ran.{AreTold, RanEach};
@@ -84,12 +85,15 @@ pub fn shift<R: Threads + Sync, G: Gate>(
 
     // The counts are sums of what the passes gained, and of what was asked.
     ensures done { result.done + sum_by commits_in desk_passes.old ≡ sum_by commits_in desk_passes.new }
-    ensures submitted { result.submitted + sum_by enqueues_in client_passes.old ≡ sum_by enqueues_in client_passes.new }
+    ensures submitted { result.submitted + sum_by enqueues_in client_passes.old
+        ≡ sum_by enqueues_in client_passes.new }
     ensures killed { result.killed + sum_by kills_in killer_passes.old ≡ sum_by kills_in killer_passes.new }
     ensures all_turns { result.nounit ≡ 0
-        → result.done + result.refused + result.lost + result.full + result.idle ≡ plan.turns * length desk_passes.old }
+        → result.done + result.refused + result.lost + result.full + result.idle
+        ≡ plan.turns * length desk_passes.old }
     ensures all_calls { result.submitted + result.submit_full ≡ sum_by calls_of clients.old }
-    ensures all_ids { result.killed + result.late + result.already + result.missing ≡ sum_by size_of_range killers.old }
+    ensures all_ids { result.killed + result.late + result.already + result.missing
+        ≡ sum_by size_of_range killers.old }
 {
     let desk = |pass: &mut Pass, server: &mut Box<dyn Server + Send>, worker: u32| -> Shift
         requires { IsDeskOf behaviour registers pending manager.now (pass.now, server.now) }
@@ -101,12 +105,14 @@ pub fn shift<R: Threads + Sync, G: Gate>(
     { run_desk(manager, pass, server, plan, worker, gate) };
     let client = |pass: &mut Pass, job: &mut ClientJob, worker: u32| -> Shift
         requires { IsClientOf manager.now (pass.now, job.now) × (calls_of job.now < 2 ^ 32) }
-        ensures { ClientRan manager.entry.now (pass.entry.now, job.entry.now) result (pass.exit.now, job.exit.now)
+        ensures { ClientRan manager.entry.now (pass.entry.now, job.entry.now) result
+            (pass.exit.now, job.exit.now)
             × (total result ≤ calls_of job.entry.now) }
     { run_client(manager, pass, job, worker, gate) };
     let killer = |pass: &mut Pass, job: &mut KillJob, worker: u32| -> Shift
         requires { IsKillerOf manager.now (pass.now, job.now) }
-        ensures { KillerRan manager.entry.now (pass.entry.now, job.entry.now) result (pass.exit.now, job.exit.now)
+        ensures { KillerRan manager.entry.now (pass.entry.now, job.entry.now) result
+            (pass.exit.now, job.exit.now)
             × (total result ≤ job.entry.now.end - job.entry.now.first) }
     { run_killer(manager, pass, job, worker, gate) };
     let first_client = number_after(0, desk_passes.len());

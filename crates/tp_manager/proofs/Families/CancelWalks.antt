@@ -26,8 +26,8 @@ use Rattle.tp_model.proofs.Replies.{reply_stands}
 use Rattle.tp_model.proofs.WordProofs.{status_by_words}
 use Rattle.tp_rule.specs.Views.{hand}
 use Rattle.tp_rule.specs.declared.view.View.{View}
-use Rattle.tp_manager.specs.declared.cancelling.Ended.{Ended}
-use Rattle.tp_manager.specs.declared.cancelling.Ended.TheVariants.{Killed, Outputs, Before}
+use Rattle.tp_manager.specs.declared.cancelling.CancelEnd.{CancelEnd}
+use Rattle.tp_manager.specs.declared.cancelling.CancelEnd.TheVariants.{Killed, Outputs, Before}
 use Rattle.tp_manager.specs.Bounds.{each_end_steps, end_steps_at}
 use Rattle.tp_manager.specs.Cancels.{IsDoneAt, IsTarget}
 use Rattle.tp_manager.specs.Endings.{Cancelling, CancelsIn, EndsAt, IsWalkedOut, IsEnded, IsUnworked, gone_steps, killed_in, killed_there}
@@ -110,7 +110,7 @@ module _ (l : Limits) (i : ℕ) where
             is = inl killed;
           }
 
-      pub ends_left : (k : ℕ) (e : Refusal) (r : Ended) (z : View) → n + m + 1 ≤ k → FailsIn l m i left e w y → Looked l 1 y z → IsEnded l i z.seen r → killed_there i r ≡ [] → EndsAt l k root i r v z
+      pub ends_left : (k : ℕ) (e : Refusal) (r : CancelEnd) (z : View) → n + m + 1 ≤ k → FailsIn l m i left e w y → Looked l 1 y z → IsEnded l i z.seen r → killed_there i r ≡ [] → EndsAt l k root i r v z
       ends_left k e r z le s b is none =
           let es = s.0 in let f = s.2 in
           let sw = swept_then l root n m [] es v w y (swept_looked l root n v w a) (swept_freed l root m i es w y of f) in
@@ -177,13 +177,13 @@ module _ (l : Limits) (root : ℕ) where
       let inside = births_inside l w.seen legal c.0 (is_born w.seen i c.0 c.1) in let id = element_of-id w.seen i c.0 c.1 in
       (omega arith, (c.0, c.1, c.2))
 
-  killed_one : (i : ℕ) (r : Ended) → length (killed_there i r) ≤ 1
+  killed_one : (i : ℕ) (r : CancelEnd) → length (killed_there i r) ≤ 1
   killed_one i Killed = omega arith
   killed_one i Before = omega arith
   killed_one i (Outputs f m) = omega arith
 
   -- one element more
-  module _ (k killed i : ℕ) (Left Next Adds : ℕ → Type 0) (r : Ended) (v w y : View) (left : Left i) (least : (j : ℕ) → Left j → i ≤ j)
+  module _ (k killed i : ℕ) (Left Next Adds : ℕ → Type 0) (r : CancelEnd) (v w y : View) (left : Left i) (least : (j : ℕ) → Left j → i ≤ j)
       (only : (j : ℕ) → Next j → (Left j × (j ≢ i)) ⊎ Adds j) (kept : (j : ℕ) → Left j → j ≢ i → Next j) (adds : (j : ℕ) → Adds j → IsOutputFrom y.seen root i j × LeadsTo l.attempts y.seen i j)
       (s : Cancelling l root k killed Left v w) (of : IsOfFamily w.seen root i) (e : EndsAt l (end_steps_at l of.0) root i r w y) (here_done : IsWalkedOut l Next y.seen i) where
     begins : IsPrefix w.seen y.seen
@@ -256,7 +256,7 @@ module _ (l : Limits) (root : ℕ) where
             r
 
   -- no unit takes it: it leads to nothing
-  pub cancelling_unworked : (k killed i : ℕ) (Left Less : ℕ → Type 0) (r : Ended) (v w y : View) → Left i → ((j : ℕ) → Left j → i ≤ j) → ((j : ℕ) → Less j ↔ (Left j × (j ≢ i)))
+  pub cancelling_unworked : (k killed i : ℕ) (Left Less : ℕ → Type 0) (r : CancelEnd) (v w y : View) → Left i → ((j : ℕ) → Left j → i ≤ j) → ((j : ℕ) → Less j ↔ (Left j × (j ≢ i)))
       → Cancelling l root k killed Left v w → (of : IsOfFamily w.seen root i) → EndsAt l (end_steps_at l of.0) root i r w y → IsUnworked l i y.seen → Cancelling l root (k + 1) (killed + length (killed_there i r)) Less v y
   cancelling_unworked k killed i Left Less r v w y left least less s of e t =
       cancelling_on k killed i Left Less (λ j. ⊥) r v w y left least (λ j x. inl ((less j).0 x)) (λ j old differ. (less j).1 (old, differ)) (λ j none. absurd none) s of e (inl t)

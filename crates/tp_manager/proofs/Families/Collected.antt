@@ -14,7 +14,7 @@ use Rattle.tp_model.proofs.Bridges.{begins_trans, found_later, is_born}
 use Rattle.tp_rule.specs.Views.{hand}
 use Rattle.tp_rule.specs.declared.view.View.{View}
 use Rattle.tp_manager.specs.Calls.{claims_in}
-use Rattle.tp_manager.specs.Families.{Taken, WereKilled}
+use Rattle.tp_manager.specs.Families.{TakenReply, WereKilled}
 use Rattle.tp_manager.specs.Lists.{AllKilled, CollectsNext, NoneCollected}
 use Rattle.tp_manager.specs.Shown.{Spot, PassShown, shown}
 use Rattle.tp_manager.specs.CallSteps.{Acted, Gained, Steady, Stepped}
@@ -27,7 +27,7 @@ use Rattle.tp_manager.proofs.Families.Trees.{has_root}
 use Rattle.tp_manager.proofs.Calls.CallSteps.{acted_then, at_point, looked, opening_is, walked_none, walked_then}
 
 -- the pass has gained no claim
-pub taken_gained : (l : Limits) (n root : ℕ) (v w : View) (r : Option Element) → Taken l n root v w r → (es : List Event) × Gained l n es v w × (claims_in es ≡ 0)
+pub taken_gained : (l : Limits) (n root : ℕ) (v w : View) (r : Option Element) → TakenReply l n root v w r → (es : List Event) × Gained l n es v w × (claims_in es ≡ 0)
 taken_gained l n root v w None t = ([], gained_looked l n v w t.0, refl)
 taken_gained l n root v w (Some x) t = (Kill (hand v).number x.id ∷ [], t.0.gained, refl)
 
@@ -42,7 +42,7 @@ module _ (t t' : Spot) (v x w : View) (old : PassShown) (is : shown t v ≡ old)
       at_point t t' v w old is l (n + m) (a.marks ++ ns) walk (λ h. status_of l.attempts h e.id ≡ Killed) k.0
       (record { opened = subst (λ z. IsPrefix z k.0) (sym same) (begins_trans (opening_of v.seen a.marks) x.seen k.0 a.walk.closes k.1); seen = k.2 }) k.3
 
-  pub taken_answer : (hand v).open_unit ≡ None → (r : Option Element) → Taken l m root x w r → MatchOption r (NoneCollected l root old (shown t' w)) (λ e. CollectsNext l root e old (shown t' w))
+  pub taken_answer : (hand v).open_unit ≡ None → (r : Option Element) → TakenReply l m root x w r → MatchOption r (NoneCollected l root old (shown t' w)) (λ e. CollectsNext l root e old (shown t' w))
   taken_answer free None s = (quiet_looked t t' v w old is l (n + m) (looked l (n + m) v w (acted_then l n m v x w a s.0)), killed_shown s.0.marks (λ i. Unit {0}) s.0.walk s.1)
   taken_answer free (Some e) s =
       let all = freed_slain l n m e.id [] [] v x w (freed_looked l n e.id v x (looked l n v x a)) s.0 in record {

@@ -21,7 +21,7 @@ use Rattle.tp_rule.specs.Views.{hand}
 use Rattle.tp_rule.specs.declared.view.View.{View}
 use Rattle.tp_manager.specs.declared.row_reads.Birth.{Birth}
 use Rattle.tp_manager.specs.Bounds.{collect_steps, one_take_steps, walk_steps}
-use Rattle.tp_manager.specs.Families.{IsAsked, Listed, Taken, Taking, WereKilled, count_below, in_family, is_member}
+use Rattle.tp_manager.specs.Families.{IsAsked, Listed, TakenReply, CollectingNext, WereKilled, count_below, in_family, is_member}
 use Rattle.tp_manager.specs.Kills.{Slain}
 use Rattle.tp_manager.specs.Lists.{HasReply, IsReply, killed_between}
 use Rattle.tp_manager.specs.Looks.{IsBornAs}
@@ -85,16 +85,16 @@ module _ (l : Limits) (root : ℕ) where
       go i None e is = let q : is_member root (element_of a i) ≡ is_member root None = ap (is_member root) e in absurd cc
       go i (Some x) e is = ap (is_member root) (found_later a b begins i x e ∙ sym e) ∙ is
 
-  pub taking_begins : (v : View) → Steady l v → Taking l root 0 0 v v
+  pub taking_begins : (v : View) → Steady l v → CollectingNext l root 0 0 v v
   taking_begins v s = record { looked = looked_few l 0 (0 * one_take_steps (length (family v.seen root))) v v (omega arith) (looked_none l v s); killed = λ x born reply less. absurd (omega arith); tries = omega arith; lost = omega arith; inside = omega arith }
 
   sum_few : (k a b z : ℕ) → a ≤ z → b ≤ z → k * a + b ≤ (k + 1) * z
   sum_few k a b z first second = let all : k * a ≤ k * z = mul-le-mul_left k first in omega arith
 
-  pub taking_most : (from k : ℕ) (v w : View) → Taking l root from k v w → k ≤ rows_of l
+  pub taking_most : (from k : ℕ) (v w : View) → CollectingNext l root from k v w → k ≤ rows_of l
   taking_most from k v w t = let up = count_rises (in_family root w.seen) from (rows_of l) t.inside in let most = count_most (in_family root w.seen) (rows_of l) in let tries = t.tries in omega arith
 
-  module _ (from k : ℕ) (v w x : View) (t : Taking l root from k v w) where
+  module _ (from k : ℕ) (v w x : View) (t : CollectingNext l root from k v w) where
     module _ (least : Option ℕ) (s : Listed l root from least w x) where
       legal : IsLegal l x.seen
       legal = s.looked.walk.steady.shows.legal
@@ -118,7 +118,7 @@ module _ (l : Limits) (root : ℕ) where
       last : (y : List Event) (walks : ℕ) → k + 1 ≤ walks → (k + 1) * one_take_steps (length (family y root)) ≤ walks * one_take_steps (length (family y root))
       last y walks le = mul-le-mul_right (one_take_steps (length (family y root))) le
 
-    pub taken_none : Listed l root from None w x → Taken l ((killed_between l root v.seen x.seen + 1) * one_take_steps (length (family x.seen root))) root v x None
+    pub taken_none : Listed l root from None w x → TakenReply l ((killed_between l root v.seen x.seen + 1) * one_take_steps (length (family x.seen root))) root v x None
     taken_none s = (
       (let lost = t.lost in let more = killed_more l root v.seen w.seen x.seen (legal None s) (after None s) in
           let a = few None s x.seen (begins_refl x.seen) in let b = last None s x.seen (killed_between l root v.seen x.seen + 1) (omega arith) in
@@ -142,7 +142,7 @@ module _ (l : Limits) (root : ℕ) where
           (not_killed l v.seen p.0 id whole (begins_trans v.seen w.seen p.0 (before (Some id) s) p.1) p.3.3) (not_killed l w.seen p.0 id whole p.1 p.3.3) gone in
           omega arith
 
-      pub taken_some : (e : Element) → Slain l collect_steps id [] x y → element_of y.seen id ≡ Some e → IsPrefix x.seen y.seen → Taken l (killed_between l root v.seen y.seen * one_take_steps (length (family y.seen root))) root v y (Some e)
+      pub taken_some : (e : Element) → Slain l collect_steps id [] x y → element_of y.seen id ≡ Some e → IsPrefix x.seen y.seen → TakenReply l (killed_between l root v.seen y.seen * one_take_steps (length (family y.seen root))) root v y (Some e)
       taken_some e one born on =
           let own : e.id ≡ id = element_of-id y.seen id e born in
           let n = k * one_take_steps (length (family w.seen root)) + walk_steps (length (family x.seen root)) in
@@ -160,7 +160,7 @@ module _ (l : Limits) (root : ℕ) where
           same : (e : Element) → element_of y.seen id ≡ Some e → IsPrefix x.seen y.seen → IsReply root e
           same e born on = let q = found_later x.seen y.seen on id there_is.0 there_is.1 in let one : there_is.0 ≡ e = cc in subst (IsReply root) one there_is.2
 
-      pub taking_on : Looked l collect_steps x y → IsBetween x.seen y.seen (λ h. status_of l.attempts h id ≡ Killed) → Taking l root (id + 1) (k + 1) v y
+      pub taking_on : Looked l collect_steps x y → IsBetween x.seen y.seen (λ h. status_of l.attempts h id ≡ Killed) → CollectingNext l root (id + 1) (k + 1) v y
       taking_on b gone = let on = looked_begins l collect_steps x y b in record {
         looked = looked_few l _ ((k + 1) * one_take_steps (length (family y.seen root))) v y (few (Some id) s y.seen on) (looked_then l _ collect_steps v x y (both (Some id) s) b);
         killed = λ e born reply less. elim (cases_lt e.id id) [

@@ -24,7 +24,7 @@ use Rattle.tp_model.proofs.Later.{aborted_by, abort_ends}
 use Rattle.tp_model.proofs.Bridges.{in_right}
 use Rattle.tp_model.specs.History.{here}
 use Rattle.tp_rule.specs.Views.{SeatShown, hand, view_of}
-use Rattle.tp_rule.specs.Steps.{Grew, IsOut, IsOwnWork, IsClaimed, committed, with_end, with_lost}
+use Rattle.tp_rule.specs.Steps.{Grew, IsOut, IsOwnWork, IsClaimed, commit_event, with_end, with_lost}
 use Rattle.tp_rule.specs.declared.view.Hand.{Hand}
 use Rattle.tp_rule.specs.declared.view.View.{View}
 use Rattle.tp_manager.specs.declared.manager.Run.{Run}
@@ -202,7 +202,7 @@ module _ (l : Limits) (v w : View) (number : ℕ) (run : Run) (used row : ℕ) (
   pub row_is : row ≡ (hand v).next
   row_is = next ∙ sym own_next
 
-  pub committed_is : committed w t.unit ≡ Commit (hand v).number t.unit (outputs t.unit t.root (hand v).next ds)
+  pub committed_is : commit_event w t.unit ≡ Commit (hand v).number t.unit (outputs t.unit t.root (hand v).next ds)
   committed_is = let outs : (hand w).drafts ≡ outputs t.unit t.root (hand v).next ds = outs_are ∙ ap (λ z. outputs t.unit t.root z ds) row_is in
       (λ i. Commit (wr.walk.number i) t.unit (outs i))
 
@@ -257,7 +257,7 @@ shut_done l n k c outs v y number t sh work = λ i is. let legal = sh.walk.stead
 
 -- the answer of a commit that was made
 pub committed_answer : (t t' : Spot) (l : Limits) (v w y : View) (old : PassShown) → shown t v ≡ old → (number : ℕ) (run : Run) (used row : ℕ) (k : Task) (ds : List DraftView) (seat : SeatShown) → view_of seat ≡ v → Rests seat number run used (Some k) → row ≡ run.next
-    → Wrote l (outputs k.unit k.root row ds) v w → v.limits ≡ l → (hand v).open_unit ≡ Some k.unit → (f n : ℕ) → Shut l n (length ds) (committed w k.unit ∷ []) v y → (0 < length ds → f ≡ row) → (length ds ≡ 0 → f ≡ 0) → Commits f (length ds) ds old (shown t' y)
+    → Wrote l (outputs k.unit k.root row ds) v w → v.limits ≡ l → (hand v).open_unit ≡ Some k.unit → (f n : ℕ) → Shut l n (length ds) (commit_event w k.unit ∷ []) v y → (0 < length ds → f ≡ row) → (length ds ≡ 0 → f ≡ 0) → Commits f (length ds) ds old (shown t' y)
 committed_answer t t' l v w y old is number run used row k ds seat same r next wr lim held f n sh a b =
     let e = committed_is l v w number run used row k ds seat same r next wr in
     let work : IsTask v.seen number (Some k) = subst (λ (z : View). IsTask z.seen number (Some k)) same r.work in

@@ -1,6 +1,6 @@
 use Rattle.std.proofs.Common.{◌≡◌, ap, arith, rules, subst}
 use Rattle.tp_model.specs.declared.types.Limits.{Limits}
-use Rattle.tp_workers.specs.Desks.{Place, DeskWorksOn}
+use Rattle.tp_workers.specs.Desks.{DeskPlace, DeskWorksOn}
 use Rattle.tp_workers.specs.declared.plan.Plan.{Plan}
 use Rattle.tp_workers.specs.declared.tally.Shift.{Shift}
 use Rattle.tp_desk.proofs.Books.{serves_lowered, serves_raised}
@@ -13,7 +13,7 @@ returns-clause-adds_up g c =
     record { goods = serves_lowered c.each_sale.ensures.goods serves; money = serves_raised c.each_sale.ensures.money serves }
 
 -- turns by one plan are turns by another that is the same
-planned : {l : Limits} {p q : Plan} {a b : Place} {s : Shift} → p ≡ q → DeskWorksOn p l a s b → DeskWorksOn q l a s b
+planned : {l : Limits} {p q : Plan} {a b : DeskPlace} {s : Shift} → p ≡ q → DeskWorksOn p l a s b → DeskWorksOn q l a s b
 planned {l} {p} {q} {a} {b} {s} same on = subst (λ (x : Plan). DeskWorksOn x l a s b) same on
 
 pub returns-clause-short : goal.returns-clause-short

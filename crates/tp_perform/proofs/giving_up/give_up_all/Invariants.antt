@@ -1,8 +1,7 @@
 use Rattle.std.proofs.Common.{◌≡◌, ◌+◌, ◌≤◌, length}
 use Rattle.tp_manager.specs.Accounts.{AreAll}
-use Rattle.tp_manager.specs.Shown.{IsKeptBy}
+use Rattle.tp_manager.specs.Shown.{IsKeptBy, numbers}
 use Rattle.tp_desk.specs.Steady.{shown}
-use Rattle.tp_workers.specs.Free.{numbers}
 use Rattle.tp_commands.specs.Places.{firsts}
 use Rattle.tp_perform.specs.Told.{AreReady, units_held}
 use Rattle.tp_perform.proofs.GivingUps.{GivenUp}

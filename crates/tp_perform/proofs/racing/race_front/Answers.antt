@@ -1,8 +1,8 @@
 use Rattle.std.proofs.Common.{arith, ap, take, drop, length, ◌++◌, ◌∙◌, refl, subst, sym}
 use Rattle.std.proofs.lemmas.List.{map-append, take-append-drop}
 use Rattle.std.proofs.lemmas.List.Elements.{All-append, All-drop, All-take, All-weaker}
-use Rattle.tp_manager.specs.Shown.{IsOf, PassShown}
-use Rattle.tp_workers.specs.Free.{IsFreePass, numbers}
+use Rattle.tp_manager.specs.Shown.{IsOf, PassShown, numbers}
+use Rattle.tp_workers.specs.Free.{IsFreePass}
 use Rattle.tp_workers.specs.Clients.{ClientRan}
 use Rattle.tp_workers.specs.Desks.{DeskRan}
 use Rattle.tp_workers.specs.Plans.{least_first}

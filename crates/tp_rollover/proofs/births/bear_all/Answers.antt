@@ -1,7 +1,7 @@
 use Rattle.std.proofs.Common.{All, None, ◌≡◌, ◌-◌, ◌*◌, ◌≤◌, ◌++◌, ◌∙◌, Ok, Err, Result, ap, drop, length, refl, subst, sym, take, arith}
 use Rattle.std.proofs.lemmas.List.Elements.{All-drop, All-take}
 use Rattle.tp_rollover.specs.Bounds.{AllMake, bear_steps}
-use Rattle.tp_rollover.specs.Fits.{AreFit, MayBeBorn}
+use Rattle.tp_rollover.specs.Fits.{AreFit, HasFamilyPlace}
 use Rattle.tp_rollover.specs.Lone.{bearing, lone, placing}
 use Rattle.tp_rollover.specs.Runs.{GoesFurther}
 use Rattle.tp_rollover.specs.declared.stops.Stop.{Stop}
@@ -123,5 +123,5 @@ pub bear_turn-requires-clause-may : goal.bear_turn-requires-clause-may
 bear_turn-requires-clause-may c =
     let from = c.len-from.result in
     let survivors = c.args.survivors.now in
-    All-take (MayBeBorn c.deref_mut.result.now) (length survivors - from) (drop from survivors) (All-drop (MayBeBorn c.deref_mut.result.now) from survivors
-    (subst (λ fs. All (MayBeBorn fs) survivors) (sym c.deref_mut.ensures.value) c.loop-turn.invariant.may))
+    All-take (HasFamilyPlace c.deref_mut.result.now) (length survivors - from) (drop from survivors) (All-drop (HasFamilyPlace c.deref_mut.result.now) from survivors
+    (subst (λ fs. All (HasFamilyPlace fs) survivors) (sym c.deref_mut.ensures.value) c.loop-turn.invariant.may))

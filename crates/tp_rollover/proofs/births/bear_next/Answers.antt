@@ -1,6 +1,6 @@
 use Rattle.std.proofs.lemmas.List.Elements.{All-take, All-weaker}
 use Rattle.tp_model.specs.Steps.{IsStage}
-use Rattle.tp_rollover.specs.Fits.{MayBeBorn}
+use Rattle.tp_rollover.specs.Fits.{HasFamilyPlace}
 use Rattle.tp_rollover.specs.declared.survivors.Survivor.{Survivor}
 use Rattle.tp_rollover.proofs.BirthsSteps.{group_made, group_stopped}
 use Rattle.tp_rollover.proofs.births.bear_next.Goals as goal
@@ -31,4 +31,4 @@ returns-clause-steps c =
 pub bear_group-requires-clause-stages : goal.bear_group-requires-clause-stages
 bear_group-requires-clause-stages c =
     let rest = c.args.unborn.now.rest.now in
-    All-take (λ (s : Survivor). IsStage s.stage) c.next_group-count.result.0 rest (All-weaker (MayBeBorn c.args.families.now) (λ (s : Survivor). IsStage s.stage) (λ s may. may.1) rest c.requires.may)
+    All-take (λ (s : Survivor). IsStage s.stage) c.next_group-count.result.0 rest (All-weaker (HasFamilyPlace c.args.families.now) (λ (s : Survivor). IsStage s.stage) (λ s may. may.1) rest c.requires.may)

@@ -1,7 +1,7 @@
 use Rattle.std.proofs.Common.{◌≡◌, ◌*◌, ◌+◌, length, refl, subst, sym, true}
 use Rattle.tp_manager.specs.Bounds.{kill_steps}
 use Rattle.tp_rollover.specs.Bounds.{AllMake, gathered, give_up_steps, most_new_steps, old_steps, survey_steps}
-use Rattle.tp_rollover.specs.Closing.{AreLiving, Buries}
+use Rattle.tp_rollover.specs.Closing.{AreMovedLiving, Buries}
 use Rattle.tp_rollover.proofs.Assembly.{all_living, rolled, rolls}
 use Rattle.tp_rollover.proofs.Heads.{stay_same}
 use Rattle.tp_rollover.proofs.Managing.{late_due}
@@ -18,7 +18,7 @@ returns-then-lacks_pass-clause-refused c = stay_same c.args.old_passes.now
 pub bury-requires-clause-living : goal.bury-requires-clause-living
 bury-requires-clause-living c =
     let r = c.in-Ok.ensures.ready in
-    subst (AreLiving c.args.old.now.limits.attempts c.prepare.new.old_keeper.seen) (sym c.deref.ensures.value)
+    subst (AreMovedLiving c.args.old.now.limits.attempts c.prepare.new.old_keeper.seen) (sym c.deref.ensures.value)
     (all_living c.args.old.now.limits c.args.new.now.limits c.prepare.new.old_keeper.seen c.prepare.new.new_keeper.seen r.survivors c.prepare.new.space.restore.moved.items r.found r.again)
 
 pub returns-in-Ok-clause-moved : goal.returns-in-Ok-clause-moved

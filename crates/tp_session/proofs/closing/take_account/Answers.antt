@@ -1,6 +1,6 @@
 use Rattle.std.proofs.Common.{◌∙◌, None, Some, ap, length, refl, subst, sym}
 use Rattle.std.specs.Vec.{with_items}
-use Rattle.tp_session.specs.Performed.{Counts}
+use Rattle.tp_session.specs.Performed.{CountsAtEnd}
 use Rattle.tp_session.proofs.ActLemmas.{held_of, refilled}
 use Rattle.tp_session.proofs.CloseLemmas.{counted_in_hand, counted_leads, counted_ready}
 use Rattle.tp_session.proofs.LiveLemmas.{leads_none, leads_so}
@@ -8,7 +8,7 @@ use Rattle.tp_session.proofs.closing.take_account.Goals as goal
 
 pub returns-then-not-is_asked-clause-counts : goal.returns-then-not-is_asked-clause-counts
 returns-then-not-is_asked-clause-counts g c =
-    leads_none (λ b. (goal.Server-dyn g (b.vtable, b.value)).behaviour b.value) (λ b. (goal.Server-dyn g (b.vtable, b.value)).registers b.value) (λ b. (goal.Server-dyn g (b.vtable, b.value)).pending b.value) c.args.head.now c.args.held.now _ c.requires.held (λ l. subst (λ b. Counts b l None l) (sym c.if-not-is_asked.true) (refl, refl))
+    leads_none (λ b. (goal.Server-dyn g (b.vtable, b.value)).behaviour b.value) (λ b. (goal.Server-dyn g (b.vtable, b.value)).registers b.value) (λ b. (goal.Server-dyn g (b.vtable, b.value)).pending b.value) c.args.head.now c.args.held.now _ c.requires.held (λ l. subst (λ b. CountsAtEnd b l None l) (sym c.if-not-is_asked.true) (refl, refl))
 
 pub returns-clause-held : goal.returns-clause-held
 returns-clause-held g c =
@@ -25,5 +25,5 @@ returns-clause-counts g c =
     let e = c.account.ensures in
     let counts = rw c.as_mut_slice.ensures.value at e.account in
     let long = c.account.auto.passes ∙ ap length c.as_mut_slice.ensures.value in
-    leads_so (λ b. (goal.Server-dyn g (b.vtable, b.value)).behaviour b.value) (λ b. (goal.Server-dyn g (b.vtable, b.value)).registers b.value) (λ b. (goal.Server-dyn g (b.vtable, b.value)).pending b.value) _ _ c.args.held.now (record { managed = record { manager = c.args.held.now.managed.manager; keeper = c.account.new.self; passes = with_items c.args.held.now.managed.passes c.account.new.passes }; servers = c.args.held.now.servers; places = c.args.held.now.places; works = c.args.held.now.works; notes = c.args.held.now.notes }) (λ a b counted. subst (λ z. Counts z a (Some c.account.result) b) (sym c.if-not-is_asked.false) counted)
+    leads_so (λ b. (goal.Server-dyn g (b.vtable, b.value)).behaviour b.value) (λ b. (goal.Server-dyn g (b.vtable, b.value)).registers b.value) (λ b. (goal.Server-dyn g (b.vtable, b.value)).pending b.value) _ _ c.args.held.now (record { managed = record { manager = c.args.held.now.managed.manager; keeper = c.account.new.self; passes = with_items c.args.held.now.managed.passes c.account.new.passes }; servers = c.args.held.now.servers; places = c.args.held.now.places; works = c.args.held.now.works; notes = c.args.held.now.notes }) (λ a b counted. subst (λ z. CountsAtEnd z a (Some c.account.result) b) (sym c.if-not-is_asked.false) counted)
     (counted_leads (λ b. (goal.Server-dyn g (b.vtable, b.value)).behaviour b.value) (λ b. (goal.Server-dyn g (b.vtable, b.value)).registers b.value) (λ b. (goal.Server-dyn g (b.vtable, b.value)).pending b.value) c.args.head.now c.args.held.now c.account.new.self c.account.new.passes c.account.result c.requires.held counts e.all e.keeper.1 e.own (record { managed = record { manager = c.args.held.now.managed.manager; keeper = c.account.new.self; passes = with_items c.args.held.now.managed.passes c.account.new.passes }; servers = c.args.held.now.servers; places = c.args.held.now.places; works = c.args.held.now.works; notes = c.args.held.now.notes }) refl refl (refilled _ _ _ c.args.held.now.managed.passes.ok.0 long) refl refl refl refl)

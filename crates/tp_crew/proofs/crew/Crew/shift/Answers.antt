@@ -1,7 +1,7 @@
 use Rattle.std.proofs.Common.{◌∙◌, ap, length, refl, sym}
 use Rattle.std.proofs.lemmas.List.{with_items_is}
 use Rattle.tp_crew.specs.Crew.{folds}
-use Rattle.tp_workers.specs.Free.{numbers}
+use Rattle.tp_manager.specs.Shown.{numbers}
 use Rattle.tp_crew.proofs.CrewLemmas.{all_same, next_steady, same_length, served_shift}
 use Rattle.tp_crew.proofs.crew.Crew.shift.Goals as goal
 

@@ -1,5 +1,5 @@
 use Rattle.std.proofs.Common.{◌≡◌, ◌⊎◌, inl, inr, ⊎_elim, ◌++◌, List, ℕ, length, replicate, sym, ap, arith, subst, ◌∙◌, refl}
-use Rattle.tp_journal.specs.Text.{IsAtRest, IsText, first_line, text_of, with_end}
+use Rattle.tp_journal.specs.Text.{IsAtRest, IsText, first_line, text_of, with_own_end}
 use Rattle.tp_journal.proofs.Kept.{appended-sealed, kept, replaced-is_text, replaced-text}
 use Rattle.tp_journal.proofs.Moments.{weakened}
 use Rattle.tp_journal.proofs.Texts.{made-rest, rest-text}
@@ -8,7 +8,7 @@ use Rattle.tp_journal.proofs.journal.Journal.replace.Goals as goal
 pub returns-in-Ok-clause-open : goal.returns-in-Ok-clause-open
 returns-in-Ok-clause-open g c = λ fine.
     let batch = c.args.batch.now in
-    let all = with_end (first_line ++ batch) in
+    let all = with_own_end (first_line ++ batch) in
     let is = c.in_ok-ready.ensures.bytes first_line c.hasher_of.ensures refl in
     let text_is : c.deref-2.result.now ≡ all = c.deref-2.ensures.value ∙ c.in_ok-extend_from_slice.ensures.items ∙ replaced-text batch c.in_ok-text.text.items c.deref.result.now (c.in_ok-text.ensures.items_if_clones_equal (λ x y is. is)) (c.deref.ensures.value ∙ is) in
     let all_text : IsText all = replaced-is_text batch c.in_ok-ready.ensures.accepted (omega arith) in
@@ -23,7 +23,7 @@ returns-in-Ok-clause-open g c = λ fine.
 pub returns-in-Ok-clause-acknowledged : goal.returns-in-Ok-clause-acknowledged
 returns-in-Ok-clause-acknowledged g c =
     let batch = c.args.batch.now in
-    let all = with_end (first_line ++ batch) in
+    let all = with_own_end (first_line ++ batch) in
     let is = c.in_ok-ready.ensures.bytes first_line c.hasher_of.ensures refl in
     let text_is : c.deref-2.result.now ≡ all = c.deref-2.ensures.value ∙ c.in_ok-extend_from_slice.ensures.items ∙ replaced-text batch c.in_ok-text.text.items c.deref.result.now (c.in_ok-text.ensures.items_if_clones_equal (λ x y is. is)) (c.deref.ensures.value ∙ is) in
     let all_text : IsText all = replaced-is_text batch c.in_ok-ready.ensures.accepted (omega arith) in
@@ -34,7 +34,7 @@ returns-in-Ok-clause-acknowledged g c =
 pub returns-in-Ok-clause-any_moment : goal.returns-in-Ok-clause-any_moment
 returns-in-Ok-clause-any_moment g c = λ fine.
     let batch = c.args.batch.now in
-    let all = with_end (first_line ++ batch) in
+    let all = with_own_end (first_line ++ batch) in
     let is = c.in_ok-ready.ensures.bytes first_line c.hasher_of.ensures refl in
     let text_is : c.deref-2.result.now ≡ all = c.deref-2.ensures.value ∙ c.in_ok-extend_from_slice.ensures.items ∙ replaced-text batch c.in_ok-text.text.items c.deref.result.now (c.in_ok-text.ensures.items_if_clones_equal (λ x y is. is)) (c.deref.ensures.value ∙ is) in
     let all_text : IsText all = replaced-is_text batch c.in_ok-ready.ensures.accepted (omega arith) in
@@ -50,7 +50,7 @@ returns-in-Ok-clause-any_moment g c = λ fine.
 pub returns-clause-any_moment : goal.returns-clause-any_moment
 returns-clause-any_moment g c = λ fine.
     let batch = c.args.batch.now in
-    let all = with_end (first_line ++ batch) in
+    let all = with_own_end (first_line ++ batch) in
     let is = c.in_ok-ready.ensures.bytes first_line c.hasher_of.ensures refl in
     let text_is : c.deref-2.result.now ≡ all = c.deref-2.ensures.value ∙ c.in_ok-extend_from_slice.ensures.items ∙ replaced-text batch c.in_ok-text.text.items c.deref.result.now (c.in_ok-text.ensures.items_if_clones_equal (λ x y is. is)) (c.deref.ensures.value ∙ is) in
     let all_text : IsText all = replaced-is_text batch c.in_ok-ready.ensures.accepted (omega arith) in

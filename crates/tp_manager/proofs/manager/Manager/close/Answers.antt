@@ -6,7 +6,7 @@ use Rattle.tp_model.specs.declared.event.Event.{Event}
 use Rattle.tp_model.specs.Births.{outputs}
 use Rattle.tp_model.specs.Steps.{units_of}
 use Rattle.tp_model.proofs.Outputs.{length-outputs}
-use Rattle.tp_rule.specs.Steps.{IsClaimed, MakesCommit, committed}
+use Rattle.tp_rule.specs.Steps.{IsClaimed, MakesCommit, commit_event}
 use Rattle.tp_rule.specs.declared.view.View.{View}
 use Rattle.tp_model.specs.History.{Aborted, In}
 use Rattle.tp_rule.specs.Tables.{table_limits}
@@ -61,7 +61,7 @@ commit_exchange-requires-clause-first c = let i = (goal.at.commit_exchange-requi
     (λ none. elim c.if-count-eq0.branch [ then-count-eq0 w ↦ w.first-is | else-count-eq0 w ↦ absurd (w.if-count-eq0.false none) ])
 
 hit : (c : After-write_all) (i : In-Some) → (y : View) → MakesCommit (view_of c.write_all.new.seat) c.in-Some.task.unit y
-    → Shut (table_limits c.self.inside.shared.words) 1 0 (committed (view_of c.write_all.new.seat) c.in-Some.task.unit ∷ []) (view_of c.write_all.new.seat) y
+    → Shut (table_limits c.self.inside.shared.words) 1 0 (commit_event (view_of c.write_all.new.seat) c.in-Some.task.unit ∷ []) (view_of c.write_all.new.seat) y
 hit c i y made = let l : Limits = table_limits c.self.inside.shared.words in
     shut_hit l kinds.CommitExchange _ _ _ refl c.write_all.ensures.wrote.walk.steady made
 
@@ -98,7 +98,7 @@ returns-else-commit_exchange-clause-follows c = let at = goal.at.returns-else-co
 pub returns-then-commit_exchange-clause-answer : goal.returns-then-commit_exchange-clause-answer
 returns-then-commit_exchange-clause-answer c = let at = goal.at.returns-then-commit_exchange-clause-answer c in let i = at.In-Some in let u = c.in-Some.task.unit in let l : Limits = table_limits c.self.inside.shared.words in
     let v = view_of c.pass.inside.seat in let w = view_of c.write_all.new.seat in let y = view_of c.commit_exchange.new.seat in
-    let sh : Shut l _ _ (committed w u ∷ []) v y = both at.After-write_all _ _ (hit at.After-write_all i y (c.commit_exchange.ensures.hit c.if-commit_exchange.true)) in
+    let sh : Shut l _ _ (commit_event w u ∷ []) v y = both at.After-write_all _ _ (hit at.After-write_all i y (c.commit_exchange.ensures.hit c.if-commit_exchange.true)) in
     committed_answer (spot c.pass.inside.seat.table c.pass.inside.lows c.pass.inside.run.drawn c.pass.inside.from) (spot c.commit_exchange.new.seat.table c.pass.inside.lows c.pass.inside.run.drawn c.pass.inside.from) l v w y c.args.pass.now c.pass.view_is _ _ _ _ c.in-Some.task c.args.drafts.now c.pass.inside.seat refl (rests i) refl c.write_all.ensures.wrote (lim i) (held i) c.if-count-eq0.first _ sh
     (λ some. elim c.if-count-eq0.branch [ then-count-eq0 w ↦ let z = w.if-count-eq0.true in absurd (omega arith) | else-count-eq0 w ↦ w.first-is ])
     (λ none. elim c.if-count-eq0.branch [ then-count-eq0 w ↦ w.first-is | else-count-eq0 w ↦ absurd (w.if-count-eq0.false none) ])

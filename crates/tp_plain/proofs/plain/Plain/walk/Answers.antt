@@ -1,6 +1,6 @@
 use Rattle.std.proofs.Common.{◌≡◌, ◌+◌, ◌-◌, None, Some, [], ◌∷◌, ◌++◌, sym, ◌∙◌, ap, arith}
 use Rattle.tp_model.specs.Steps.{rows_of}
-use Rattle.tp_plain.specs.Walks.{and_from, next_of_walk, walk_for}
+use Rattle.tp_plain.specs.Walks.{and_one_more, next_of_walk, walk_for}
 use Rattle.tp_plain.proofs.Walks.{walk_next, walk_stays}
 use Rattle.tp_plain.proofs.plain.Plain.walk.Goals as goal
 
@@ -24,6 +24,6 @@ loop-past-preserved c =
     let found : next_of_walk s root (walk_for s root n) ≡ Some c.in-Some.id = ap (next_of_walk s root) (sym so_far ∙ sym c.deref.ensures.0) ∙ sym c.in-Some.ensures in
     let few = c.loop-past.invariant.few in
     record {
-      so_far = c.push.ensures.items ∙ (ap (λ xs. xs ++ c.in-Some.id ∷ []) so_far ∙ sym (walk_next s root n ∙ ap (and_from (walk_for s root n)) found));
+      so_far = c.push.ensures.items ∙ (ap (λ xs. xs ++ c.in-Some.id ∷ []) so_far ∙ sym (walk_next s root n ∙ ap (and_one_more (walk_for s root n)) found));
       few = (let long = c.push.ensures.len in omega arith);
     }

@@ -1,6 +1,6 @@
 use Rattle.std.proofs.Common.{get_or, sym, ◌∙◌, arith}
 use Rattle.tp_rollover.proofs.BirthsGroups.{blank, one_more}
-use Rattle.tp_rollover.proofs.births.neighbours.Goals as goal
+use Rattle.tp_rollover.proofs.groups.neighbours.Goals as goal
 
 pub loop-place-preserved : goal.loop-place-preserved
 loop-place-preserved c =
