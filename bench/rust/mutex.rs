@@ -295,6 +295,12 @@ fn large() {
         8,
         (0..8).filter_map(|_| m.next_error(0)).count()
     );
+    timed!(
+        "next_error_empty",
+        8,
+        8,
+        (0..8).filter_map(|_| m.next_error(0)).count()
+    );
     for p in 0..24 {
         submits(&m, p, 1, 256);
     }
@@ -338,6 +344,12 @@ fn large() {
     timed!(
         "next_error_8192_done",
         0,
+        8,
+        (0..8).filter_map(|_| m.next_error(0)).count()
+    );
+    timed!(
+        "next_error_8192_done",
+        8,
         8,
         (0..8).filter_map(|_| m.next_error(0)).count()
     );

@@ -48,6 +48,24 @@ fn idle_again(
     println!(rt; "{name} 8 {} {found}", after.wrapping_sub(before))
 }
 
+/// Eight looks for a parked element more, behind eight others.
+fn errors_again(
+    rt: &HostRuntime,
+    manager: &Manager,
+    watcher: &mut Pass,
+    name: &'static str,
+) -> io::Result<()>
+    requires own { IsOf manager.now watcher.old }
+    requires free { watcher.old.open_unit ≡ None }
+    ensures own { IsOf manager.now watcher.new }
+    ensures free { watcher.new.open_unit ≡ None }
+{
+    let before = now(rt);
+    let found = errors(manager, watcher, 8);
+    let after = now(rt);
+    println!(rt; "{name} 8 {} 8 {found}", after.wrapping_sub(before))
+}
+
 /// Eight servers, one after another, each with 1024 turns; before each it submits 256 itself.
 fn consume(rt: &HostRuntime, manager: &Manager, keeper: &mut Keeper) -> io::Result<()>
     requires kept { IsKeptBy manager.now keeper.old }
@@ -125,6 +143,7 @@ fn measured(
     println!(rt; "idle_empty 0 {} {a}", t1.wrapping_sub(t0))?;
     idle_again(rt, manager, watcher, "idle_empty", 1)?;
     println!(rt; "next_error_empty 0 {} 8 {b}", t2.wrapping_sub(t1))?;
+    errors_again(rt, manager, watcher, "next_error_empty")?;
     submits(manager, watcher, 1, 256);
     fill(manager, keeper, 23);
     let t3 = now(rt);
@@ -145,5 +164,6 @@ fn measured(
     let g = replies(manager, watcher, 0, 8);
     let t9 = now(rt);
     println!(rt; "next_error_8192_done 0 {} 8 {f}", t8.wrapping_sub(t7))?;
+    errors_again(rt, manager, watcher, "next_error_8192_done")?;
     println!(rt; "reply_none_8192_done 0 {} 8 {g}", t9.wrapping_sub(t8))
 }

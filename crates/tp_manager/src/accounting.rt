@@ -144,7 +144,7 @@ impl Shared {
         let Some(birth) = self.birth_from(seat, here, head) else {
             return;
         };
-        let (_, status) = self.status_at(seat, here);
+        let status = self.status_at(seat, here);
         count_one(account, birth.stage, status);
     }
 

@@ -156,7 +156,7 @@ impl Shared {
     {
         let known = part as u32 * self.places.limits.rows as u32 + lows[part as usize] as u32;
         let begin = later(known, from);
-        if self.is_bare(seat, part, begin, done) {
+        if self.is_bare(seat, part, begin) {
             return None;
         }
         self.scan_span_from_mark(seat, lows, part, from, to, done, stage, unit)

@@ -99,7 +99,7 @@ impl Shared {
             }
             Contents::Nothing => return false,
         };
-        let (_, status) = self.status_at(seat, here);
+        let status = self.status_at(seat, here);
         *low = low_after(*low, here, status);
         is_parked(status)
     }
@@ -137,10 +137,21 @@ impl Shared {
     }
 
     /// The first row of a part, from one of its rows on, whose element is looked for. One look where no row
-    /// has a head from there on, or from the mark on that the pass remembers.
+    /// has a head from there on, or from the mark on that the pass remembers. Where the part begins, and how
+    /// long it is, is handed down, since a listing that finds nothing does little more than this.
     #[inline(always)]
-    fn find_in_part(&self, seat: &mut Seat, lows: &mut Lows, part: u16, from: u32) -> Option<u32>
+    fn find_in_part(
+        &self,
+        seat: &mut Seat,
+        lows: &mut Lows,
+        part: u16,
+        first: u32,
+        end: u32,
+        from: u32,
+    ) -> Option<u32>
         requires steady { IsSteady self.now.words seat.old }
+        requires first { let l = table_limits self.now.words in
+            (first ≡ part * l.rows) × (end ≡ part * l.rows + l.rows) }
         requires from { IsRowOf (table_limits self.now.words) part from }
         requires remembers { Remembers 0 (view_of seat.old) lows.old }
         ensures same { IsSameSeat seat.old seat.new }
@@ -150,15 +161,15 @@ impl Shared {
             Finds l (3 + (l.rows - slice_index lows.old part) * look_steps l) from (part * l.rows + l.rows)
             (view_of seat.old) (view_of seat.new) result }
     {
-        let first = part as u32 * self.places.limits.rows as u32;
         let start = later(from, first + lows[part as usize] as u32);
-        if self.is_bare(seat, part, start, None) {
+        if self.is_bare_to(seat, part, start, end) {
             return None;
         }
         self.find_from_mark(seat, lows, part, from)
     }
 
-    /// The first row of the parts, from this one on, whose element is looked for.
+    /// The first row of the parts, from this one on, whose element is looked for. What the pass knows
+    /// finished isn't looked at again, but for the last part, so that each call looks.
     fn find_in_parts(&self, seat: &mut Seat, lows: &mut Lows, from: u32) -> Option<u32>
         requires steady { IsSteady self.now.words seat.old }
         requires from { from < part_rows (table_limits self.now.words) }
@@ -171,15 +182,20 @@ impl Shared {
             (view_of seat.old) (view_of seat.new) result }
     {
         let rows = self.places.limits.rows as u32;
+        let last = self.places.limits.parts - 1;
+        let mut first = 0;
         let mut row = from;
         for part in 0..self.places.limits.parts {
-            let end = part as u32 * rows + rows;
+            let end = first + rows;
             if row < end {
-                if let Some(id) = self.find_in_part(seat, lows, part, row) {
-                    return Some(id);
+                if lows[part as usize] != self.places.limits.rows || part == last {
+                    if let Some(id) = self.find_in_part(seat, lows, part, first, end, row) {
+                        return Some(id);
+                    }
                 }
                 row = end;
             }
+            first = end;
         }
         None
     }

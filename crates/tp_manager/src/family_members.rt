@@ -30,7 +30,7 @@ impl Shared {
             unreachable!();
         };
         let element = self.element_at(seat, row, birth);
-        let (_, status) = self.status_at(seat, row);
+        let status = self.status_at(seat, row);
         Look { element, status }
     }
 }

@@ -201,9 +201,9 @@ impl Shared {
     }
 
     /// Whether this row of a part has no head: then nothing is born in the part from there on. One step; none
-    /// where the row is the end of the part, or the one that the pass has consumed last.
+    /// where the row is the end of the part.
     #[inline(always)]
-    pub(crate) fn is_bare(&self, seat: &mut Seat, part: u16, row: u32, done: Option<u32>) -> bool
+    pub(crate) fn is_bare(&self, seat: &mut Seat, part: u16, row: u32) -> bool
         requires steady { IsSteady self.now.words seat.old }
         requires part { part < (table_limits self.now.words).parts }
         requires row { let l = table_limits self.now.words in
@@ -216,19 +216,12 @@ impl Shared {
             (view_of seat.new) }
     {
         let rows = self.places.limits.rows as u32;
-        self.is_bare_to(seat, part, row, part as u32 * rows + rows, done)
+        self.is_bare_to(seat, part, row, part as u32 * rows + rows)
     }
 
     /// The same where the end of the part is known.
     #[inline(always)]
-    pub(crate) fn is_bare_to(
-        &self,
-        seat: &mut Seat,
-        part: u16,
-        row: u32,
-        end: u32,
-        done: Option<u32>,
-    ) -> bool
+    pub(crate) fn is_bare_to(&self, seat: &mut Seat, part: u16, row: u32, end: u32) -> bool
         requires steady { IsSteady self.now.words seat.old }
         requires part { part < (table_limits self.now.words).parts }
         requires row { let l = table_limits self.now.words in
@@ -243,11 +236,6 @@ impl Shared {
     {
         if row == end {
             return false;
-        }
-        if let Some(known) = done {
-            if known == row {
-                return false;
-            }
         }
         self.head_at(seat, row) == Head::Empty
     }

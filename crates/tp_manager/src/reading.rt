@@ -34,7 +34,7 @@ impl Manager {
             return Err(Refusal::NotThere);
         };
         let element = self.shared.element_at(seat, id, birth);
-        let (_, status) = self.shared.status_at(seat, id);
+        let status = self.shared.status_at(seat, id);
         Ok(Look { element, status })
     }
 }

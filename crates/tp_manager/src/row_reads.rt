@@ -199,8 +199,8 @@ impl Shared {
         }
     }
 
-    /// The claim and the status of the element of a row, whose claim was just found; there are at most so
-    /// many further attempts. At most twice as many steps.
+    /// The status of the element of a row, whose claim was just found; there are at most so many further
+    /// attempts. At most twice as many steps.
     #[cycle(status)]
     #[inline(always)]
     pub(crate) fn status_from(
@@ -209,7 +209,7 @@ impl Shared {
         row: u32,
         claim: FoundClaim,
         left: u8,
-    ) -> (FoundClaim, Status)
+    ) -> Status
         requires steady { IsSteady self.now.words seat.old }
         requires row { row < rows_of (table_limits self.now.words) }
         requires found { (claim_value claim.tells ≡ claim_word (seen_by seat.old) row)
@@ -218,34 +218,32 @@ impl Shared {
         ensures same { IsSameSeat seat.old seat.new }
         ensures looked { Looked (table_limits self.now.words) (retry_steps left) (view_of seat.old)
             (view_of seat.new) }
-        ensures claim { (claim_value result.0.tells ≡ claim_word (seen_by seat.new) row)
-            × IsFitClaim (claim_value result.0.tells) }
-        ensures status { result.1 ≡ status_of (table_limits self.now.words).attempts (seen_by seat.new) row }
+        ensures status { result ≡ status_of (table_limits self.now.words).attempts (seen_by seat.new) row }
     {
         match claim.tells {
-            Claim::Free => (claim, Status::Waiting { attempts: 0 }),
-            Claim::Again { round: _ } => (claim, Status::Waiting { attempts: 0 }),
+            Claim::Free => Status::Waiting { attempts: 0 },
+            Claim::Again { round: _ } => Status::Waiting { attempts: 0 },
             Claim::Killed {
                 attempt: _,
                 unit: _,
                 round: _,
-            } => (claim, Status::Killed),
+            } => Status::Killed,
             Claim::Taken {
                 attempt,
                 unit,
                 round: _,
             } => match self.words.load_unit(seat, unit) {
-                UnitWord::Undecided => (claim, Status::Held { unit, attempt }),
-                UnitWord::Committed { first: _, count: _ } => (claim, Status::Consumed { unit }),
+                UnitWord::Undecided => Status::Held { unit, attempt },
+                UnitWord::Committed { first: _, count: _ } => Status::Consumed { unit },
                 UnitWord::Aborted => {
                     let again = self.words.load_claim(seat, row);
                     if again.tells != claim.tells {
                         return self.status_again(seat, row, again, left - 1);
                     }
                     if attempt < self.places.limits.attempts {
-                        (again, Status::Waiting { attempts: attempt })
+                        Status::Waiting { attempts: attempt }
                     } else {
-                        (again, Status::Parked { attempts: attempt })
+                        Status::Parked { attempts: attempt }
                     }
                 }
             },
@@ -256,13 +254,7 @@ impl Shared {
     /// own.
     #[cycle(status)]
     #[cold]
-    fn status_again(
-        &self,
-        seat: &mut Seat,
-        row: u32,
-        claim: FoundClaim,
-        left: u8,
-    ) -> (FoundClaim, Status)
+    fn status_again(&self, seat: &mut Seat, row: u32, claim: FoundClaim, left: u8) -> Status
         requires steady { IsSteady self.now.words seat.old }
         requires row { row < rows_of (table_limits self.now.words) }
         requires found { (claim_value claim.tells ≡ claim_word (seen_by seat.old) row)
@@ -271,25 +263,21 @@ impl Shared {
         ensures same { IsSameSeat seat.old seat.new }
         ensures looked { Looked (table_limits self.now.words) (retry_steps left) (view_of seat.old)
             (view_of seat.new) }
-        ensures claim { (claim_value result.0.tells ≡ claim_word (seen_by seat.new) row)
-            × IsFitClaim (claim_value result.0.tells) }
-        ensures status { result.1 ≡ status_of (table_limits self.now.words).attempts (seen_by seat.new) row }
+        ensures status { result ≡ status_of (table_limits self.now.words).attempts (seen_by seat.new) row }
     {
         self.status_from(seat, row, claim, left)
     }
 
-    /// The claim and the status of the element of a row. At most one step, and two for each attempt that is
-    /// allowed in all rounds.
+    /// The status of the element of a row. At most one step, and two for each attempt that is allowed in all
+    /// rounds.
     #[inline(always)]
-    pub(crate) fn status_at(&self, seat: &mut Seat, row: u32) -> (FoundClaim, Status)
+    pub(crate) fn status_at(&self, seat: &mut Seat, row: u32) -> Status
         requires steady { IsSteady self.now.words seat.old }
         requires row { row < rows_of (table_limits self.now.words) }
         ensures same { IsSameSeat seat.old seat.new }
         ensures acted { let l = table_limits self.now.words in
             Acted l (status_steps l) (view_of seat.old) (view_of seat.new) }
-        ensures claim { (claim_value result.0.tells ≡ claim_word (seen_by seat.new) row)
-            × IsFitClaim (claim_value result.0.tells) }
-        ensures status { result.1 ≡ status_of (table_limits self.now.words).attempts (seen_by seat.new) row }
+        ensures status { result ≡ status_of (table_limits self.now.words).attempts (seen_by seat.new) row }
     {
         let claim = self.words.load_claim(seat, row);
         self.status_from(seat, row, claim, self.places.limits.tries())

@@ -249,7 +249,7 @@ impl Shared {
             × (t.element.root ≡ t.root)) }
     {
         let row = first + lows[part as usize] as u32;
-        if self.is_bare_to(seat, part, row, first + rows, done) {
+        if self.is_bare_to(seat, part, row, first + rows) {
             return None;
         }
         self.scan_from_mark(seat, lows, gaps, part, done, stage, unit)

@@ -1,9 +1,9 @@
 -- The rows that a listing passed over, and the one that it answers.
-use Rattle.std.proofs.Common.{◌≡◌, ◌≢◌, ℕ, ◌+◌, ◌*◌, ◌<◌, ◌≤◌, Option, Some, None, MatchOption, List, [], ◌∷◌, ◌++◌, sym, ◌∙◌, subst, inl, inr, arith, ⊎_elim, slice_index}
+use Rattle.std.proofs.Common.{◌≡◌, ◌≢◌, ◌⊎◌, ℕ, ◌+◌, ◌*◌, ◌<◌, ◌≤◌, Option, Some, None, MatchOption, List, [], ◌∷◌, ◌++◌, sym, ◌∙◌, subst, inl, inr, arith, ⊎_elim, slice_index}
 use Rattle.std.proofs.lemmas.Bool.Decides.{eqb_tells}
 use mathlib.Core.List.{IsPrefix}
 use mathlib.Core.Logic.{dite}
-use native.Mathlib.Decide.{ℕ_discrete}
+use native.Mathlib.Decide.{dec_le, ℕ_discrete}
 use Rattle.tp_model.specs.declared.types.Element.{Element}
 use Rattle.tp_model.specs.declared.types.Limits.{Limits}
 use Rattle.tp_model.specs.declared.types.Status.{Status}
@@ -36,7 +36,7 @@ use Rattle.tp_manager.specs.Marks.{Remembers}
 use Rattle.tp_manager.specs.Scans.{EachRow, Begun, Sought}
 use Rattle.tp_manager.specs.Lists.{AllKilled, NextError, NoneParked}
 use Rattle.tp_manager.specs.Finds.{Finds, Hits, PassedOver}
-use Rattle.tp_manager.proofs.Rows.Seeks.{Widens, sought_behind, sought_more, sought_then}
+use Rattle.tp_manager.proofs.Rows.Seeks.{Widens, begun_sought, sought_behind, sought_more, sought_then}
 use Rattle.tp_manager.proofs.Marks.Raises.{low_kept}
 use Rattle.tp_manager.proofs.Calls.CallSteps.{opening_is, sought_acted, sought_few, walked_none}
 
@@ -200,3 +200,64 @@ pub find_both : (l : Limits) (n m from : ℕ) (v w y : View) (o : Option ℕ) �
     → Finds l (n + m) from (rows_of l) v y o
 find_both l n m from v w y None start s b = sought_more l (PassedOver l) (over_widens l) n m from (part_rows l) (rows_of l) v w y start (omega arith) s b
 find_both l n m from v w y (Some id) start s b = let low = b.0 in (omega arith, b.1, b.2, sought_more l (PassedOver l) (over_widens l) n m from (part_rows l) id v w y start low s (inr b.3))
+
+-- a row below a mark that a pass remembers
+abbrev pub IsBelowMark : Limits → List ℕ → ℕ → Type 0
+IsBelowMark l lows i = (p : ℕ) × (p * l.rows ≤ i) × (i < p * l.rows + slice_index lows p)
+
+-- how far a listing of the parts has come: before its first look it has left out rows below the marks alone
+abbrev pub HasListed : Limits → ℕ → ℕ → ℕ → List ℕ → View → View → Type 0
+HasListed l n from row lows v w = ((w ≡ v) × (row < part_rows l) × ((i : ℕ) → from ≤ i → i < row → IsBelowMark l lows i))
+    ⊎ Sought l n (EachRow (PassedOver l) from row) v w
+
+-- rows that were looked at, and rows before them that are below the marks
+pub over_before : (l : Limits) (n from row end : ℕ) (lows : List ℕ) (v w : View) → Remembers 0 v lows → ((i : ℕ) → from ≤ i → i < row → IsBelowMark l lows i)
+    → Sought l n (EachRow (PassedOver l) row end) v w → Sought l n (EachRow (PassedOver l) from end) v w
+over_before l n from row end lows v w r below s = record {
+  marks = s.marks;
+  walk = s.walk;
+  kept = s.kept;
+  step = s.step;
+  passed = λ i low high. dite (dec_le row i)
+      (λ past. s.passed i past high)
+      (λ not. let b = below i low (omega arith) in over_widens l i (opening_of v.seen s.marks) w.seen w.seen w.seen s.walk.closes (begins_refl w.seen) (over_remembered l lows b.0 i n s.marks v w r s.walk b.1 b.2));
+}
+
+-- and rows after them in a part of which the mark is its end
+pub over_on : (l : Limits) (n from row part : ℕ) (lows : List ℕ) (v w : View) → Steady l w → Remembers 0 w lows → part * l.rows ≤ row → slice_index lows part ≡ l.rows
+    → Sought l n (EachRow (PassedOver l) from row) v w → Sought l n (EachRow (PassedOver l) from (part * l.rows + l.rows)) v w
+over_on l n from row part lows v w steady r reach finished s = record {
+  marks = s.marks;
+  walk = s.walk;
+  kept = s.kept;
+  step = s.step;
+  passed = λ i low high. dite (dec_le row i)
+      (λ past. over_widens l i (opening_of v.seen s.marks) w.seen w.seen w.seen s.walk.closes (begins_refl w.seen) (over_remembered l lows part i 0 [] w w r (walked_none l w steady) (omega arith) (omega arith)))
+      (λ not. s.passed i low (omega arith));
+}
+
+-- a look at some rows more
+pub listed_sought : (l : Limits) (n k from row end : ℕ) (lows : List ℕ) (v w y : View) → from ≤ row → Remembers 0 v lows → HasListed l n from row lows v w
+    → Sought l k (EachRow (PassedOver l) row end) w y → Sought l (n + k) (EachRow (PassedOver l) from end) v y
+listed_sought l n k from row end lows v w y start r h s = ⊎_elim
+    (λ t. sought_few l k (n + k) (EachRow (PassedOver l) from end) v y (omega arith) (over_before l k from row end lows v y r t.2 (subst (λ z. Sought l k (EachRow (PassedOver l) row end) z y) t.0 s)))
+    (λ t. begun_sought l (PassedOver l) (over_widens l) n from k row v w y (inr t) end start s) h
+
+-- a part that is left out, since its mark is its end
+pub listed_on : (l : Limits) (n m from row part : ℕ) (lows lows' : List ℕ) (v w : View) → n ≤ m → Steady l w → Remembers 0 w lows' → part * l.rows ≤ row → slice_index lows part ≡ l.rows → slice_index lows' part ≡ l.rows
+    → part * l.rows + l.rows < part_rows l → HasListed l n from row lows v w → HasListed l m from (part * l.rows + l.rows) lows v w
+listed_on l n m from row part lows lows' v w le steady r reach finished finished' more h = ⊎_elim
+    (λ t. inl (
+      t.0,
+      more,
+      λ i low high. dite (dec_le row i) (λ past. (part, omega arith, omega arith)) (λ not. t.2 i low (omega arith)),
+    ))
+    (λ t. inr (sought_few l n m (EachRow (PassedOver l) from (part * l.rows + l.rows)) v w le (over_on l n from row part lows' v w steady r reach finished' t))) h
+
+pub listed_more : (l : Limits) (n m from row : ℕ) (lows : List ℕ) (v w : View) → n ≤ m → HasListed l n from row lows v w → HasListed l m from row lows v w
+listed_more l n m from row lows v w le h = ⊎_elim (λ t. inl t) (λ t. inr (sought_few l n m (EachRow (PassedOver l) from row) v w le t)) h
+
+-- all rows of the parts: then there was a look
+pub listed_all : (l : Limits) (n m from row : ℕ) (lows : List ℕ) (v w : View) → n ≤ m → row ≡ part_rows l → HasListed l n from row lows v w → Sought l m (EachRow (PassedOver l) from (part_rows l)) v w
+listed_all l n m from row lows v w le all h = ⊎_elim (λ t. absurd (let less = t.1 in omega arith))
+    (λ t. subst (λ z. Sought l m (EachRow (PassedOver l) from z) v w) all (sought_few l n m (EachRow (PassedOver l) from row) v w le t)) h

@@ -14,7 +14,7 @@ use Rattle.tp_model.specs.Steps.{IsArea, rows_of, units_of, IsLegal}
 use Rattle.tp_model.proofs.Areas.{one_area}
 use Rattle.tp_model.proofs.Bodies.{found_whole, four_words}
 use Rattle.tp_model.proofs.Bridges.{born_or_not, born_at, found_later}
-use Rattle.tp_model.proofs.Later.{committed_born, claim_stands, status_found, status_aborted}
+use Rattle.tp_model.proofs.Later.{committed_born, status_found, status_aborted}
 use Rattle.tp_words.specs.declared.words.Head.{Head}
 use Rattle.tp_words.specs.declared.words.Head.TheVariants.{Empty, Filled}
 use Rattle.tp_words.specs.declared.words.Claim.{Claim}
@@ -134,15 +134,6 @@ module _ (l : Limits) where
 
   pub consumed_now : (a b : List Event) → IsLegal l b → IsPrefix a b → (i n u f m : ℕ) {r : ℕ} → claim_word a i ≡ TakenWord n u r → Some (Committed f m) ≡ end_of b u → Consumed u ≡ status_of l.attempts b i
   consumed_now a b legal begins i n u f m is e = standing a b legal begins i n u is (Some (Committed f m)) e (λ p. absurd cc)
-
-  pub taken_still : (a b : List Event) → IsLegal l b → IsPrefix a b → (i n u : ℕ) {r : ℕ} → claim_word a i ≡ TakenWord n u r → (x : Option UnitEnd) → x ≡ end_of b u → x ≢ Some Aborted → TakenWord n u r ≡ claim_word b i
-  taken_still a b legal begins i n u is x end_is not = sym (claim_stands l a b legal begins i n u is (λ p. not (end_is ∙ p)))
-
-  pub held_still : (a b : List Event) → IsLegal l b → IsPrefix a b → (i n u : ℕ) {r : ℕ} → claim_word a i ≡ TakenWord n u r → None ≡ end_of b u → TakenWord n u r ≡ claim_word b i
-  held_still a b legal begins i n u is e = taken_still a b legal begins i n u is None e (λ p. absurd cc)
-
-  pub consumed_still : (a b : List Event) → IsLegal l b → IsPrefix a b → (i n u f m : ℕ) {r : ℕ} → claim_word a i ≡ TakenWord n u r → Some (Committed f m) ≡ end_of b u → TakenWord n u r ≡ claim_word b i
-  consumed_still a b legal begins i n u f m is e = taken_still a b legal begins i n u is (Some (Committed f m)) e (λ p. absurd cc)
 
   -- the unit was found aborted, and the same claim was found afterwards
   pub returned : (a b : List Event) → IsLegal l b → IsPrefix a b → (i n u : ℕ) {r : ℕ} → end_of a u ≡ Some Aborted → claim_word b i ≡ TakenWord n u r

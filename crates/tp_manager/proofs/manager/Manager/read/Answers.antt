@@ -69,7 +69,7 @@ pub returns-clause-answer : goal.returns-clause-answer
 returns-clause-answer c = let at = goal.at.returns-clause-answer c in let a = whole at.After-status_at-status in let s = c.status_at-status.ensures in let h = seen_by c.status_at-status.new.seat in
     let born = found_later _ h (looked_begins _ _ _ _ (looked _ _ _ _ s.acted)) c.args.id _ c.element_at-element.ensures.born in (
       at_point (spot c.pass.inside.seat.table c.pass.inside.lows c.pass.inside.run.drawn c.pass.inside.from) (spot c.status_at-status.new.seat.table c.pass.inside.lows c.pass.inside.run.drawn c.pass.inside.from) (view_of c.pass.inside.seat) (view_of c.status_at-status.new.seat) c.args.pass.now c.pass.view_is _ _ _ a.walk
-          (IsLook c.args.self.now.limits c.args.id (record { element = c.element_at-element.result; status = c.status_at-status.result.1 })) h (point_last _ _ _ _ _ a.walk)
+          (IsLook c.args.self.now.limits c.args.id (record { element = c.element_at-element.result; status = c.status_at-status.result })) h (point_last _ _ _ _ _ a.walk)
           (born, s.status ∙ ap (λ (l : Limits). status_of l.attempts h c.args.id) (limits at.After-rows)),
       born,
     )

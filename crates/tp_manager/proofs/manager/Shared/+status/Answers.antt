@@ -12,7 +12,7 @@ use Rattle.tp_manager.specs.Bounds.{retry_steps}
 use Rattle.tp_manager.specs.Looks.{IsEnough}
 use Rattle.tp_manager.specs.CallSteps.{Looked}
 use Rattle.tp_manager.proofs.Calls.CallSteps.{acted_by, looked, looked_none, looked_few, looked_then, looked_begins}
-use Rattle.tp_manager.proofs.Rows.Looks.{claim_is, held_yet, held_still, consumed_now, consumed_still, returned}
+use Rattle.tp_manager.proofs.Rows.Looks.{claim_is, held_yet, consumed_now, returned}
 use Rattle.tp_manager.proofs.Kills.Tries.{enough_next, enough_some}
 use Rattle.tp_manager.proofs.manager.Shared.+status.Goals as goal
 use Rattle.tp_manager.proofs.manager.Shared.+status.Goals.{status_from-In-Taken, status_from-After-load_unit, status_from-After-load_claim-again}
@@ -84,17 +84,9 @@ status_from-returns-in-Undecided-clause-looked t c = let at = goal.at.status_fro
 pub status_from-returns-in-Committed-clause-looked : goal.status_from-returns-in-Committed-clause-looked
 status_from-returns-in-Committed-clause-looked t c = let at = goal.at.status_from-returns-in-Committed-clause-looked t c in let s = some t at.In-Taken in looked_few _ 1 (retry_steps c.args.left) _ _ (omega arith) (one t at.After-load_unit)
 
-pub status_from-returns-in-Undecided-clause-claim : goal.status_from-returns-in-Undecided-clause-claim
-status_from-returns-in-Undecided-clause-claim t c = let at = goal.at.status_from-returns-in-Undecided-clause-claim t c in let o = one t at.After-load_unit in
-    (ap claim_value c.in-Taken.is ∙ held_still (table_limits c.args.self.now.words) _ _ o.walk.steady.shows.legal (looked_begins _ 1 _ _ o) c.args.row _ _ (taken t at.In-Taken) (sym (ap unit_value c.in-Undecided.is) ∙ c.load_unit.ensures.end), search rules)
-
 pub status_from-returns-in-Undecided-clause-status : goal.status_from-returns-in-Undecided-clause-status
 status_from-returns-in-Undecided-clause-status t c = let at = goal.at.status_from-returns-in-Undecided-clause-status t c in let o = one t at.After-load_unit in
     held_yet (table_limits c.args.self.now.words) _ _ o.walk.steady.shows.legal (looked_begins _ 1 _ _ o) c.args.row _ _ (taken t at.In-Taken) (sym (ap unit_value c.in-Undecided.is) ∙ c.load_unit.ensures.end)
-
-pub status_from-returns-in-Committed-clause-claim : goal.status_from-returns-in-Committed-clause-claim
-status_from-returns-in-Committed-clause-claim t c = let at = goal.at.status_from-returns-in-Committed-clause-claim t c in let o = one t at.After-load_unit in
-    (ap claim_value c.in-Taken.is ∙ consumed_still (table_limits c.args.self.now.words) _ _ o.walk.steady.shows.legal (looked_begins _ 1 _ _ o) c.args.row _ _ _ _ (taken t at.In-Taken) (sym (ap unit_value c.in-Committed.is) ∙ c.load_unit.ensures.end), search rules)
 
 pub status_from-returns-in-Committed-clause-status : goal.status_from-returns-in-Committed-clause-status
 status_from-returns-in-Committed-clause-status t c = let at = goal.at.status_from-returns-in-Committed-clause-status t c in let o = one t at.After-load_unit in

@@ -49,8 +49,8 @@ returns-clause-looked c = let l : Limits = table_limits c.args.self.now.words in
 
 pub returns-clause-counted : goal.returns-clause-counted
 returns-clause-counted c = λ before same. let l : Limits = table_limits c.args.self.now.words in let h = seen_by c.status_at-status.new.seat in
-    c.count_one.ensures.counted ∙ (subst (λ (z : List Event). with_one c.in-Some.birth.stage c.status_at-status.result.1 c.args.account.now ≡ account_below l z (c.args.row.now + 1)) same
-    (one_counted l h c.args.row.now c.in-Some.birth c.status_at-status.result.1 c.args.account.now c.status_at-status.ensures.acted.walk.steady.shows.legal
+    c.count_one.ensures.counted ∙ (subst (λ (z : List Event). with_one c.in-Some.birth.stage c.status_at-status.result c.args.account.now ≡ account_below l z (c.args.row.now + 1)) same
+    (one_counted l h c.args.row.now c.in-Some.birth c.status_at-status.result c.args.account.now c.status_at-status.ensures.acted.walk.steady.shows.legal
     (there_later _ _ c.args.row.now c.in-Some.birth (looked_begins l _ _ _ (looked l _ _ _ c.status_at-status.ensures.acted)) c.in-Some.ensures.told.0) c.status_at-status.ensures.status
     (before ∙ ap (λ (z : List Event). account_below l z c.args.row.now) (sym same)))
     ∙ skips (goal.at.returns-clause-counted c).After-head_on-head)

@@ -1,4 +1,4 @@
-use Rattle.std.proofs.Common.{◌≡◌, ◌+◌, ◌-◌, ◌*◌, ◌≤◌, ℕ, slice_index, ⊎_elim, arith, ap}
+use Rattle.std.proofs.Common.{◌≡◌, ◌+◌, ◌-◌, ◌*◌, ◌≤◌, ℕ, slice_index, ⊎_elim, arith}
 use Rattle.tp_model.specs.declared.types.Limits.{Limits}
 use Rattle.tp_rule.specs.Tables.{table_limits}
 use Rattle.tp_rule.specs.Views.{view_of}
@@ -9,34 +9,30 @@ use Rattle.tp_manager.proofs.Marks.Lows.{lows_inside}
 use Rattle.tp_manager.proofs.Rows.Seeks.{sought_bare}
 use Rattle.tp_manager.proofs.Calls.CallSteps.{remembers_kind, sought_few}
 use Rattle.tp_manager.proofs.manager.Shared.find_in_part.Goals as goal
-use Rattle.tp_manager.proofs.manager.Shared.find_in_part.Goals.{After-later-start}
 
--- where the part begins
-first : (c : After-later-start) → c.args.part * (table_limits c.args.self.now.words).rows ≡ c.args.part * c.args.self.now.places.limits.rows
-first c = ap (λ (z : Limits). c.args.part * z.rows) c.args.self.now.same
-
-pub is_bare-requires-clause-row : goal.is_bare-requires-clause-row
-is_bare-requires-clause-row c = let l : Limits = table_limits c.args.self.now.words in let inside = lows_inside l c.args.lows.now 0 (view_of c.args.seat.now) c.requires.steady.steady.pass.1 c.requires.steady.steady.known c.requires.remembers c.args.part in
-    let e = first (goal.at.is_bare-requires-clause-row c).After-later-start in let low = c.requires.from.1 in let high = c.requires.from.2 in let most = c.later-start.ensures.most.0 in (
+pub is_bare_to-requires-clause-row : goal.is_bare_to-requires-clause-row
+is_bare_to-requires-clause-row c = let l : Limits = table_limits c.args.self.now.words in let inside = lows_inside l c.args.lows.now 0 (view_of c.args.seat.now) c.requires.steady.steady.pass.1 c.requires.steady.steady.known c.requires.remembers c.args.part in
+    let e = c.requires.first.0 in let top = c.requires.first.1 in let low = c.requires.from.1 in let high = c.requires.from.2 in let most = c.later-start.ensures.most.0 in (
       omega arith,
-      ⊎_elim (λ (q : c.later-start.result ≡ c.args.from). let r : c.later-start.result ≤ c.args.part * l.rows + l.rows = omega arith in r)
-          (λ (q : c.later-start.result ≡ c.args.part * c.args.self.now.places.limits.rows + slice_index c.args.lows.now c.args.part). omega arith) c.later-start.ensures.one,
+      ⊎_elim (λ (q : c.later-start.result ≡ c.args.from). let r : c.later-start.result ≤ c.args.end = omega arith in r)
+          (λ (q : c.later-start.result ≡ c.args.first + slice_index c.args.lows.now c.args.part). omega arith) c.later-start.ensures.one,
+      top,
     )
 
-pub returns-then-is_bare-clause-told : goal.returns-then-is_bare-clause-told
-returns-then-is_bare-clause-told c = let l : Limits = table_limits c.args.self.now.words in let bare = c.is_bare.ensures.bare c.if-is_bare.true in
-    let low = slice_index c.args.lows.now c.args.part in let e = first (goal.at.returns-then-is_bare-clause-told c).After-later-start in let from_on = c.requires.from.1 in
+pub returns-then-is_bare_to-clause-told : goal.returns-then-is_bare_to-clause-told
+returns-then-is_bare_to-clause-told c = let l : Limits = table_limits c.args.self.now.words in let bare = c.is_bare_to.ensures.bare c.if-is_bare_to.true in
+    let low = slice_index c.args.lows.now c.args.part in let e = c.requires.first.0 in let from_on = c.requires.from.1 in
     sought_few l 1 (3 + (l.rows - low) * look_steps l) _ _ _ (omega arith)
-    (sought_bare l (PassedOver l) (over_widens l) c.args.from c.later-start.result (c.args.part * l.rows + l.rows) (view_of c.args.seat.now) (view_of c.is_bare.new.seat) bare.0 (none_over l)
+    (sought_bare l (PassedOver l) (over_widens l) c.args.from c.later-start.result (c.args.part * l.rows + l.rows) (view_of c.args.seat.now) (view_of c.is_bare_to.new.seat) bare.0 (none_over l)
     (λ i from below. ⊎_elim (λ (q : c.later-start.result ≡ c.args.from). absurd (omega arith))
-    (λ (q : c.later-start.result ≡ c.args.part * c.args.self.now.places.limits.rows + low).
-    over_remembered l c.args.lows.now c.args.part i _ _ (view_of c.args.seat.now) (view_of c.is_bare.new.seat) c.requires.remembers bare.0.walk (omega arith) (omega arith))
+    (λ (q : c.later-start.result ≡ c.args.first + low).
+    over_remembered l c.args.lows.now c.args.part i _ _ (view_of c.args.seat.now) (view_of c.is_bare_to.new.seat) c.requires.remembers bare.0.walk (omega arith) (omega arith))
     c.later-start.ensures.one) bare.1)
 
 pub find_from_mark-requires-clause-remembers : goal.find_from_mark-requires-clause-remembers
-find_from_mark-requires-clause-remembers c = remembers_kind 0 c.args.lows.now _ _ _ _ _ (c.is_bare.ensures.more c.if-is_bare.false).walk c.requires.remembers
+find_from_mark-requires-clause-remembers c = remembers_kind 0 c.args.lows.now _ _ _ _ _ (c.is_bare_to.ensures.more c.if-is_bare_to.false).walk c.requires.remembers
 
 pub returns-clause-told : goal.returns-clause-told
 returns-clause-told c = let l : Limits = table_limits c.args.self.now.words in let m : ℕ = (l.rows - slice_index c.args.lows.now c.args.part) * look_steps l in
-    finds_behind l 1 (2 + m) (3 + m) c.args.from (c.args.part * l.rows + l.rows) (view_of c.args.seat.now) (view_of c.is_bare.new.seat) (view_of c.find_from_mark.new.seat) c.find_from_mark.result (omega arith)
-    (c.is_bare.ensures.more c.if-is_bare.false) c.find_from_mark.ensures.told
+    finds_behind l 1 (2 + m) (3 + m) c.args.from (c.args.part * l.rows + l.rows) (view_of c.args.seat.now) (view_of c.is_bare_to.new.seat) (view_of c.find_from_mark.new.seat) c.find_from_mark.result (omega arith)
+    (c.is_bare_to.ensures.more c.if-is_bare_to.false) c.find_from_mark.ensures.told

@@ -87,7 +87,7 @@ pub returns-clause-low : goal.returns-clause-low
 returns-clause-low c = let l : Limits = table_limits c.args.self.now.words in let on = c.head_on-head.ensures.on.on in let low = c.requires.low in let s = c.status_at-status.ensures in
     let there = there_later _ _ c.args.row.now c.in-Holds.birth (looked_begins l _ _ _ (looked l _ _ _ s.acted)) c.in-Holds.ensures.told.0 in (
       near_low (table_limits c.args.self.now.words) c.args.low.now c.low_after.result c.args.row.now c.head_on-head.new.row low on c.low_after.ensures.moves,
-      rose_one l 0 (view_of c.status_at-status.new.seat) c.args.low.now c.low_after.result c.args.row.now c.in-Holds.birth c.status_at-status.result.1 s.acted.walk.steady.pass.1 there s.status c.low_after.ensures.moves,
+      rose_one l 0 (view_of c.status_at-status.new.seat) c.args.low.now c.low_after.result c.args.row.now c.in-Holds.birth c.status_at-status.result s.acted.walk.steady.pass.1 there s.status c.low_after.ensures.moves,
     )
 
 pub returns-clause-acted : goal.returns-clause-acted
@@ -97,9 +97,9 @@ returns-clause-acted c = let l : Limits = table_limits c.args.self.now.words in
 pub returns-clause-no : goal.returns-clause-no
 returns-clause-no c = λ no. let l : Limits = table_limits c.args.self.now.words in let at = goal.at.returns-clause-no c in let a = rest at.After-status_at-status in
     passed at.After-head_on-head _ (view_of c.status_at-status.new.seat) a (omega arith)
-    (over_found l c.args.row.now _ (seen_by c.status_at-status.new.seat) c.status_at-status.result.1 (looked_begins l _ _ _ a) c.status_at-status.ensures.status (c.is_parked.ensures.no no))
+    (over_found l c.args.row.now _ (seen_by c.status_at-status.new.seat) c.status_at-status.result (looked_begins l _ _ _ a) c.status_at-status.ensures.status (c.is_parked.ensures.no no))
 
 pub returns-clause-yes : goal.returns-clause-yes
 returns-clause-yes c = λ yes. let l : Limits = table_limits c.args.self.now.words in
-    hits_at l c.args.row.now (seen_by c.status_at-status.new.seat) c.in-Holds.birth c.status_at-status.result.1
+    hits_at l c.args.row.now (seen_by c.status_at-status.new.seat) c.in-Holds.birth c.status_at-status.result
     (there_later _ _ c.args.row.now c.in-Holds.birth (looked_begins l _ _ _ (looked l _ _ _ c.status_at-status.ensures.acted)) c.in-Holds.ensures.told.0) c.status_at-status.ensures.status (c.is_parked.ensures.yes yes)
