@@ -106,6 +106,7 @@ impl Shared {
 
     /// The first row of a part, from one of its rows on, whose element is looked for. The scan starts at the
     /// part's mark, if that is further on, and raises the mark.
+    #[inline(never)]
     fn find_from_mark(&self, seat: &mut Seat, lows: &mut Lows, part: u16, from: u32) -> Option<u32>
         requires steady { IsSteady self.now.words seat.old }
         requires from { IsRowOf (table_limits self.now.words) part from }
