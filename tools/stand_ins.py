@@ -2,8 +2,8 @@
 
 A check of a function reads what it calls by contract alone, and yet proves all that it calls, and what these call. Where that is known
 to be proved, a stand-in takes the place of each: antt takes it by its type, and says of what rests on it that it depends on a hole.
-An open goal of the function itself is told as ever. Of 252 functions of tp_script a check of 36 edits took 808 seconds of processors
-without them.
+An open goal of the function itself is told as ever. A check of the 36 edits of tp_script took 808 seconds of processors without
+stand-ins, as the crate does, and 276 with them.
 """
 import os
 import re
