@@ -145,9 +145,13 @@ def path_of(lines, at, module, homes):
         return None
     # (parameters of the impl are no part of it)
     free = {it[1] for it in re.finditer(r"[<,]\s*(?:const )?(\w+)", found["generics"] or "")}
-    type_name = last_names(found["type"])[0]
-    trait = [] if found["trait"] in (None, "Drop") else [it for it in last_names(found["trait"]) if it not in free]
-    return [*homes[type_name], "".join([type_name, *trait]), name] if type_name in homes else None
+    type_name, trait = last_names(found["type"])[0], found["trait"]
+    if trait in (None, "Drop"):
+        return [*homes[type_name], type_name, name] if type_name in homes else None
+    # An impl of a trait goes by the module that it stands in; a type of another crate may have another name there.
+    if type_name not in homes or re.search(r"<.*::.*>", trait):
+        return None
+    return [*module, "".join([type_name, *(it for it in last_names(trait) if it not in free)]), name]
 
 
 def heads(text, begins, ends):
