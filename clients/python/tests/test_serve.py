@@ -177,11 +177,12 @@ class ServeBounds(unittest.TestCase):
             self.assertEqual(server.counted('let_go_total{why="slow"}'), 1)
 
     def test_a_client_that_reads_slowly_stays(self) -> None:
-        # It has far more answers to come than may be unread, and reads some of them each half a second, for some
-        # six seconds: always more than the system keeps for it, so that the server sees it read.
+        # It has far more answers to come than may be unread, and reads some of them each half a second, for
+        # some six seconds: always more than the system keeps for it, so that the server sees it read.
         with Serving([*WIDE], "--unread", "100000", "--slow", "2") as server:
             it = server.client()
-            sender = threading.Thread(target=lambda: it.send(*["count"] * 72000))
+            # (one call of sendall has no longer than an answer may take)
+            sender = threading.Thread(target=lambda: [it.send(*["count"] * 1000) for _ in range(72)])
             sender.start()
             for _ in range(12):
                 time.sleep(0.5)
