@@ -181,8 +181,13 @@ class ServeBounds(unittest.TestCase):
         # some six seconds: always more than the system keeps for it, so that the server sees it read.
         with Serving([*WIDE], "--unread", "100000", "--slow", "2") as server:
             it = server.client()
-            # (one call of sendall has no longer than an answer may take)
-            sender = threading.Thread(target=lambda: [it.send(*["count"] * 1000) for _ in range(72)])
+
+            def send() -> None:
+                # (one call of sendall has no longer than an answer may take)
+                for _ in range(72):
+                    it.send(*["count"] * 1000)
+
+            sender = threading.Thread(target=send)
             sender.start()
             for _ in range(12):
                 time.sleep(0.5)
