@@ -87,6 +87,9 @@ def named(path, text, at):
     found = impl_of(lines, at)
     if not found:
         return name
+    # A type of another crate may have another name there: then its whole module stands for the function.
+    if re.search(r"<.*::.*>", found["trait"] or ""):
+        return "::".join(module_of(path)) or name
     # An impl of a trait goes by the type's name and the trait's, with its arguments; that of a destructor by the type's.
     trait = "" if found["trait"] in (None, "Drop") else "".join(last_names(found["trait"]))
     return f"{last_names(found['type'])[0]}{trait}::{name}"
