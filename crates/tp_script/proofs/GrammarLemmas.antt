@@ -1,12 +1,12 @@
 -- Servers by name, and outputs one after the other.
 use Rattle.std.proofs.Common.{◌≡◌, ℕ, suc, ◌≤◌, ◌<◌, Bool, true, false, List, [], ◌∷◌, ◌++◌, length, map, get_or, Option, Some, Result, Ok, Err, refl, sym, ap, ◌∙◌, append_assoc, arith, position, Bor}
-use Rattle.std.proofs.Common.{zero, ◌&&◌, not, rules, tests, ◌==◌}
+use Rattle.std.proofs.Common.{zero, ◌&&◌, not, rules, tests, ◌==◌, nat_lt}
 use Rattle.std.specs.Prelude.{nat_le, IsOk, OnErr}
 use Rattle.std.specs.List.{list_all}
 use Rattle.std.specs.Str.{IsAscii, IsUtf8}
 use Rattle.std.proofs.lemmas.Str.{IsUtf8-from_ascii}
 use Rattle.tp_script.proofs.TextLemmas.{ReadsText}
-use Rattle.std.proofs.lemmas.List.{append-nil}
+use Rattle.std.proofs.lemmas.List.{append-nil, length-map}
 use Rattle.tp_script.specs.declared.fault.LineFault.{LineFault}
 use Rattle.tp_script.specs.declared.fault.LineError.{LineError}
 use Rattle.tp_script.specs.declared.fault.LineError.TheVariants as errors
@@ -103,3 +103,7 @@ pub begins_kept : (settings : SettingsView) (items : List ScriptServer) (workers
     → OnErr r (◌≡◌ {A = HeadView} (record { settings = settings; servers = map server_view (set items place new); workers = workers; alive = alive; lost = lost; clients = clients; requests = requests; ends = ends }) (record { settings = settings; servers = map server_view items; workers = workers; alive = alive; lost = lost; clients = clients; requests = requests; ends = ends }))
 begins_kept settings items workers alive lost clients requests ends place old new (Ok u) at kept = tt
 begins_kept settings items workers alive lost clients requests ends place old new (Err e) at kept = ap (λ (servers : List ServerView). record { settings = settings; servers = servers; workers = workers; alive = alive; lost = lost; clients = clients; requests = requests; ends = ends }) (servers_kept items place old new at kept)
+
+-- a list has room for one more, also as it is shown
+pub has_room : {A B : Type 0} (f : A → B) (xs : List A) (n most : ℕ) → n ≡ length xs → n < most → nat_lt (length (map f xs)) most ≡ true
+has_room f xs n most is lt = rw (length-map xs f, ← is) search (rules, tests)

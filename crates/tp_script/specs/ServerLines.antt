@@ -12,7 +12,7 @@ use Rattle.tp_script.specs.declared.fault.LineFault.TheVariants.{Syntax, BadLimi
 use Rattle.tp_script.specs.declared.script.Kind.{Kind}
 use Rattle.tp_script.specs.declared.script.TheConstants.{MAX_SERVERS}
 use Rattle.tp_script.specs.LineWords.{◌>>=◌, require, known, number_at, is_name, kind_at, act_and_place}
-use Rattle.tp_script.specs.LineWords.{has_two_colons}
+use Rattle.tp_script.specs.LineWords.{has_two_colons, three}
 use Rattle.tp_script.specs.LineWords.{outputs_at}
 use Rattle.tp_script.specs.Notes.{NameView}
 use Rattle.tp_script.specs.Once.{is_note_of}
@@ -96,16 +96,19 @@ registers_for recipe = do
 abbrev pub with_server : ServerView → HeadView → HeadView
 with_server server h = record h { servers = h.servers ++ server ∷ [] }
 
--- `server NAME KIND STAGE REGISTERS ACT OUT..`
-unfoldable pub server_line : List (List ℕ) → HeadView → Result HeadView LineFault
-server_line ws h = do
+-- the server that such words make, where there is room for it
+unfoldable pub server_said : List (List ℕ) → HeadView → Result ServerView LineFault
+server_said ws h = do
   shape ← shape_at ws
   name ← new_name shape.name h
   recipe ← recipe_at shape
   _ ← require (nat_lt (length h.servers) MAX_SERVERS) BadLimits
   registers ← registers_for recipe
-  Ok (with_server (record { name = name.letters; kind = shape.kind; recipe = recipe; registers = registers })
-      h)
+  Ok (record { name = name.letters; kind = shape.kind; recipe = recipe; registers = registers })
+
+-- `server NAME KIND STAGE REGISTERS ACT OUT..`
+unfoldable pub server_line : List (List ℕ) → HeadView → Result HeadView LineFault
+server_line ws h = server_said ws h >>= λ server. Ok (with_server server h)
 
 -- register k of a server begins with v
 unfoldable pub with_start : ℕ → ℕ → ServerView → Result ServerView LineFault
@@ -121,10 +124,11 @@ begin_at place k v h = do
   Ok (record h { servers = slice_set h.servers place server })
 
 -- `start NAME K V`
-unfoldable pub start_line : List ℕ × List ℕ × List ℕ → HeadView → Result HeadView LineFault
-start_line (name, k, v) h = do
-  _ ← require (is_name name) BadName
-  place ← server_at name h
-  k ← number_at (2 ^ 64 - 1) k
-  v ← number_at (2 ^ 64 - 1) v
+unfoldable pub start_line : List (List ℕ) → HeadView → Result HeadView LineFault
+start_line ws h = do
+  words ← three ws
+  _ ← require (is_name words.0) BadName
+  place ← server_at words.0 h
+  k ← number_at (2 ^ 64 - 1) words.1
+  v ← number_at (2 ^ 64 - 1) words.2
   begin_at place k v h

@@ -15,7 +15,7 @@ ghost use Rattle.tp_script.specs.ServerLines.{has_client};
 use crate::drafts::colons;
 use crate::fault::{LineError, LineFault};
 use crate::head::Head;
-use crate::line_words::{body_at, id_or_gone, is_name, number_at};
+use crate::line_words::{body_at, id_or_gone, is_name, number_at, one, two};
 use crate::notes::{ClientNote, MAX_CLIENTS, Name, RequestNote};
 use std::alloc::Global;
 
@@ -170,12 +170,12 @@ impl Head {
 
     /// `register NAME` of a head.
     #[tactic(auto, unfolding(crate::specs::Clients::register_line))]
-    pub(crate) fn register_line(&mut self, name: &[u8]) -> Result<(), LineError>
+    pub(crate) fn register_line(&mut self, words: &[&[u8]]) -> Result<(), LineError>
         ensures gives { Gives (λ _. head_view self.new) result
-            (register_line name.now (head_view self.old)) }
+            (register_line (map (λ x. x.now) words.now) (head_view self.old)) }
         ensures kept { OnErr result (head_view self.new ≡ head_view self.old) }
     {
-        let name = self.free_name(name)?;
+        let name = self.free_name(one(words)?)?;
         self.with_registered(name)
     }
 
@@ -215,13 +215,14 @@ impl Head {
 
     /// `request NAME ROOT`. The fault of the name comes before that of the number.
     #[tactic(auto, unfolding(crate::specs::Clients::request_line))]
-    pub(crate) fn request_line(&mut self, words: (&[u8], &[u8])) -> Result<(), LineError>
+    pub(crate) fn request_line(&mut self, words: &[&[u8]]) -> Result<(), LineError>
         ensures gives { Gives (λ _. head_view self.new) result
-            (request_line (words.entry.0.now, words.entry.1.now) (head_view self.old)) }
+            (request_line (map (λ x. x.now) words.now) (head_view self.old)) }
         ensures kept { OnErr result (head_view self.new ≡ head_view self.old) }
     {
-        let client = self.known_client(words.0)?;
-        let root = number_at(words.1, u64::from(u32::MAX))? as u32;
+        let (name, root) = two(words)?;
+        let client = self.known_client(name)?;
+        let root = number_at(root, u64::from(u32::MAX))? as u32;
         if self.has_request(root) {
             return Err(LineFault::BadNumber.into());
         }

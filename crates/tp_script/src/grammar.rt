@@ -13,9 +13,10 @@ ghost use Rattle.tp_script.specs.Grammar.{out_of_order, restore_at};
 ghost use Rattle.tp_script.specs.Grammar.{names_an_id, overview_at, unless_waiting, waits_for_restore};
 ghost use Rattle.tp_script.specs.Keyword.{keyword};
 ghost use Rattle.tp_script.specs.LineWords.{known, one_word};
+ghost use Rattle.tp_script.specs.Grammar.{ends_head, in_head, leave_in_head};
 ghost use Rattle.tp_script.specs.Ranges.{IsActInRange, IsActOf, IsInRange};
 ghost use Rattle.tp_script.specs.Reading.{Gives};
-ghost use Rattle.tp_script.specs.Script.{head_view};
+ghost use Rattle.tp_script.specs.Script.{HeadView, head_view};
 
 use crate::alive::alive_words;
 use crate::clients::client_words;
@@ -133,6 +134,42 @@ fn restore_at(words: &[&[u8]]) -> Result<Act, LineError>
     Ok(Act::Restore)
 }
 
+// A line of the head as an answer to it: it asks for nothing.
+fn in_head(read: Result<(), LineError>) -> Result<Option<Act>, LineError>
+    ensures gives { (h : HeadView) → (said : Result HeadView LineFault) → Gives (λ _. h) read said
+        → Gives (λ a. (h, a)) result (in_head said) }
+    ensures kept { (new : HeadView) → (old : HeadView) → OnErr read (new ≡ old) → OnErr result (new ≡ old) }
+    ensures in_range { (driver : Driver) → (servers : ℕ) → (workers : ℕ)
+        → IfOk result (λ said. IfSome said (λ a. IsActOf driver servers workers a)) }
+{
+    match read {
+        Ok(()) => Ok(None),
+        Err(e) => Err(e),
+    }
+}
+
+// The first command as an answer to its line, which ends the head.
+fn ends_head(read: Result<Act, LineError>) -> Result<Option<Act>, LineError>
+    ensures gives { (h : HeadView) → (said : Result Act LineFault) → Gives (λ a. a) read said
+        → Gives (λ a. (h, a)) result (ends_head h said) }
+    ensures in_range { (driver : Driver) → (servers : ℕ) → (workers : ℕ)
+        → IfOk read (λ a. IsActOf driver servers workers a)
+        → IfOk result (λ said. IfSome said (λ a. IsActOf driver servers workers a)) }
+{
+    match read {
+        Ok(act) => Ok(Some(act)),
+        Err(e) => Err(e),
+    }
+}
+
+// `leave NAME` in a head.
+fn leave_in_head(words: &[&[u8]]) -> Result<(), LineError>
+    ensures { (h : HeadView) → Gives (λ _. h) result (leave_in_head (map (λ x. x.now) words.now)) }
+{
+    one(words)?;
+    Err(LineFault::Order.into())
+}
+
 // A setting behind the head.
 fn late_setting(words: &[&[u8]]) -> Result<Act, LineError>
     ensures gives { Gives (λ a. a) result (out_of_order (one_word (map (λ x. x.now) words.now))) }
@@ -187,16 +224,21 @@ impl Head {
     }
 
     // The first command, unless it is `restore`: out of order where the head waits for that.
-    fn first_command(&self, driver: Driver, read: Result<Act, LineError>) -> Result<Act, LineError>
+    fn first_command(
+        &self,
+        driver: Driver,
+        read: Result<Act, LineError>,
+    ) -> Result<Option<Act>, LineError>
         ensures gives { (said : Result Act LineFault) → Gives (λ a. a) read said
-            → Gives (λ a. a) result (unless_waiting (waits_for_restore (head_view self.now)) said) }
+            → Gives (λ a. (head_view self.now, a)) result
+            (ends_head (head_view self.now) (unless_waiting (waits_for_restore (head_view self.now)) said)) }
         ensures in_range { IfOk read (λ a.
             IsActOf driver (vec_len self.now.servers) (vec_len self.now.workers) a)
-            → IfOk result (λ a.
-            IsActOf driver (vec_len self.now.servers) (vec_len self.now.workers) a) }
+            → IfOk result (λ said. IfSome said (λ a.
+            IsActOf driver (vec_len self.now.servers) (vec_len self.now.workers) a)) }
     {
         if !self.waits_for_restore() {
-            return read;
+            return ends_head(read);
         }
         match read {
             Err(LineError::NoMemory) => Err(LineError::NoMemory),
@@ -223,51 +265,32 @@ impl Head {
             IsActOf driver (vec_len self.new.servers) (vec_len self.new.workers) a)) }
     {
         match keyword {
-            Keyword::Rows => self.rows_line(one(words)?)?,
-            Keyword::Units => self.units_line(one(words)?)?,
-            Keyword::Limit => self.limit_line(one(words)?)?,
-            Keyword::Spare => self.spare_line(one(words)?)?,
-            Keyword::Server => self.server_line(alloc, words)?,
-            Keyword::Start => self.start_line(three(words)?)?,
-            Keyword::Worker => self.worker_line(alloc, two(words)?)?,
-            Keyword::Workers => self.workers_line(alloc, one(words)?)?,
-            Keyword::Leave => {
-                one(words)?;
-                return Err(LineFault::Order.into());
-            }
-            Keyword::Alive => self.alive_line(alloc, words)?,
-            Keyword::Held => self.held_line(alloc, words)?,
-            Keyword::Lost => self.lost_line(two(words)?)?,
-            Keyword::Client => self.client_line(alloc, words)?,
-            Keyword::Request => self.request_line(two(words)?)?,
-            Keyword::Ended => self.ended_line(words)?,
-            Keyword::Register => self.register_line(one(words)?)?,
-            Keyword::Noted(verb) => {
-                let act = self.first_command(driver, self.noted_at(verb, words))?;
-                return Ok(Some(act));
-            }
-            Keyword::Do(verb) => {
-                let act = self.first_command(driver, self.act_at(alloc, driver, verb, words))?;
-                return Ok(Some(act));
-            }
-            Keyword::Dump => {
-                let act = self.first_command(driver, dump_at(words))?;
-                return Ok(Some(act));
-            }
-            Keyword::Account => {
-                let act = self.first_command(driver, account_at(words))?;
-                return Ok(Some(act));
-            }
-            Keyword::Overview(what) => {
-                let act = self.first_command(driver, overview_at(what, words))?;
-                return Ok(Some(act));
-            }
-            Keyword::Restore => {
-                let act = restore_at(words)?;
-                return Ok(Some(act));
-            }
+            Keyword::Rows => in_head(self.rows_line(words)),
+            Keyword::Units => in_head(self.units_line(words)),
+            Keyword::Limit => in_head(self.limit_line(words)),
+            Keyword::Spare => in_head(self.spare_line(words)),
+            Keyword::Server => in_head(self.server_line(alloc, words)),
+            Keyword::Start => in_head(self.start_line(words)),
+            Keyword::Worker => in_head(self.worker_line(alloc, words)),
+            Keyword::Workers => in_head(self.workers_line(alloc, words)),
+            Keyword::Leave => in_head(leave_in_head(words)),
+            Keyword::Alive => in_head(self.alive_line(alloc, words)),
+            Keyword::Held => in_head(self.held_line(alloc, words)),
+            Keyword::Lost => in_head(self.lost_line(words)),
+            Keyword::Client => in_head(self.client_line(alloc, words)),
+            Keyword::Request => in_head(self.request_line(words)),
+            Keyword::Ended => in_head(self.ended_line(words)),
+            Keyword::Register => in_head(self.register_line(words)),
+            Keyword::Noted(verb) => self.first_command(driver, self.noted_at(verb, words)),
+            Keyword::Do(verb) => self.first_command(
+                driver,
+                self.act_at(alloc, driver, verb, words),
+            ),
+            Keyword::Dump => self.first_command(driver, dump_at(words)),
+            Keyword::Account => self.first_command(driver, account_at(words)),
+            Keyword::Overview(what) => self.first_command(driver, overview_at(what, words)),
+            Keyword::Restore => ends_head(restore_at(words)),
         }
-        Ok(None)
     }
 
     /// What the words of a line of the head say, up to the first command.

@@ -11,7 +11,7 @@ ghost use Rattle.tp_script.specs.Script.{head_view};
 use crate::alive::{AliveWords, alive_of, alive_words};
 use crate::fault::{LineError, LineFault};
 use crate::head::{AliveLine, Head, LostLine};
-use crate::line_words::number_at;
+use crate::line_words::{number_at, two};
 use std::alloc::Global;
 
 /// The words after `held`: a name, and behind it those of an `alive` line.
@@ -122,13 +122,14 @@ impl Head {
     /// `lost NAME ID`: the unit of work of the worker NAME, which had taken the element ID, was lost, and the
     /// worker hasn't heard of it yet. The fault of the name comes before that of the number.
     #[tactic(auto, unfolding(crate::specs::Grammar::lost_line))]
-    pub(crate) fn lost_line(&mut self, words: (&[u8], &[u8])) -> Result<(), LineError>
+    pub(crate) fn lost_line(&mut self, words: &[&[u8]]) -> Result<(), LineError>
         ensures gives { Gives (λ _. head_view self.new) result
-            (lost_line (words.entry.0.now, words.entry.1.now) (head_view self.old)) }
+            (lost_line (map (λ x. x.now) words.now) (head_view self.old)) }
         ensures kept { OnErr result (head_view self.new ≡ head_view self.old) }
     {
-        let worker = self.free_worker(words.0)?;
-        let element = number_at(words.1, u64::from(u32::MAX))? as u32;
+        let (name, id) = two(words)?;
+        let worker = self.free_worker(name)?;
+        let element = number_at(id, u64::from(u32::MAX))? as u32;
         self.with_lost(LostLine { worker, element })
     }
 }

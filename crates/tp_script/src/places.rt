@@ -14,7 +14,7 @@ use crate::clients::has_note;
 use crate::commands::stage_at;
 use crate::fault::{LineError, LineFault};
 use crate::head::{Act, Head, MAX_WORKERS, WorkerLine};
-use crate::line_words::{is_name, number_at};
+use crate::line_words::{is_name, number_at, one};
 use crate::notes::{ClientNote, Name};
 use std::alloc::{AllocError, Global};
 use std::string::String;
@@ -104,12 +104,12 @@ impl Head {
 
     /// `workers N`
     #[tactic(auto, unfolding(crate::specs::Places::workers_line))]
-    pub(crate) fn workers_line(&mut self, alloc: Global, word: &[u8]) -> Result<(), LineError>
+    pub(crate) fn workers_line(&mut self, alloc: Global, words: &[&[u8]]) -> Result<(), LineError>
         ensures gives { Gives (λ _. head_view self.new) result
-            (workers_line word.now (head_view self.old)) }
+            (workers_line (map (λ x. x.now) words.now) (head_view self.old)) }
         ensures kept { OnErr result (head_view self.new ≡ head_view self.old) }
     {
-        let many = number_at(word, u64::MAX)?;
+        let many = number_at(one(words)?, u64::MAX)?;
         if many < self.workers.len() as u64 || many > MAX_WORKERS as u64 {
             return Err(LineFault::BadLimits.into());
         }

@@ -8,11 +8,12 @@ ghost use Rattle.tp_script.specs.Reading.{Gives, GivesHead, shape_view};
 ghost use Rattle.tp_script.specs.Script.{head_view, server_view};
 ghost use Rattle.tp_script.specs.ServerLines.{free_name, has_client, new_name, server_at, shape_at};
 ghost use Rattle.tp_script.specs.ServerLines.{recipe_at, registers_for};
-ghost use Rattle.tp_script.specs.ServerLines.{server_line, with_start, begin_at, start_line};
+ghost use Rattle.tp_script.specs.ServerLines.{server_line, server_said, with_server, with_start, begin_at, start_line};
+ghost use Rattle.tp_script.specs.declared.script.TheConstants.{MAX_SERVERS};
 
 use crate::fault::{LineError, LineFault};
 use crate::head::Head;
-use crate::line_words::{act_at, all_outputs, is_name, kind_at, number_at, outputs_at};
+use crate::line_words::{act_at, all_outputs, is_name, kind_at, number_at, outputs_at, three};
 use crate::notes::Name;
 use crate::script::{Kind, MAX_SERVERS, ScriptServer};
 use std::alloc::Global;
@@ -153,12 +154,23 @@ impl Head {
         Ok(free)
     }
 
-    /// `server NAME KIND STAGE REGISTERS ACT OUT..`
-    #[tactic(auto, unfolding(crate::specs::ServerLines::server_line))]
-    pub(crate) fn server_line(&mut self, alloc: Global, words: &[&[u8]]) -> Result<(), LineError>
-        ensures gives { GivesHead self.new result (server_line (map (λ x. x.now) words.now)
-            (head_view self.old)) }
+    // Adds a server.
+    fn with_server(&mut self, server: ScriptServer) -> Result<(), LineError>
+        requires { vec_len self.old.servers < MAX_SERVERS }
+        ensures gives { GivesHead self.new result
+            (Ok (with_server (server_view server) (head_view self.old))) }
         ensures kept { OnErr result (head_view self.new ≡ head_view self.old) }
+    {
+        self.servers.push(server)?;
+        Ok(())
+    }
+
+    // The server that such words make, where there is room for it.
+    #[tactic(auto, unfolding(crate::specs::ServerLines::server_said))]
+    fn server_said(&self, alloc: Global, words: &[&[u8]]) -> Result<ScriptServer, LineError>
+        ensures gives { Gives server_view result (server_said (map (λ x. x.now) words.now)
+            (head_view self.now)) }
+        ensures room { IfOk result (λ _. vec_len self.now.servers < MAX_SERVERS) }
     {
         let shape = shape_at(alloc, words)?;
         let name = self.new_name(shape.name)?;
@@ -169,28 +181,39 @@ impl Head {
         }
         let registers = registers_for(&recipe)?;
         let kind = shape.kind;
-        self.servers.push(ScriptServer {
+        Ok(ScriptServer {
             name,
             kind,
             recipe,
             registers,
-        })?;
-        Ok(())
+        })
+    }
+
+    /// `server NAME KIND STAGE REGISTERS ACT OUT..`
+    #[tactic(auto, unfolding(crate::specs::ServerLines::server_line))]
+    pub(crate) fn server_line(&mut self, alloc: Global, words: &[&[u8]]) -> Result<(), LineError>
+        ensures gives { GivesHead self.new result (server_line (map (λ x. x.now) words.now)
+            (head_view self.old)) }
+        ensures kept { OnErr result (head_view self.new ≡ head_view self.old) }
+    {
+        let server = self.server_said(alloc, words)?;
+        self.with_server(server)
     }
 
     /// `start NAME K V`
     #[tactic(auto, unfolding(crate::specs::ServerLines::start_line))]
-    pub(crate) fn start_line(&mut self, words: (&[u8], &[u8], &[u8])) -> Result<(), LineError>
+    pub(crate) fn start_line(&mut self, words: &[&[u8]]) -> Result<(), LineError>
         ensures gives { GivesHead self.new result
-            (start_line (words.entry.0.now, words.entry.1.now, words.entry.2.now) (head_view self.old)) }
+            (start_line (map (λ x. x.now) words.now) (head_view self.old)) }
         ensures kept { OnErr result (head_view self.new ≡ head_view self.old) }
     {
-        if !is_name(words.0) {
+        let (name, k, v) = three(words)?;
+        if !is_name(name) {
             return Err(LineFault::BadName.into());
         }
-        let server = self.server_at(words.0)?;
-        let k = number_at(words.1, u64::MAX)?;
-        let v = number_at(words.2, u64::MAX)?;
+        let server = self.server_at(name)?;
+        let k = number_at(k, u64::MAX)?;
+        let v = number_at(v, u64::MAX)?;
         self.begin_at(server, k, v)
     }
 

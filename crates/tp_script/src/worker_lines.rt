@@ -117,17 +117,14 @@ impl Head {
 
     /// `worker NAME STAGE`, or of a free place what it is called in place of a name.
     #[tactic(auto, unfolding(crate::specs::Grammar::worker_line), using(crate::proofs::AliveLemmas::held_by_more, crate::proofs::AliveLemmas::lost_by_more))]
-    pub(crate) fn worker_line(
-        &mut self,
-        alloc: Global,
-        words: (&[u8], &[u8]),
-    ) -> Result<(), LineError>
+    pub(crate) fn worker_line(&mut self, alloc: Global, words: &[&[u8]]) -> Result<(), LineError>
         ensures gives { Gives (λ _. head_view self.new) result
-            (worker_line (words.entry.0.now, words.entry.1.now) (head_view self.old)) }
+            (worker_line (map (λ x. x.now) words.now) (head_view self.old)) }
         ensures kept { OnErr result (head_view self.new ≡ head_view self.old) }
     {
-        let name = self.worker_name(alloc, words.0)?;
-        let stage = stage_at(words.1)?;
+        let (name, stage) = two(words)?;
+        let name = self.worker_name(alloc, name)?;
+        let stage = stage_at(stage)?;
         if self.workers.len() >= MAX_WORKERS {
             return Err(LineFault::BadLimits.into());
         }
