@@ -15,7 +15,7 @@ use Rattle.tp_script.specs.declared.notes.TheConstants.{MAX_CLIENTS}
 use Rattle.tp_script.specs.Commands.{SubmitWords, submit_body, submit_words}
 use Rattle.tp_script.specs.Drafts.{colons}
 use Rattle.tp_script.specs.LineWords.{◌>>=◌, require, one_word, number_at, ordinal_at, id_or_gone, body_at}
-use Rattle.tp_script.specs.LineWords.{is_name, two}
+use Rattle.tp_script.specs.LineWords.{is_name}
 use Rattle.tp_script.specs.Notes.{NameView}
 use Rattle.tp_script.specs.Once.{is_request_of}
 use Rattle.tp_script.specs.Script.{HeadView}
@@ -104,11 +104,8 @@ abbrev pub with_registered : NameView → HeadView → Result HeadView LineFault
 with_registered name h = if has_client name.letters h then Ok h else with_client (nothing_noted name) h
 
 -- `register NAME` of a head
-unfoldable pub register_line : List (List ℕ) → HeadView → Result HeadView LineFault
-register_line ws h = do
-  name ← one_word ws
-  free ← free_name name h
-  with_registered free h
+unfoldable pub register_line : List ℕ → HeadView → Result HeadView LineFault
+register_line name h = free_name name h >>= λ free. with_registered free h
 
 -- ---- their requests
 
@@ -128,11 +125,10 @@ abbrev pub with_one_request : RequestNote → HeadView → HeadView
 with_one_request request h = record h { requests = h.requests ++ request ∷ [] }
 
 -- `request NAME ROOT`
-unfoldable pub request_line : List (List ℕ) → HeadView → Result HeadView LineFault
-request_line ws h = do
-  words ← two ws
-  client ← known_client words.0 h
-  root ← number_at (2 ^ 32 - 1) words.1
+unfoldable pub request_line : List ℕ × List ℕ → HeadView → Result HeadView LineFault
+request_line (name, root) h = do
+  client ← known_client name h
+  root ← number_at (2 ^ 32 - 1) root
   _ ← require (not (has_request root h)) BadNumber
   Ok (with_one_request (record { root = root; client = client }) h)
 

@@ -55,47 +55,45 @@ line_words line = do
 
 -- ---- settings
 
--- a setting is one word, comes before servers, and is `least` to `most`
-unfoldable pub setting_at : ℕ → ℕ → List (List ℕ) → HeadView → Result ℕ LineFault
-setting_at least most ws h = do
-  w ← one_word ws
+-- a setting comes before servers, and is `least` to `most`
+unfoldable pub setting_at : ℕ → ℕ → List ℕ → HeadView → Result ℕ LineFault
+setting_at least most w h = do
   _ ← require (length h.servers == 0) Order
   n ← number_at (2 ^ 64 - 1) w
   _ ← require (nat_le least n && nat_le n most) BadLimits
   Ok n
 
 -- `rows N`
-unfoldable pub rows_line : List (List ℕ) → HeadView → Result HeadView LineFault
-rows_line ws h = do
-  n ← setting_at 1 MAX_PART_ROWS ws h
+unfoldable pub rows_line : List ℕ → HeadView → Result HeadView LineFault
+rows_line w h = do
+  n ← setting_at 1 MAX_PART_ROWS w h
   Ok (record h { settings = record h.settings { rows = n } })
 
 -- `units N`
-unfoldable pub units_line : List (List ℕ) → HeadView → Result HeadView LineFault
-units_line ws h = do
-  n ← setting_at 1 MAX_UNITS ws h
+unfoldable pub units_line : List ℕ → HeadView → Result HeadView LineFault
+units_line w h = do
+  n ← setting_at 1 MAX_UNITS w h
   Ok (record h { settings = record h.settings { units = n } })
 
 -- `limit N`
-unfoldable pub limit_line : List (List ℕ) → HeadView → Result HeadView LineFault
-limit_line ws h = do
-  n ← setting_at 1 MAX_ATTEMPTS ws h
+unfoldable pub limit_line : List ℕ → HeadView → Result HeadView LineFault
+limit_line w h = do
+  n ← setting_at 1 MAX_ATTEMPTS w h
   Ok (record h { settings = record h.settings { attempts = n } })
 
 -- `spare S`
-unfoldable pub spare_line : List (List ℕ) → HeadView → Result HeadView LineFault
-spare_line ws h = do
-  n ← setting_at 0 MAX_BLOCKS ws h
+unfoldable pub spare_line : List ℕ → HeadView → Result HeadView LineFault
+spare_line w h = do
+  n ← setting_at 0 MAX_BLOCKS w h
   Ok (record h { settings = record h.settings { spare = n } })
 
 -- ---- workers, what is alive, and what they have in hand
 
 -- `worker NAME STAGE`, or of a free place what it is called in place of a name
-unfoldable pub worker_line : List (List ℕ) → HeadView → Result HeadView LineFault
-worker_line ws h = do
-  words ← two ws
-  name ← worker_name words.0 h
-  place ← stage_at words.1
+unfoldable pub worker_line : List ℕ × List ℕ → HeadView → Result HeadView LineFault
+worker_line (name, stage) h = do
+  name ← worker_name name h
+  place ← stage_at stage
   _ ← require (nat_lt (length h.workers) MAX_WORKERS) BadLimits
   Ok (record h { workers = h.workers ++ record { name = name; stage = place } ∷ [] })
 
@@ -123,11 +121,10 @@ abbrev pub with_lost_line : LostLine → HeadView → HeadView
 with_lost_line line h = record h { lost = h.lost ++ line ∷ [] }
 
 -- `lost NAME ID`: the name first, then the number
-unfoldable pub lost_line : List (List ℕ) → HeadView → Result HeadView LineFault
-lost_line ws h = do
-  words ← two ws
-  worker ← free_worker words.0 h
-  element ← number_at (2 ^ 32 - 1) words.1
+unfoldable pub lost_line : List ℕ × List ℕ → HeadView → Result HeadView LineFault
+lost_line (name, id) h = do
+  worker ← free_worker name h
+  element ← number_at (2 ^ 32 - 1) id
   Ok (with_lost_line (record { worker = worker; element = element }) h)
 
 -- ---- commands
@@ -230,22 +227,22 @@ unless_waiting true said = Err Order
 -- a line of the head of this first word: what the head is then, and the command that ends it, if it is one
 unfoldable pub head_keyword : Driver → Keyword → List (List ℕ) → HeadView
     → Result (HeadView × Option Act) LineFault
-head_keyword driver first.Rows ws h = in_head (rows_line ws h)
-head_keyword driver first.Units ws h = in_head (units_line ws h)
-head_keyword driver first.Limit ws h = in_head (limit_line ws h)
-head_keyword driver first.Spare ws h = in_head (spare_line ws h)
+head_keyword driver first.Rows ws h = in_head (one_word ws >>= λ w. rows_line w h)
+head_keyword driver first.Units ws h = in_head (one_word ws >>= λ w. units_line w h)
+head_keyword driver first.Limit ws h = in_head (one_word ws >>= λ w. limit_line w h)
+head_keyword driver first.Spare ws h = in_head (one_word ws >>= λ w. spare_line w h)
 head_keyword driver first.Server ws h = in_head (server_line ws h)
-head_keyword driver first.Start ws h = in_head (start_line ws h)
-head_keyword driver first.Worker ws h = in_head (worker_line ws h)
-head_keyword driver first.Workers ws h = in_head (workers_line ws h)
+head_keyword driver first.Start ws h = in_head (three ws >>= λ w. start_line w h)
+head_keyword driver first.Worker ws h = in_head (two ws >>= λ w. worker_line w h)
+head_keyword driver first.Workers ws h = in_head (one_word ws >>= λ w. workers_line w h)
 head_keyword driver first.Leave ws h = in_head (leave_in_head ws)
 head_keyword driver first.Alive ws h = in_head (alive_line ws h)
 head_keyword driver first.Held ws h = in_head (held_line ws h)
-head_keyword driver first.Lost ws h = in_head (lost_line ws h)
+head_keyword driver first.Lost ws h = in_head (two ws >>= λ w. lost_line w h)
 head_keyword driver first.Client ws h = in_head (client_line ws h)
-head_keyword driver first.Request ws h = in_head (request_line ws h)
+head_keyword driver first.Request ws h = in_head (two ws >>= λ w. request_line w h)
 head_keyword driver first.Ended ws h = in_head (ended_line ws h)
-head_keyword driver first.Register ws h = in_head (register_line ws h)
+head_keyword driver first.Register ws h = in_head (one_word ws >>= λ w. register_line w h)
 head_keyword driver (first.Noted v) ws h =
     ends_head h (unless_waiting (waits_for_restore h) (noted_at v ws h))
 head_keyword driver (first.Do v) ws h =

@@ -53,6 +53,18 @@ abbrev pub three : List (List ℕ) → Result (List ℕ × List ℕ × List ℕ)
 three (a ∷ b ∷ c ∷ []) = Ok (a, b, c)
 three ws = Err Syntax
 
+-- what is said by a line of one word, of two words and of three
+abbrev pub of_one_word : {A : Type 0} → (List ℕ → Result A LineFault) → List (List ℕ) → Result A LineFault
+of_one_word said ws = one_word ws >>= said
+
+abbrev pub of_two_words : {A : Type 0} → (List ℕ × List ℕ → Result A LineFault) → List (List ℕ)
+    → Result A LineFault
+of_two_words said ws = two ws >>= said
+
+abbrev pub of_three_words : {A : Type 0} → (List ℕ × List ℕ × List ℕ → Result A LineFault) → List (List ℕ)
+    → Result A LineFault
+of_three_words said ws = three ws >>= said
+
 -- the four words after the first
 abbrev pub four : List (List ℕ) → Result (List ℕ × List ℕ × List ℕ × List ℕ) LineFault
 four (a ∷ b ∷ c ∷ d ∷ []) = Ok (a, b, c, d)

@@ -12,7 +12,7 @@ use Rattle.tp_script.specs.declared.head.Act.TheVariants as act
 use Rattle.tp_script.specs.declared.head.TheConstants.{MAX_WORKERS}
 use Rattle.tp_script.specs.declared.notes.ClientNote.{ClientNote}
 use Rattle.tp_script.specs.Commands.{stage_at}
-use Rattle.tp_script.specs.LineWords.{◌>>=◌, require, known, number_at, is_name, one_word}
+use Rattle.tp_script.specs.LineWords.{◌>>=◌, require, known, number_at, is_name}
 use Rattle.tp_script.specs.Once.{is_note_of}
 use Rattle.tp_script.specs.Script.{HeadView, WorkerView}
 use Rattle.tp_script.specs.ServerLines.{free_name, new_name, worker_at}
@@ -49,9 +49,8 @@ first_places workers zero = []
 first_places workers (suc n) = first_places workers n ++ place_or_free (slice_get workers n) n ∷ []
 
 -- `workers N`: so many places in all, of which the lines above made some
-unfoldable pub workers_line : List (List ℕ) → HeadView → Result HeadView LineFault
-workers_line ws h = do
-  w ← one_word ws
+unfoldable pub workers_line : List ℕ → HeadView → Result HeadView LineFault
+workers_line w h = do
   n ← number_at (2 ^ 64 - 1) w
   _ ← require (nat_le (length h.workers) n && nat_le n MAX_WORKERS) BadLimits
   Ok (record h { workers = first_places h.workers n })

@@ -12,7 +12,7 @@ use Rattle.tp_script.specs.declared.fault.LineFault.TheVariants.{Syntax, BadLimi
 use Rattle.tp_script.specs.declared.script.Kind.{Kind}
 use Rattle.tp_script.specs.declared.script.TheConstants.{MAX_SERVERS}
 use Rattle.tp_script.specs.LineWords.{◌>>=◌, require, known, number_at, is_name, kind_at, act_and_place}
-use Rattle.tp_script.specs.LineWords.{has_two_colons, three}
+use Rattle.tp_script.specs.LineWords.{has_two_colons}
 use Rattle.tp_script.specs.LineWords.{outputs_at}
 use Rattle.tp_script.specs.Notes.{NameView}
 use Rattle.tp_script.specs.Once.{is_note_of}
@@ -124,11 +124,10 @@ begin_at place k v h = do
   Ok (record h { servers = slice_set h.servers place server })
 
 -- `start NAME K V`
-unfoldable pub start_line : List (List ℕ) → HeadView → Result HeadView LineFault
-start_line ws h = do
-  words ← three ws
-  _ ← require (is_name words.0) BadName
-  place ← server_at words.0 h
-  k ← number_at (2 ^ 64 - 1) words.1
-  v ← number_at (2 ^ 64 - 1) words.2
+unfoldable pub start_line : List ℕ × List ℕ × List ℕ → HeadView → Result HeadView LineFault
+start_line (name, k, v) h = do
+  _ ← require (is_name name) BadName
+  place ← server_at name h
+  k ← number_at (2 ^ 64 - 1) k
+  v ← number_at (2 ^ 64 - 1) v
   begin_at place k v h

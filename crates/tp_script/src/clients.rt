@@ -7,6 +7,7 @@ ghost use Rattle.tp_script.specs.Clients.{known_client};
 ghost use Rattle.tp_script.specs.Clients.{note_of, nothing_noted, register_line, request_line, with_client};
 ghost use Rattle.tp_script.specs.Clients.{with_registered, with_one_request};
 ghost use Rattle.tp_script.specs.Grammar.{names_an_id};
+ghost use Rattle.tp_script.specs.LineWords.{of_one_word, of_two_words};
 ghost use Rattle.tp_script.specs.Once.{IsOfOne, is_note_of, is_request_of};
 ghost use Rattle.tp_script.specs.Reading.{Gives, client_view};
 ghost use Rattle.tp_script.specs.Script.{head_view};
@@ -172,7 +173,7 @@ impl Head {
     #[tactic(auto, unfolding(crate::specs::Clients::register_line))]
     pub(crate) fn register_line(&mut self, words: &[&[u8]]) -> Result<(), LineError>
         ensures gives { Gives (λ _. head_view self.new) result
-            (register_line (map (λ x. x.now) words.now) (head_view self.old)) }
+            (of_one_word (λ w. register_line w (head_view self.old)) (map (λ x. x.now) words.now)) }
         ensures kept { OnErr result (head_view self.new ≡ head_view self.old) }
     {
         let name = self.free_name(one(words)?)?;
@@ -217,7 +218,7 @@ impl Head {
     #[tactic(auto, unfolding(crate::specs::Clients::request_line))]
     pub(crate) fn request_line(&mut self, words: &[&[u8]]) -> Result<(), LineError>
         ensures gives { Gives (λ _. head_view self.new) result
-            (request_line (map (λ x. x.now) words.now) (head_view self.old)) }
+            (of_two_words (λ w. request_line w (head_view self.old)) (map (λ x. x.now) words.now)) }
         ensures kept { OnErr result (head_view self.new ≡ head_view self.old) }
     {
         let (name, root) = two(words)?;

@@ -1,6 +1,7 @@
 //! The lines of a head that say what workers have in hand.
 ghost use Rattle.std.specs.Prelude.{◌≡◌, ◌<◌, ◌==◌, false, map, IfOk, Ok, OnErr, Some, vec_len};
 ghost use Rattle.std.specs.List.{list_any};
+ghost use Rattle.tp_script.specs.LineWords.{of_two_words};
 ghost use Rattle.tp_script.specs.Rounds.{IsAliveInRange};
 ghost use Rattle.tp_script.specs.Holders.{IsLostBy, is_holder};
 ghost use Rattle.tp_script.specs.Hands.{free_worker, has_in_hand, held_of, held_words};
@@ -124,7 +125,7 @@ impl Head {
     #[tactic(auto, unfolding(crate::specs::Grammar::lost_line))]
     pub(crate) fn lost_line(&mut self, words: &[&[u8]]) -> Result<(), LineError>
         ensures gives { Gives (λ _. head_view self.new) result
-            (lost_line (map (λ x. x.now) words.now) (head_view self.old)) }
+            (of_two_words (λ w. lost_line w (head_view self.old)) (map (λ x. x.now) words.now)) }
         ensures kept { OnErr result (head_view self.new ≡ head_view self.old) }
     {
         let (name, id) = two(words)?;

@@ -1,7 +1,7 @@
 //! The places of workers: those that a head makes, and who takes or leaves one behind it.
 ghost use Rattle.std.specs.Prelude.{◌≡◌, ◌<◌, ◌≤◌, map, not, position, IfOk, IfSome, OnErr, slice_get};
 ghost use Rattle.std.specs.Prelude.{string_bytes, vec_len};
-ghost use Rattle.tp_script.specs.LineWords.{is_name};
+ghost use Rattle.tp_script.specs.LineWords.{of_one_word, is_name};
 ghost use Rattle.tp_script.specs.Places.{first_places, free_at, free_place, join_line, leave_line};
 ghost use Rattle.tp_script.specs.Places.{place_name};
 ghost use Rattle.tp_script.specs.Places.{place_or_free, worker_name, workers_line};
@@ -106,7 +106,7 @@ impl Head {
     #[tactic(auto, unfolding(crate::specs::Places::workers_line))]
     pub(crate) fn workers_line(&mut self, alloc: Global, words: &[&[u8]]) -> Result<(), LineError>
         ensures gives { Gives (λ _. head_view self.new) result
-            (workers_line (map (λ x. x.now) words.now) (head_view self.old)) }
+            (of_one_word (λ w. workers_line w (head_view self.old)) (map (λ x. x.now) words.now)) }
         ensures kept { OnErr result (head_view self.new ≡ head_view self.old) }
     {
         let many = number_at(one(words)?, u64::MAX)?;

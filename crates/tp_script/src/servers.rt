@@ -4,6 +4,7 @@ ghost use Rattle.std.specs.Prelude.{◌≡◌, ◌≤◌, ◌<◌, map, length, 
 ghost use Rattle.std.specs.Prelude.{string_bytes, replicate, false, Ok, is_ok};
 ghost use Rattle.std.specs.Str.{bytes_eq};
 ghost use Rattle.tp_server.specs.Check.{check_of};
+ghost use Rattle.tp_script.specs.LineWords.{of_three_words};
 ghost use Rattle.tp_script.specs.Reading.{Gives, GivesHead, shape_view};
 ghost use Rattle.tp_script.specs.Script.{head_view, server_view};
 ghost use Rattle.tp_script.specs.ServerLines.{free_name, has_client, new_name, server_at, shape_at};
@@ -204,7 +205,7 @@ impl Head {
     #[tactic(auto, unfolding(crate::specs::ServerLines::start_line))]
     pub(crate) fn start_line(&mut self, words: &[&[u8]]) -> Result<(), LineError>
         ensures gives { GivesHead self.new result
-            (start_line (map (λ x. x.now) words.now) (head_view self.old)) }
+            (of_three_words (λ w. start_line w (head_view self.old)) (map (λ x. x.now) words.now)) }
         ensures kept { OnErr result (head_view self.new ≡ head_view self.old) }
     {
         let (name, k, v) = three(words)?;

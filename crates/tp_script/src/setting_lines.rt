@@ -1,6 +1,7 @@
 //! The settings of a head, each a line of its own.
 ghost use Rattle.std.specs.Prelude.{◌≡◌, ◌≤◌, map, IfOk, OnErr};
 ghost use Rattle.tp_script.specs.Grammar.{limit_line, rows_line, setting_at, spare_line, units_line};
+ghost use Rattle.tp_script.specs.LineWords.{of_one_word};
 ghost use Rattle.tp_script.specs.Reading.{Gives, GivesHead};
 ghost use Rattle.tp_script.specs.Script.{head_view};
 
@@ -10,14 +11,12 @@ use crate::line_words::{number_at, one};
 use tp_model::types::{MAX_ATTEMPTS, MAX_BLOCKS, MAX_PART_ROWS, MAX_UNITS};
 
 impl Head {
-    // A setting is one word, comes before servers, and is `least` to `most`.
+    // A setting comes before servers, and is `least` to `most`.
     #[tactic(auto, unfolding(crate::specs::Grammar::setting_at))]
-    fn setting_at(&self, words: &[&[u8]], least: u16, most: u16) -> Result<u16, LineError>
-        ensures gives { Gives (λ n. n) result
-            (setting_at least most (map (λ x. x.now) words.now) (head_view self.now)) }
+    fn setting_at(&self, word: &[u8], least: u16, most: u16) -> Result<u16, LineError>
+        ensures gives { Gives (λ n. n) result (setting_at least most word.now (head_view self.now)) }
         ensures bounds { IfOk result (λ n. (least ≤ n) × (n ≤ most)) }
     {
-        let word = one(words)?;
         if !self.servers.is_empty() {
             return Err(LineFault::Order.into());
         }
@@ -32,10 +31,10 @@ impl Head {
     #[tactic(auto, unfolding(crate::specs::Grammar::rows_line))]
     pub(crate) fn rows_line(&mut self, words: &[&[u8]]) -> Result<(), LineError>
         ensures gives { GivesHead self.new result
-            (rows_line (map (λ x. x.now) words.now) (head_view self.old)) }
+            (of_one_word (λ w. rows_line w (head_view self.old)) (map (λ x. x.now) words.now)) }
         ensures kept { OnErr result (head_view self.new ≡ head_view self.old) }
     {
-        self.settings.rows = self.setting_at(words, 1, MAX_PART_ROWS)?;
+        self.settings.rows = self.setting_at(one(words)?, 1, MAX_PART_ROWS)?;
         Ok(())
     }
 
@@ -43,10 +42,10 @@ impl Head {
     #[tactic(auto, unfolding(crate::specs::Grammar::units_line))]
     pub(crate) fn units_line(&mut self, words: &[&[u8]]) -> Result<(), LineError>
         ensures gives { GivesHead self.new result
-            (units_line (map (λ x. x.now) words.now) (head_view self.old)) }
+            (of_one_word (λ w. units_line w (head_view self.old)) (map (λ x. x.now) words.now)) }
         ensures kept { OnErr result (head_view self.new ≡ head_view self.old) }
     {
-        self.settings.units = self.setting_at(words, 1, MAX_UNITS)?;
+        self.settings.units = self.setting_at(one(words)?, 1, MAX_UNITS)?;
         Ok(())
     }
 
@@ -54,10 +53,10 @@ impl Head {
     #[tactic(auto, unfolding(crate::specs::Grammar::limit_line))]
     pub(crate) fn limit_line(&mut self, words: &[&[u8]]) -> Result<(), LineError>
         ensures gives { GivesHead self.new result
-            (limit_line (map (λ x. x.now) words.now) (head_view self.old)) }
+            (of_one_word (λ w. limit_line w (head_view self.old)) (map (λ x. x.now) words.now)) }
         ensures kept { OnErr result (head_view self.new ≡ head_view self.old) }
     {
-        self.settings.attempts = self.setting_at(words, 1, u16::from(MAX_ATTEMPTS))? as u8;
+        self.settings.attempts = self.setting_at(one(words)?, 1, u16::from(MAX_ATTEMPTS))? as u8;
         Ok(())
     }
 
@@ -65,10 +64,10 @@ impl Head {
     #[tactic(auto, unfolding(crate::specs::Grammar::spare_line))]
     pub(crate) fn spare_line(&mut self, words: &[&[u8]]) -> Result<(), LineError>
         ensures gives { GivesHead self.new result
-            (spare_line (map (λ x. x.now) words.now) (head_view self.old)) }
+            (of_one_word (λ w. spare_line w (head_view self.old)) (map (λ x. x.now) words.now)) }
         ensures kept { OnErr result (head_view self.new ≡ head_view self.old) }
     {
-        self.settings.spare = self.setting_at(words, 0, MAX_BLOCKS)?;
+        self.settings.spare = self.setting_at(one(words)?, 0, MAX_BLOCKS)?;
         Ok(())
     }
 }

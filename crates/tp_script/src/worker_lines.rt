@@ -2,6 +2,7 @@
 ghost use Rattle.std.specs.Prelude.{◌≡◌, ◌<◌, map, IfSome, OnErr, position, string_bytes, vec_len};
 ghost use Rattle.std.specs.Str.{bytes_eq};
 ghost use Rattle.tp_script.specs.declared.keyword.Verb.TheVariants as verbs;
+ghost use Rattle.tp_script.specs.LineWords.{of_two_words};
 ghost use Rattle.tp_script.specs.Reading.{Gives};
 ghost use Rattle.tp_script.specs.Grammar.{is_named, worker_act, worker_commit, worker_line, worker_of};
 ghost use Rattle.tp_script.specs.Grammar.{worker_take};
@@ -119,7 +120,7 @@ impl Head {
     #[tactic(auto, unfolding(crate::specs::Grammar::worker_line), using(crate::proofs::AliveLemmas::held_by_more, crate::proofs::AliveLemmas::lost_by_more))]
     pub(crate) fn worker_line(&mut self, alloc: Global, words: &[&[u8]]) -> Result<(), LineError>
         ensures gives { Gives (λ _. head_view self.new) result
-            (worker_line (map (λ x. x.now) words.now) (head_view self.old)) }
+            (of_two_words (λ w. worker_line w (head_view self.old)) (map (λ x. x.now) words.now)) }
         ensures kept { OnErr result (head_view self.new ≡ head_view self.old) }
     {
         let (name, stage) = two(words)?;
