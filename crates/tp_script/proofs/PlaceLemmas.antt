@@ -1,5 +1,5 @@
 -- Workers that come and go: what their lines say of the head.
-use Rattle.std.proofs.Common.{◌≡◌, ℕ, Bool, true, false, List, length, map, Some, Result, Ok, refl, sym, ap, ◌∙◌, set, subst}
+use Rattle.std.proofs.Common.{◌≡◌, ℕ, true, false, List, length, map, Some, Result, Ok, refl, sym, ap, ◌∙◌, set}
 use Rattle.std.specs.List.{list_any}
 use Rattle.std.specs.Prelude.{slice_set, string_bytes}
 use Rattle.std.specs.Str.{bytes_eq}

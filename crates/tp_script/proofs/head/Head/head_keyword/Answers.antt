@@ -3,3 +3,9 @@ use Rattle.tp_script.proofs.head.Head.head_keyword.Goals as goal
 
 pub returns-in-Noted-clause-in_range : goal.returns-in-Noted-clause-in_range
 returns-in-Noted-clause-in_range c = c.in_ok-act-in-Noted.ensures.in_range (c.noted_at.ensures.in_range c.args.driver (vec_len c.args.self.now.servers))
+
+pub returns-in-Do-clause-in_range : goal.returns-in-Do-clause-in_range
+returns-in-Do-clause-in_range c = c.in_ok-act-in-Do.ensures.in_range (c.act_at.ensures.in_range c.args.driver)
+
+pub returns-in-Race-clause-in_range : goal.returns-in-Race-clause-in_range
+returns-in-Race-clause-in_range c = c.in_ok-act-in-Race.ensures.in_range (c.race_said.ensures.in_range (vec_len c.args.self.now.servers) (vec_len c.args.self.now.workers))

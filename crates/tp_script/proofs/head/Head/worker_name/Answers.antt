@@ -1,4 +1,4 @@
-use Rattle.std.proofs.Common.{rules, tests, arith, refl}
+use Rattle.std.proofs.Common.{rules, tests, arith}
 use Rattle.std.specs.Prelude.{string_bytes}
 use Rattle.std.proofs.lemmas.List.{length-map}
 use Rattle.tp_script.specs.Script.{head_view, worker_view}
