@@ -5,7 +5,7 @@ use Rattle.std.proofs.lemmas.List.Elements.{All-cons, All-head, All-nil, All-set
 use Rattle.std.proofs.lemmas.List.{drop_more}
 use Rattle.std.proofs.lemmas.List.Sums.{sum_by-cons}
 use Rattle.tp_script.specs.declared.head.Act.{Act}
-use Rattle.tp_script.specs.Passes.{racers_of, racing}
+use Rattle.tp_script.specs.Passes.{racers, racing}
 
 -- the first of a list, and those after it in two parts
 pub all_parts : {A : Type 0} (P : A → Type 0) (xs : List A) (x : A) (rest front back : List A) → xs ≡ x ∷ rest → rest ≡ front ++ back → All P xs → P x × All P front × All P back
@@ -23,8 +23,8 @@ all_parts P xs x rest front back is parts all =
     all_back P (x ∷ front) back all = all_back P front back (All-tail P x (front ++ back) all)
 
 -- what the commands from here on need
-pub racing_next : (acts : List Act) (i : ℕ) (d : Act) → i < length acts → racing (drop i acts) ≡ racers_of (get_or acts i d) + racing (drop (i + 1) acts)
-racing_next acts i d inside = ap racing (drop_more acts i d inside) ∙ sum_by-cons racers_of (get_or acts i d) (drop (i + 1) acts)
+pub racing_next : (acts : List Act) (i : ℕ) (d : Act) → i < length acts → racing (drop i acts) ≡ racers (get_or acts i d) + racing (drop (i + 1) acts)
+racing_next acts i d inside = ap racing (drop_more acts i d inside) ∙ sum_by-cons racers (get_or acts i d) (drop (i + 1) acts)
 
 -- two elements in each other's place
 pub all_swap : {A : Type 0} (P : A → Type 0) (xs : List A) (a b : ℕ) → a < length xs → b < length xs → All P xs → All P (swap xs a b)

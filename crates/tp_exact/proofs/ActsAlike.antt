@@ -1,6 +1,6 @@
 -- Behind the head what is asked for does the same in sessions whose heads say the same but for registers and for what
 -- is alive, was lost or is noted.
-use Rattle.std.proofs.Common.{◌≡◌, ℕ, zero, suc, ◌+◌, ◌||◌, Bool, true, false, if◌then◌else◌, None, Some, Ok, Err, Option, Result, List, [], ◌∷◌, ◌++◌, length, map, refl, sym, ◌∙◌, ap}
+use Rattle.std.proofs.Common.{◌≡◌, ℕ, zero, suc, ◌+◌, ◌||◌, Bool, true, false, if◌then◌else◌, None, Some, Option, List, [], ◌∷◌, ◌++◌, length, map, refl, sym, ◌∙◌, ap}
 use Rattle.std.specs.Prelude.{codes, slice_get}
 use Rattle.std.specs.Option.{option_map}
 use Rattle.std.proofs.lemmas.List.{length-map}
@@ -19,21 +19,18 @@ use Rattle.tp_exact.specs.Alive.{survivors_now}
 use Rattle.tp_report.specs.declared.answer.Renamed.{Renamed}
 use Rattle.tp_desk.specs.declared.order.Order.{Order}
 use Rattle.tp_desk.specs.declared.order.Order.TheVariants.{LeastFirst, InTurn}
-use Rattle.tp_reference.specs.PlainReport.{ReportState, balance_answer, command_step, desk_at, drain_of, desk_final_line, finals_below, most_rounds, round_below, round_of, round_turn, drain_rounds}
+use Rattle.tp_reference.specs.PlainReport.{ReportState, balance_answer, command_step, desk_at, drain_of, drain_step, desk_final_line, finals_below, most_rounds, round_below, round_of, round_turn, drain_rounds}
 use Rattle.tp_reference.specs.declared.plain_desk.PlainDesk.{PlainDesk}
-use Rattle.tp_script.specs.Grammar.{late_line}
-use Rattle.tp_script.specs.Passes.{is_rollover}
 use Rattle.tp_script.specs.Script.{HeadView, ServerView, SettingsView, WorkerView}
-use Rattle.tp_script.specs.declared.fault.LineFault.{LineFault}
 use Rattle.tp_script.specs.declared.head.Act.{Act}
 use Rattle.tp_script.specs.declared.head.Act.TheVariants as acts
 use Rattle.tp_script.specs.declared.script.Command.{Command}
-use Rattle.tp_script.specs.declared.script.Command.TheVariants.{Client, Desk, Balance, Sum, Race, Drain, DrainNext, Rollover}
+use Rattle.tp_script.specs.declared.script.Command.TheVariants.{Client, Desk, Balance, Sum}
 use Rattle.tp_script.specs.declared.script.DeskAct.{DeskAct}
 use Rattle.tp_session.specs.Dump.{all_starts, drop_lines, drop_of, dump_text, life_text, lost_lines, server_dump_line, server_starts, settings_lines, worker_text}
 use Rattle.tp_session.specs.declared.hand.Holding.{Holding}
 use Rattle.tp_exact.specs.PlainOverviews.{overview_line}
-use Rattle.tp_exact.specs.PlainSession.{SessionState, session_act_step, anew_as, command_by, dump_of, leave_step, session_desk_open, last_step, rolled_over, unless_refused, worker_step, session_works_in}
+use Rattle.tp_exact.specs.PlainSession.{SessionState, session_act_step, anew_as, dump_of, leave_step, report_step, session_desk_open, last_step, rolled_over, unless_refused, worker_step, session_works_in}
 
 -- what acts go by of a server
 abbrev pub strip : ServerView → ServerView
@@ -102,10 +99,9 @@ module _ (gs hs : List ServerView) (alike : map strip gs ≡ map strip hs) where
   same_step (Desk i act) s = by_place (λ o. desk_at o (slice_get s.desks i) i act s) (desk_stripped (slice_get s.desks i) i act s) i
   same_step (Balance i k) s = ap (λ text. (text, s)) (by_place (λ o. balance_answer o (slice_get s.desks i) k) (balance_stripped (slice_get s.desks i) k) i)
   same_step (Sum k) s = refl
-  same_step (Race race) s = refl
-  same_step Rollover s = refl
-  same_step Drain s = ap (λ z. ((command_step hs Drain s).0, z)) (same_drain LeastFirst s)
-  same_step DrainNext s = ap (λ z. ((command_step hs DrainNext s).0, z)) (same_drain InTurn s)
+
+  same_drained : (order : Order) (s : ReportState) → drain_step order gs s ≡ drain_step order hs s
+  same_drained order s = ap (λ z. ((drain_step order hs s).0, z)) (same_drain order s)
 
   -- ---- final lines
 
@@ -212,12 +208,15 @@ module _ (g h : HeadView) (same : SayTheSame g h) where
           settings_lines st ++ servers ++ starts ++ map worker_text workers ++ map (life_text workers (1 + n)) alive
           ++ lost_lines workers (1 + n) s.works alive (length workers) ++ note_lines workers s.notes alive ++ (codes "restore" ∷ drops)
 
-  same_by : (b : Bool) (why : Option RollFault) (c : Command) (s : SessionState) → command_by b g why c s ≡ command_by b h why c s
-  same_by true why c s = ap (λ done. unless_refused (session_desk_open s) why s done) (same_rolled s)
-  same_by false why c s = ap (λ (step : List ℕ × ReportState). (step.0, record s { report = step.1 })) (same_step g.servers h.servers same.servers c s.report)
+  same_report : (s : SessionState) (a b : List ℕ × ReportState) → a ≡ b → report_step a s ≡ report_step b s
+  same_report s a b is = ap (λ step. report_step step s) is
 
   pub same_act : (why : Option RollFault) (act : Act) (s : SessionState) → IsNoRestore act → session_act_step g why act s ≡ session_act_step h why act s
-  same_act why (acts.Command c) s is = same_by (is_rollover c) why c s
+  same_act why (acts.Command c) s is = same_report s _ _ (same_step g.servers h.servers same.servers c s.report)
+  same_act why (acts.Race plan) s is = refl
+  same_act why acts.Drain s is = same_report s _ _ (same_drained g.servers h.servers same.servers LeastFirst s.report)
+  same_act why acts.DrainNext s is = same_report s _ _ (same_drained g.servers h.servers same.servers InTurn s.report)
+  same_act why acts.Rollover s is = ap (λ done. unless_refused (session_desk_open s) why s done) (same_rolled s)
   same_act why (acts.Worker at act) s is =
       ap (λ (ws : List WorkerView). worker_step (slice_get ws at) act at (1 + length g.servers + at) s) same.workers
       ∙ ap (λ n. worker_step (slice_get h.workers at) act at (1 + n + at) s) servers_many

@@ -13,12 +13,10 @@ use Rattle.tp_server.specs.declared.recipe.BadRecipe.TheVariants as bad
 use Rattle.tp_server.specs.Behaviour.{behaviour_of}
 use Rattle.tp_server.specs.Check.{is_between}
 use Rattle.tp_manager.specs.Shown.{PassShown}
-use Rattle.tp_script.specs.Passes.{has_race, is_race, racers, racers_of, races, racing}
+use Rattle.tp_script.specs.Passes.{has_race, is_race, racers, racing}
 use Rattle.tp_script.specs.declared.head.Act.{Act}
 use Rattle.tp_script.specs.declared.head.Act.TheVariants as act
 use Rattle.tp_script.specs.Script.{ServerView}
-use Rattle.tp_script.specs.declared.script.Command.{Command}
-use Rattle.tp_script.specs.declared.script.Command.TheVariants as command
 use Rattle.tp_commands.specs.Acting.{PlaceShown}
 use Rattle.tp_perform.specs.Scenes.{IsNewPlace}
 use Rattle.tp_reference.specs.PlainReport.{new_desk}
@@ -31,18 +29,12 @@ pub none_raced : (a b : Bool) → a || b ≡ false → (a ≡ false) × (b ≡ f
 none_raced true b is = absurd cc
 none_raced false b is = (refl, is)
 
-no_racer : (c : Command) → is_race c ≡ false → racers c ≡ 0
-no_racer (command.Race plan) raceless = absurd cc
-no_racer (command.Client act) raceless = refl
-no_racer (command.Desk at act) raceless = refl
-no_racer (command.Balance at k) raceless = refl
-no_racer (command.Sum k) raceless = refl
-no_racer command.Drain raceless = refl
-no_racer command.DrainNext raceless = refl
-no_racer command.Rollover raceless = refl
-
-none_needed : (a : Act) → races a ≡ false → racers_of a ≡ 0
-none_needed (act.Command c) raceless = no_racer c raceless
+none_needed : (a : Act) → is_race a ≡ false → racers a ≡ 0
+none_needed (act.Command c) raceless = refl
+none_needed (act.Race plan) raceless = absurd cc
+none_needed act.Drain raceless = refl
+none_needed act.DrainNext raceless = refl
+none_needed act.Rollover raceless = refl
 none_needed (act.Worker worker a) raceless = refl
 none_needed act.Account raceless = refl
 none_needed act.Dump raceless = refl
@@ -56,8 +48,8 @@ none_needed (act.Leave at name) raceless = refl
 pub no_racers : (all : List Act) → has_race all ≡ false → racing all ≡ 0
 no_racers [] raceless = refl
 no_racers (a ∷ others) raceless =
-    let parts = none_raced (races a) (has_race others) raceless in
-    let both : racing (a ∷ others) ≡ racers_of a + racing others = sum_by-cons racers_of a others in
+    let parts = none_raced (is_race a) (has_race others) raceless in
+    let both : racing (a ∷ others) ≡ racers a + racing others = sum_by-cons racers a others in
     let one = none_needed a parts.0 in
     let rest = no_racers others parts.1 in
     omega (arith, both, one, rest)

@@ -16,7 +16,7 @@ use Rattle.tp_script.specs.declared.keyword.Keyword.TheVariants as first
 use Rattle.tp_script.specs.declared.script.TheConstants.{MAX_SERVERS}
 use Rattle.tp_model.specs.declared.types.TheConstants.{MAX_ATTEMPTS, MAX_BLOCKS, MAX_PART_ROWS, MAX_UNITS}
 use Rattle.tp_script.specs.Alive.{AliveWords, alive_at}
-use Rattle.tp_script.specs.Commands.{stage_at}
+use Rattle.tp_script.specs.Commands.{drain_at, race_said, rollover_at, stage_at}
 use Rattle.tp_script.specs.Grammar.{account_at, act_said, alive_line, dump_at, ends_head, head_keyword, head_words, held_line, in_head, limit_line, lost_line, overview_at, restore_at, rows_line, setting_at, spare_line, units_line, unless_waiting, waits_for_restore, with_alive, with_lost_line, worker_line}
 use Rattle.tp_script.specs.Clients.{ClientWords, client_line, client_words, has_request, known_client, note_of, noted_at, nothing_noted, register_line, request_line, with_client, with_registered, with_one_request}
 use Rattle.tp_script.specs.Ends.{EndWords, end_said, ended_line, ended_words, unended_worker, with_end_line}
@@ -326,7 +326,10 @@ keyword_good driver first.Leave ws h t is good = in_good (one_word ws >>= λ _. 
 keyword_good driver first.Alive ws h t is good = in_good (alive_line ws h) h t is (λ s so. alive_good ws h s so good)
 keyword_good driver first.Held ws h t is good = in_good (held_line ws h) h t is (λ s so. held_good ws h s so good)
 keyword_good driver first.Lost ws h t is good = in_good (two ws >>= λ w. lost_line w h) h t is (λ s so. let a = went (two ws) (λ w. lost_line w h) s so in lost_good a.0.0 a.0.1 h s a.2 good)
-keyword_good driver (first.Do v) ws h t is good = ends_good (unless_waiting (waits_for_restore h) (act_said driver v ws h)) h t is good
+keyword_good driver (first.Do v) ws h t is good = ends_good (unless_waiting (waits_for_restore h) (act_said v ws h)) h t is good
+keyword_good driver first.Race ws h t is good = ends_good (unless_waiting (waits_for_restore h) (race_said driver ws)) h t is good
+keyword_good driver first.Drain ws h t is good = ends_good (unless_waiting (waits_for_restore h) (drain_at ws)) h t is good
+keyword_good driver first.Rollover ws h t is good = ends_good (unless_waiting (waits_for_restore h) (rollover_at ws)) h t is good
 keyword_good driver first.Dump ws h t is good = ends_good (unless_waiting (waits_for_restore h) (dump_at ws)) h t is good
 keyword_good driver first.Account ws h t is good = ends_good (unless_waiting (waits_for_restore h) (account_at ws)) h t is good
 keyword_good driver (first.Overview what) ws h t is good = ends_good (unless_waiting (waits_for_restore h) (overview_at what ws)) h t is good

@@ -1,5 +1,5 @@
 -- Commands of the client, and those that tell registers, between two looks together.
-use Rattle.std.proofs.Common.{◌≡◌, ℕ, zero, suc, ◌+◌, Bool, true, false, List, [], ◌∷◌, ◌++◌, length, map, Option, Some, None, refl, sym, ◌∙◌, ap, subst, arith}
+use Rattle.std.proofs.Common.{◌≡◌, ℕ, zero, suc, ◌+◌, Bool, true, false, List, [], ◌∷◌, ◌++◌, map, Option, Some, None, refl, sym, ◌∙◌, ap, subst}
 use Rattle.std.specs.Prelude.{is_some, slice_get, sum_by, if◌then◌else◌}
 use Rattle.std.specs.List.{AllZip}
 use Rattle.std.proofs.lemmas.List.Sums.{sum_by-cons}
@@ -8,17 +8,15 @@ use Rattle.tp_model.specs.declared.types.Work.{Work}
 use Rattle.tp_model.specs.declared.event.Event.{Event}
 use Rattle.tp_plain.specs.OneThread as thread
 use Rattle.tp_server.specs.Pending.{Pending}
-use Rattle.tp_manager.specs.Shown.{KeeperShown, ManagerShown, PassShown}
+use Rattle.tp_manager.specs.Shown.{KeeperShown, PassShown}
 use Rattle.tp_report.specs.declared.answer.ServerAnswer.TheVariants as told
 use Rattle.tp_report.specs.Answer.{balance_text, line, named_text}
-use Rattle.tp_script.specs.Script.{HeadView, ServerView}
+use Rattle.tp_script.specs.Script.{ServerView}
 use Rattle.tp_script.specs.declared.script.ClientAct.{ClientAct}
-use Rattle.tp_script.specs.declared.script.Command.{Command}
 use Rattle.tp_commands.specs.Acting.{PlaceShown}
 use Rattle.tp_commands.specs.Asked.{TellsClient}
 use Rattle.tp_commands.specs.Registers.{TellsBalance, counted_value, register_sum}
 use Rattle.tp_perform.specs.Scenes.{Scene, passes_in}
-use Rattle.tp_perform.specs.Told.{Performs}
 use Rattle.tp_reference.specs.declared.plain_desk.PlainDesk.{PlainDesk}
 use Rattle.tp_reference.specs.PlainClient.{client, client_step}
 use Rattle.tp_reference.specs.PlainReport as plain
@@ -91,12 +89,6 @@ served_all (p ∷ ps) [] servers a b = absurd a
 served_all (p ∷ ps) (q ∷ qs) [] a b = absurd b
 served_all (p ∷ ps) (q ∷ qs) (s ∷ ss) a b = (served_still p q s a.0 b.0, served_all ps qs ss a.1 b.1)
 
--- ---- a command without a race leaves the passes of races
-
-nothing : {A : Type 0} (xs : List A) → length xs ≡ 0 → xs ≡ []
-nothing [] none = refl
-nothing (x ∷ xs) none = absurd (omega (arith, none))
-
 -- ---- the client and its scene
 
 module _ (servers : List ServerView) (l : Limits) (keeper keeper' : KeeperShown) (h h' : List Event) (old new next : Scene) (s : ReportState) (stands : StandsAsComputed servers l keeper h old s) (places : new.places ≡ old.places) (racers : new.racers ≡ old.racers)
@@ -166,9 +158,3 @@ summed_so k (p ∷ ps) (d ∷ ds) a =
     let first = sum_by-cons (λ (q : PlaceShown). counted_value q.is_dropped (slice_get q.desk.registers k)) p ps in
     let second = sum_by-cons (plain.counted_at_desk k) d ds in
     first ∙ (ap (λ n. n + register_sum k ps) one ∙ (ap (λ n. plain.counted_at_desk k d + n) (summed_so k ps ds a.1) ∙ sym second))
-
--- ---- a command without a race
-
--- the passes of races are as they were
-pub racers_kept : (m : ManagerShown) (head : HeadView) (c : Command) (raced : ℕ) (old : Scene) (text : List ℕ) (new : Scene) (p : Performs m head c raced old text new) → p.after ≡ p.here → new.racers ≡ old.racers
-racers_kept m head c raced old text new p same = p.kept ∙ (ap (λ z. p.front ++ (z ++ p.back)) same ∙ sym p.parts)

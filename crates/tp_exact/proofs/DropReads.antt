@@ -15,14 +15,13 @@ use Rattle.tp_reference.specs.PlainDesks.{does, has_open, nothing_done, with_dro
 use Rattle.tp_reference.specs.PlainReport.{desk_at, with_acted, worker}
 use Rattle.tp_reference.specs.declared.plain_desk.PlainDesk.{PlainDesk}
 use Rattle.tp_script.specs.Commands.{command_at, server_named, one_server}
-use Rattle.tp_script.specs.Grammar.{act_said, act_by, late_line, body_keyword, late_keyword, late_words, given_by, line_words}
+use Rattle.tp_script.specs.Grammar.{act_said, act_by, late_line, body_keyword, late_keyword, late_words, line_words}
 use Rattle.tp_script.specs.LineWords.{is_name, known, require}
 use Rattle.tp_script.specs.Script.{HeadView, ServerView}
 use Rattle.tp_script.specs.ServerLines.{server_at, worker_at}
 use Rattle.tp_script.specs.declared.fault.LineFault.TheVariants.{BadName}
 use Rattle.tp_script.specs.declared.head.Act.{Act}
 use Rattle.tp_script.specs.declared.head.Act.TheVariants as acts
-use Rattle.tp_script.specs.declared.head.Driver.TheVariants as drivers
 use Rattle.tp_script.specs.declared.keyword.Verb.TheVariants as verb
 use Rattle.tp_script.specs.declared.script.Command.TheVariants.{Desk}
 use Rattle.tp_script.specs.declared.script.DeskAct.TheVariants as desk
@@ -53,16 +52,16 @@ module _ (name : List ℕ) (place : ℕ) (t : HeadView) (good : is_name name ≡
   unfolding command_at
   command_is = bind_ok (one_server (name ∷ []) t) place (λ server. Ok (Desk server desk.Drop)) server_is
 
-  act_is : act_said drivers.Session (verb.Desk desk.Drop) (name ∷ []) t ≡ Ok asked
+  act_is : act_said (verb.Desk desk.Drop) (name ∷ []) t ≡ Ok asked
   unfolding act_said
   act_is =
-      ap (λ b. act_by drivers.Session (if b then worker_at name t else None) (verb.Desk desk.Drop) (name ∷ []) t) good
-      ∙ ap (λ o. act_by drivers.Session o (verb.Desk desk.Drop) (name ∷ []) t) no_worker
-      ∙ bind_ok (command_at (verb.Desk desk.Drop) (name ∷ []) t) (Desk place desk.Drop) (λ c. given_by drivers.Session c) command_is
+      ap (λ b. act_by (if b then worker_at name t else None) (verb.Desk desk.Drop) (name ∷ []) t) good
+      ∙ ap (λ o. act_by o (verb.Desk desk.Drop) (name ∷ []) t) no_worker
+      ∙ bind_ok (command_at (verb.Desk desk.Drop) (name ∷ []) t) (Desk place desk.Drop) (λ c. Ok (acts.Command c)) command_is
 
   words_read : (clients : List ClientNote) → late_words (codes "drop" ∷ name ∷ []) clients t ≡ Ok (t, Some asked)
   unfolding late_words late_keyword body_keyword
-  words_read clients = bind_ok (act_said drivers.Session (verb.Desk desk.Drop) (name ∷ []) t) asked (λ a. Ok (t, Some a)) act_is
+  words_read clients = bind_ok (act_said (verb.Desk desk.Drop) (name ∷ []) t) asked (λ a. Ok (t, Some a)) act_is
 
   pub drop_reads : (clients : List ClientNote) → late_line (codes "drop " ++ name) clients t ≡ Ok (t, Some asked)
   unfolding late_line

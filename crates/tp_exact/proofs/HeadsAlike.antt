@@ -1,11 +1,11 @@
 -- Behind the head a line says the same to heads that have the same names, and does the same.
 use Rattle.std.proofs.Common.{◌≡◌, ℕ, ◌+◌, ◌-◌, ◌^◌, ◌&&◌, Bool, true, false, not, if◌then◌else◌, None, Some, Ok, Err, Option, Result, List, [], ◌∷◌, ◌++◌, refl, sym, ◌∙◌, ap, subst}
-use Rattle.std.specs.Prelude.{is_none, position, slice_set}
+use Rattle.std.specs.Prelude.{codes, is_none, position, slice_set}
 use Rattle.std.specs.List.{list_any}
 use Rattle.std.specs.Str.{bytes_eq}
 use Rattle.tp_script.specs.Clients.{client_words, forget_at, last_at, last_by, noted_at, receive_at, receive_least, receive_of, register_at, send_of, send_words}
-use Rattle.tp_script.specs.Commands.{SubmitWords, balance_at, command_at, server_named, one_server, stage_at, submit_body, take_at}
-use Rattle.tp_script.specs.Grammar.{act_said, act_by, late_line, body_keyword, ends_head, given_by, is_named, late_keyword, late_words, line_words, out_of_order, with_head, worker_act, worker_of}
+use Rattle.tp_script.specs.Commands.{SubmitWords, balance_at, command_at, drain_at, given_by, race_at, race_said, race_words, server_named, one_server, stage_at, submit_body, take_at}
+use Rattle.tp_script.specs.Grammar.{act_said, act_by, late_line, body_keyword, ends_head, is_named, late_keyword, late_words, line_words, out_of_order, with_head, worker_act, worker_of}
 use Rattle.tp_script.specs.Keyword.{keyword}
 use Rattle.tp_script.specs.LineWords.{◌>>=◌, is_name, known, no_word, number_at, one_word, ordinal_at, require, three, two}
 use Rattle.tp_script.specs.Script.{HeadView, ServerView, WorkerView}
@@ -27,7 +27,6 @@ use Rattle.tp_script.specs.declared.notes.ClientNote.{ClientNote}
 use Rattle.tp_script.specs.Alive.{alive_words}
 use Rattle.tp_script.specs.Ends.{ended_words}
 use Rattle.tp_script.specs.Hands.{held_words}
-use Rattle.tp_script.specs.Passes.{is_race}
 use Rattle.tp_script.specs.declared.head.Driver.{Driver}
 use Rattle.tp_script.specs.declared.head.Driver.TheVariants as drivers
 use Rattle.tp_script.specs.declared.keyword.Keyword.{Keyword}
@@ -36,7 +35,7 @@ use Rattle.tp_script.specs.declared.keyword.NotedVerb.{NotedVerb}
 use Rattle.tp_script.specs.declared.keyword.NotedVerb.TheVariants as noted
 use Rattle.tp_script.specs.declared.keyword.Verb.{Verb}
 use Rattle.tp_script.specs.declared.keyword.Verb.TheVariants as verb
-use Rattle.tp_script.specs.declared.script.Command.{Command}
+use Rattle.tp_script.specs.declared.script.Race.{Race}
 
 -- ---- what a line says
 
@@ -150,21 +149,18 @@ module _ (g h : HeadView) (same : SameNames g h) where
   same_command verb.Take ws = same_take ws
   same_command verb.Balance ws = same_balance ws
   same_command verb.Sum ws = refl
-  same_command verb.Race ws = refl
-  same_command verb.Drain ws = refl
-  same_command verb.Rollover ws = refl
 
   same_worker_of : (v : Verb) (ws : List (List ℕ)) → worker_of v ws g ≡ worker_of v ws h
   same_worker_of v [] = refl
   same_worker_of v (name ∷ ws) = ap (λ o. if is_named v && is_name name then o else None) (same_worker name)
 
-  same_by : (d : Driver) (o : Option ℕ) (v : Verb) (ws : List (List ℕ)) → act_by d o v ws g ≡ act_by d o v ws h
-  same_by d None v ws = then_same _ (same_command v ws)
-  same_by d (Some worker) v ws = refl
+  same_by : (o : Option ℕ) (v : Verb) (ws : List (List ℕ)) → act_by o v ws g ≡ act_by o v ws h
+  same_by None v ws = then_same _ (same_command v ws)
+  same_by (Some worker) v ws = refl
 
-  same_act : (d : Driver) (v : Verb) (ws : List (List ℕ)) → act_said d v ws g ≡ act_said d v ws h
+  same_act : (v : Verb) (ws : List (List ℕ)) → act_said v ws g ≡ act_said v ws h
   unfolding act_said
-  same_act d v ws = ap (λ o. act_by d o v ws g) (same_worker_of v ws) ∙ same_by d (worker_of v ws h) v ws
+  same_act v ws = ap (λ o. act_by o v ws g) (same_worker_of v ws) ∙ same_by (worker_of v ws h) v ws
 
   same_keyword : (d : Driver) (k : Keyword) (ws : List (List ℕ)) → body_keyword d k ws g ≡ body_keyword d k ws h
   unfolding body_keyword
@@ -189,7 +185,10 @@ module _ (g h : HeadView) (same : SameNames g h) where
   same_keyword d first.Dump ws = refl
   same_keyword d first.Account ws = refl
   same_keyword d (first.Overview what) ws = refl
-  same_keyword d (first.Do v) ws = same_act d v ws
+  same_keyword d (first.Do v) ws = same_act v ws
+  same_keyword d first.Race ws = refl
+  same_keyword d first.Drain ws = refl
+  same_keyword d first.Rollover ws = refl
 
   -- ---- what a line leaves of the heads
 
@@ -276,6 +275,9 @@ module _ (g h : HeadView) (same : SameNames g h) where
   same_late clients first.Account ws = same_ends first.Account ws
   same_late clients (first.Overview what) ws = same_ends (first.Overview what) ws
   same_late clients (first.Do v) ws = same_ends (first.Do v) ws
+  same_late clients first.Race ws = same_ends first.Race ws
+  same_late clients first.Drain ws = same_ends first.Drain ws
+  same_late clients first.Rollover ws = same_ends first.Rollover ws
 
   carried_bound : {A : Type 0} (r : Result A LineFault) (f k : A → Said) → ((x : A) → f x ≡ carried (k x)) → (r >>= f) ≡ carried (r >>= k)
   carried_bound (Ok x) f k so = so x
@@ -329,21 +331,30 @@ module _ (h : HeadView) where
   never_noted noted.Last ws = never_bound (one_word ws) _ (λ name. never_last (worker_at name h) name)
   never_noted noted.Forget ws = never_bound (one_word ws) _ (λ name. never_bound (free_name name h) _ (λ n. tt))
 
-  never_given : (d : Driver) (c : Command) → IsOther (given_by d c)
-  never_given drivers.Script c = tt
-  never_given drivers.Session c = go (is_race c)
-    where
-      go : (b : Bool) → IsOther (if b then Err Syntax else Ok (acts.Command c))
-      go true = tt
-      go false = tt
+  never_given : (d : Driver) (plan : Race) → IsOther (given_by d plan)
+  never_given drivers.Script plan = tt
+  never_given drivers.Session plan = tt
 
-  never_by : (d : Driver) (o : Option ℕ) (v : Verb) (ws : List (List ℕ)) → IsOther (act_by d o v ws h)
-  never_by d None v ws = never_bound (command_at v ws h) _ (never_given d)
-  never_by d (Some worker) v ws = never_bound (worker_act v ws) _ (λ a. tt)
+  never_race : (d : Driver) (ws : List (List ℕ)) → IsOther (race_said d ws)
+  unfolding race_said
+  never_race d ws = never_bound (race_words ws) _ (λ w. never_bound (race_at w) _ (never_given d))
 
-  never_act : (d : Driver) (v : Verb) (ws : List (List ℕ)) → IsOther (act_said d v ws h)
+  never_or : (b : Bool) → IsOther (if b then Ok acts.DrainNext else Err Syntax)
+  never_or true = tt
+  never_or false = tt
+
+  never_drain : (ws : List (List ℕ)) → IsOther (drain_at ws)
+  never_drain [] = tt
+  never_drain (w ∷ []) = never_or (bytes_eq w (codes "next"))
+  never_drain (w ∷ v ∷ ws) = tt
+
+  never_by : (o : Option ℕ) (v : Verb) (ws : List (List ℕ)) → IsOther (act_by o v ws h)
+  never_by None v ws = never_bound (command_at v ws h) _ (λ c. tt)
+  never_by (Some worker) v ws = never_bound (worker_act v ws) _ (λ a. tt)
+
+  never_act : (v : Verb) (ws : List (List ℕ)) → IsOther (act_said v ws h)
   unfolding act_said
-  never_act d v ws = never_by d (worker_of v ws h) v ws
+  never_act v ws = never_by (worker_of v ws h) v ws
 
   never_register : (ws : List (List ℕ)) → IsOther (register_at ws h)
   unfolding register_at
@@ -372,13 +383,20 @@ module _ (h : HeadView) where
   never_keyword d first.Dump ws = never_bound (no_word ws) _ (λ _. tt)
   never_keyword d first.Account ws = never_bound (no_word ws) _ (λ _. tt)
   never_keyword d (first.Overview what) ws = never_bound (no_word ws) _ (λ _. tt)
-  never_keyword d (first.Do v) ws = never_act d v ws
+  never_keyword d (first.Do v) ws = never_act v ws
+  never_keyword d first.Race ws = never_race d ws
+  never_keyword d first.Drain ws = never_drain ws
+  never_keyword d first.Rollover ws = never_bound (no_word ws) _ (λ _. tt)
 
   asks_none : (k : Keyword) (ws : List (List ℕ)) (a : Act) → body_keyword drivers.Session k ws h ≡ Ok a → IsNoRestore a
   asks_none k ws a is = by_act a (subst IsOther is (never_keyword drivers.Session k ws))
     where
       by_act : (a : Act) → IsOther (Ok a) → IsNoRestore a
       by_act (acts.Command c) other = tt
+      by_act (acts.Race plan) other = tt
+      by_act acts.Drain other = tt
+      by_act acts.DrainNext other = tt
+      by_act acts.Rollover other = tt
       by_act (acts.Worker at act) other = tt
       by_act acts.Account other = tt
       by_act acts.Dump other = tt
@@ -395,6 +413,10 @@ module _ (h : HeadView) where
   coming_none (acts.Leave at name) comes = tt
   coming_none acts.Restore comes = comes
   coming_none (acts.Command c) comes = tt
+  coming_none (acts.Race plan) comes = tt
+  coming_none acts.Drain comes = tt
+  coming_none acts.DrainNext comes = tt
+  coming_none acts.Rollover comes = tt
   coming_none (acts.Worker at act) comes = tt
   coming_none acts.Account comes = tt
   coming_none acts.Dump comes = tt

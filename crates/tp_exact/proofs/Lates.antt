@@ -1,5 +1,5 @@
 -- What a line of a session says behind its head, where workers come and go.
-use Rattle.std.proofs.Common.{◌≡◌, ℕ, Bool, true, false, not, ◌⊎◌, if◌then◌else◌, None, Some, Ok, Err, Option, Result, List, [], ◌∷◌, inl, inr, refl, sym, ◌∙◌, ap, subst}
+use Rattle.std.proofs.Common.{◌≡◌, ℕ, not, ◌⊎◌, None, Some, Ok, Err, Option, Result, List, [], ◌∷◌, inl, inr, refl, sym, subst}
 use Rattle.std.specs.Prelude.{slice_set}
 use Rattle.std.specs.List.{list_any}
 use Rattle.tp_script.specs.Commands.{stage_at}
@@ -8,7 +8,6 @@ use Rattle.tp_script.specs.Keyword.{keyword}
 use Rattle.tp_script.specs.LineWords.{◌>>=◌, is_name, known, one_word, require, two}
 use Rattle.tp_script.specs.Notes.{NameView}
 use Rattle.tp_script.specs.Once.{is_note_of}
-use Rattle.tp_script.specs.Passes.{is_race}
 use Rattle.tp_script.specs.Places.{free_at, free_place, join_line, leave_line, with_place}
 use Rattle.tp_script.specs.Script.{HeadView, WorkerView}
 use Rattle.tp_script.specs.ServerLines.{free_name, worker_at}
@@ -20,8 +19,6 @@ use Rattle.tp_script.specs.declared.head.Driver.TheVariants as drivers
 use Rattle.tp_script.specs.declared.keyword.Keyword.{Keyword}
 use Rattle.tp_script.specs.declared.keyword.Keyword.TheVariants as first
 use Rattle.tp_script.specs.declared.notes.ClientNote.{ClientNote}
-use Rattle.tp_script.specs.declared.script.Command.{Command}
-use Rattle.tp_exact.proofs.HeadsChecked.{keyword_raceless}
 
 -- what is said: the head that is left, and what is asked for
 abbrev pub Said : Type 0
@@ -53,6 +50,9 @@ late_as first.Dump ws clients h = inl refl
 late_as first.Account ws clients h = inl refl
 late_as (first.Overview what) ws clients h = inl refl
 late_as (first.Do v) ws clients h = inl refl
+late_as first.Race ws clients h = inl refl
+late_as first.Drain ws clients h = inl refl
+late_as first.Rollover ws clients h = inl refl
 
 -- ---- what holds of all that is said
 
@@ -131,37 +131,3 @@ OnlyWorkers h left = left ≡ record h { workers = left.workers }
 
 pub only_workers : (line : List ℕ) (clients : List ClientNote) (h : HeadView) → OfSaid (λ left asked. OnlyWorkers h left) (late_line line clients h)
 only_workers line clients h = of_line (λ left asked. OnlyWorkers h left) clients h refl (λ k ws a is. refl) (λ ws a which. refl) line
-
--- ---- no race
-
-abbrev pub NoRace : Option Act → Type 0
-NoRace (Some (acts.Command c)) = is_race c ≡ false
-NoRace other = Unit {0}
-
-asks_no_race : (k : Keyword) (ws : List (List ℕ)) (h : HeadView) (a : Act) → body_keyword drivers.Session k ws h ≡ Ok a → NoRace (Some a)
-asks_no_race k ws h (acts.Command c) is = keyword_raceless k ws h c is
-asks_no_race k ws h (acts.Worker worker act) is = tt
-asks_no_race k ws h acts.Account is = tt
-asks_no_race k ws h acts.Dump is = tt
-asks_no_race k ws h acts.Restore is = tt
-asks_no_race k ws h (acts.Noted name act) is = tt
-asks_no_race k ws h (acts.Last worker) is = tt
-asks_no_race k ws h (acts.Overview what) is = tt
-asks_no_race k ws h (acts.Joined name) is = tt
-asks_no_race k ws h (acts.Leave worker name) is = tt
-
--- a worker comes or goes: that is no command
-coming_no_race : (a : Act) → IsComing a → NoRace (Some a)
-coming_no_race (acts.Joined name) comes = tt
-coming_no_race (acts.Leave worker name) comes = tt
-coming_no_race (acts.Command c) comes = absurd comes
-coming_no_race (acts.Worker worker act) comes = tt
-coming_no_race acts.Account comes = tt
-coming_no_race acts.Dump comes = tt
-coming_no_race acts.Restore comes = tt
-coming_no_race (acts.Noted name act) comes = tt
-coming_no_race (acts.Last worker) comes = tt
-coming_no_race (acts.Overview what) comes = tt
-
-pub line_no_race : (line : List ℕ) (clients : List ClientNote) (h : HeadView) → OfSaid (λ left asked. NoRace asked) (late_line line clients h)
-line_no_race line clients h = of_line (λ left asked. NoRace asked) clients h tt (λ k ws a is. asks_no_race k ws h a is) (λ ws a which. coming_no_race a which) line

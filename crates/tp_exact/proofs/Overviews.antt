@@ -10,7 +10,6 @@ use Rattle.tp_plain.specs.OneThread.{State}
 use Rattle.tp_plain.specs.declared.pass_state.PassState.{PassState}
 use Rattle.tp_manager.specs.Bounds.{read_steps}
 use Rattle.tp_manager.specs.Shown.{KeeperShown, PassShown}
-use Rattle.tp_manager.specs.declared.manager.Room.{Room}
 use Rattle.tp_report.specs.Answer.{line}
 use Rattle.tp_script.specs.Fault.{◌<>◌}
 use Rattle.tp_script.specs.Script.{HeadView, head_view}

@@ -1,10 +1,9 @@
 -- What the places of workers are called, as words of a line.
-use Rattle.std.proofs.Common.{◌≡◌, ℕ, ◌<◌, ◌≤◌, ◌==◌, ◌&&◌, true, not, List, ◌++◌, length, nat_le, inl, inr, sym, subst, arith}
-use Rattle.std.specs.Prelude.{codes, decimal}
+use Rattle.std.proofs.Common.{ℕ, ◌<◌, ◌≤◌, ◌==◌, ◌&&◌, not, List, length, nat_le, inl, inr, sym, subst, arith}
+use Rattle.std.specs.Prelude.{decimal}
 use Rattle.std.specs.List.{list_all}
 use Rattle.std.proofs.lemmas.Bool.{and_parts, leb-true}
 use Rattle.std.proofs.lemmas.Fmt.{length-decimal-le}
-use Rattle.tp_script.specs.LineWords.{is_name}
 use Rattle.tp_script.specs.Places.{place_name}
 use Rattle.tp_script.specs.declared.head.TheConstants.{MAX_WORKERS}
 use Rattle.tp_exact.specs.HeadReads.{IsNameAt, IsPlaceName}

@@ -32,7 +32,7 @@ use Rattle.tp_script.specs.declared.script.DeskAct.{DeskAct}
 use Rattle.tp_script.specs.declared.script.DeskAct.TheVariants as acts
 use Rattle.tp_commands.specs.Acting.{DeskShown, Does, DoesUnless, PlaceShown, TellsClaim, is_drop}
 use Rattle.tp_perform.specs.Scenes.{Scene, passes_in}
-use Rattle.tp_perform.specs.Told.{Performs}
+use Rattle.tp_perform.specs.Told.{ServerLine}
 use Rattle.tp_reference.specs.declared.plain_desk.PlainDesk.{PlainDesk}
 use Rattle.tp_reference.specs.PlainDesks.{DeskAnswered, abort_work, aborted_as, claim_in_order, claim_given, claimed_as, commit_work, committed_as, does, does_unless_dropped, given_as, has_open, work_in_hand, nothing_done, prepare_with, prepare_work, settle_with, turn_as}
 use Rattle.tp_reference.specs.PlainReport.{ReportState, command_step, desk_at, with_acted, worker}
@@ -40,7 +40,7 @@ use Rattle.tp_alone.specs.Thread.{AreTogether, Stays, thread_of}
 use Rattle.tp_exact.specs.Acts.{Acts}
 use Rattle.tp_exact.specs.Desks.{FollowsRecipe}
 use Rattle.tp_exact.specs.Stands.{IsFor, IsServedBy, SceneOnlyLooks, StandsAsComputed}
-use Rattle.tp_exact.proofs.Commands.{racers_kept, scene_passes, served_all, still_all, zip_at}
+use Rattle.tp_exact.proofs.Commands.{scene_passes, served_all, still_all, zip_at}
 use Rattle.tp_exact.proofs.DeskActs.{exact_desk}
 use Rattle.tp_exact.proofs.Parts.{idle}
 
@@ -275,14 +275,13 @@ module _ (servers : List ServerView) (l : Limits) (keeper keeper' : KeeperShown)
       (subst (Answers answer) (ap (λ m. does server.recipe act (worker at) m d) (sym stands.manager) ∙ sym computed) so, behaves l act p.desk q.desk answer did.0)
 
 -- a command on a desk, and its line
-pub at_desk : (m : ManagerShown) (head : HeadView) (act : DeskAct) (at raced : ℕ) (keeper keeper' : KeeperShown) (h h' : List Event) (old new next : Scene) (text : List ℕ) (s : ReportState) → StandsAsComputed head.servers m.limits keeper h old s
-    → Performs m head (command.Desk at act) raced old text new → SceneOnlyLooks new next → AreTogether m.limits keeper' (passes_in next) h'
+pub at_desk : (m : ManagerShown) (head : HeadView) (act : DeskAct) (at : ℕ) (keeper keeper' : KeeperShown) (h h' : List Event) (old new next : Scene) (text : List ℕ) (s : ReportState) → StandsAsComputed head.servers m.limits keeper h old s
+    → ServerLine m head.servers act at old text new → SceneOnlyLooks new next → AreTogether m.limits keeper' (passes_in next) h'
     → let step = command_step head.servers (command.Desk at act) s in (text ≡ step.0) × StandsAsComputed head.servers m.limits keeper' h' next step.1
-at_desk m head act at raced keeper keeper' h h' old new next text s stands performs looks after =
-    let t = performs.tells in
+at_desk m head act at keeper keeper' h h' old new next text s stands t looks after =
     let p : PlaceShown = t.does.old in
     let q : PlaceShown = t.does.new in
-    let racers = racers_kept m head (command.Desk at act) raced old text new performs t.others.racers in
+    let racers = t.others.racers in
     let d = zip_at IsFor old.places s.desks at p stands.desks t.does.there in
     let served = zip_at IsServedBy old.places head.servers at p stands.served t.does.there in
     let same : served.0 ≡ t.server = same_some served.0 t.server (sym served.1 ∙ t.named) in

@@ -1,19 +1,19 @@
 -- Scripts without a line that may be refused, and scripts that are commands of servers and the client alone.
-use Rattle.std.proofs.Common.{◌≡◌, ℕ, ◌||◌, ◌==◌, not, Bool, true, false, List, [], ◌∷◌, ◌++◌, length, None, refl, sym, ◌∙◌, ap, append_assoc, arith, map}
+use Rattle.std.proofs.Common.{◌≡◌, ℕ, ◌==◌, not, Bool, true, false, List, [], ◌∷◌, ◌++◌, length, None, refl, sym, ◌∙◌, ap, append_assoc, arith, map}
 use Rattle.std.specs.List.{list_any}
 use Rattle.std.proofs.lemmas.Bool.{eqb-true, not-false}
 use Rattle.tp_model.specs.declared.types.Limits.{Limits}
+use Rattle.tp_desk.specs.declared.order.Order.TheVariants.{InTurn, LeastFirst}
 use Rattle.tp_plain.specs.OneThread.{start}
-use Rattle.tp_script.specs.Passes.{is_race, is_rollover}
 use Rattle.tp_script.specs.Script.{HeadView, WorkerView}
 use Rattle.tp_script.specs.declared.head.Act.{Act}
 use Rattle.tp_script.specs.declared.head.Act.TheVariants as acts
 use Rattle.tp_reference.specs.PlainReport as plain
-use Rattle.tp_reference.specs.PlainReport.{ReportState, command_step, new_desk, reports}
+use Rattle.tp_reference.specs.PlainReport.{ReportState, command_step, drain_step, new_desk, reports}
 use Rattle.tp_reference.specs.Whole.{is_other}
 use Rattle.tp_session.specs.Conversed.{limits_of}
 use Rattle.tp_exact.specs.PlainScript.{script_account_line, acts_step, closed, desks_closed, end_lines, workers_closed, written_by}
-use Rattle.tp_exact.specs.PlainSession.{Refusals, SessionState, session_act_step, session_begin, command_by, first_refusal, other_refusals}
+use Rattle.tp_exact.specs.PlainSession.{Refusals, SessionState, session_act_step, session_begin, report_step, first_refusal, other_refusals}
 use Rattle.tp_exact.specs.Programs.{ComputedOfScript, SamePlain}
 use Rattle.tp_exact.specs.Sessions.{is_refusable}
 use Rattle.tp_exact.proofs.SessionLines.{either_false}
@@ -38,18 +38,24 @@ module _ (h : HeadView) (account : Bool) where
   abbrev behind : SessionState → List ℕ
   behind s = plain.closing h.servers account s.report
 
-  acts_same : (all : List Act) (s : SessionState) → list_any is_other all ≡ false → reports h.servers account all s.report ≡ (acts_step h [] all s).0 ++ behind (acts_step h [] all s).1
+  -- what is done first, and then the others
+  abbrev Same : List Act → SessionState → Type 0
+  Same all s = reports h.servers account all s.report ≡ (acts_step h [] all s).0 ++ behind (acts_step h [] all s).1
+
+  step_same : (step : List ℕ × ReportState) (others : List Act) (s : SessionState) → Same others (report_step step s).1
+      → step.0 ++ reports h.servers account others step.1 ≡ (then_told (λ z. acts_step h [] others z) (report_step step s)).0 ++ behind (then_told (λ z. acts_step h [] others z) (report_step step s)).1
+  step_same step others s rest =
+      let next : SessionState = (report_step step s).1 in
+      ap (λ t. step.0 ++ t) rest ∙ sym (append_assoc step.0 (acts_step h [] others next).0 (behind (acts_step h [] others next).1))
+
+  acts_same : (all : List Act) (s : SessionState) → list_any is_other all ≡ false → Same all s
   unfolding reports
   acts_same [] s none = refl
-  acts_same (acts.Command c ∷ others) s none =
-      let parts = either_false (is_race c || is_rollover c) (list_any is_other others) none in
-      let kinds = either_false (is_race c) (is_rollover c) parts.0 in
-      let step : List ℕ × ReportState = command_step h.servers c s.report in
-      let next : SessionState = record s { report = step.1 } in
-      let this : session_act_step h None (acts.Command c) s ≡ (step.0, next) = ap (λ b. command_by b h None c s) kinds.1 in
-      ap (λ t. step.0 ++ t) (acts_same others next parts.1)
-      ∙ (sym (append_assoc step.0 (acts_step h [] others next).0 (behind (acts_step h [] others next).1))
-      ∙ ap (λ (r : List ℕ × SessionState). r.0 ++ behind r.1) (sym (ap (then_told (λ z. acts_step h [] others z)) this)))
+  acts_same (acts.Command c ∷ others) s none = step_same (command_step h.servers c s.report) others s (acts_same others (report_step (command_step h.servers c s.report) s).1 none)
+  acts_same (acts.Race plan ∷ others) s none = absurd cc
+  acts_same (acts.Drain ∷ others) s none = step_same (drain_step LeastFirst h.servers s.report) others s (acts_same others (report_step (drain_step LeastFirst h.servers s.report) s).1 none)
+  acts_same (acts.DrainNext ∷ others) s none = step_same (drain_step InTurn h.servers s.report) others s (acts_same others (report_step (drain_step InTurn h.servers s.report) s).1 none)
+  acts_same (acts.Rollover ∷ others) s none = absurd cc
   acts_same (acts.Worker worker act ∷ others) s none = absurd cc
   acts_same (acts.Account ∷ others) s none = absurd cc
   acts_same (acts.Dump ∷ others) s none = absurd cc

@@ -1,6 +1,5 @@
 -- What sends and receives that are made again do.
-use Rattle.std.proofs.Common.{◌≡◌, ◌≤◌, ◌==◌, ◌+◌, ◌-◌, ℕ, Bool, true, false, not, if◌then◌else◌, List, [], ◌∷◌, All, find, position, Option, Some, None, Result, Ok, Err, refl, sym, ◌∙◌, ap, arith, subst, length, slice_get, slice_set, nat_lt}
-use Rattle.std.proofs.lemmas.List.Elements.{All-tail}
+use Rattle.std.proofs.Common.{◌≡◌, ◌≤◌, ◌==◌, ◌+◌, ◌-◌, ℕ, Bool, true, false, not, if◌then◌else◌, List, [], ◌∷◌, find, position, Option, Some, None, Result, Ok, Err, refl, sym, ◌∙◌, ap, arith, subst, length, slice_get, slice_set, nat_lt}
 use Rattle.std.proofs.lemmas.Slice.Eq.{bytes_eq-Decides}
 use Rattle.std.specs.Str.{bytes_eq}
 use Rattle.tp_model.specs.declared.types.Element.{Element}
@@ -15,7 +14,6 @@ use Rattle.tp_rollover.specs.declared.moved.RollFault.{RollFault}
 use Rattle.tp_reference.specs.PlainClient.{client}
 use Rattle.tp_report.specs.declared.answer.Renamed.{Renamed}
 use Rattle.tp_script.specs.Notes.{NameView}
-use Rattle.tp_script.specs.Passes.{is_rollover}
 use Rattle.tp_script.specs.Script.{HeadView, WorkerView}
 use Rattle.tp_script.specs.declared.fault.LineFault.{LineFault}
 use Rattle.tp_script.specs.declared.head.Act.{Act}
@@ -37,7 +35,7 @@ use Rattle.tp_session.specs.declared.notes.Standing.{Standing}
 use Rattle.tp_session.specs.declared.notes.Standing.TheVariants.{Next, Again, Earlier, Later}
 use Rattle.tp_exact.specs.Alive.{survivors_now}
 use Rattle.tp_exact.specs.PlainNotes.{NotedAnswered, by_note, first_below, next_receive, noted_does, of_client, receive_by, receives, register_by, send_by, sends, reply_taken}
-use Rattle.tp_exact.specs.PlainSession.{head_left, leave_step, said_in, Refusals, SessionState, session_act_step, anew_as, command_by, dump_of, first_refusal, session_desk_open, session_is_open, line_step, lines_step, noted_step, other_refusals, session_restored, rolled_over, unless_refused, unrestored, worker_step}
+use Rattle.tp_exact.specs.PlainSession.{head_left, leave_step, said_in, Refusals, SessionState, session_act_step, anew_as, dump_of, first_refusal, session_desk_open, session_is_open, line_step, lines_step, noted_step, other_refusals, session_restored, rolled_over, unless_refused, unrestored, worker_step}
 use Rattle.tp_exact.specs.Repeats.{DoneForGood, KeepNote, LeavesNote, ReceivesAgain, ReceivesOnce, SendsAgain, SendsOnce, client_note_of}
 use Rattle.tp_exact.proofs.NoteKeeps.{Has, filter_has, map_has, more_has, passes, placed, set_has}
 
@@ -178,14 +176,14 @@ module _ (name : NameView) (sent received : ℕ) where
   unrestored_has : (s : SessionState) → DoneIn s → DoneIn (unrestored s)
   unrestored_has s has = map_has name sent received (client_in []) (λ c. refl) (λ c. omega arith) (λ c. omega arith) s.notes.clients has
 
-  command_has : (b : Bool) (h : HeadView) (why : Option RollFault) (c : _) (s : SessionState) → DoneIn s → DoneIn (command_by b h why c s).1
-  command_has true h why c s has =
+  act_has : (h : HeadView) (why : Option RollFault) (act : Act) (s : SessionState) → ((other : NameView) → act ≡ acts.Noted other asks.Forget → has_name name other ≡ false) → DoneIn s → DoneIn (session_act_step h why act s).1
+  act_has h why (acts.Command c) s kept has = has
+  act_has h why (acts.Race plan) s kept has = has
+  act_has h why acts.Drain s kept has = has
+  act_has h why acts.DrainNext s kept has = has
+  act_has h why acts.Rollover s kept has =
       let l = s.report.manager.limits in
       unless_has (session_desk_open s) why s (rolled_over h s) has (anew_has rolled_text h s.works s s (made_anew l l.parts (survivors_now s.report.manager) (start l)) has has)
-  command_has false h why c s has = has
-
-  act_has : (h : HeadView) (why : Option RollFault) (act : Act) (s : SessionState) → ((other : NameView) → act ≡ acts.Noted other asks.Forget → has_name name other ≡ false) → DoneIn s → DoneIn (session_act_step h why act s).1
-  act_has h why (acts.Command c) s kept has = command_has (is_rollover c) h why c s has
   act_has h why (acts.Worker at act) s kept has = worker_has h (slice_get h.workers at) at (1 + length h.servers + at) act s has
   act_has h why acts.Account s kept has = has
   act_has h why acts.Dump s kept has = unless_has (session_desk_open s) why s (dump_text (dump_of h s), s) has has

@@ -15,7 +15,7 @@ use Rattle.tp_report.specs.declared.fault.Exit.{Exit}
 use Rattle.tp_report.specs.declared.fault.Exit.TheVariants as exits
 use Rattle.tp_report.specs.declared.fault.Fault.{Fault}
 use Rattle.tp_report.specs.declared.fault.Fault.TheVariants as faults
-use Rattle.tp_script.specs.Passes.{has_race, racers_of, races, racing}
+use Rattle.tp_script.specs.Passes.{has_race, is_race, racers, racing}
 use Rattle.tp_script.specs.Script.{HeadView, ScriptView, head_view, script_view, worker_view}
 use Rattle.tp_script.specs.Whole.{script}
 use Rattle.tp_script.specs.declared.fault.Refused.{Refused}
@@ -29,7 +29,7 @@ use Rattle.tp_reference.specs.PlainClient.{counts_of}
 use Rattle.tp_reference.specs.PlainReport.{ended_below, finals_below}
 use Rattle.tp_session.specs.Answers.{worker_answer_line}
 use Rattle.tp_session.specs.Conversed.{LiveBegins, finals_of}
-use Rattle.tp_session.specs.Live.{Live, TellsAct, TellsRaced}
+use Rattle.tp_session.specs.Live.{ActTold, Live, TellsAct}
 use Rattle.tp_session.specs.Performed.{ActsTold, SessionCloses, CountsAtEnd as CountsLive, DesksClose, LiveCounts, Ran, RanFront, Report, ReportFront, ReportPart, WorkerCloses, WorkersBelow, closing_text}
 use Rattle.tp_exact.specs.PlainScript.{script_account_line, acts_step, closed, desks_closed, end_lines, script_report_of_read, script_of, workers_closed}
 use Rattle.tp_exact.specs.PlainSession.{Refusals, SessionState, session_act_step, session_begin, first_refusal, other_refusals}
@@ -43,35 +43,38 @@ use Rattle.tp_exact.proofs.DumpActs.{still}
 use Rattle.tp_exact.proofs.GivingUps.{below, with_state}
 use Rattle.tp_exact.proofs.HeadsChecked.{script_good}
 use Rattle.tp_exact.proofs.Scenes.{gathers_in, together_in}
-use Rattle.tp_exact.proofs.Lates.{NoRace}
 use Rattle.tp_exact.proofs.SessionActs.{exact_act}
 use Rattle.tp_exact.proofs.SessionLines.{by_worker, either_false}
 use Rattle.tp_exact.proofs.Sessions.{AreSteps, begins_live, finals_are, front_longer}
 
 -- ---- acts, one after another
 
-asked_so : (a : Act) → races a ≡ false → NoRace (Some a)
-asked_so (acts.Command c) raceless = raceless
-asked_so (acts.Worker worker act) raceless = tt
-asked_so acts.Account raceless = tt
-asked_so acts.Dump raceless = tt
-asked_so acts.Restore raceless = tt
-asked_so (acts.Noted name a) raceless = tt
-asked_so (acts.Last at) raceless = tt
-asked_so (acts.Overview what) raceless = tt
-asked_so (acts.Joined name) raceless = tt
-asked_so (acts.Leave at name) raceless = tt
+-- what is no race is told as in a session
+told_so : (head : Head) (raced : ℕ) (a : Act) (old new : Live) (text : List ℕ) → is_race a ≡ false → ActTold head raced a old text new → TellsAct head a old text new
+told_so head raced (acts.Command c) old new text raceless t = t
+told_so head raced (acts.Race plan) old new text raceless t = absurd cc
+told_so head raced acts.Drain old new text raceless t = t
+told_so head raced acts.DrainNext old new text raceless t = t
+told_so head raced acts.Rollover old new text raceless t = t
+told_so head raced (acts.Worker worker act) old new text raceless t = t
+told_so head raced acts.Account old new text raceless t = t
+told_so head raced acts.Dump old new text raceless t = t
+told_so head raced acts.Restore old new text raceless t = t
+told_so head raced (acts.Noted name a) old new text raceless t = t
+told_so head raced (acts.Last at) old new text raceless t = t
+told_so head raced (acts.Overview what) old new text raceless t = t
+told_so head raced (acts.Joined name) old new text raceless t = t
+told_so head raced (acts.Leave at name) old new text raceless t = t
 
 acts_are : (head : Head) (raced : ℕ) (all : List Act) (old last : Live) (text : List ℕ) (s : SessionState) → has_race all ≡ false → StandsLive (head_view head) old s → ActsTold head raced all old text last
     → AreSteps (head_view head) last text (λ refusals. acts_step (head_view head) refusals all s)
 acts_are head raced [] old last text s raceless is (none, same) = ([], All-nil IsUnforeseen, (none, subst (λ z. StandsLive (head_view head) z s) (sym same) is))
 acts_are head raced (a ∷ others) old last text s raceless is (first, rest, between, one, more, whole) =
     let h : HeadView = head_view head in
-    let parts = either_false (races a) (has_race others) raceless in
-    let told : TellsAct head a old first between = subst (λ b. TellsRaced b head raced a old first between) parts.0 one in
-    let x = exact_act head a old between first s (asked_so a parts.0) is told in
+    let parts = either_false (is_race a) (has_race others) raceless in
+    let x = exact_act head a old between first s is (told_so head raced a old between first parts.0 one) in
     let step : List ℕ × SessionState = session_act_step h x.0 a s in
-    let y = acts_are head (raced + racers_of a) others between last rest step.1 parts.1 x.2.1 more in
+    let y = acts_are head (raced + racers a) others between last rest step.1 parts.1 x.2.1 more in
     (x.0 ∷ y.0, All-cons IsUnforeseen x.0 y.0 x.1 y.1, (whole ∙ (ap (λ t. t ++ rest) x.2.0 ∙ ap (λ t. step.0 ++ t) y.2.0), y.2.1))
 
 -- fewer acts are told a prefix of all
@@ -87,7 +90,7 @@ race_fewer : (n : ℕ) (all : List Act) → has_race all ≡ false → has_race 
 race_fewer zero all raceless = refl
 race_fewer (suc n) [] raceless = refl
 race_fewer (suc n) (a ∷ others) raceless =
-    let parts = either_false (races a) (has_race others) raceless in
+    let parts = either_false (is_race a) (has_race others) raceless in
     ap (λ b. b || has_race (take n others)) parts.0 ∙ race_fewer n others parts.1
 
 -- ---- the end
@@ -100,7 +103,7 @@ module _ (head : Head) where
   desks_so old new s is t =
       let l = old.stand.manager in
       let long : length h.servers ≡ length old.stand.scene.places = beside_long IsServedBy old.stand.scene.places h.servers is.stands.served in
-      let all = below h.servers l (length old.stand.scene.places) old.stand.keeper new.stand.keeper old.stand.scene new.stand.scene s.report is.stands t.gives_up in
+      let all = below h.servers l (length old.stand.scene.places) old.stand.keeper new.stand.keeper old.stand.scene new.stand.scene s.report is.stands t.did in
       record {
         stands = subst (λ (m : ManagerShown). StandsAsComputed h.servers m.limits new.stand.keeper new.stand.keeper.seen new.stand.scene (with_state s.report (ended_below s.report.manager (length h.servers)))) (sym t.manager)
             (subst (λ n. StandsAsComputed h.servers l.limits new.stand.keeper new.stand.keeper.seen new.stand.scene (with_state s.report (ended_below s.report.manager n))) (sym long) all);

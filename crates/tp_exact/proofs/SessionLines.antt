@@ -2,6 +2,7 @@
 use Rattle.std.proofs.Common.{◌≡◌, ℕ, zero, ◌+◌, suc, ◌||◌, Bool, true, false, List, [], ◌∷◌, ◌++◌, length, map, None, Some, refl, sym, ◌∙◌, ap, subst, arith}
 use Rattle.std.specs.Prelude.{if◌then◌else◌, is_some, slice_get, slice_index_or, slice_set, string_bytes, take, drop}
 use Rattle.std.specs.List.{AllZip, list_any}
+use Rattle.tp_desk.specs.declared.order.Order.{Order}
 use Rattle.tp_model.specs.Steps.{rows_of}
 use Rattle.tp_model.specs.declared.types.Counts.{Counts}
 use Rattle.tp_model.specs.declared.types.Limits.{Limits}
@@ -10,7 +11,6 @@ use Rattle.tp_plain.specs.declared.pass_state.PassState.{PassState}
 use Rattle.tp_manager.specs.Shown.{KeeperShown, ManagerShown, PassShown}
 use Rattle.tp_report.specs.Answer.{account_text, answer_text, line}
 use Rattle.tp_report.specs.declared.answer.Answer.TheVariants as answer
-use Rattle.tp_script.specs.Passes.{is_race}
 use Rattle.tp_script.specs.Script.{HeadView, head_view, worker_view}
 use Rattle.tp_script.specs.declared.head.Act.TheVariants as acts
 use Rattle.tp_script.specs.declared.head.Head.{Head}
@@ -22,23 +22,23 @@ use Rattle.tp_commands.specs.Acting.{PlaceShown}
 use Rattle.tp_perform.specs.Scenes.{Gathered, Scene, Stand, passes_in}
 use Rattle.tp_reference.specs.declared.plain_desk.PlainDesk.{PlainDesk}
 use Rattle.tp_reference.specs.PlainClient.{client, counts_of}
-use Rattle.tp_reference.specs.PlainReport.{command_step}
+use Rattle.tp_reference.specs.PlainReport.{ReportState, command_step, drain_step}
 use Rattle.tp_alone.specs.Thread.{AreTogether, Stays, not_given, state_of, thread_of}
 use Rattle.tp_session.specs.Answers.{left_line, worker_answer_line}
 use Rattle.tp_session.specs.Live as lives
 use Rattle.tp_session.specs.Hands.{WorkerHand, has_unit}
-use Rattle.tp_session.specs.Live.{AccountTold, CommandTold, JoinTold, LeaveTold, Live, TellsAccount, WorkerTold, with_notes}
+use Rattle.tp_session.specs.Live.{AccountTold, CommandTold, DrainTold, JoinTold, LeaveTold, Live, TellsAccount, WorkerTold, with_notes}
 use Rattle.tp_session.specs.Notes.{with_unit_end, without_end}
 use Rattle.tp_session.specs.declared.hand.Holding.{Holding}
 use Rattle.tp_session.specs.declared.hand.Holding.TheVariants.{Nothing}
 use Rattle.tp_exact.specs.Acts.{Acts}
-use Rattle.tp_exact.specs.PlainSession.{SessionState, leave_step, session_account_line, session_act_step, command_by, session_desk_open, session_is_open, worker_step}
+use Rattle.tp_exact.specs.PlainSession.{SessionState, leave_step, session_account_line, session_act_step, report_step, session_desk_open, session_is_open, worker_step}
 use Rattle.tp_exact.specs.PlainWorkers.{WorkerAnswered, worker_does}
 use Rattle.tp_exact.specs.Sessions.{IsStep, StandsLive}
 use Rattle.tp_exact.specs.Stands.{IsFor, IsServedBy, SceneOnlyLooks, StandsAsComputed}
 use Rattle.tp_exact.proofs.Commands.{scene_passes, served_all, still_all}
 use Rattle.tp_exact.proofs.Counted.{counts_are}
-use Rattle.tp_exact.proofs.Covered.{exact_command}
+use Rattle.tp_exact.proofs.Covered.{exact_command, exact_drain}
 use Rattle.tp_exact.proofs.Parts.{idle}
 use Rattle.tp_exact.proofs.Places.{Parted, parted, passes}
 use Rattle.tp_exact.proofs.Scenes.{looks, together}
@@ -103,18 +103,31 @@ module _ (head : Head) (old new : Live) (text : List ℕ) (s : SessionState) (is
   abbrev Leads : List ℕ × SessionState → Type 0
   Leads step = IsStep h new text step
 
-  -- ---- a command of scripts
+  -- ---- a command, and a drain
 
-  pub by_command : (c : Command) → is_race c ≡ false → CommandTold (head_view head) c 0 old text new → Leads (command_by false h None c s)
-  by_command c raceless t =
-      let one = exact_command c raceless old.stand.manager (head_view head) 0 old.stand.keeper new.stand.keeper scene new.stand.scene text s.report is.stands t.performs in (
-        one.0,
-        record {
-          stands = subst (λ (m : ManagerShown). StandsAsComputed h.servers m.limits new.stand.keeper new.stand.keeper.seen new.stand.scene (command_step h.servers c s.report).1) (sym t.manager) one.1;
-          works = is.works ∙ sym t.works;
-          notes = is.notes ∙ sym t.notes;
-        },
-      )
+  -- what was done with the manager and the desks
+  abbrev Reports : ManagerShown → List ℕ × ReportState → Type 0
+  Reports m step = (text ≡ step.0) × StandsAsComputed h.servers m.limits new.stand.keeper new.stand.keeper.seen new.stand.scene step.1
+
+  reported : (step : List ℕ × ReportState) → Reports old.stand.manager step → new.stand.manager ≡ old.stand.manager → new.works ≡ old.works → new.notes ≡ old.notes → Leads (report_step step s)
+  reported step so manager works notes = (
+    so.0,
+    record {
+      stands = subst (λ (m : ManagerShown). StandsAsComputed h.servers m.limits new.stand.keeper new.stand.keeper.seen new.stand.scene step.1) (sym manager) so.1;
+      works = is.works ∙ sym works;
+      notes = is.notes ∙ sym notes;
+    },
+  )
+
+  pub by_command : (c : Command) → CommandTold (head_view head) c old text new → Leads (report_step (command_step h.servers c s.report) s)
+  by_command c t =
+      let g : Gathered old.stand.manager old.stand.keeper new.stand.keeper t.done.stand.scene new.stand.scene =
+      subst (λ (x : ManagerShown × KeeperShown). Gathered x.0 x.1 new.stand.keeper t.done.stand.scene new.stand.scene) (λ i. (t.did.manager i, t.did.keeper i)) t.gathers.gathered in
+      reported (command_step h.servers c s.report) (exact_command c old.stand.manager h old.stand.keeper new.stand.keeper scene t.done.stand.scene new.stand.scene text s.report is.stands t.did.tells g)
+      (t.gathers.manager ∙ t.did.manager) (t.gathers.works ∙ t.did.works) (t.gathers.notes ∙ t.did.notes)
+
+  pub by_drain : (order : Order) → DrainTold order old text new → Leads (report_step (drain_step order h.servers s.report) s)
+  by_drain order t = reported (drain_step order h.servers s.report) (exact_drain order old.stand.manager h old.stand.keeper new.stand.keeper scene new.stand.scene text s.report is.stands t.did) t.manager t.works t.notes
 
   -- ---- all passes gather behind what a worker or the client did
 

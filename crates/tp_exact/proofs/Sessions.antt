@@ -1,5 +1,5 @@
 -- A whole session.
-use Rattle.std.proofs.Common.{◌≡◌, ℕ, ◌+◌, ◌*◌, false, List, [], ◌∷◌, ◌++◌, All, length, map, Option, None, Some, Result, Ok, Err, inl, inr, refl, sym, ◌∙◌, ap, subst, append_assoc, arith}
+use Rattle.std.proofs.Common.{◌≡◌, ℕ, ◌+◌, ◌*◌, false, List, [], ◌∷◌, ◌++◌, All, length, map, Option, None, Some, Ok, Err, inl, inr, refl, sym, ◌∙◌, ap, subst, append_assoc, arith}
 use Rattle.std.specs.Io.KnownBytes.{Appends}
 use Rattle.std.proofs.lemmas.List.Elements.{All-cons, All-head, All-nil, All-tail}
 use Rattle.tp_model.specs.History.{In, here, there}
@@ -11,11 +11,9 @@ use Rattle.tp_plain.specs.OneThread.{start}
 use Rattle.tp_workers.specs.Free.{IsFreePass}
 use Rattle.tp_manager.specs.Shown.{PassShown, view_in}
 use Rattle.tp_script.specs.Script.{HeadView, head_view, no_head}
-use Rattle.tp_script.specs.declared.fault.LineFault.{LineFault}
 use Rattle.tp_script.specs.declared.head.Act.{Act}
 use Rattle.tp_script.specs.declared.head.Act.TheVariants as acts
 use Rattle.tp_script.specs.declared.head.Head.{Head}
-use Rattle.tp_script.specs.declared.script.Command.{Command}
 use Rattle.tp_rollover.specs.Managed.{IsNewPass}
 use Rattle.tp_rollover.specs.declared.moved.RollFault.{RollFault}
 use Rattle.tp_perform.specs.Scenes.{Scene, passes_in}
@@ -33,14 +31,14 @@ use Rattle.tp_session.specs.Notes.{NotesView}
 use Rattle.tp_session.specs.declared.hand.Holding.{Holding}
 use Rattle.tp_session.specs.declared.hand.Holding.TheVariants.{Nothing}
 use Rattle.tp_session.specs.Told.{BodyLines, HeadLines, HeadLinesTold, LineTold, LinesFrom, Now, now, said_now}
-use Rattle.tp_exact.specs.PlainSession.{ReadHead, Refusals, SessionState, session_act_step, session_begin, command_by, first_refusal, head_left, line_step, session_lines_from, lines_step, other_refusals, said_in, read_head, session_by, session_of}
+use Rattle.tp_exact.specs.PlainSession.{ReadHead, Refusals, SessionState, session_act_step, session_begin, first_refusal, head_left, line_step, session_lines_from, lines_step, other_refusals, said_in, read_head, session_by, session_of}
 use Rattle.tp_exact.specs.Programs.{IsChecked}
 use Rattle.tp_exact.specs.Sessions.{AreUnforeseen, ComputedOfBytes, ExactSession, ExactSessionFront, IsStep, IsUnforeseen, StandsLive, asks_refusable, has_refusable_from, has_refusable_in, is_refusable}
 use Rattle.tp_exact.proofs.Begins.{desks_first, served_first}
 use Rattle.tp_exact.proofs.Finals.{exact_finals, registers_left}
 use Rattle.tp_exact.proofs.Scenes.{all_at}
-use Rattle.tp_exact.proofs.HeadsChecked.{command_raceless, head_good}
-use Rattle.tp_exact.proofs.Lates.{NoRace, OfSaid, OnlyWorkers, Said, only_workers}
+use Rattle.tp_exact.proofs.HeadsChecked.{head_good}
+use Rattle.tp_exact.proofs.Lates.{OfSaid, OnlyWorkers, Said, only_workers}
 use Rattle.tp_exact.proofs.SessionHeads.{head_alone, head_is, head_more, read_as}
 use Rattle.tp_exact.proofs.SessionActs.{exact_act, exact_line, stands_under}
 use Rattle.tp_exact.proofs.SessionLines.{either_false}
@@ -79,22 +77,10 @@ from_command : (past : ℕ) (line : List ℕ) (act : Act) (lines : List (List �
     → StandsLive (head_view old.head) old.live s → LinesFrom (Some act) past lines old text last → AreSteps (head_view last.head) last.live text (λ refusals. session_lines_from (Some act) (head_view old.head) past refusals lines s)
 from_command past line act lines old last text s command is (first, rest, between, one, more, whole) =
     let h : HeadView = head_view old.head in
-    let a = exact_act old.head act old.live between first s (no_race act command) is one in
+    let a = exact_act old.head act old.live between first s is one in
     let step : List ℕ × SessionState = session_act_step h a.0 act s in
     let b = lines_are (past + 1) lines (now old.head between) last rest step.1 a.2.1 more in
     (a.0 ∷ b.0, All-cons IsUnforeseen a.0 b.0 a.1 b.1, (whole ∙ (ap (λ t. t ++ rest) a.2.0 ∙ ap (λ t. step.0 ++ t) b.2.0), b.2.1))
-  where
-    no_race : (x : Act) → IsCommand line x (head_view old.head) → NoRace (Some x)
-    no_race (acts.Command c) said = command_raceless line (head_view old.head) c said
-    no_race (acts.Worker worker act) said = tt
-    no_race acts.Account said = tt
-    no_race acts.Dump said = tt
-    no_race acts.Restore said = tt
-    no_race (acts.Noted name a) said = tt
-    no_race (acts.Last at) said = tt
-    no_race (acts.Overview what) said = tt
-    no_race (acts.Joined name) said = tt
-    no_race (acts.Leave worker name) said = tt
 
 -- nor do they change from the first command on
 servers_from : (past : ℕ) (act : Act) (lines : List (List ℕ)) (old last : Now) (text : List ℕ) → LinesFrom (Some act) past lines old text last → (head_view last.head).servers ≡ (head_view old.head).servers
@@ -310,7 +296,11 @@ act_unasked h why (acts.Last at) s none = refl
 act_unasked h why (acts.Overview what) s none = refl
 act_unasked h why (acts.Joined name) s none = refl
 act_unasked h why (acts.Leave at name) s none = refl
-act_unasked h why (acts.Command c) s none = ap (λ b. command_by b h why c s) none ∙ sym (ap (λ b. command_by b h None c s) none)
+act_unasked h why (acts.Command c) s none = refl
+act_unasked h why (acts.Race plan) s none = refl
+act_unasked h why acts.Drain s none = refl
+act_unasked h why acts.DrainNext s none = refl
+act_unasked h why acts.Rollover s none = absurd cc
 
 line_unasked : (n : ℕ) (why : Option RollFault) (said : Said) (s : SessionState) → asks_refusable said ≡ false → line_step n why said s ≡ line_step n None said s
 line_unasked n why (Ok (left, None)) s none = refl

@@ -1,5 +1,5 @@
 -- What is read of the `alive`, `held` and `lost` lines that a dump tells.
-use Rattle.std.specs.Prelude.{◌≡◌, ◌<◌, ◌≤◌, ◌+◌, ◌-◌, ◌^◌, IfSome, ℕ, true, false, List, [], ◌∷◌, ◌++◌}
+use Rattle.std.specs.Prelude.{◌≡◌, ◌<◌, ◌≤◌, ◌+◌, ◌-◌, ◌^◌, IfSome, ℕ, false, List, [], ◌∷◌, ◌++◌}
 use Rattle.std.specs.Prelude.{None, Some, Ok}
 use Rattle.std.specs.Prelude.{length, map, slice_get}
 use Rattle.tp_model.specs.History.{In}

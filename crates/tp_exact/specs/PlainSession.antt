@@ -4,6 +4,7 @@ use Rattle.std.specs.Prelude.{Option, Some, None, Result, Ok, Err, drop, length,
 use Rattle.std.specs.Prelude.{slice_get, slice_set, slice_index_or}
 use Rattle.std.specs.List.{list_any}
 use Rattle.tp_plain.specs.OneThread.{State, start}
+use Rattle.tp_desk.specs.declared.order.Order.TheVariants.{InTurn, LeastFirst}
 use Rattle.tp_rollover.specs.Anew.{made_anew}
 use Rattle.tp_rollover.specs.declared.moved.Moved.{Moved}
 use Rattle.tp_rollover.specs.declared.moved.RollFault.{RollFault}
@@ -14,7 +15,6 @@ use Rattle.tp_report.specs.declared.answer.Answer.TheVariants as answer
 use Rattle.tp_report.specs.declared.answer.Renamed.{Renamed}
 use Rattle.tp_script.specs.Fault.{◌<>◌}
 use Rattle.tp_script.specs.Notes.{NameView}
-use Rattle.tp_script.specs.Passes.{is_rollover}
 use Rattle.tp_script.specs.Grammar.{late_line, head_at}
 use Rattle.tp_script.specs.Script.{HeadView, WorkerView, no_head}
 use Rattle.tp_script.specs.declared.fault.LineFault.{LineFault}
@@ -22,10 +22,9 @@ use Rattle.tp_script.specs.declared.head.Act.{Act}
 use Rattle.tp_script.specs.declared.head.Act.TheVariants as acts
 use Rattle.tp_script.specs.declared.head.WorkerAct.{WorkerAct}
 use Rattle.tp_script.specs.declared.head.WorkerAct.TheVariants.{Abort}
-use Rattle.tp_script.specs.declared.script.Command.{Command}
 use Rattle.tp_perform.specs.Rollover.{renamed, roll_refused_text}
 use Rattle.tp_reference.specs.PlainClient.{counts_of}
-use Rattle.tp_reference.specs.PlainReport.{ReportState, command_step, finals_below, new_desk}
+use Rattle.tp_reference.specs.PlainReport.{ReportState, command_step, drain_step, finals_below, new_desk}
 use Rattle.tp_session.specs.Answers.{joined_line, left_line, refused_line, restored_text, units_text}
 use Rattle.tp_session.specs.Answers.{worker_answer_line}
 use Rattle.tp_session.specs.Carried.{lost_works, works_after}
@@ -183,15 +182,17 @@ leave_step (Some it) name at c s =
 
 -- ---- each line
 
--- a command: a rollover, or one of those that scripts have without one
-abbrev pub command_by : Bool → HeadView → Option RollFault → Command → SessionState → List ℕ × SessionState
-command_by true h why c s = unless_refused (session_desk_open s) why s (rolled_over h s)
-command_by false h why c s = let step = command_step h.servers c s.report in
-    (step.0, record s { report = step.1 })
+-- what was done with the manager and the desks, and its line
+abbrev pub report_step : List ℕ × ReportState → SessionState → List ℕ × SessionState
+report_step done s = (done.0, record s { report = done.1 })
 
--- what is asked for, and why it was refused, if it was
+-- what is asked for, and why it was refused, if it was; what a race tells is not computed
 abbrev pub session_act_step : HeadView → Option RollFault → Act → SessionState → List ℕ × SessionState
-session_act_step h why (acts.Command c) s = command_by (is_rollover c) h why c s
+session_act_step h why (acts.Command c) s = report_step (command_step h.servers c s.report) s
+session_act_step h why (acts.Race plan) s = ([], s)
+session_act_step h why acts.Drain s = report_step (drain_step LeastFirst h.servers s.report) s
+session_act_step h why acts.DrainNext s = report_step (drain_step InTurn h.servers s.report) s
+session_act_step h why acts.Rollover s = unless_refused (session_desk_open s) why s (rolled_over h s)
 session_act_step h why (acts.Worker at act) s =
     worker_step (slice_get h.workers at) act at (1 + length h.servers + at) s
 session_act_step h why acts.Account s = (session_account_line s, s)

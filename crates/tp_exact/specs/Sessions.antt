@@ -8,7 +8,6 @@ use Rattle.tp_manager.specs.Shown.{KeeperShown, PassShown}
 use Rattle.tp_rollover.specs.declared.moved.RollFault.{RollFault}
 use Rattle.tp_rollover.specs.declared.moved.RollFault.TheVariants as faults
 use Rattle.tp_report.specs.Written.{AppendsFront}
-use Rattle.tp_script.specs.Passes.{is_race, is_rollover}
 use Rattle.tp_script.specs.Script.{HeadView, head_view, no_head}
 use Rattle.tp_script.specs.declared.fault.LineFault.{LineFault}
 use Rattle.tp_script.specs.declared.head.Act.{Act}
@@ -89,7 +88,7 @@ ExactSessionFront =
 
 -- what is asked for may be refused so
 abbrev pub is_refusable : Act → Bool
-is_refusable (acts.Command c) = is_rollover c
+is_refusable acts.Rollover = true
 is_refusable acts.Dump = true
 is_refusable acts.Restore = true
 is_refusable other = false

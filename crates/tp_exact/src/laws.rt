@@ -1,7 +1,7 @@
 //! The laws of what a script is told. These functions do nothing: their contracts are the laws.
 
 ghost use Rattle.tp_exact.specs.Client.{ExactClient};
-ghost use Rattle.tp_exact.specs.Commands.{ExactCommand};
+ghost use Rattle.tp_exact.specs.Commands.{ExactCommand, ExactDrain};
 ghost use Rattle.tp_exact.specs.Desks.{ExactDesk};
 ghost use Rattle.tp_exact.specs.AliveReads.{AliveLineReads, DumpLinesRead, FoundLinesRead, HeldLineReads};
 ghost use Rattle.tp_exact.specs.AliveReads.{LostLinesRead};
@@ -19,10 +19,11 @@ pub fn exact_client()
     ensures { ExactClient }
 {}
 
-/// A command that is no race, performed between two gatherings: its line, and what it leaves. In a drain all
-/// passes gather after each turn.
+/// A command or a drain, performed between two gatherings: its line, and what it leaves. In a drain all passes
+/// gather after each turn.
 pub fn exact_command()
-    ensures { ExactCommand }
+    ensures command { ExactCommand }
+    ensures drain { ExactDrain }
 {}
 
 /// The lines at the end: the final ones, and the counts of a closing account.

@@ -1,5 +1,5 @@
--- Commands performed one after another.
-use Rattle.std.proofs.Common.{◌≡◌, ℕ, true, false, List, [], ◌∷◌, ◌++◌, All, Option, Some, None, refl, length}
+-- Races, and places that lie aside.
+use Rattle.std.proofs.Common.{◌≡◌, ℕ, ◌+◌, List, [], ◌∷◌, ◌++◌, All, Option, Some, None, refl, length}
 use Rattle.std.specs.declared.alloc.Global.{Global}
 use Rattle.std.specs.declared.dyn_box.DynBox.{DynBox}
 use Rattle.std.proofs.lemmas.List.Elements.{All-cons, All-nil}
@@ -7,46 +7,23 @@ use Rattle.tp_server.specs.Behaviour.{Behaviour}
 use Rattle.tp_server.specs.Pending.{Pending}
 use Rattle.tp_desk.specs.declared.aside.Aside.{Aside}
 use Rattle.tp_manager.specs.Shown.{ManagerShown, PassShown}
-use Rattle.tp_script.specs.Passes.{is_race, racers as racers_of}
 use Rattle.tp_script.specs.Script.{HeadView}
-use Rattle.tp_script.specs.declared.script.Command.{Command}
-use Rattle.tp_script.specs.declared.script.Command.TheVariants as command
+use Rattle.tp_script.specs.declared.script.Race.{Race}
 use Rattle.tp_commands.specs.declared.place.Place.{Place}
 use Rattle.tp_commands.specs.Acting.{IsSteadyPlace, PlaceShown, place_shown, places_shown}
 use Rattle.tp_commands.specs.Places.{AllLie, Lies}
-use Rattle.tp_perform.specs.Told.{Performs, TellsCommand, drain_order}
+use Rattle.tp_perform.specs.Told.{RaceLine, Raced}
 
--- ---- races, and other commands
-
-pub needs_none : (c : Command) → is_race c ≡ false → 0 ≡ racers_of c
-needs_none (command.Client act) other = refl
-needs_none (command.Desk at act) other = refl
-needs_none (command.Balance at k) other = refl
-needs_none (command.Sum k) other = refl
-needs_none (command.Race plan) other = absurd cc
-needs_none command.Drain other = refl
-needs_none command.DrainNext other = refl
-needs_none command.Rollover other = refl
-
--- a race is no drain
-pub race_order : (c : Command) → is_race c ≡ true → drain_order c ≡ None
-race_order (command.Client act) is = refl
-race_order (command.Desk at act) is = refl
-race_order (command.Balance at k) is = refl
-race_order (command.Sum k) is = refl
-race_order (command.Race plan) is = refl
-race_order command.Drain is = absurd cc
-race_order command.DrainNext is = absurd cc
-race_order command.Rollover is = absurd cc
+-- ---- races
 
 module _ (m : ManagerShown) (h : HeadView) where
-  -- a command with the passes of its race among all
-  module _ (raced : ℕ) (c : Command) (client client' : PassShown) (places places' : List PlaceShown) (front rear here back after : List PassShown) (text : List ℕ)
-      (race : rear ≡ here ++ back) (behind : length front ≡ raced) (needed : length here ≡ racers_of c)
-      (tells : TellsCommand m h c (record { client = client; places = places; racers = here }) text (record { client = client'; places = places'; racers = after }))
+  -- a race with its passes among all
+  module _ (raced : ℕ) (plan : Race) (client client' : PassShown) (places places' : List PlaceShown) (front rear here back after : List PassShown) (text : List ℕ)
+      (race : rear ≡ here ++ back) (behind : length front ≡ raced) (needed : length here ≡ plan.clients + plan.killers)
+      (tells : RaceLine m h.settings.rows plan (record { client = client; places = places; racers = here }) text (record { client = client'; places = places'; racers = after }))
       (steady : All IsSteadyPlace places') where
-    pub performs : Performs m h c raced (record { client = client; places = places; racers = front ++ (here ++ back) }) text (record { client = client'; places = places'; racers = front ++ (after ++ back) })
-    performs = record {
+    pub races : Raced m h plan raced (record { client = client; places = places; racers = front ++ (here ++ back) }) text (record { client = client'; places = places'; racers = front ++ (after ++ back) })
+    races = record {
       front = front;
       here = here;
       after = after;

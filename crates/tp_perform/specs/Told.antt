@@ -1,5 +1,5 @@
 -- What a command is told: its line is that of its call's answer.
-use Rattle.std.specs.Prelude.{◌≡◌, ℕ, List, [], ◌∷◌, ◌++◌, All, Option, Some, None, length}
+use Rattle.std.specs.Prelude.{◌≡◌, ℕ, ◌+◌, List, [], ◌∷◌, ◌++◌, All, Option, Some, None, length}
 use Rattle.std.specs.Prelude.{IfSome, IsSome, map, slice_get, drop, take}
 use Rattle.std.specs.Option.{option_map}
 use Rattle.std.specs.declared.alloc.Global.{Global}
@@ -9,13 +9,10 @@ use Rattle.tp_server.specs.Behaviour.{Behaviour}
 use Rattle.tp_server.specs.Pending.{Pending}
 use Rattle.tp_manager.specs.Shown.{IsOf, KeeperShown, ManagerShown, PassShown}
 use Rattle.tp_desk.specs.Serving.{Leaves}
-use Rattle.tp_desk.specs.declared.order.Order.{Order}
-use Rattle.tp_desk.specs.declared.order.Order.TheVariants as orders
 use Rattle.tp_workers.specs.Free.{IsFreePass}
 use Rattle.tp_report.specs.Answer.{answer_text, line, named_text}
 use Rattle.tp_report.specs.declared.answer.Answer.TheVariants as answer
 use Rattle.tp_report.specs.declared.answer.ServerAnswer.{ServerAnswer}
-use Rattle.tp_script.specs.Passes.{racers}
 use Rattle.tp_script.specs.Script.{HeadView, ServerView}
 use Rattle.tp_script.specs.declared.script.ClientAct.{ClientAct}
 use Rattle.tp_script.specs.declared.script.Command.{Command}
@@ -27,7 +24,6 @@ use Rattle.tp_commands.specs.Asked.{TellsClient}
 use Rattle.tp_script.specs.declared.script.Race.{Race}
 use Rattle.tp_commands.specs.Registers.{TellsBalance, register_sum}
 use Rattle.tp_commands.specs.Places.{AllLie, workers}
-use Rattle.tp_perform.specs.Drains.{Drains}
 use Rattle.tp_perform.specs.Scenes.{Gathered, OnlyClient, OnlyPlaces, Scene}
 use Rattle.tp_perform.specs.Together.{Races}
 
@@ -65,20 +61,18 @@ pub record RaceLine (m : ManagerShown) (rows : ℕ) (plan : Race)
   pub text_is : text ≡ line (answer_text (answer.Raced submitted))
   pub client : new.client ≡ old.client
 
--- the line of a command; a drain is told by its rounds
+-- the line of a command
 abbrev pub TellsCommand : ManagerShown → HeadView → Command → Scene → List ℕ → Scene → Type 0
 TellsCommand m h (command.Client act) = ClientLine m.limits act
 TellsCommand m h (command.Desk at act) = ServerLine m h.servers act at
 TellsCommand m h (command.Balance at k) = BalanceLine h.servers at k
 TellsCommand m h (command.Sum k) = λ old text new.
     (text ≡ line (answer_text (answer.Sum k (register_sum k old.places)))) × (new ≡ old)
-TellsCommand m h (command.Race plan) = RaceLine m h.settings.rows plan
-TellsCommand m h other = λ old text new. ⊥
 
--- A command leads from one scene to another, and this is its line. A race takes passes behind so many others,
--- which are as they were.
-pub record Performs (m : ManagerShown) (h : HeadView) (c : Command) (raced : ℕ)
-    (old : Scene) (text : List ℕ) (new : Scene) : Type 0 where
+-- A race leads from one scene to another, and this is its line. It takes passes behind so many others, which
+-- are as they were.
+pub record Raced (m : ManagerShown) (h : HeadView) (plan : Race) (raced : ℕ) (old : Scene) (text : List ℕ)
+    (new : Scene) : Type 0 where
   pub front : List PassShown
   pub here : List PassShown
   pub after : List PassShown
@@ -86,28 +80,17 @@ pub record Performs (m : ManagerShown) (h : HeadView) (c : Command) (raced : ℕ
   pub parts : old.racers ≡ front ++ (here ++ back)
   pub kept : new.racers ≡ front ++ (after ++ back)
   pub behind : length front ≡ raced
-  pub needed : length here ≡ racers c
-  pub tells : TellsCommand m h c (record old { racers = here }) text (record new { racers = after })
+  pub needed : length here ≡ plan.clients + plan.killers
+  pub tells : RaceLine m h.settings.rows plan (record old { racers = here }) text
+      (record new { racers = after })
   -- at each place the registers are the fold of what the desk has committed since it began
   pub steady : All IsSteadyPlace new.places
 
--- in which order the desks of a drain claim; `None`: the command is no drain
-abbrev pub drain_order : Command → Option Order
-drain_order command.Drain = Some orders.LeastFirst
-drain_order command.DrainNext = Some orders.InTurn
-drain_order other = None
-
--- A command leads from one scene to another, this is its line, and all have gathered after it. In a drain
--- they gather after each turn.
-abbrev pub PerformsBy : Option Order → ManagerShown → HeadView → Command → ℕ → KeeperShown → Scene → List ℕ
-    → KeeperShown → Scene → Type 0
-PerformsBy None m h c raced keeper old text keeper' new =
-    (done : Scene) × Performs m h c raced old text done × Gathered m keeper keeper' done new
-PerformsBy (Some order) m h c raced keeper old text keeper' new = Drains order m keeper old text keeper' new
-
-abbrev pub PerformsAll : ManagerShown → HeadView → Command → ℕ → KeeperShown → Scene → List ℕ → KeeperShown
-    → Scene → Type 0
-PerformsAll m h c = PerformsBy (drain_order c) m h c
+-- and all have gathered after it
+abbrev pub RacedAll : ManagerShown → HeadView → Race → ℕ → KeeperShown → Scene → List ℕ → KeeperShown → Scene
+    → Type 0
+RacedAll m h plan raced keeper old text keeper' new =
+    (done : Scene) × Raced m h plan raced old text done × Gathered m keeper keeper' done new
 
 -- of all passes the first is the client's, then comes one for each of so many servers, and the rest are those
 -- of workers and races

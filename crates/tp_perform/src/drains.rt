@@ -19,8 +19,8 @@ use tp_server::Server;
 
 /// Has the free desks take turns in rounds, whose claims are in this order, until a whole round claims
 /// nothing, and returns its line. The passes are all that the keeper gave out: the client's, then one for
-/// each server, then those of races. They gather after each turn.
-pub(crate) fn drain_line(
+/// each server, then others. They gather after each turn.
+pub fn drain_line(
     alloc: Global,
     manager: &Manager,
     keeper: &mut Keeper,
@@ -34,6 +34,7 @@ pub(crate) fn drain_line(
     requires ready { AreReady behaviour registers pending manager.now passes.old servers.old places.old }
     requires enough { 1 + length servers.old ≤ length passes.old }
     ensures keeper { IsKeptBy manager.now keeper.new }
+    ensures all { AreAll keeper.new passes.new }
     ensures given { keeper.new.given ≡ keeper.old.given }
     ensures ready { AreReady behaviour registers pending manager.now passes.new servers.new places.new }
     ensures as_many { length places.new ≡ length places.old }

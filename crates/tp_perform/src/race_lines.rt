@@ -5,13 +5,13 @@ ghost use Rattle.tp_manager.specs.Shown.{IsKeptBy, IsOf, numbers};
 ghost use Rattle.tp_workers.specs.Free.{IsFreePass};
 ghost use Rattle.tp_commands.specs.Places.{AllLie, firsts};
 ghost use Rattle.tp_perform.specs.Scenes.{Scene, scene};
-ghost use Rattle.tp_perform.specs.Told.{AreReady, IsScene, Performs, PerformsAll, RaceFree};
+ghost use Rattle.tp_perform.specs.Told.{AreReady, IsScene, RaceFree, RaceLine, Raced, RacedAll};
 ghost use Rattle.tp_perform.specs.Together.{AreStillFree};
-ghost use Rattle.tp_perform.specs.Told.{TellsCommand, units_held};
+ghost use Rattle.tp_perform.specs.Told.{units_held};
 ghost use Rattle.tp_script.specs.Passes.{racers as racers_of};
-ghost use Rattle.tp_script.specs.Ranges.{IsInRange};
+ghost use Rattle.tp_script.specs.Ranges.{IsRaceInRange};
 ghost use Rattle.tp_script.specs.Script.{head_view};
-ghost use Rattle.tp_script.specs.declared.script.Command.TheVariants as command;
+ghost use Rattle.tp_script.specs.declared.head.Act.TheVariants as act;
 
 use crate::racing::{Racing, run_race};
 use std::alloc::AllocError;
@@ -20,7 +20,6 @@ use std::thread::Threads;
 use tp_commands::Place;
 use tp_manager::{Keeper, Pass};
 use tp_report::{Answer, line};
-use tp_script::Command;
 use tp_server::Server;
 
 /// Performs a race by the passes of its clients and killers, and answers its line.
@@ -36,15 +35,15 @@ fn race_line<R: Threads + Sync>(
     requires lie { AllLie behaviour registers pending passes.old servers.old places.old }
     requires as_many { length places.old ≡ length racing.now.head.now.servers.items }
     requires racers { All (IsFreePass racing.now.manager.now) racers.old }
-    requires enough { length racers.old ≡ racers_of (command.Race racing.now.plan) }
-    requires in_range { IsInRange (length racing.now.head.now.servers.items) (command.Race racing.now.plan) }
+    requires enough { length racers.old ≡ racers_of (act.Race racing.now.plan) }
+    requires in_range { IsRaceInRange racing.now.plan }
     ensures own { All (IsOf racing.now.manager.now) passes.new }
     ensures lie { AllLie behaviour registers pending passes.new servers.new places.new }
     ensures as_many { length places.new ≡ length places.old }
     ensures began { firsts places.new ≡ firsts places.old }
     ensures racers { AreStillFree racing.now.manager.now racers.old racers.new }
     ensures tells { IfOk result (λ text.
-        TellsCommand racing.now.manager.now (head_view racing.now.head.now) (command.Race racing.now.plan)
+        RaceLine racing.now.manager.now racing.now.head.now.settings.rows racing.now.plan
         (scene behaviour registers pending client.now passes.old servers.old places.old racers.old)
         (string_bytes text)
         (scene behaviour registers pending client.now passes.new servers.new places.new racers.new)) }
@@ -67,11 +66,11 @@ pub(crate) fn race_in<R: Threads + Sync>(
     requires ready { AreReady behaviour registers pending racing.now.manager.now passes.old servers.old
         places.old }
     requires free { RaceFree racing.now.manager.now (length servers.old) racing.now.behind
-        (racers_of (command.Race racing.now.plan)) passes.old }
+        (racers_of (act.Race racing.now.plan)) passes.old }
     requires as_many { length places.old ≡ length racing.now.head.now.servers.items }
-    requires enough { 1 + length servers.old + racing.now.behind + racers_of (command.Race racing.now.plan)
+    requires enough { 1 + length servers.old + racing.now.behind + racers_of (act.Race racing.now.plan)
         ≤ length passes.old }
-    requires in_range { IsInRange (length racing.now.head.now.servers.items) (command.Race racing.now.plan) }
+    requires in_range { IsRaceInRange racing.now.plan }
     ensures ready { AreReady behaviour registers pending racing.now.manager.now passes.new servers.new
         places.new }
     ensures held { units_held (length servers.old) passes.new ≡ units_held (length servers.old) passes.old }
@@ -80,8 +79,7 @@ pub(crate) fn race_in<R: Threads + Sync>(
     ensures numbered { numbers passes.new ≡ numbers passes.old }
     ensures tells { IfOk result (λ text. (old : Scene) × (new : Scene)
         × IsScene behaviour registers pending passes.old servers.old places.old old
-        × Performs racing.now.manager.now (head_view racing.now.head.now) (command.Race racing.now.plan)
-        racing.now.behind old (string_bytes text) new
+        × Raced racing.now.manager.now (head_view racing.now.head.now) racing.now.plan racing.now.behind old (string_bytes text) new
         × IsScene behaviour registers pending passes.new servers.new places.new new) }
 {
     let Some((client, others)) = passes.split_first_mut() else {
@@ -89,8 +87,8 @@ pub(crate) fn race_in<R: Threads + Sync>(
     };
     let (workers, rest) = others.split_at_mut(servers.len());
     let (_before, racers) = rest.split_at_mut(racing.behind);
-    let needed = Command::Race(racing.plan).racers();
-    let (here, _after) = racers.split_at_mut(usize::from(needed));
+    let needed = usize::from(racing.plan.clients) + usize::from(racing.plan.killers);
+    let (here, _after) = racers.split_at_mut(needed);
     race_line(racing, client, workers, servers, places, here)
 }
 
@@ -109,11 +107,11 @@ pub fn race_next<R: Threads + Sync>(
     requires ready { AreReady behaviour registers pending racing.now.manager.now passes.old servers.old
         places.old }
     requires free { RaceFree racing.now.manager.now (length servers.old) racing.now.behind
-        (racers_of (command.Race racing.now.plan)) passes.old }
+        (racers_of (act.Race racing.now.plan)) passes.old }
     requires as_many { length places.old ≡ length racing.now.head.now.servers.items }
-    requires enough { 1 + length servers.old + racing.now.behind + racers_of (command.Race racing.now.plan)
+    requires enough { 1 + length servers.old + racing.now.behind + racers_of (act.Race racing.now.plan)
         ≤ length passes.old }
-    requires in_range { IsInRange (length racing.now.head.now.servers.items) (command.Race racing.now.plan) }
+    requires in_range { IsRaceInRange racing.now.plan }
     ensures keeper { IsKeptBy racing.now.manager.now keeper.new }
     ensures given { keeper.new.given ≡ keeper.old.given }
     ensures all { AreAll keeper.new passes.new }
@@ -125,8 +123,8 @@ pub fn race_next<R: Threads + Sync>(
     ensures numbered { numbers passes.new ≡ numbers passes.old }
     ensures tells { IfOk result (λ text. (old : Scene) × (new : Scene)
         × IsScene behaviour registers pending passes.old servers.old places.old old
-        × PerformsAll racing.now.manager.now (head_view racing.now.head.now) (command.Race racing.now.plan)
-        racing.now.behind keeper.old old (string_bytes text) keeper.new new
+        × RacedAll racing.now.manager.now (head_view racing.now.head.now) racing.now.plan racing.now.behind
+        keeper.old old (string_bytes text) keeper.new new
         × IsScene behaviour registers pending passes.new servers.new places.new new) }
 {
     let line = race_in(racing, passes, servers, places)?;

@@ -9,8 +9,7 @@ use Rattle.tp_plain.specs.OneThread.{start}
 use Rattle.tp_script.specs.declared.head.Act.{Act}
 use Rattle.tp_script.specs.declared.head.Act.TheVariants as act
 use Rattle.tp_script.specs.declared.script.Command.{Command}
-use Rattle.tp_script.specs.declared.script.Command.TheVariants.{Client, Desk, Balance, Sum, Race, Drain}
-use Rattle.tp_script.specs.declared.script.Command.TheVariants.{DrainNext, Rollover}
+use Rattle.tp_script.specs.declared.script.Command.TheVariants.{Client, Desk, Balance, Sum}
 use Rattle.tp_script.specs.declared.script.DeskAct.{DeskAct}
 use Rattle.tp_script.specs.declared.fault.Refused.{Refused}
 use Rattle.tp_script.specs.Fault.{refused_text}
@@ -123,7 +122,7 @@ drain_of order servers s = drain_rounds order servers (most_rounds s.manager.lim
 abbrev pub with_manager : ReportState → List ℕ × thread.State → List ℕ × ReportState
 with_manager s (text, manager) = (text, record { manager = manager; desks = s.desks })
 
--- one command; a race or a rollover writes nothing, since its script isn't run
+-- one command
 abbrev pub command_step : List ServerView → Command → ReportState → List ℕ × ReportState
 command_step servers (Client act) s = with_manager s (client_step act s.manager)
 command_step servers (Desk server act) s = desk_step servers server act s
@@ -133,14 +132,16 @@ command_step servers (Balance server k) s = (
   s,
 )
 command_step servers (Sum k) s = (line (answer_text (answer.Sum k (sum_over_desks k s))), s)
-command_step servers (Race race) s = ([], s)
-command_step servers Rollover s = ([], s)
-command_step servers Drain s = (line (answer_text answer.Drained), drain_of LeastFirst servers s)
-command_step servers DrainNext s = (line (answer_text answer.Drained), drain_of InTurn servers s)
+
+-- a drain
+abbrev pub drain_step : Order → List ServerView → ReportState → List ℕ × ReportState
+drain_step order servers s = (line (answer_text answer.Drained), drain_of order servers s)
 
 -- what is asked for; all else writes nothing, since its script isn't run
 abbrev pub act_step : List ServerView → Act → ReportState → List ℕ × ReportState
 act_step servers (act.Command c) s = command_step servers c s
+act_step servers act.Drain s = drain_step LeastFirst servers s
+act_step servers act.DrainNext s = drain_step InTurn servers s
 act_step servers other s = ([], s)
 
 -- ---- the whole report

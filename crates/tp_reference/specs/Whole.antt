@@ -10,7 +10,6 @@ use Rattle.tp_script.specs.declared.fault.Refused.{Refused}
 use Rattle.tp_report.specs.Written.{AppendsFront}
 use Rattle.tp_script.specs.declared.head.Act.{Act}
 use Rattle.tp_script.specs.declared.head.Act.TheVariants as act
-use Rattle.tp_script.specs.Passes.{is_race, is_rollover}
 use Rattle.tp_script.specs.Script.{ScriptView}
 use Rattle.tp_reference.specs.declared.plain.PlainExit.{PlainExit}
 use Rattle.tp_reference.specs.declared.plain.PlainExit.TheVariants as exits
@@ -19,7 +18,9 @@ use Rattle.tp_reference.specs.PlainReport.{report_of_read}
 -- what one thread and one manager don't do: races, rollovers, and what is asked of workers, dumps and
 -- restores
 abbrev pub is_other : Act → Bool
-is_other (act.Command c) = is_race c || is_rollover c
+is_other (act.Command c) = false
+is_other act.Drain = false
+is_other act.DrainNext = false
 is_other other = true
 
 -- whether there is such in what was read, or a worker

@@ -62,7 +62,9 @@ fn is_other(act: &Act) -> bool
     ensures { result ≡ is_other act.now }
 {
     match act {
-        Act::Command(command) => command.is_race() || command.is_rollover(),
+        Act::Command(_) => false,
+        Act::Drain => false,
+        Act::DrainNext => false,
         _ => true,
     }
 }

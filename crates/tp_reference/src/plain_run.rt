@@ -156,17 +156,6 @@ impl PlainRun {
                 let sum = self.sum(k);
                 line(alloc, Answer::Sum { k, sum })
             }
-            // A script with one of these isn't run.
-            Command::Race(_) => Ok(String::new(alloc)),
-            Command::Rollover => Ok(String::new(alloc)),
-            Command::Drain => {
-                self.drain(servers, Order::LeastFirst)?;
-                line(alloc, Answer::Drained)
-            }
-            Command::DrainNext => {
-                self.drain(servers, Order::InTurn)?;
-                line(alloc, Answer::Drained)
-            }
         }
     }
 
@@ -185,8 +174,17 @@ impl PlainRun {
             ≡ (string_bytes text, state self.new)) }
         ensures ready { IfOk result (λ _. IsSetUp (map server_view script.now.head.servers.items) self.new) }
     {
+        let servers = script.head.servers.as_slice();
         match act {
-            Act::Command(command) => self.command(alloc, script.head.servers.as_slice(), *command),
+            Act::Command(command) => self.command(alloc, servers, *command),
+            Act::Drain => {
+                self.drain(servers, Order::LeastFirst)?;
+                line(alloc, Answer::Drained)
+            }
+            Act::DrainNext => {
+                self.drain(servers, Order::InTurn)?;
+                line(alloc, Answer::Drained)
+            }
             // A script with something else isn't run.
             _ => Ok(String::new(alloc)),
         }

@@ -4,13 +4,17 @@ use Rattle.std.specs.Prelude.{if◌then◌else◌}
 use Rattle.std.specs.Str.{bytes_eq}
 use Rattle.tp_script.specs.declared.fault.LineFault.{LineFault}
 use Rattle.tp_script.specs.declared.fault.LineFault.TheVariants.{Syntax, BadNumber, BadName}
+use Rattle.tp_script.specs.declared.head.Act.{Act}
+use Rattle.tp_script.specs.declared.head.Act.TheVariants as act
+use Rattle.tp_script.specs.declared.head.Driver.{Driver}
+use Rattle.tp_script.specs.declared.head.Driver.TheVariants as drivers
 use Rattle.tp_script.specs.declared.keyword.Verb.{Verb}
 use Rattle.tp_script.specs.declared.keyword.Verb.TheVariants as verb
 use Rattle.tp_script.specs.declared.script.Command.{Command}
-use Rattle.tp_script.specs.declared.script.Command.TheVariants.{Client, Desk, Balance, Sum, Race, Drain}
-use Rattle.tp_script.specs.declared.script.Command.TheVariants.{DrainNext, Rollover}
+use Rattle.tp_script.specs.declared.script.Command.TheVariants.{Client, Desk, Balance, Sum}
 use Rattle.tp_script.specs.declared.script.ClientAct.TheVariants as client
 use Rattle.tp_script.specs.declared.script.DeskAct.TheVariants as desk
+use Rattle.tp_script.specs.declared.script.Race.{Race}
 use Rattle.tp_model.specs.declared.types.TheConstants.{MAX_PART_ROWS, MAX_PASSES, MAX_STAGE}
 use Rattle.tp_script.specs.Script.{HeadView}
 use Rattle.tp_script.specs.ServerLines.{server_at}
@@ -118,8 +122,8 @@ stage_at w = do
   _ ← require (nat_le 1 stage) BadNumber
   Ok stage
 
--- `race CLIENTS SUBMITS STAGE KEY AMOUNT KILLERS TURNS`
-unfoldable pub race_at : RaceWords → Result Command LineFault
+-- the race that they say
+unfoldable pub race_at : RaceWords → Result Race LineFault
 race_at w = do
   clients ← number_at (MAX_PASSES - 1) w.clients
   submits ← number_at MAX_PART_ROWS w.submits
@@ -128,7 +132,7 @@ race_at w = do
   amount ← number_at (2 ^ 64 - 1) w.amount
   killers ← number_at (MAX_PASSES - 1) w.killers
   turns ← number_at 10000 w.turns
-  Ok (Race (record {
+  Ok (record {
     clients = clients;
     submits = submits;
     stage = stage;
@@ -136,13 +140,26 @@ race_at w = do
     amount = amount;
     killers = killers;
     turns = turns;
-  }))
+  })
+
+-- a race is a script's
+abbrev pub given_by : Driver → Race → Result Act LineFault
+given_by drivers.Script race = Ok (act.Race race)
+given_by drivers.Session race = Err Syntax
+
+-- `race CLIENTS SUBMITS STAGE KEY AMOUNT KILLERS TURNS`
+unfoldable pub race_said : Driver → List (List ℕ) → Result Act LineFault
+race_said driver ws = race_words ws >>= λ w. race_at w >>= λ race. given_by driver race
 
 -- `drain` or `drain next`
-abbrev pub drain_at : List (List ℕ) → Result Command LineFault
-drain_at [] = Ok Drain
-drain_at (w ∷ []) = if bytes_eq w (codes "next") then Ok DrainNext else Err Syntax
+abbrev pub drain_at : List (List ℕ) → Result Act LineFault
+drain_at [] = Ok act.Drain
+drain_at (w ∷ []) = if bytes_eq w (codes "next") then Ok act.DrainNext else Err Syntax
 drain_at ws = Err Syntax
+
+-- `rollover`
+abbrev pub rollover_at : List (List ℕ) → Result Act LineFault
+rollover_at ws = no_word ws >>= λ _. Ok act.Rollover
 
 -- a command of this first word, with the words after it
 unfoldable pub command_at : Verb → List (List ℕ) → HeadView → Result Command LineFault
@@ -163,6 +180,3 @@ command_at (verb.Desk act) ws s = one_server ws s >>= λ server. Ok (Desk server
 command_at verb.Take ws s = two ws >>= λ w. take_at w s
 command_at verb.Balance ws s = two ws >>= λ w. balance_at w s
 command_at verb.Sum ws s = one_word ws >>= λ w. number_at (2 ^ 64 - 1) w >>= λ k. Ok (Sum k)
-command_at verb.Race ws s = race_words ws >>= λ w. race_at w
-command_at verb.Drain ws s = drain_at ws
-command_at verb.Rollover ws s = no_word ws >>= λ _. Ok Rollover

@@ -20,18 +20,16 @@ use Rattle.tp_script.specs.declared.keyword.Keyword.TheVariants as first
 use Rattle.tp_script.specs.declared.keyword.Verb.{Verb}
 use Rattle.tp_script.specs.declared.keyword.Verb.TheVariants as verb
 use Rattle.tp_script.specs.declared.notes.ClientNote.{ClientNote}
-use Rattle.tp_script.specs.declared.script.Command.{Command}
 use Rattle.tp_script.specs.declared.script.DeskAct.TheVariants as desk
 use Rattle.tp_script.specs.declared.script.Overview.{Overview}
 use Rattle.tp_script.specs.Alive.{alive_at, alive_words}
 use Rattle.tp_script.specs.Clients.{client_line, client_words, noted_at, register_at, register_line}
 use Rattle.tp_script.specs.Clients.{request_line}
-use Rattle.tp_script.specs.Commands.{stage_at, command_at}
+use Rattle.tp_script.specs.Commands.{command_at, drain_at, race_said, rollover_at, stage_at}
 use Rattle.tp_script.specs.Drafts.{draft_words, drafts_at}
 use Rattle.tp_script.specs.Ends.{ended_line, ended_words}
 use Rattle.tp_script.specs.Hands.{free_worker, held_of, held_words}
 use Rattle.tp_script.specs.Keyword.{keyword}
-use Rattle.tp_script.specs.Passes.{is_race}
 use Rattle.tp_script.specs.Places.{join_line, leave_line, worker_name, workers_line}
 use Rattle.tp_script.specs.Script.{HeadView}
 use Rattle.tp_script.specs.ServerLines.{server_line, shape_at, start_line, worker_at}
@@ -163,18 +161,13 @@ abbrev pub worker_of : Verb → List (List ℕ) → HeadView → Option ℕ
 worker_of v [] h = None
 worker_of v (name ∷ ws) h = if is_named v && is_name name then worker_at name h else None
 
--- a race is a script's
-abbrev pub given_by : Driver → Command → Result Act LineFault
-given_by drivers.Script c = Ok (act.Command c)
-given_by drivers.Session c = if is_race c then Err Syntax else Ok (act.Command c)
-
 -- a command: of a worker where it names one, and else another
-abbrev pub act_by : Driver → Option ℕ → Verb → List (List ℕ) → HeadView → Result Act LineFault
-act_by driver None v ws h = command_at v ws h >>= λ c. given_by driver c
-act_by driver (Some worker) v ws h = worker_act v ws >>= λ a. Ok (act.Worker worker a)
+abbrev pub act_by : Option ℕ → Verb → List (List ℕ) → HeadView → Result Act LineFault
+act_by None v ws h = command_at v ws h >>= λ c. Ok (act.Command c)
+act_by (Some worker) v ws h = worker_act v ws >>= λ a. Ok (act.Worker worker a)
 
-unfoldable pub act_said : Driver → Verb → List (List ℕ) → HeadView → Result Act LineFault
-act_said driver v ws h = act_by driver (worker_of v ws h) v ws h
+unfoldable pub act_said : Verb → List (List ℕ) → HeadView → Result Act LineFault
+act_said v ws h = act_by (worker_of v ws h) v ws h
 
 -- `account`
 abbrev pub account_at : List (List ℕ) → Result Act LineFault
@@ -246,7 +239,11 @@ head_keyword driver first.Register ws h = in_head (one_word ws >>= λ w. registe
 head_keyword driver (first.Noted v) ws h =
     ends_head h (unless_waiting (waits_for_restore h) (noted_at v ws h))
 head_keyword driver (first.Do v) ws h =
-    ends_head h (unless_waiting (waits_for_restore h) (act_said driver v ws h))
+    ends_head h (unless_waiting (waits_for_restore h) (act_said v ws h))
+head_keyword driver first.Race ws h =
+    ends_head h (unless_waiting (waits_for_restore h) (race_said driver ws))
+head_keyword driver first.Drain ws h = ends_head h (unless_waiting (waits_for_restore h) (drain_at ws))
+head_keyword driver first.Rollover ws h = ends_head h (unless_waiting (waits_for_restore h) (rollover_at ws))
 head_keyword driver first.Dump ws h = ends_head h (unless_waiting (waits_for_restore h) (dump_at ws))
 head_keyword driver first.Account ws h = ends_head h (unless_waiting (waits_for_restore h) (account_at ws))
 head_keyword driver (first.Overview what) ws h =
@@ -292,7 +289,10 @@ body_keyword driver first.Restore ws h = out_of_order (no_word ws)
 body_keyword driver first.Dump ws h = dump_at ws
 body_keyword driver first.Account ws h = account_at ws
 body_keyword driver (first.Overview what) ws h = overview_at what ws
-body_keyword driver (first.Do v) ws h = act_said driver v ws h
+body_keyword driver (first.Do v) ws h = act_said v ws h
+body_keyword driver first.Race ws h = race_said driver ws
+body_keyword driver first.Drain ws h = drain_at ws
+body_keyword driver first.Rollover ws h = rollover_at ws
 
 -- the words of such a line, which asks for nothing where there are none
 unfoldable pub body_words : Driver → List (List ℕ) → HeadView → Result (Option Act) LineFault

@@ -4,7 +4,7 @@ use Rattle.std.specs.Str.{bytes_eq}
 use Rattle.tp_script.specs.declared.keyword.Keyword.{Keyword}
 use Rattle.tp_script.specs.declared.keyword.Keyword.TheVariants.{Rows, Units, Limit, Spare, Server, Start, Do}
 use Rattle.tp_script.specs.declared.keyword.Keyword.TheVariants.{Worker, Workers, Leave, Alive, Held, Lost}
-use Rattle.tp_script.specs.declared.keyword.Keyword.TheVariants.{Restore, Dump}
+use Rattle.tp_script.specs.declared.keyword.Keyword.TheVariants.{Race, Drain, Rollover, Restore, Dump}
 use Rattle.tp_script.specs.declared.keyword.Keyword.TheVariants.{Account, Client, Request, Ended, Overview}
 use Rattle.tp_script.specs.declared.keyword.Keyword.TheVariants.{Register, Noted}
 use Rattle.tp_script.specs.declared.keyword.NotedVerb.TheVariants as noted
@@ -58,9 +58,9 @@ first_words =
     ∷ (codes "count", Do verb.Count)
     ∷ (codes "depth", Do verb.Depth)
     ∷ (codes "list", Do verb.List)
-    ∷ (codes "race", Do verb.Race)
-    ∷ (codes "drain", Do verb.Drain)
-    ∷ (codes "rollover", Do verb.Rollover)
+    ∷ (codes "race", Race)
+    ∷ (codes "drain", Drain)
+    ∷ (codes "rollover", Rollover)
     ∷ (codes "restore", Restore)
     ∷ (codes "dump", Dump)
     ∷ (codes "account", Account)

@@ -1,30 +1,33 @@
 -- What commands name, and who may give them.
-use Rattle.std.specs.Prelude.{◌≡◌, ℕ, ◌<◌, ◌≤◌, false}
+use Rattle.std.specs.Prelude.{ℕ, ◌<◌, ◌≤◌}
 use Rattle.std.specs.Coded.{×_prop, Unit-prop, le_prop}
 use Rattle.tp_script.specs.declared.head.Act.{Act}
 use Rattle.tp_script.specs.declared.head.Act.TheVariants as act
 use Rattle.tp_script.specs.declared.head.Driver.{Driver}
 use Rattle.tp_script.specs.declared.head.Driver.TheVariants as drivers
 use Rattle.tp_script.specs.declared.script.Command.{Command}
-use Rattle.tp_script.specs.declared.script.Command.TheVariants.{Desk, Balance, Race}
-use Rattle.tp_script.specs.Passes.{is_race}
+use Rattle.tp_script.specs.declared.script.Command.TheVariants.{Desk, Balance}
+use Rattle.tp_script.specs.declared.script.Race.{Race}
 
--- one of this many servers, where it is a command on a server; a race's stage is one that clients may submit
--- to
+-- one of this many servers, where it is a command on a server
 abbrev pub IsInRange : ℕ → Command → Type 0
 IsInRange servers (Desk server act) = server < servers
 IsInRange servers (Balance server k) = server < servers
-IsInRange servers (Race race) = (1 ≤ race.stage) × (race.stage ≤ 14)
 IsInRange servers other = Unit {0}
 
--- a session has no races
-abbrev pub IsGivenBy : Driver → Command → Type 0
-IsGivenBy drivers.Script c = Unit {0}
-IsGivenBy drivers.Session c = is_race c ≡ false
+-- a race's stage is one that clients may submit to
+abbrev pub IsRaceInRange : Race → Type 0
+IsRaceInRange race = (1 ≤ race.stage) × (race.stage ≤ 14)
 
--- a command on one of this many servers, or an act of one of this many workers
+-- and a session has no races
+abbrev pub IsRaceOf : Driver → Race → Type 0
+IsRaceOf drivers.Script race = IsRaceInRange race
+IsRaceOf drivers.Session race = ⊥
+
+-- a command on one of this many servers, a race, or an act of one of this many workers
 abbrev pub IsActOf : Driver → ℕ → ℕ → Act → Type 0
-IsActOf driver servers workers (act.Command c) = IsInRange servers c × IsGivenBy driver c
+IsActOf driver servers workers (act.Command c) = IsInRange servers c
+IsActOf driver servers workers (act.Race race) = IsRaceOf driver race
 IsActOf driver servers workers (act.Worker worker a) = worker < workers
 IsActOf driver servers workers (act.Last worker) = worker < workers
 IsActOf driver servers workers (act.Leave worker name) = worker < workers
@@ -41,11 +44,11 @@ IsScriptAct servers workers a = IsActOf drivers.Script servers workers a
 pub IsInRange-prop : (servers : ℕ) (c : Command) → IsProp (IsInRange servers c)
 IsInRange-prop servers (Desk server act) = le_prop
 IsInRange-prop servers (Balance server k) = le_prop
-IsInRange-prop servers (Race race) = ×_prop le_prop le_prop
 IsInRange-prop servers other = Unit-prop
 
 pub IsScriptAct-prop : (servers workers : ℕ) (a : Act) → IsProp (IsScriptAct servers workers a)
-IsScriptAct-prop servers workers (act.Command c) = ×_prop (IsInRange-prop servers c) Unit-prop
+IsScriptAct-prop servers workers (act.Command c) = IsInRange-prop servers c
+IsScriptAct-prop servers workers (act.Race race) = ×_prop le_prop le_prop
 IsScriptAct-prop servers workers (act.Worker worker a) = le_prop
 IsScriptAct-prop servers workers (act.Last worker) = le_prop
 IsScriptAct-prop servers workers (act.Leave worker name) = le_prop

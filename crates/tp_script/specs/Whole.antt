@@ -11,7 +11,7 @@ use Rattle.tp_script.specs.declared.head.Act.{Act}
 use Rattle.tp_script.specs.declared.head.Act.TheVariants as act
 use Rattle.tp_script.specs.declared.head.Driver.TheVariants as drivers
 use Rattle.tp_script.specs.Grammar.{body_words, head_words, line_words}
-use Rattle.tp_script.specs.Passes.{racers_of}
+use Rattle.tp_script.specs.Passes.{racers}
 use Rattle.tp_script.specs.Script.{ScriptView, no_head, passes}
 use Rattle.tp_script.specs.Text.{lines}
 use Rattle.tp_script.specs.LineWords.{◌>>=◌, require}
@@ -21,7 +21,7 @@ use Rattle.tp_script.specs.LineWords.{◌>>=◌, require}
 -- the script with one command more, unless it needs more passes then than there can be
 unfoldable pub with_act : Act → ScriptView → Result ScriptView LineFault
 with_act a s = do
-  _ ← require (nat_le (passes s + racers_of a) MAX_PASSES) BadLimits
+  _ ← require (nat_le (passes s + racers a) MAX_PASSES) BadLimits
   Ok (record s { acts = s.acts ++ a ∷ [] })
 
 -- the same of what a line asks for; `account` is asked for at the end

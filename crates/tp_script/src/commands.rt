@@ -3,14 +3,14 @@ ghost use Rattle.std.specs.Prelude.{◌<◌, ◌≤◌, ℕ, map, vec_len, IfOk}
 ghost use Rattle.tp_model.specs.declared.types.TheConstants.{MAX_STAGE};
 ghost use Rattle.tp_script.specs.Commands.{server_named, one_server, one_id, submit_at, submit_body};
 ghost use Rattle.tp_script.specs.Commands.{submit_words};
-ghost use Rattle.tp_script.specs.Commands.{balance_at, command_at, drain_at, list_at, list_words, race_at};
-ghost use Rattle.tp_script.specs.Commands.{race_words, stage_at, take_at};
-ghost use Rattle.tp_script.specs.Ranges.{IsInRange};
+ghost use Rattle.tp_script.specs.Commands.{balance_at, command_at, drain_at, given_by, list_at, list_words};
+ghost use Rattle.tp_script.specs.Commands.{race_at, race_said, race_words, rollover_at, stage_at, take_at};
+ghost use Rattle.tp_script.specs.Ranges.{IsActOf, IsInRange, IsRaceInRange};
 ghost use Rattle.tp_script.specs.Reading.{Gives, submit_view, race_view};
 ghost use Rattle.tp_script.specs.Script.{head_view};
 
 use crate::fault::{LineError, LineFault};
-use crate::head::Head;
+use crate::head::{Act, Driver, Head};
 use crate::keyword::Verb;
 use crate::line_words::{any_stage_at, body_of, is, is_name, none, number_at, one, two};
 use crate::script::{ClientAct, Command, DeskAct, Race};
@@ -139,11 +139,11 @@ pub(crate) fn stage_at(word: &[u8]) -> Result<u8, LineError>
     Ok(stage as u8)
 }
 
-// `race CLIENTS SUBMITS STAGE KEY AMOUNT KILLERS TURNS`
+// The race that they say.
 #[tactic(auto, unfolding(crate::specs::Commands::race_at))]
-fn race_at(words: RaceWords<'_>) -> Result<Command, LineError>
-    ensures gives { Gives (λ c. c) result (race_at (race_view words.entry)) }
-    ensures in_range { IfOk result (λ c. (servers : ℕ) → IsInRange servers c) }
+fn race_at(words: RaceWords<'_>) -> Result<Race, LineError>
+    ensures gives { Gives (λ race. race) result (race_at (race_view words.entry)) }
+    ensures in_range { IfOk result IsRaceInRange }
 {
     let clients = number_at(words.clients, u64::from(MAX_PASSES) - 1)? as u8;
     let submits = number_at(words.submits, u64::from(MAX_PART_ROWS))? as u16;
@@ -152,7 +152,7 @@ fn race_at(words: RaceWords<'_>) -> Result<Command, LineError>
     let amount = number_at(words.amount, u64::MAX)?;
     let killers = number_at(words.killers, u64::from(MAX_PASSES) - 1)? as u8;
     let turns = number_at(words.turns, 10_000)? as u16;
-    Ok(Command::Race(Race {
+    Ok(Race {
         clients,
         submits,
         stage,
@@ -160,25 +160,57 @@ fn race_at(words: RaceWords<'_>) -> Result<Command, LineError>
         amount,
         killers,
         turns,
-    }))
+    })
 }
 
-// `drain` or `drain next`
-fn drain_at(words: &[&[u8]]) -> Result<Command, LineError>
-    ensures gives { Gives (λ c. c) result (drain_at (map (λ x. x.now) words.now)) }
-    ensures in_range { IfOk result (λ c. (servers : ℕ) → IsInRange servers c) }
+// A race is a script's.
+fn given_by(driver: Driver, race: Race) -> Result<Act, LineError>
+    requires { IsRaceInRange race }
+    ensures gives { Gives (λ a. a) result (given_by driver race) }
+    ensures in_range { (servers : ℕ) → (workers : ℕ) → IfOk result (λ a. IsActOf driver servers workers a) }
+{
+    match driver {
+        Driver::Script => Ok(Act::Race(race)),
+        Driver::Session => Err(LineFault::Syntax.into()),
+    }
+}
+
+/// `race CLIENTS SUBMITS STAGE KEY AMOUNT KILLERS TURNS`
+#[tactic(auto, unfolding(crate::specs::Commands::race_said))]
+pub(crate) fn race_said(driver: Driver, words: &[&[u8]]) -> Result<Act, LineError>
+    ensures gives { Gives (λ a. a) result (race_said driver (map (λ x. x.now) words.now)) }
+    ensures in_range { (servers : ℕ) → (workers : ℕ) → IfOk result (λ a. IsActOf driver servers workers a) }
+{
+    given_by(driver, race_at(race_words(words)?)?)
+}
+
+/// `drain` or `drain next`
+pub(crate) fn drain_at(words: &[&[u8]]) -> Result<Act, LineError>
+    ensures gives { Gives (λ a. a) result (drain_at (map (λ x. x.now) words.now)) }
+    ensures in_range { (driver : Driver) → (servers : ℕ) → (workers : ℕ)
+        → IfOk result (λ a. IsActOf driver servers workers a) }
 {
     match words {
-        [] => Ok(Command::Drain),
+        [] => Ok(Act::Drain),
         [word] => {
             if is(word, "next") {
-                Ok(Command::DrainNext)
+                Ok(Act::DrainNext)
             } else {
                 Err(LineFault::Syntax.into())
             }
         }
         _ => Err(LineFault::Syntax.into()),
     }
+}
+
+/// `rollover`
+pub(crate) fn rollover_at(words: &[&[u8]]) -> Result<Act, LineError>
+    ensures gives { Gives (λ a. a) result (rollover_at (map (λ x. x.now) words.now)) }
+    ensures in_range { (driver : Driver) → (servers : ℕ) → (workers : ℕ)
+        → IfOk result (λ a. IsActOf driver servers workers a) }
+{
+    none(words)?;
+    Ok(Act::Rollover)
 }
 
 impl Head {
@@ -276,12 +308,6 @@ impl Head {
             Verb::Sum => Ok(Command::Sum {
                 k: number_at(one(words)?, u64::MAX)?,
             }),
-            Verb::Race => race_at(race_words(words)?),
-            Verb::Drain => drain_at(words),
-            Verb::Rollover => {
-                none(words)?;
-                Ok(Command::Rollover)
-            }
         }
     }
 }

@@ -7,26 +7,27 @@ ghost use Rattle.std.specs.List.{list_all, list_any};
 ghost use Rattle.tp_script.specs.declared.fault.LineFault.{LineFault};
 ghost use Rattle.tp_script.specs.declared.fault.LineFault.TheVariants.{Syntax};
 ghost use Rattle.tp_script.specs.declared.head.Act.{Act};
-ghost use Rattle.tp_script.specs.Grammar.{account_at, act_said, body_keyword, body_words, dump_at, given_by};
+ghost use Rattle.tp_script.specs.Grammar.{account_at, act_said, body_keyword, body_words, dump_at};
 ghost use Rattle.tp_script.specs.Grammar.{head_at, head_keyword, head_words, is_comment, line_words};
 ghost use Rattle.tp_script.specs.Grammar.{out_of_order, restore_at};
 ghost use Rattle.tp_script.specs.Grammar.{names_an_id, overview_at, unless_waiting, waits_for_restore};
 ghost use Rattle.tp_script.specs.Keyword.{keyword};
 ghost use Rattle.tp_script.specs.LineWords.{known, one_word};
 ghost use Rattle.tp_script.specs.Grammar.{ends_head, in_head, leave_in_head};
-ghost use Rattle.tp_script.specs.Ranges.{IsActInRange, IsActOf, IsInRange};
+ghost use Rattle.tp_script.specs.Ranges.{IsActInRange, IsActOf};
 ghost use Rattle.tp_script.specs.Reading.{Gives};
 ghost use Rattle.tp_script.specs.Script.{HeadView, head_view};
 
 use crate::alive::alive_words;
 use crate::clients::client_words;
+use crate::commands::{drain_at, race_said, rollover_at};
 use crate::ends::ended_words;
 use crate::fault::{LineError, LineFault};
 use crate::hands::held_words;
 use crate::head::{Act, Driver, Head};
 use crate::keyword::{Keyword, Verb};
 use crate::line_words::{none, one, three, two};
-use crate::script::{Command, Overview};
+use crate::script::Overview;
 use crate::servers::shape_at;
 use crate::text::words;
 use crate::worker_lines::worker_act;
@@ -76,23 +77,6 @@ fn all_allowed(line: &[u8]) -> bool
 }
 
 // ---- what is asked for
-
-// A race is a script's.
-fn given_by(driver: Driver, command: Command) -> Result<Act, LineError>
-    ensures gives { Gives (λ a. a) result (given_by driver command) }
-    ensures in_range { (servers : ℕ) → (workers : ℕ) → IsInRange servers command
-        → IfOk result (λ a. IsActOf driver servers workers a) }
-{
-    match driver {
-        Driver::Script => Ok(Act::Command(command)),
-        Driver::Session => {
-            if command.is_race() {
-                return Err(LineFault::Syntax.into());
-            }
-            Ok(Act::Command(command))
-        }
-    }
-}
 
 // `account`
 fn account_at(words: &[&[u8]]) -> Result<Act, LineError>
@@ -184,20 +168,14 @@ impl Head {
 
     // The command of this first word, with the words after it.
     #[tactic(auto, unfolding(crate::specs::Grammar::act_said))]
-    fn act_at(
-        &self,
-        alloc: Global,
-        driver: Driver,
-        verb: Verb,
-        words: &[&[u8]],
-    ) -> Result<Act, LineError>
+    fn act_at(&self, alloc: Global, verb: Verb, words: &[&[u8]]) -> Result<Act, LineError>
         ensures gives { Gives (λ a. a) result
-            (act_said driver verb (map (λ x. x.now) words.now) (head_view self.now)) }
-        ensures in_range { IfOk result (λ a.
+            (act_said verb (map (λ x. x.now) words.now) (head_view self.now)) }
+        ensures in_range { (driver : Driver) → IfOk result (λ a.
             IsActOf driver (vec_len self.now.servers) (vec_len self.now.workers) a) }
     {
         match self.worker_of(verb, words) {
-            None => given_by(driver, self.command_at(verb, words)?),
+            None => Ok(Act::Command(self.command_at(verb, words)?)),
             Some(worker) => {
                 let act = worker_act(alloc, verb, words)?;
                 Ok(Act::Worker { worker, act })
@@ -282,10 +260,10 @@ impl Head {
             Keyword::Ended => in_head(self.ended_line(words)),
             Keyword::Register => in_head(self.register_line(words)),
             Keyword::Noted(verb) => self.first_command(driver, self.noted_at(verb, words)),
-            Keyword::Do(verb) => self.first_command(
-                driver,
-                self.act_at(alloc, driver, verb, words),
-            ),
+            Keyword::Do(verb) => self.first_command(driver, self.act_at(alloc, verb, words)),
+            Keyword::Race => self.first_command(driver, race_said(driver, words)),
+            Keyword::Drain => self.first_command(driver, drain_at(words)),
+            Keyword::Rollover => self.first_command(driver, rollover_at(words)),
             Keyword::Dump => self.first_command(driver, dump_at(words)),
             Keyword::Account => self.first_command(driver, account_at(words)),
             Keyword::Overview(what) => self.first_command(driver, overview_at(what, words)),
@@ -343,7 +321,10 @@ impl Head {
             IsActOf driver (vec_len self.now.servers) (vec_len self.now.workers) a) }
     {
         match keyword {
-            Keyword::Do(verb) => self.act_at(alloc, driver, verb, words),
+            Keyword::Do(verb) => self.act_at(alloc, verb, words),
+            Keyword::Race => race_said(driver, words),
+            Keyword::Drain => drain_at(words),
+            Keyword::Rollover => rollover_at(words),
             Keyword::Account => account_at(words),
             Keyword::Dump => dump_at(words),
             Keyword::Overview(what) => overview_at(what, words),

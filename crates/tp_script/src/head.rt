@@ -9,7 +9,7 @@ ghost use Rattle.tp_script.specs.declared.notes.TheConstants.{MAX_CLIENTS};
 ghost use Rattle.tp_script.specs.declared.script.TheConstants.{MAX_SERVERS};
 
 use crate::notes::{ClientNote, EndLine, MAX_CLIENTS, Name, NotedAct, RequestNote};
-use crate::script::{Command, MAX_SERVERS, Overview, ScriptServer, Settings};
+use crate::script::{Command, MAX_SERVERS, Overview, Race, ScriptServer, Settings};
 use arrayvec::ArrayVec;
 use std::alloc::Global;
 use std::string::String;
@@ -93,8 +93,16 @@ pub enum WorkerAct {
 /// What a line asks for. A worker is given by its place.
 #[derive(Drop)]
 pub enum Act {
-    /// A command of the client, of a server's desk, or of all.
+    /// A command of the client or of a server's desk, or a report of registers.
     Command(Command),
+    /// A race is run.
+    Race(Race),
+    /// The servers take turns until a whole round of them finds nothing.
+    Drain,
+    /// The same by turns that take the element whose turn it is.
+    DrainNext,
+    /// What is alive goes on in a new manager.
+    Rollover,
     /// A worker does this.
     Worker { worker: usize, act: WorkerAct },
     /// The account is reported.
@@ -116,24 +124,21 @@ pub enum Act {
 }
 
 impl Act {
-    ghost use Rattle.tp_script.specs.Passes.{races, racers_of};
+    ghost use Rattle.tp_script.specs.Passes.{is_race, racers};
 
     /// Whether it is a race.
     pub fn is_race(&self) -> bool
-        ensures { result ≡ races self.now }
+        ensures { result ≡ is_race self.now }
     {
-        match self {
-            Act::Command(command) => command.is_race(),
-            _ => false,
-        }
+        matches!(self, Act::Race(_))
     }
 
     /// How many passes it needs for itself: those of a race's clients and killers.
     pub fn racers(&self) -> u16
-        ensures { result ≡ racers_of self.now }
+        ensures { result ≡ racers self.now }
     {
         match self {
-            Act::Command(command) => command.racers(),
+            Act::Race(race) => u16::from(race.clients) + u16::from(race.killers),
             _ => 0,
         }
     }

@@ -37,6 +37,12 @@ pub enum Keyword {
     Noted(NotedVerb),
     /// The line is a command.
     Do(Verb),
+    /// The line asks for a race.
+    Race,
+    /// The line asks for a drain.
+    Drain,
+    /// The line asks for a rollover.
+    Rollover,
     /// The line asks that what the head says be alive again.
     Restore,
     /// The line asks for the lines that lead to this state.
@@ -68,9 +74,6 @@ pub enum Verb {
     Take,
     Balance,
     Sum,
-    Race,
-    Drain,
-    Rollover,
 }
 
 /// What a command of a client of whom notes are kept is, by its first word.
@@ -127,9 +130,9 @@ const FIRST_WORDS: [(&str, Keyword); 51] = [
     ("count", Keyword::Do(Verb::Count)),
     ("depth", Keyword::Do(Verb::Depth)),
     ("list", Keyword::Do(Verb::List)),
-    ("race", Keyword::Do(Verb::Race)),
-    ("drain", Keyword::Do(Verb::Drain)),
-    ("rollover", Keyword::Do(Verb::Rollover)),
+    ("race", Keyword::Race),
+    ("drain", Keyword::Drain),
+    ("rollover", Keyword::Rollover),
     ("restore", Keyword::Restore),
     ("dump", Keyword::Dump),
     ("account", Keyword::Account),

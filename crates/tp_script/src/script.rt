@@ -130,7 +130,8 @@ pub struct Race {
     pub turns: u16,
 }
 
-/// A command. A server is given by its place among the servers.
+/// A command of the client or of a server's desk, or what is reported of registers. A server is given by its
+/// place among the servers.
 #[derive(Clone, Copy)]
 pub enum Command {
     /// The client does this.
@@ -141,40 +142,4 @@ pub enum Command {
     Balance { server: usize, k: u64 },
     /// The sum of a register over all servers is reported.
     Sum { k: u64 },
-    /// A race is run.
-    Race(Race),
-    /// The servers take turns until a whole round of them finds nothing.
-    Drain,
-    /// The same by turns that take the element whose turn it is.
-    DrainNext,
-    /// What is alive goes on in a new manager.
-    Rollover,
-}
-
-impl Command {
-    ghost use Rattle.tp_script.specs.Passes.{is_race, is_rollover, racers};
-
-    /// Whether it is a race.
-    pub fn is_race(self) -> bool
-        ensures { result ≡ is_race self }
-    {
-        matches!(self, Command::Race(_))
-    }
-
-    /// Whether it is a rollover.
-    pub fn is_rollover(self) -> bool
-        ensures { result ≡ is_rollover self }
-    {
-        matches!(self, Command::Rollover)
-    }
-
-    /// How many passes it needs for itself: those of a race's clients and killers.
-    pub fn racers(self) -> u16
-        ensures { result ≡ racers self }
-    {
-        match self {
-            Command::Race(race) => u16::from(race.clients) + u16::from(race.killers),
-            _ => 0,
-        }
-    }
 }

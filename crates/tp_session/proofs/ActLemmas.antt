@@ -16,13 +16,18 @@ use Rattle.tp_script.specs.Script.{head_view}
 use Rattle.tp_script.specs.declared.head.Head.{Head}
 use Rattle.tp_script.specs.declared.head.WorkerAct.{WorkerAct}
 use Rattle.tp_script.specs.declared.head.WorkerLine.{WorkerLine}
+use Rattle.tp_script.specs.declared.script.ClientAct.{ClientAct}
 use Rattle.tp_script.specs.declared.script.Command.{Command}
+use Rattle.tp_script.specs.declared.script.Command.TheVariants as command
 use Rattle.tp_script.specs.declared.script.Overview.TheVariants as overviews
 use Rattle.tp_commands.specs.declared.place.Place.{Place}
-use Rattle.tp_commands.specs.Acting.{PlaceShown, work_in}
-use Rattle.tp_commands.specs.Asked.{FoundLine}
+use Rattle.tp_commands.specs.Acting.{IsSteadyPlace, PlaceShown, work_in}
+use Rattle.tp_commands.specs.Asked.{FoundLine, TellsClient}
+use Rattle.tp_commands.specs.Places.{workers}
+use Rattle.tp_commands.proofs.Lies.{lie_servers}
 use Rattle.tp_perform.specs.Scenes.{Scene}
-use Rattle.tp_perform.specs.Told.{AreReady, IsScene, PerformsAll, units_held}
+use Rattle.tp_perform.specs.Told.{AreReady, IsScene, TellsCommand, units_held}
+use Rattle.tp_perform.proofs.Chains.{all_steady}
 use Rattle.tp_perform.proofs.Gatherings.{gathered, held_gathered, ready_gathered}
 use Rattle.tp_session.specs.declared.hand.Holding.{Holding}
 use Rattle.tp_session.specs.declared.hand.Holding.TheVariants.{Nothing}
@@ -34,7 +39,7 @@ use Rattle.tp_session.specs.Clients.{NotedDoes, noting}
 use Rattle.tp_session.specs.Lasts.{HandRead, end_at}
 use Rattle.tp_session.specs.NoteTexts.{last_hand}
 use Rattle.std.specs.Prelude.{string_bytes}
-use Rattle.tp_session.specs.Live.{ClientCounts, CommandTold, IsHeldBySession, IsLive, LastDid, Leads, LiveGathers, NotedDid, OverviewDid, TellsAccount, WorkerDid, has_unit_open}
+use Rattle.tp_session.specs.Live.{ClientCounts, CommandDid, IsHeldBySession, IsLive, LastDid, Leads, LiveGathers, NotedDid, OverviewDid, SceneTold, TellsAccount, WorkerDid, has_unit_open}
 use Rattle.tp_session.specs.Overviews.{HoldersRead, desk_holding, holds_text, in_hands, names_of}
 use Rattle.tp_session.specs.declared.hand.WorkerAnswer.{WorkerAnswer}
 use Rattle.tp_session.specs.Notes.{NotesView, notes_view, with_unit_end}
@@ -95,17 +100,38 @@ module _ {X : Type 0} {F : X → Type 0} (behaviour : DynBox X Global F → Beha
       subst (λ ps. IsScene behaviour registers pending ps new.servers.items new.places.items s) (sym passes)
       (subst (λ x. IsScene behaviour registers pending qs x new.places.items s) (sym servers) (subst (λ x. IsScene behaviour registers pending qs ss x s) (sym places) is))
 
-  -- ---- a command
+  -- ---- what is done to the scene
 
-  pub command_leads : (head : Head) (c : Command) (raced : ℕ) (old new : Held X F) (text : List ℕ) → new.managed.manager ≡ old.managed.manager → new.works.items ≡ old.works.items → new.notes ≡ old.notes
-      → (a : Scene) × (b : Scene) × IsAt old a × PerformsAll old.managed.manager (head_view head) c raced old.managed.keeper a text new.managed.keeper b × IsAt new b
-      → Leads behaviour registers pending (λ x y. CommandTold (head_view head) c raced x text y) old new
-  command_leads head c raced old new text same works notes t = record {
+  pub scene_leads : (Did : ManagerShown → KeeperShown → Scene → KeeperShown → Scene → Type 0) (old new : Held X F) → new.managed.manager ≡ old.managed.manager → new.works.items ≡ old.works.items → new.notes ≡ old.notes
+      → (a : Scene) × (b : Scene) × IsAt old a × Did old.managed.manager old.managed.keeper a new.managed.keeper b × IsAt new b
+      → Leads behaviour registers pending (SceneTold Did) old new
+  scene_leads Did old new same works notes t = record {
     before = live_of behaviour registers pending old t.0;
     after = live_of behaviour registers pending new t.1;
     was = is_live behaviour registers pending old t.0 t.2;
-    leads = record { performs = t.3; manager = same; works = works; notes = ap notes_view notes };
+    leads = record { did = t.3; manager = same; works = works; notes = ap notes_view notes };
     is = is_live behaviour registers pending new t.1 t.4;
+  }
+
+  -- ---- a command
+
+  -- there is a place for each server
+  pub places_many : (head : Head) (h : Held X F) → IsHeldBySession behaviour registers pending head h → length h.places.items ≡ length head.servers.items
+  places_many head h held =
+      sym (lie_servers behaviour registers pending (workers (length h.servers.items) h.managed.passes.items) h.servers.items h.places.items held.ready.lie) ∙ held.each_server
+
+  pub steady_in : (m : ManagerShown) (ps : List PassShown) (ss : List (DynBox X Global F)) (os : List (Place X F)) (s : Scene) → AreReady behaviour registers pending m ps ss os → IsScene behaviour registers pending ps ss os s → All IsSteadyPlace s.places
+  steady_in m ps ss os s ready is = subst (All IsSteadyPlace) (sym is.1) (all_steady behaviour registers pending (workers (length ss) ps) ss os ready.lie)
+
+  pub command_did : (head : Head) (c : Command) (old new : Held X F) (text : List ℕ) → new.managed.manager ≡ old.managed.manager → new.managed.keeper ≡ old.managed.keeper → new.works.items ≡ old.works.items → new.notes ≡ old.notes
+      → (a b : Scene) → IsAt old a → TellsCommand old.managed.manager (head_view head) c a text b → IsAt new b → All IsSteadyPlace b.places
+      → Leads behaviour registers pending (λ x y. CommandDid (head_view head) c x text y) old new
+  command_did head c old new text manager keeper works notes a b was tells is steady = record {
+    before = live_of behaviour registers pending old a;
+    after = live_of behaviour registers pending new b;
+    was = is_live behaviour registers pending old a was;
+    leads = record { tells = tells; steady = steady; manager = manager; keeper = keeper; works = works; notes = ap notes_view notes };
+    is = is_live behaviour registers pending new b is;
   }
 
   -- ---- all gather
@@ -270,6 +296,16 @@ module _ {X : Type 0} {F : X → Type 0} (behaviour : DynBox X Global F → Beha
 
     scene_now : (s : Scene) × IsScene behaviour registers pending old.managed.passes.items old.servers.items old.places.items s
     scene_now = let l = live_there behaviour registers pending head old held in (l.0.stand.scene, l.1.scene)
+
+    -- the pass did what a command asks for
+    pub client_did : new.notes ≡ old.notes → (act : ClientAct) (text : List ℕ) (d : PassShown) → d ≡ get_or old.managed.passes.items 0 d → TellsClient old.managed.manager.limits act d text p
+        → Leads behaviour registers pending (λ a b. CommandDid (head_view head) (command.Client act) a text b) old new
+    client_did notes act text d d_is tells =
+        let s = scene_now in
+        command_did head (command.Client act) old new text manager keeper works notes s.0 (record s.0 { client = p }) s.1
+        (record { tells = subst (λ x. TellsClient old.managed.manager.limits act x text p) (d_is ∙ client_first behaviour registers pending old.managed.passes.items old.servers.items old.places.items s.0 s.1 d) tells; others = record { places = refl; racers = refl } })
+        (client_there (notes_view old.notes) s.0 (ap notes_view notes) s.1).scene
+        (steady_in old.managed.manager old.managed.passes.items old.servers.items old.places.items s.0 held.ready s.1)
 
     -- the pass did that for a client of whom notes are kept
     pub client_noted : (name : NameView) (act : NotedAct) (text : List ℕ) (d : PassShown) → d ≡ get_or old.managed.passes.items 0 d

@@ -11,13 +11,12 @@ use Rattle.tp_manager.specs.Bounds.{account_steps}
 use Rattle.tp_manager.specs.Shown.{IsOf, KeeperShown, ManagerShown, PassShown}
 use Rattle.tp_script.specs.declared.head.Head.{Head}
 use Rattle.tp_script.specs.declared.head.WorkerLine.{WorkerLine}
-use Rattle.tp_perform.specs.GivingUp.{GiveUpAll}
 use Rattle.tp_perform.specs.Scenes.{GatheredIn, Scene, passes_in}
 use Rattle.tp_perform.specs.Told.{AreReady, IsScene, units_held}
 use Rattle.tp_perform.proofs.Gatherings.{all_in, gathered_in, held_looked, ready_looked}
 use Rattle.tp_session.specs.Hands.{unit_of}
 use Rattle.tp_session.specs.Live.{IsHeldBySession, Leads, Live}
-use Rattle.tp_session.specs.Performed.{DesksClose, LiveCounts, WorkerCloses, WorkersBelow}
+use Rattle.tp_session.specs.Performed.{LiveCounts, WorkerCloses, WorkersBelow}
 use Rattle.tp_session.specs.Notes.{notes_view}
 use Rattle.tp_session.specs.declared.held.Held.{Held}
 use Rattle.tp_session.proofs.LiveLemmas.{is_live, live_of, live_there}
@@ -37,17 +36,6 @@ below_more workers n old mid new so_far one =
 module _ {X : Type 0} {F : X → Type 0} (behaviour : DynBox X Global F → Behaviour) (registers : DynBox X Global F → List ℕ) (pending : DynBox X Global F → Option Pending) where
   abbrev IsAt : Held X F → Scene → Type 0
   IsAt h s = IsScene behaviour registers pending h.managed.passes.items h.servers.items h.places.items s
-
-  pub desks_lead : (old new : Held X F) → new.managed.manager ≡ old.managed.manager → new.works.items ≡ old.works.items → new.notes ≡ old.notes
-      → (a : Scene) × (b : Scene) × IsAt old a × GiveUpAll old.managed.manager old.managed.keeper a new.managed.keeper b × IsAt new b
-      → Leads behaviour registers pending DesksClose old new
-  desks_lead old new same works notes t = record {
-    before = live_of behaviour registers pending old t.0;
-    after = live_of behaviour registers pending new t.1;
-    was = is_live behaviour registers pending old t.0 t.2;
-    leads = record { manager = same; gives_up = t.3; works = works; notes = ap notes_view notes };
-    is = is_live behaviour registers pending new t.1 t.4;
-  }
 
   module _ (head : Head) (old : Held X F) (keeper' : KeeperShown) (qs : List PassShown) (account : Account) (held : IsHeldBySession behaviour registers pending head old)
       (counts : Accounts old.managed.manager.limits old.managed.keeper keeper' old.managed.passes.items qs account)

@@ -10,7 +10,7 @@ use Rattle.tp_script.specs.Notes.{NameView}
 use Rattle.tp_script.specs.declared.head.WorkerAct.TheVariants.{Abort}
 use Rattle.tp_script.specs.declared.head.WorkerLine.{WorkerLine}
 use Rattle.tp_session.specs.Answers.{left_line}
-use Rattle.tp_session.specs.Live.{IsHeldBySession, LeaveTold, Leads, Live, LiveGathers, WorkerDid, with_notes}
+use Rattle.tp_session.specs.Live.{IsHeldBySession, LeaveTold, Leads, LiveGathers, WorkerDid, with_notes}
 use Rattle.tp_session.specs.Notes.{notes_view, without_end}
 use Rattle.tp_session.specs.declared.hand.WorkerAnswer.{WorkerAnswer}
 use Rattle.tp_session.specs.declared.held.Held.{Held}

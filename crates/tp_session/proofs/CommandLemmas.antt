@@ -2,6 +2,7 @@
 use Rattle.std.proofs.Common.{◌≡◌, ℕ, Bool, true, false, List, [], ◌∷◌, Option, Some, None, Result, Ok, Err, ◌∙◌, sym, ap}
 use Rattle.std.proofs.lemmas.Option.{none-some}
 use Rattle.tp_script.specs.Grammar.{account_at, act_said, alive_line, body_keyword, body_words, dump_at, ends_head, head_at, head_keyword, head_words, held_line, in_head, limit_line, line_words, lost_line, overview_at, restore_at, rows_line, spare_line, units_line, unless_waiting, waits_for_restore, worker_line}
+use Rattle.tp_script.specs.Commands.{drain_at, race_said, rollover_at}
 use Rattle.tp_script.specs.Clients.{client_line, noted_at, register_line, request_line}
 use Rattle.tp_script.specs.Ends.{ended_line}
 use Rattle.tp_script.specs.Keyword.{keyword}
@@ -68,7 +69,10 @@ keywords h first.Leave ws = in_it h (one_word ws >>= λ _. Err faults.Order)
 keywords h first.Alive ws = in_it h (alive_line ws h)
 keywords h first.Held ws = in_it h (held_line ws h)
 keywords h first.Lost ws = in_it h (two ws >>= λ w. lost_line w h)
-keywords h (first.Do v) ws = ended h (unless_waiting (waits_for_restore h) (act_said drivers.Session v ws h))
+keywords h (first.Do v) ws = ended h (unless_waiting (waits_for_restore h) (act_said v ws h))
+keywords h first.Race ws = ended h (unless_waiting (waits_for_restore h) (race_said drivers.Session ws))
+keywords h first.Drain ws = ended h (unless_waiting (waits_for_restore h) (drain_at ws))
+keywords h first.Rollover ws = ended h (unless_waiting (waits_for_restore h) (rollover_at ws))
 keywords h first.Dump ws = ended h (unless_waiting (waits_for_restore h) (dump_at ws))
 keywords h first.Account ws = ended h (unless_waiting (waits_for_restore h) (account_at ws))
 keywords h (first.Overview what) ws = ended h (unless_waiting (waits_for_restore h) (overview_at what ws))
@@ -94,6 +98,10 @@ command_keeps line h = after h (line_words line) (λ ws. head_words drivers.Sess
 abbrev pub is_restore : Act → Bool
 is_restore act.Restore = true
 is_restore (act.Command c) = false
+is_restore (act.Race plan) = false
+is_restore act.Drain = false
+is_restore act.DrainNext = false
+is_restore act.Rollover = false
 is_restore (act.Worker worker a) = false
 is_restore act.Account = false
 is_restore act.Dump = false
@@ -168,7 +176,10 @@ keyword_meets h first.Leave ws = in_meets h (one_word ws >>= λ _. Err faults.Or
 keyword_meets h first.Alive ws = in_meets h (alive_line ws h) (said_behind h first.Alive ws)
 keyword_meets h first.Held ws = in_meets h (held_line ws h) (said_behind h first.Held ws)
 keyword_meets h first.Lost ws = in_meets h (two ws >>= λ w. lost_line w h) (said_behind h first.Lost ws)
-keyword_meets h (first.Do v) ws = first_meets h (waits_for_restore h) (act_said drivers.Session v ws h)
+keyword_meets h (first.Do v) ws = first_meets h (waits_for_restore h) (act_said v ws h)
+keyword_meets h first.Race ws = first_meets h (waits_for_restore h) (race_said drivers.Session ws)
+keyword_meets h first.Drain ws = first_meets h (waits_for_restore h) (drain_at ws)
+keyword_meets h first.Rollover ws = first_meets h (waits_for_restore h) (rollover_at ws)
 keyword_meets h first.Dump ws = first_meets h (waits_for_restore h) (dump_at ws)
 keyword_meets h first.Account ws = first_meets h (waits_for_restore h) (account_at ws)
 keyword_meets h (first.Overview what) ws = first_meets h (waits_for_restore h) (overview_at what ws)

@@ -12,16 +12,15 @@ use Rattle.tp_report.specs.declared.fault.Fault.TheVariants as faults
 use Rattle.tp_report.proofs.Devices.{front_none}
 use Rattle.tp_script.specs.Fault.{refused_text}
 use Rattle.tp_script.specs.declared.fault.Refused.{Refused}
-use Rattle.tp_script.specs.Passes.{is_race, is_rollover, racers_of, racing}
+use Rattle.tp_script.specs.Passes.{racers, racing}
 use Rattle.tp_script.specs.Script.{HeadView, ScriptView, head_view, script_view}
 use Rattle.tp_script.specs.declared.head.Act.{Act}
 use Rattle.tp_script.specs.declared.head.Act.TheVariants as act
 use Rattle.tp_script.specs.declared.head.Head.{Head}
-use Rattle.tp_script.specs.declared.script.Command.{Command}
 use Rattle.tp_script.specs.declared.whole.Script.{Script}
 use Rattle.tp_session.specs.Left.{OrSame}
 use Rattle.tp_session.specs.Carried.{lost_works}
-use Rattle.tp_session.specs.Live.{ActTold, Live, RefusedLive, RestoreTold, RestoredLive, RolledLive, TellsBy, TellsDump, TellsRaced, has_desk_open}
+use Rattle.tp_session.specs.Live.{ActTold, Live, RefusedLive, RestoreTold, RestoredLive, RolledLive, RolloverTold, TellsDump, has_desk_open}
 use Rattle.tp_session.proofs.CarriedLemmas.{lost_long, works_long}
 use Rattle.tp_session.specs.Performed.{ActsDone, ActsTold, Ran, Report, ReportFront}
 
@@ -33,8 +32,8 @@ acts_more head raced raced' [] a old mid new text last is so_far one =
     let same : raced' ≡ raced = is ∙ omega arith in
     (last, [], new, subst (λ k. ActTold head k a old last new) same (subst (λ l. ActTold head raced' a l last new) so_far.1 one), (refl, refl), ap (λ t. t ++ last) so_far.0 ∙ sym (append-nil last))
 acts_more head raced raced' (b ∷ others) a old mid new text last is so_far one =
-    let next : raced' ≡ raced + racers_of b + racing others = omega (arith, is, sum_by-cons racers_of b others) in
-    (so_far.0, so_far.1 ++ last, so_far.2, so_far.3, acts_more head (raced + racers_of b) raced' others a so_far.2 mid new so_far.1 last next so_far.4 one, ap (λ t. t ++ last) so_far.5 ∙ append_assoc so_far.0 so_far.1 last)
+    let next : raced' ≡ raced + racers b + racing others = omega (arith, is, sum_by-cons racers b others) in
+    (so_far.0, so_far.1 ++ last, so_far.2, so_far.3, acts_more head (raced + racers b) raced' others a so_far.2 mid new so_far.1 last next so_far.4 one, ap (λ t. t ++ last) so_far.5 ∙ append_assoc so_far.0 so_far.1 last)
 
 pub acts_next : (head : Head) (all : List Act) (i raced : ℕ) (d : Act) (old mid new : Live) (text last : List ℕ) → i < length all → raced ≡ racing (take i all)
     → ActsTold head 0 (take i all) old text mid → ActTold head raced (get_or all i d) mid last new → ActsTold head 0 (take (i + 1) all) old (text ++ last) new
@@ -59,13 +58,8 @@ acts_done s i raced d old mid new text within is so_far (inr one) = record {
 
 -- ---- as much is in hand as can be
 
-by_rollover : (h : HeadView) (c : Command) (b : Bool) (old new : Live) (text : List ℕ) → TellsBy b h c old text new → length new.works ≡ length old.works
-by_rollover h c true old new text t = ⊎_elim (λ (r : RolledLive h old text new). ap length r.works ∙ works_long r.moved _ _ old.works) (λ (r : RefusedLive _ _ old text new). ap length r.works) t.told
-by_rollover h c false old new text t = ap length t.works
-
-by_race : (head : Head) (raced : ℕ) (c : Command) (b : Bool) (old new : Live) (text : List ℕ) → TellsRaced b head raced (act.Command c) old text new → length new.works ≡ length old.works
-by_race head raced c true old new text t = ap length t.works
-by_race head raced c false old new text t = by_rollover (head_view head) c (is_rollover c) old new text t
+by_rollover : (h : HeadView) (old new : Live) (text : List ℕ) → RolloverTold h old text new → length new.works ≡ length old.works
+by_rollover h old new text t = ⊎_elim (λ (r : RolledLive h old text new). ap length r.works ∙ works_long r.moved _ _ old.works) (λ (r : RefusedLive _ _ old text new). ap length r.works) t.told
 
 by_restore : (h : HeadView) (old new : Live) (text : List ℕ) → RestoreTold h old text new → length new.works ≡ length old.works
 by_restore h old new text t = ⊎_elim (λ (r : RestoredLive h old text new). ap length r.works ∙ (works_long r.moved _ _ (lost_works h.lost 0 old.works) ∙ lost_long h.lost 0 old.works)) (λ (r : RefusedLive _ _ old text new). ap length r.works) t.told
@@ -75,7 +69,11 @@ by_dump h true old new text t = ap (λ (l : Live). l.works) t.1
 by_dump h false old new text t = t.0.works
 
 pub works_same : (head : Head) (raced : ℕ) (a : Act) (old new : Live) (text : List ℕ) → ActTold head raced a old text new → length new.works ≡ length old.works
-works_same head raced (act.Command c) old new text t = by_race head raced c (is_race c) old new text t
+works_same head raced (act.Command c) old new text t = ap length (t.gathers.works ∙ t.did.works)
+works_same head raced (act.Race plan) old new text t = ap length t.works
+works_same head raced act.Drain old new text t = ap length t.works
+works_same head raced act.DrainNext old new text t = ap length t.works
+works_same head raced act.Rollover old new text t = by_rollover (head_view head) old new text t
 works_same head raced (act.Worker at act) old new text t = ap length (t.gathers.works ∙ t.did.works) ∙ length-set old.works at _
 works_same head raced act.Account old new text t = ap length (t.gathers.works ∙ t.counts.works)
 works_same head raced act.Dump old new text t = ap length (t.gathers.works ∙ by_dump (head_view head) (has_desk_open old) old t.done text t.tells)

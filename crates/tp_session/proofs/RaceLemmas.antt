@@ -1,29 +1,34 @@
 -- Races of a script: the passes that they take are free.
-use Rattle.std.proofs.Common.{◌≡◌, ℕ, zero, suc, ◌+◌, false, List, [], ◌∷◌, All, Option, ◌∙◌, ap, arith, map, drop}
+use Rattle.std.proofs.Common.{◌≡◌, ℕ, zero, suc, ◌+◌, refl, List, [], ◌∷◌, All, Option, ◌∙◌, ap, arith, map, drop}
 use Rattle.std.proofs.lemmas.List.Elements.{All-cons, All-drop, All-head, All-nil, All-tail, All-take}
 use Rattle.tp_manager.specs.Shown.{IsOf, ManagerShown, PassShown}
-use Rattle.tp_script.specs.Passes.{races}
-use Rattle.tp_script.specs.Ranges.{IsActInRange, IsScriptAct}
 use Rattle.tp_script.specs.declared.head.Act.{Act}
 use Rattle.tp_script.specs.declared.head.Act.TheVariants as act
+use Rattle.tp_script.specs.declared.head.Head.{Head}
+use Rattle.tp_script.specs.declared.script.Race.{Race}
 use Rattle.tp_perform.specs.Told.{RaceFree, after_servers, units_held}
 use Rattle.tp_workers.specs.Free.{IsFreePass}
 use Rattle.tp_session.specs.declared.hand.Holding.{Holding}
 use Rattle.tp_session.specs.declared.hand.Holding.TheVariants.{Nothing}
 use Rattle.tp_session.specs.Hands.{unit_of}
+use Rattle.tp_session.specs.Live.{ActTold, Live, TellsAct}
 
--- what is no race may be asked for in a session too
-pub session_act : (servers workers : ℕ) (a : Act) → races a ≡ false → IsScriptAct servers workers a → IsActInRange servers workers a
-session_act servers workers (act.Command c) other is = (is.0, other)
-session_act servers workers (act.Worker worker a) other is = is
-session_act servers workers act.Account other is = is
-session_act servers workers act.Dump other is = is
-session_act servers workers act.Restore other is = is
-session_act servers workers (act.Noted name a) other is = is
-session_act servers workers (act.Last worker) other is = is
-session_act servers workers (act.Overview what) other is = is
-session_act servers workers (act.Joined name) other is = is
-session_act servers workers (act.Leave worker name) other is = is
+-- what is no race is told as in a session
+pub told_so : (head : Head) (raced : ℕ) (a : Act) → ((plan : Race) → a ≡ act.Race plan → ⊥) → (old new : Live) (text : List ℕ) → TellsAct head a old text new → ActTold head raced a old text new
+told_so head raced (act.Command c) other old new text t = t
+told_so head raced (act.Race plan) other old new text t = absurd (other plan refl)
+told_so head raced act.Drain other old new text t = t
+told_so head raced act.DrainNext other old new text t = t
+told_so head raced act.Rollover other old new text t = t
+told_so head raced (act.Worker worker a) other old new text t = t
+told_so head raced act.Account other old new text t = t
+told_so head raced act.Dump other old new text t = t
+told_so head raced act.Restore other old new text t = t
+told_so head raced (act.Noted name a) other old new text t = t
+told_so head raced (act.Last worker) other old new text t = t
+told_so head raced (act.Overview what) other old new text t = t
+told_so head raced (act.Joined name) other old new text t = t
+told_so head raced (act.Leave worker name) other old new text t = t
 
 heads_tails : (a b : Option ℕ) (xs ys : List (Option ℕ)) → a ∷ xs ≡ b ∷ ys → (a ≡ b) × (xs ≡ ys)
 heads_tails a b xs ys e = (cc, cc)

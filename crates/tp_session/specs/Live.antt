@@ -12,7 +12,9 @@ use Rattle.tp_model.specs.declared.types.Status.{Status}
 use Rattle.tp_model.specs.declared.types.Status.TheVariants as status
 use Rattle.tp_server.specs.Behaviour.{Behaviour}
 use Rattle.tp_server.specs.Pending.{Pending}
-use Rattle.tp_manager.specs.Shown.{ManagerShown, PassShown}
+use Rattle.tp_manager.specs.Shown.{KeeperShown, ManagerShown, PassShown}
+use Rattle.tp_desk.specs.declared.order.Order.{Order}
+use Rattle.tp_desk.specs.declared.order.Order.TheVariants.{InTurn, LeastFirst}
 use Rattle.tp_alone.specs.Thread.{AreTogether}
 use Rattle.tp_rollover.specs.Answers.{IsHistoryOf}
 use Rattle.tp_rollover.specs.Managed.{IsManaged, IsUnsurveyed}
@@ -23,7 +25,6 @@ use Rattle.tp_rollover.specs.declared.survivors.Survivor.{Survivor}
 use Rattle.tp_report.specs.Answer.{account_text, answer_text, line, rolled_text}
 use Rattle.tp_report.specs.declared.answer.Answer.TheVariants as answer
 use Rattle.tp_script.specs.Fault.{◌<>◌}
-use Rattle.tp_script.specs.Passes.{is_rollover, races}
 use Rattle.tp_script.specs.Script.{HeadView, head_view}
 use Rattle.tp_script.specs.declared.head.AliveLine.{AliveLine}
 use Rattle.tp_script.specs.declared.head.Act.{Act}
@@ -37,12 +38,15 @@ use Rattle.tp_script.specs.declared.notes.NotedAct.{NotedAct}
 use Rattle.tp_script.specs.declared.script.Command.{Command}
 use Rattle.tp_script.specs.declared.script.Overview.{Overview}
 use Rattle.tp_script.specs.declared.script.Overview.TheVariants as overviews
+use Rattle.tp_script.specs.declared.script.Race.{Race}
+use Rattle.tp_commands.specs.Acting.{IsSteadyPlace}
 use Rattle.tp_commands.specs.Asked.{FoundLine, TellsCount}
+use Rattle.tp_perform.specs.Drains.{Drains}
 use Rattle.tp_perform.specs.Restore.{IsUnrestoredIn, Restored}
 use Rattle.tp_perform.specs.Rollover.{IsUnrolled, OnlyLooked, RollRefused, RolledOver, renamed}
 use Rattle.tp_perform.specs.Rollover.{roll_refused_text}
 use Rattle.tp_perform.specs.Scenes.{Gathered, Scene, Stand, passes_in}
-use Rattle.tp_perform.specs.Told.{AreReady, IsScene, PerformsAll, units_held}
+use Rattle.tp_perform.specs.Told.{AreReady, IsScene, RacedAll, TellsCommand, units_held}
 use Rattle.tp_session.specs.Answers.{joined_line, left_line, restored_text, units_text, worker_answer_line}
 use Rattle.tp_session.specs.Carried.{lost_works, works_after}
 use Rattle.tp_session.specs.Clients.{NotedDoes, noting}
@@ -89,15 +93,42 @@ pub record LiveGathers (old new : Live) : Type 0 where
   pub works : new.works ≡ old.works
   pub notes : new.notes ≡ old.notes
 
--- the line is that of the command, and the workers have what they had; a race takes passes behind so many
--- others
-pub record CommandTold (h : HeadView) (c : Command) (raced : ℕ) (old : Live) (text : List ℕ) (new : Live)
+-- ---- commands, races and drains
+
+-- the command was done, this is its line, and the workers have what they had
+pub record CommandDid (h : HeadView) (c : Command) (old : Live) (text : List ℕ) (new : Live) : Type 0 where
+  pub tells : TellsCommand old.stand.manager h c old.stand.scene text new.stand.scene
+  -- at each place the registers are the fold of what the desk has committed since it began
+  pub steady : All IsSteadyPlace new.stand.scene.places
+  pub manager : new.stand.manager ≡ old.stand.manager
+  pub keeper : new.stand.keeper ≡ old.stand.keeper
+  pub works : new.works ≡ old.works
+  pub notes : new.notes ≡ old.notes
+
+-- so it was, and then all gathered
+pub record CommandTold (h : HeadView) (c : Command) (old : Live) (text : List ℕ) (new : Live)
     : Type 0 where
-  pub performs : PerformsAll old.stand.manager h c raced old.stand.keeper old.stand.scene text
-      new.stand.keeper new.stand.scene
+  pub done : Live
+  pub did : CommandDid h c old text done
+  pub gathers : LiveGathers done new
+
+-- what was done to the scene under the same manager, where the workers have what they had
+pub record SceneTold (Did : ManagerShown → KeeperShown → Scene → KeeperShown → Scene → Type 0)
+    (old new : Live) : Type 0 where
+  pub did : Did old.stand.manager old.stand.keeper old.stand.scene new.stand.keeper new.stand.scene
   pub manager : new.stand.manager ≡ old.stand.manager
   pub works : new.works ≡ old.works
   pub notes : new.notes ≡ old.notes
+
+-- the line is that of a drain, whose claims are in this order
+abbrev pub DrainTold : Order → Live → List ℕ → Live → Type 0
+DrainTold order old text new =
+    SceneTold (λ m keeper scene keeper' scene'. Drains order m keeper scene text keeper' scene') old new
+
+-- the line is that of a race, which takes passes behind so many others
+abbrev pub RaceTold : HeadView → Race → ℕ → Live → List ℕ → Live → Type 0
+RaceTold h plan raced old text new =
+    SceneTold (λ m keeper scene keeper' scene'. RacedAll m h plan raced keeper scene text keeper' scene') old new
 
 -- ---- rollovers
 
@@ -133,10 +164,6 @@ pub record RolloverTold (h : HeadView) (old : Live) (text : List ℕ) (new : Liv
   pub holds : HoldsUnits old
   pub told : RolledLive h old text new
       ⊎ RefusedLive (IsUnrolled old.stand.manager.limits) old.notes old text new
-
-abbrev pub TellsBy : Bool → HeadView → Command → Live → List ℕ → Live → Type 0
-TellsBy true h c = RolloverTold h
-TellsBy false h c = CommandTold h c 0
 
 -- a worker did what it was asked, and all else is as it was
 pub record WorkerDid (it : WorkerLine) (act : WorkerAct) (at : ℕ) (old : Live) (answer : WorkerAnswer)
@@ -364,9 +391,13 @@ pub record OverviewTold (h : HeadView) (what : Overview) (old : Live) (text : Li
 
 -- ---- all acts
 
--- the line of what is asked for
+-- the line of what a session asks for
 abbrev pub TellsAct : Head → Act → Live → List ℕ → Live → Type 0
-TellsAct head (acts.Command c) old text new = TellsBy (is_rollover c) (head_view head) c old text new
+TellsAct head (acts.Command c) old text new = CommandTold (head_view head) c old text new
+TellsAct head (acts.Race plan) old text new = ⊥
+TellsAct head acts.Drain old text new = DrainTold LeastFirst old text new
+TellsAct head acts.DrainNext old text new = DrainTold InTurn old text new
+TellsAct head acts.Rollover old text new = RolloverTold (head_view head) old text new
 TellsAct head (acts.Worker at act) old text new = WorkerTold head.workers.items act at old text new
 TellsAct head acts.Account old text new = AccountTold old text new
 TellsAct head acts.Dump old text new = DumpTold (head_view head) old text new
@@ -377,19 +408,12 @@ TellsAct head (acts.Overview what) old text new = OverviewTold (head_view head) 
 TellsAct head (acts.Joined name) old text new = JoinTold name old text new
 TellsAct head (acts.Leave at name) old text new = LeaveTold head.workers.items at name old text new
 
--- a race, by the passes behind those of the workers and of the races before it, which took so many
-abbrev pub RaceTold : Head → ℕ → Act → Live → List ℕ → Live → Type 0
-RaceTold head raced (acts.Command c) old text new =
-    CommandTold (head_view head) c (length head.workers.items + raced) old text new
-RaceTold head raced other old text new = ⊥
-
--- the line of what a script asks for
-abbrev pub TellsRaced : Bool → Head → ℕ → Act → Live → List ℕ → Live → Type 0
-TellsRaced true head raced a = RaceTold head raced a
-TellsRaced false head raced a = TellsAct head a
-
+-- the same of what a script asks for: a race is by the passes behind those of the workers and of the races
+-- before it, which took so many
 abbrev pub ActTold : Head → ℕ → Act → Live → List ℕ → Live → Type 0
-ActTold head raced a = TellsRaced (races a) head raced a
+ActTold head raced (acts.Race plan) old text new =
+    RaceTold (head_view head) plan (length head.workers.items + raced) old text new
+ActTold head raced other old text new = TellsAct head other old text new
 
 -- ---- what is held in memory
 

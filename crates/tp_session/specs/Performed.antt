@@ -13,7 +13,7 @@ use Rattle.tp_report.specs.declared.fault.Exit.TheVariants as exits
 use Rattle.tp_report.specs.declared.fault.Fault.{Fault}
 use Rattle.tp_report.specs.declared.fault.Fault.TheVariants as faults
 use Rattle.tp_script.specs.Fault.{refused_text}
-use Rattle.tp_script.specs.Passes.{has_race, racers_of, racing}
+use Rattle.tp_script.specs.Passes.{has_race, racers, racing}
 use Rattle.tp_script.specs.Script.{ScriptView, head_view, script_view}
 use Rattle.tp_script.specs.declared.fault.Refused.{Refused}
 use Rattle.tp_script.specs.declared.head.Act.{Act}
@@ -24,7 +24,7 @@ use Rattle.tp_script.specs.declared.whole.Script.{Script}
 use Rattle.tp_perform.specs.GivingUp.{GiveUpAll}
 use Rattle.tp_perform.specs.Scenes.{GatheredIn, passes_in}
 use Rattle.tp_session.specs.Conversed.{LiveBegins, LiveEnds, finals_of}
-use Rattle.tp_session.specs.Live.{ActTold, Live, LiveGathers, WorkerDid}
+use Rattle.tp_session.specs.Live.{ActTold, Live, LiveGathers, SceneTold, WorkerDid}
 use Rattle.tp_session.specs.declared.hand.WorkerAnswer.{WorkerAnswer}
 
 -- ---- acts
@@ -36,7 +36,7 @@ ActsTold head raced [] old text new = (text ≡ []) × (new ≡ old)
 ActsTold head raced (a ∷ others) old text new =
     (first : List ℕ) × (rest : List ℕ) × (between : Live)
     × ActTold head raced a old first between
-    × ActsTold head (raced + racers_of a) others between rest new
+    × ActsTold head (raced + racers a) others between rest new
     × (text ≡ first ++ rest)
 
 -- some first ones were done, whatever became of what they tell
@@ -49,11 +49,8 @@ pub record ActsDone (s : Script) (old new : Live) (Told : List ℕ → Type 0) :
 -- ---- the end
 
 -- the desks gave up what they had in hand, one after another, and all gathered behind each
-pub record DesksClose (old new : Live) : Type 0 where
-  pub manager : new.stand.manager ≡ old.stand.manager
-  pub gives_up : GiveUpAll old.stand.manager old.stand.keeper old.stand.scene new.stand.keeper new.stand.scene
-  pub works : new.works ≡ old.works
-  pub notes : new.notes ≡ old.notes
+abbrev pub DesksClose : Live → Live → Type 0
+DesksClose old new = SceneTold GiveUpAll old new
 
 -- so did the worker at a place
 pub record WorkerCloses (workers : List WorkerLine) (at : ℕ) (old new : Live) : Type 0 where

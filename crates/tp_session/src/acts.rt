@@ -1,22 +1,19 @@
 //! What a line of a session asks for, performed, and the line of its answer. All passes gather after it.
-ghost use Rattle.std.specs.Prelude.{◌≡◌, ◌<◌, ◌||◌, List, ℕ, IfOk, IfSome, false, is_some, slice_get};
+ghost use Rattle.std.specs.Prelude.{◌≡◌, ◌<◌, ◌||◌, IfOk, IfSome, is_some, slice_get};
 ghost use Rattle.std.specs.Prelude.{string_bytes};
 ghost use Rattle.std.specs.Prelude.{vec_len};
 ghost use Rattle.std.specs.List.{list_any};
 ghost use Rattle.tp_commands.specs.Acting.{work_in};
-ghost use Rattle.tp_script.specs.Passes.{is_race, is_rollover};
-ghost use Rattle.tp_script.specs.Ranges.{IsInRange};
-ghost use Rattle.tp_script.specs.Script.{head_view};
 ghost use Rattle.tp_script.specs.Ranges.{IsActInRange};
 ghost use Rattle.tp_workers.specs.Free.{IsFreePass};
 ghost use Rattle.tp_session.specs.Hands.{has_unit};
-ghost use Rattle.tp_session.specs.Left.{ActDone, OrSame, Reaches, began_in};
-ghost use Rattle.tp_session.specs.Live.{AccountTold, ClientCounts, CommandTold, IsHeldBySession, Leads};
-ghost use Rattle.tp_session.specs.Live.{LiveGathers};
-ghost use Rattle.tp_session.specs.Live.{TellsAccount, TellsAct, TellsBy, WorkerDid, WorkerTold};
+ghost use Rattle.tp_session.specs.Left.{ActDone, Reaches, began_in};
+ghost use Rattle.tp_session.specs.Live.{AccountTold, ClientCounts, IsHeldBySession, Leads, LiveGathers};
+ghost use Rattle.tp_session.specs.Live.{TellsAccount, TellsAct, WorkerDid, WorkerTold};
 
 use crate::answers::worker_line;
 use crate::comings::{joined_line, leave_told};
+use crate::commands::{command_told, drain_told};
 use crate::dump::dump_told;
 use crate::hand::{Holding, WorkerAnswer, worker_act};
 use crate::held::Held;
@@ -26,66 +23,12 @@ use crate::restoring::restore_told;
 use crate::rolling::rollover_told;
 use std::alloc::{AllocError, Global};
 use std::string::String;
-use tp_commands::{Means, Place, count};
+use tp_commands::{Place, count};
+use tp_desk::Order;
 use tp_manager::{Manager, Pass};
-use tp_perform::perform_next;
 use tp_report::{Answer, line};
-use tp_script::{Act, Command, Head, WorkerAct};
+use tp_script::{Act, Head, WorkerAct};
 use tp_server::Server;
-
-/// Performs a command of scripts that is neither a race nor a rollover.
-fn command_told(
-    alloc: Global,
-    head: &Head,
-    held: &mut Held,
-    command: Command,
-) -> Result<String, AllocError>
-    requires held { IsHeldBySession behaviour registers pending head.now held.old }
-    requires in_range { IsInRange (vec_len head.now.servers) command }
-    requires no_race { is_race command ≡ false }
-    requires no_rollover { is_rollover command ≡ false }
-    ensures held { IsHeldBySession behaviour registers pending head.now held.new }
-    ensures began { began_in registers held.new ≡ began_in registers held.old }
-    ensures tells { IfOk result (λ text. Leads behaviour registers pending (λ old new.
-        CommandTold (head_view head.now) command 0 old (string_bytes text) new) held.old held.new) }
-{
-    let means = Means {
-        alloc,
-        head,
-        manager: &held.managed.manager,
-    };
-    perform_next(
-        &means,
-        &mut held.managed.keeper,
-        held.managed.passes.as_mut_slice(),
-        held.servers.as_mut_slice(),
-        held.places.as_mut_slice(),
-        command,
-    )
-}
-
-/// Performs a command of scripts that is no race.
-fn told_by(
-    alloc: Global,
-    head: &Head,
-    held: &mut Held,
-    command: Command,
-) -> Result<String, AllocError>
-    requires held { IsHeldBySession behaviour registers pending head.now held.old }
-    requires in_range { IsInRange (vec_len head.now.servers) command }
-    requires no_race { is_race command ≡ false }
-    ensures held { IsHeldBySession behaviour registers pending head.now held.new }
-    ensures went { Reaches behaviour registers pending (OrSame (λ old new. (text : List ℕ)
-        × TellsBy (is_rollover command) (head_view head.now) command old text new)) held.old held.new }
-    ensures tells { IfOk result (λ text. Leads behaviour registers pending (λ old new.
-        TellsBy (is_rollover command) (head_view head.now) command old (string_bytes text) new)
-        held.old held.new) }
-{
-    if command.is_rollover() {
-        return rollover_told(alloc, head, held);
-    }
-    command_told(alloc, head, held, command)
-}
 
 /// All passes gather.
 pub(crate) fn gather(head: &Head, held: &mut Held)
@@ -254,7 +197,11 @@ pub fn act_line(
         TellsAct head.now act.now old (string_bytes text) new) held.old held.new) }
 {
     match act {
-        Act::Command(command) => told_by(alloc, head, held, *command),
+        Act::Command(command) => command_told(alloc, head, held, *command),
+        Act::Race(_) => unreachable!(),
+        Act::Drain => drain_told(alloc, head, held, Order::LeastFirst),
+        Act::DrainNext => drain_told(alloc, head, held, Order::InTurn),
+        Act::Rollover => rollover_told(alloc, head, held),
         Act::Worker { worker, act } => worker_told(alloc, head, held, *worker, act),
         Act::Account => account_told(alloc, head, held),
         Act::Dump => dump_told(alloc, head, held),

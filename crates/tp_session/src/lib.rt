@@ -9,6 +9,7 @@ mod carried;
 mod clients;
 mod closing;
 mod comings;
+mod commands;
 mod dump;
 mod dump_lines;
 mod dump_lost;

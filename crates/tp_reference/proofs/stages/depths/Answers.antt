@@ -1,4 +1,4 @@
-use Rattle.std.proofs.Common.{◌≡◌, ◌<◌, ◌-◌, ◌^◌, Some, length, sym, ap, arith, ◌∙◌}
+use Rattle.std.proofs.Common.{◌<◌, ◌-◌, ◌^◌, Some, length, sym, ap, arith, ◌∙◌}
 use Rattle.tp_model.specs.declared.types.Look.{Look}
 use Rattle.tp_report.specs.Looks.{depths_of}
 use Rattle.tp_report.proofs.DepthLemmas.{depths_below}

@@ -1,7 +1,7 @@
-use Rattle.std.proofs.Common.{refl}
+use Rattle.std.proofs.Common.{inr, refl}
 use Rattle.std.proofs.lemmas.Result.{IfOk-weaker}
 use Rattle.tp_session.proofs.LiveLemmas.{leads_none}
-use Rattle.tp_session.proofs.LeftLemmas.{reach_same}
+use Rattle.tp_session.proofs.LeftLemmas.{reach_same, reach_so}
 use Rattle.tp_session.proofs.acts.act_line.Goals as goal
 
 pub returns-in-Worker-clause-tells : goal.returns-in-Worker-clause-tells
@@ -57,3 +57,21 @@ returns-in-Joined-clause-tells g c = rw c.in-Joined.is (IfOk-weaker c.joined_lin
 
 pub returns-in-Joined-clause-went : goal.returns-in-Joined-clause-went
 returns-in-Joined-clause-went g c = reach_same (λ b. (goal.Server-dyn g (b.vtable, b.value)).behaviour b.value) (λ b. (goal.Server-dyn g (b.vtable, b.value)).registers b.value) (λ b. (goal.Server-dyn g (b.vtable, b.value)).pending b.value) c.args.head.now c.args.held.now c.args.held.now _ c.requires.held refl
+
+pub returns-in-Command-clause-went : goal.returns-in-Command-clause-went
+returns-in-Command-clause-went g c = reach_same (λ b. (goal.Server-dyn g (b.vtable, b.value)).behaviour b.value) (λ b. (goal.Server-dyn g (b.vtable, b.value)).registers b.value) (λ b. (goal.Server-dyn g (b.vtable, b.value)).pending b.value) c.args.head.now c.args.held.now c.command_told.new.held _ c.requires.held c.command_told.ensures.began
+
+pub returns-in-Command-clause-tells : goal.returns-in-Command-clause-tells
+returns-in-Command-clause-tells g c = rw c.in-Command.is c.command_told.ensures.tells
+
+pub returns-in-Drain-clause-went : goal.returns-in-Drain-clause-went
+returns-in-Drain-clause-went g c = reach_same (λ b. (goal.Server-dyn g (b.vtable, b.value)).behaviour b.value) (λ b. (goal.Server-dyn g (b.vtable, b.value)).registers b.value) (λ b. (goal.Server-dyn g (b.vtable, b.value)).pending b.value) c.args.head.now c.args.held.now c.drain_told.new.held _ c.requires.held c.drain_told.ensures.began
+
+pub returns-in-DrainNext-clause-went : goal.returns-in-DrainNext-clause-went
+returns-in-DrainNext-clause-went g c = reach_same (λ b. (goal.Server-dyn g (b.vtable, b.value)).behaviour b.value) (λ b. (goal.Server-dyn g (b.vtable, b.value)).registers b.value) (λ b. (goal.Server-dyn g (b.vtable, b.value)).pending b.value) c.args.head.now c.args.held.now c.drain_told-in-DrainNext.new.held _ c.requires.held c.drain_told-in-DrainNext.ensures.began
+
+pub returns-in-Rollover-clause-went : goal.returns-in-Rollover-clause-went
+returns-in-Rollover-clause-went g c = rw c.in-Rollover.is (reach_so (λ b. (goal.Server-dyn g (b.vtable, b.value)).behaviour b.value) (λ b. (goal.Server-dyn g (b.vtable, b.value)).registers b.value) (λ b. (goal.Server-dyn g (b.vtable, b.value)).pending b.value) c.args.held.now c.rollover_told.new.held _ _ (λ a b done. inr done) c.rollover_told.ensures.went)
+
+pub returns-in-Rollover-clause-tells : goal.returns-in-Rollover-clause-tells
+returns-in-Rollover-clause-tells g c = rw c.in-Rollover.is c.rollover_told.ensures.tells

@@ -1,9 +1,9 @@
 use Rattle.std.proofs.Common.{◌∙◌, ap, length, refl}
 use Rattle.std.specs.Vec.{with_items}
 use Rattle.std.specs.List.{refill}
+use Rattle.tp_perform.specs.GivingUp.{GiveUpAll}
 use Rattle.tp_perform.specs.Told.{units_held}
-use Rattle.tp_session.proofs.ActLemmas.{at_of, held_of, refilled}
-use Rattle.tp_session.proofs.CloseLemmas.{desks_lead}
+use Rattle.tp_session.proofs.ActLemmas.{at_of, held_of, refilled, scene_leads}
 use Rattle.tp_session.proofs.LeftLemmas.{began_refilled}
 use Rattle.tp_session.proofs.closing.close_desks.Goals as goal
 
@@ -29,7 +29,7 @@ returns-clause-closes g c =
     let ss = c.give_up_all.auto.servers ∙ ap length c.as_mut_slice-2.ensures.value in
     let os = c.give_up_all.auto.places ∙ ap length c.as_mut_slice-3.ensures.value in
     let t = c.give_up_all.ensures.gives_up in
-    desks_lead (λ b. (goal.Server-dyn g (b.vtable, b.value)).behaviour b.value) (λ b. (goal.Server-dyn g (b.vtable, b.value)).registers b.value) (λ b. (goal.Server-dyn g (b.vtable, b.value)).pending b.value) c.args.held.now (record { managed = record { manager = c.args.held.now.managed.manager; keeper = c.give_up_all.new.keeper; passes = with_items c.args.held.now.managed.passes c.give_up_all.new.passes }; servers = with_items c.args.held.now.servers c.give_up_all.new.servers; places = record { items = refill (length c.args.held.now.places.items) c.args.held.now.places.items c.give_up_all.new.places }; works = c.args.held.now.works; notes = c.args.held.now.notes }) refl refl refl (
+    scene_leads (λ b. (goal.Server-dyn g (b.vtable, b.value)).behaviour b.value) (λ b. (goal.Server-dyn g (b.vtable, b.value)).registers b.value) (λ b. (goal.Server-dyn g (b.vtable, b.value)).pending b.value) GiveUpAll c.args.held.now (record { managed = record { manager = c.args.held.now.managed.manager; keeper = c.give_up_all.new.keeper; passes = with_items c.args.held.now.managed.passes c.give_up_all.new.passes }; servers = with_items c.args.held.now.servers c.give_up_all.new.servers; places = record { items = refill (length c.args.held.now.places.items) c.args.held.now.places.items c.give_up_all.new.places }; works = c.args.held.now.works; notes = c.args.held.now.notes }) refl refl refl (
       t.0,
       t.1,
       (rw (c.as_mut_slice.ensures.value, c.as_mut_slice-2.ensures.value, c.as_mut_slice-3.ensures.value) at t.2),

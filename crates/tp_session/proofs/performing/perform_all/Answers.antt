@@ -3,7 +3,7 @@ use Rattle.std.specs.Prelude.{string_bytes}
 use Rattle.tp_report.proofs.Devices.{Appends-none, Appends-then, front_then}
 use Rattle.tp_commands.proofs.Alls.{racing_next}
 use Rattle.tp_commands.proofs.Shows.{sum_next}
-use Rattle.tp_script.specs.Passes.{racers_of}
+use Rattle.tp_script.specs.Passes.{racers}
 use Rattle.tp_session.specs.Live.{ActTold}
 use Rattle.tp_session.proofs.LeftLemmas.{reach_lead, reach_then}
 use Rattle.tp_session.proofs.LiveLemmas.{begins_so, leads_none, leads_then}
@@ -25,7 +25,7 @@ act_told-requires-clause-room g c =
     let within : c.loop-act.act-index < length c.args.script.now.acts.items = omega (arith, ap length c.deref-act-items.ensures.value) in
     let item : c.act-item.result ≡ get_or c.args.script.now.acts.items c.loop-act.act-index c.act-item.result = rw c.deref-act-items.ensures.value at c.act-item.is in
     let next = racing_next c.args.script.now.acts.items c.loop-act.act-index c.act-item.result within in
-    omega (arith, next, i.left, i.works, c.requires.room, ap racers_of item, c.args.script.now.head.workers.ok.0)
+    omega (arith, next, i.left, i.works, c.requires.room, ap racers item, c.args.script.now.head.workers.ok.0)
 
 pub returns-in_err-line-clause-went : goal.returns-in_err-line-clause-went
 returns-in_err-line-clause-went g c =
@@ -63,8 +63,8 @@ loop-act-preserved g c =
     let item : c.act-item.result ≡ get_or c.args.script.now.acts.items c.loop-act.act-index c.act-item.result = rw c.deref-act-items.ensures.value at c.act-item.is in
     let tells = c.in_ok-line.ensures.tells in
     let next = racing_next c.args.script.now.acts.items c.loop-act.act-index c.act-item.result within in
-    let more = sum_next racers_of c.args.script.now.acts.items c.loop-act.act-index c.act-item.result within in
-    let needed = ap racers_of item in
+    let more = sum_next racers c.args.script.now.acts.items c.loop-act.act-index c.act-item.result within in
+    let needed = ap racers item in
     record {
       held = c.in_ok-line.ensures.held;
       works = ap length (sym tells.is.works) ∙ (works_same c.args.script.now.head c.loop-act.raced c.act-item.result tells.before tells.after (string_bytes c.in_ok-line.line) tells.leads ∙ (ap length tells.was.works ∙ i.works));

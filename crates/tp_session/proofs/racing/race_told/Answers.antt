@@ -1,16 +1,14 @@
-use Rattle.std.proofs.Common.{◌≡◌, ◌+◌, ◌∙◌, ap, arith, length, refl, subst, sym}
+use Rattle.std.proofs.Common.{◌≡◌, ◌+◌, ◌∙◌, ap, arith, length, refl, subst}
 use Rattle.std.specs.Vec.{with_items}
 use Rattle.std.specs.List.{refill}
 use Rattle.std.specs.Prelude.{IfOk, string_bytes}
 use Rattle.std.proofs.lemmas.Result.{IfOk-weaker}
-use Rattle.tp_commands.specs.Places.{workers}
-use Rattle.tp_commands.proofs.Lies.{lie_servers}
-use Rattle.tp_perform.specs.Told.{units_held}
+use Rattle.tp_perform.specs.Told.{RacedAll, units_held}
 use Rattle.tp_script.specs.Passes.{racers}
 use Rattle.tp_script.specs.Script.{head_view}
-use Rattle.tp_script.specs.declared.script.Command.TheVariants as command
-use Rattle.tp_session.specs.Live.{CommandTold, Leads}
-use Rattle.tp_session.proofs.ActLemmas.{at_of, command_leads, held_of, refilled}
+use Rattle.tp_script.specs.declared.head.Act.TheVariants as act
+use Rattle.tp_session.specs.Live.{Leads, RaceTold}
+use Rattle.tp_session.proofs.ActLemmas.{at_of, held_of, places_many, refilled, scene_leads}
 use Rattle.tp_session.proofs.LeftLemmas.{began_refilled}
 use Rattle.tp_session.proofs.RaceLemmas.{race_free}
 use Rattle.tp_session.proofs.racing.race_told.Goals as goal
@@ -19,11 +17,11 @@ pub race_next-requires-clause-free : goal.race_next-requires-clause-free
 race_next-requires-clause-free g c κs lives =
     let held = c.requires.held in
     let k : (c.len.result + c.args.raced) ≡ length c.args.head.now.workers.items + c.args.raced = omega (arith, c.len.ensures, c.args.head.now.workers.ok.0) in
-    rw (c.as_mut_slice.ensures.value, c.as_mut_slice-2.ensures.value) (race_free c.args.held.now.managed.manager (length c.args.held.now.servers.items) (length c.args.head.now.workers.items) c.args.raced (c.len.result + c.args.raced) (racers (command.Race c.in-Race.plan)) c.args.held.now.managed.passes.items c.args.held.now.works.items k held.ready.own held.in_hand held.racers)
+    rw (c.as_mut_slice.ensures.value, c.as_mut_slice-2.ensures.value) (race_free c.args.held.now.managed.manager (length c.args.held.now.servers.items) (length c.args.head.now.workers.items) c.args.raced (c.len.result + c.args.raced) (racers (act.Race c.args.plan)) c.args.held.now.managed.passes.items c.args.held.now.works.items k held.ready.own held.in_hand held.racers)
 
 pub race_next-requires-clause-as_many : goal.race_next-requires-clause-as_many
 race_next-requires-clause-as_many g c κs lives =
-    ap length c.as_mut_slice-3.ensures.value ∙ (sym (lie_servers (λ b. (goal.Server-dyn g (b.vtable, b.value)).behaviour b.value) (λ b. (goal.Server-dyn g (b.vtable, b.value)).registers b.value) (λ b. (goal.Server-dyn g (b.vtable, b.value)).pending b.value) (workers (length c.args.held.now.servers.items) c.args.held.now.managed.passes.items) c.args.held.now.servers.items c.args.held.now.places.items c.requires.held.ready.lie) ∙ c.requires.held.each_server)
+    ap length c.as_mut_slice-3.ensures.value ∙ places_many (λ b. (goal.Server-dyn g (b.vtable, b.value)).behaviour b.value) (λ b. (goal.Server-dyn g (b.vtable, b.value)).registers b.value) (λ b. (goal.Server-dyn g (b.vtable, b.value)).pending b.value) c.args.head.now c.args.held.now c.requires.held
 
 pub returns-clause-held : goal.returns-clause-held
 returns-clause-held g c =
@@ -42,14 +40,14 @@ returns-clause-tells g c =
     let ss = c.race_next.auto.servers ∙ ap length c.as_mut_slice-2.ensures.value in
     let os = c.race_next.auto.places ∙ ap length c.as_mut_slice-3.ensures.value in
     let k : (c.len.result + c.args.raced) ≡ length c.args.head.now.workers.items + c.args.raced = omega (arith, c.len.ensures, c.args.head.now.workers.ok.0) in
-    let told = IfOk-weaker c.race_next.result _ _ (λ text t. command_leads (λ b. (goal.Server-dyn g (b.vtable, b.value)).behaviour b.value) (λ b. (goal.Server-dyn g (b.vtable, b.value)).registers b.value) (λ b. (goal.Server-dyn g (b.vtable, b.value)).pending b.value) c.args.head.now (command.Race c.in-Race.plan) (c.len.result + c.args.raced) c.args.held.now (record { managed = record { manager = c.args.held.now.managed.manager; keeper = c.race_next.new.keeper; passes = with_items c.args.held.now.managed.passes c.race_next.new.passes }; servers = with_items c.args.held.now.servers c.race_next.new.servers; places = record { items = refill (length c.args.held.now.places.items) c.args.held.now.places.items c.race_next.new.places }; works = c.args.held.now.works; notes = c.args.held.now.notes }) (string_bytes text) refl refl refl (
+    let told = IfOk-weaker c.race_next.result _ _ (λ text t. scene_leads (λ b. (goal.Server-dyn g (b.vtable, b.value)).behaviour b.value) (λ b. (goal.Server-dyn g (b.vtable, b.value)).registers b.value) (λ b. (goal.Server-dyn g (b.vtable, b.value)).pending b.value) (λ m keeper scene keeper' scene'. RacedAll m (head_view c.args.head.now) c.args.plan (c.len.result + c.args.raced) keeper scene (string_bytes text) keeper' scene') c.args.held.now (record { managed = record { manager = c.args.held.now.managed.manager; keeper = c.race_next.new.keeper; passes = with_items c.args.held.now.managed.passes c.race_next.new.passes }; servers = with_items c.args.held.now.servers c.race_next.new.servers; places = record { items = refill (length c.args.held.now.places.items) c.args.held.now.places.items c.race_next.new.places }; works = c.args.held.now.works; notes = c.args.held.now.notes }) refl refl refl (
       t.0,
       t.1,
       (rw (c.as_mut_slice.ensures.value, c.as_mut_slice-2.ensures.value, c.as_mut_slice-3.ensures.value) at t.2),
       t.3,
       at_of (λ b. (goal.Server-dyn g (b.vtable, b.value)).behaviour b.value) (λ b. (goal.Server-dyn g (b.vtable, b.value)).registers b.value) (λ b. (goal.Server-dyn g (b.vtable, b.value)).pending b.value) (record { managed = record { manager = c.args.held.now.managed.manager; keeper = c.race_next.new.keeper; passes = with_items c.args.held.now.managed.passes c.race_next.new.passes }; servers = with_items c.args.held.now.servers c.race_next.new.servers; places = record { items = refill (length c.args.held.now.places.items) c.args.held.now.places.items c.race_next.new.places }; works = c.args.held.now.works; notes = c.args.held.now.notes }) n.passes n.servers n.places t.1 (refilled _ _ _ c.args.held.now.managed.passes.ok.0 ps) (refilled _ _ _ c.args.held.now.servers.ok.0 ss) (refilled _ _ _ refl os) t.4,
     )) c.race_next.ensures.tells in
-    rw c.in-Race.is (subst (λ r. IfOk c.race_next.result (λ text. Leads (λ b. (goal.Server-dyn g (b.vtable, b.value)).behaviour b.value) (λ b. (goal.Server-dyn g (b.vtable, b.value)).registers b.value) (λ b. (goal.Server-dyn g (b.vtable, b.value)).pending b.value) (λ old new. CommandTold (head_view c.args.head.now) (command.Race c.in-Race.plan) r old (string_bytes text) new) c.args.held.now (record { managed = record { manager = c.args.held.now.managed.manager; keeper = c.race_next.new.keeper; passes = with_items c.args.held.now.managed.passes c.race_next.new.passes }; servers = with_items c.args.held.now.servers c.race_next.new.servers; places = record { items = refill (length c.args.held.now.places.items) c.args.held.now.places.items c.race_next.new.places }; works = c.args.held.now.works; notes = c.args.held.now.notes }))) k told)
+    subst (λ r. IfOk c.race_next.result (λ text. Leads (λ b. (goal.Server-dyn g (b.vtable, b.value)).behaviour b.value) (λ b. (goal.Server-dyn g (b.vtable, b.value)).registers b.value) (λ b. (goal.Server-dyn g (b.vtable, b.value)).pending b.value) (λ old new. RaceTold (head_view c.args.head.now) c.args.plan r old (string_bytes text) new) c.args.held.now (record { managed = record { manager = c.args.held.now.managed.manager; keeper = c.race_next.new.keeper; passes = with_items c.args.held.now.managed.passes c.race_next.new.passes }; servers = with_items c.args.held.now.servers c.race_next.new.servers; places = record { items = refill (length c.args.held.now.places.items) c.args.held.now.places.items c.race_next.new.places }; works = c.args.held.now.works; notes = c.args.held.now.notes }))) k told
 
 pub returns-clause-began : goal.returns-clause-began
 returns-clause-began g c =

@@ -51,5 +51,11 @@ returns-in-Register-clause-in_range c = c.in_head-in-Register.ensures.in_range _
 pub returns-in-Noted-clause-in_range : goal.returns-in-Noted-clause-in_range
 returns-in-Noted-clause-in_range c = c.first_command.ensures.in_range (c.noted_at.ensures.in_range _ _)
 
+pub returns-in-Do-clause-in_range : goal.returns-in-Do-clause-in_range
+returns-in-Do-clause-in_range c = c.first_command-in-Do.ensures.in_range (c.act_at.ensures.in_range _)
+
+pub returns-in-Race-clause-in_range : goal.returns-in-Race-clause-in_range
+returns-in-Race-clause-in_range c = c.first_command-in-Race.ensures.in_range (c.race_said.ensures.in_range _ _)
+
 pub returns-in-Restore-clause-in_range : goal.returns-in-Restore-clause-in_range
 returns-in-Restore-clause-in_range c = c.ends_head.ensures.in_range _ _ _ (c.restore_at.ensures.in_range _ _ _)
