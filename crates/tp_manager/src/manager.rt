@@ -118,7 +118,8 @@ pub struct Pass {
     /// The marks of each kind and part, as the pass last loaded or set them, or as far as a raise of a
     /// stage's mark that failed would have set it.
     pub(crate) lows: [Lows; MARK_KINDS],
-    /// For each stage and part a run of rows of no use to the stage, as far as the pass remembers one.
+    /// For each stage and part a run of rows of no use to the stage, and before it one of rows of the stage,
+    /// as far as the pass remembers them.
     pub(crate) gaps: [Gaps; MARK_KINDS],
     /// For each stage the row after the element that it took last in its turn.
     pub(crate) from: [u32; 16],
@@ -206,7 +207,7 @@ impl Keeper {
             used: 0,
             task: None,
             lows: [[0; MARKED_PARTS]; MARK_KINDS],
-            gaps: [[0; 2 * MARKED_PARTS]; MARK_KINDS],
+            gaps: [[0; 3 * MARKED_PARTS]; MARK_KINDS],
             from: [0; 16],
             walk: NoRows {
                 rows: RowSet::new(),

@@ -18,7 +18,7 @@ ghost use Rattle.tp_manager.specs.declared.scanning.Stand.TheVariants as stands;
 ghost use Rattle.tp_manager.specs.Looks.{GoesOn, HasStand};
 ghost use Rattle.tp_manager.specs.Leans.{scan_end, IsLean, IsLeanAt, IsLeanIn};
 ghost use Rattle.tp_manager.specs.Spares.{SpareRests};
-ghost use Rattle.tp_manager.specs.Marks.{AreFinished, CameTo, RestInParts, RestsAt, WasOfUse, WasUnsettled};
+ghost use Rattle.tp_manager.specs.Marks.{AreFinished, AreOfStage, CameTo, RestInParts, RestsAt, WasOfUse, WasUnsettled};
 ghost use Rattle.tp_manager.specs.Marks.{Remembers, RemembersGaps, RisesAt, Rose};
 ghost use Rattle.tp_manager.specs.Scans.{Begun, Sought, EachRow, OfPart, PassedBy, IsSpare, Took};
 ghost use Rattle.tp_manager.specs.CallSteps.{IsSteady, Looked};
@@ -140,25 +140,29 @@ impl Shared {
     }
 
     /// The unit takes the element of a row, if that waits in the stage; `row` goes on, and so does `low`, the
-    /// first row that isn't known finished, where that is this one. One step where the head is not of the
-    /// stage and the row isn't that one.
+    /// first row that isn't known finished, where that is this one. `born` is before rows in each of which an
+    /// element of the stage is born, and goes on where none is in this row. One step where the head is not of
+    /// the stage and the row isn't `low`.
     #[inline(always)]
     pub(crate) fn try_row(
         &self,
         seat: &mut Seat,
         row: &mut u32,
         low: &mut u32,
+        born: &mut u32,
         stage: u8,
         unit: u16,
     ) -> Option<Taken>
         requires steady { IsSteady self.now.words seat.old }
         requires row { row.old < rows_of (table_limits self.now.words) }
         requires low { low.old ≤ row.old }
+        requires born { (born.old ≤ row.old) × AreOfStage stage (seen_by seat.old) born.old row.old }
         requires stage { IsServerStage stage }
         requires spare { IsSpare unit (view_of seat.old) × (unit < 65535) }
         ensures same { IsSameSeat seat.old seat.new }
         ensures on { GoesOn (table_limits self.now.words) row.old row.new }
         ensures low { (low.new ≤ row.new) × Rose stage (view_of seat.new) low.old low.new }
+        ensures born { (born.new ≤ row.new) × AreOfStage stage (seen_by seat.new) born.new row.new }
         ensures stays { low.new < row.new → let l = table_limits self.now.words in
             ((low.old < row.old) × (low.new ≡ low.old))
             ⊎ WasOfUse l stage low.new (seen_by seat.old) (seen_by seat.new) }
@@ -174,15 +178,20 @@ impl Shared {
         let head = self.head_on(seat, row);
         if !is_of_stage(head, stage) {
             *low = past_other(*low, here, head);
+            *born = *row;
             return None;
         }
         let birth = match self.contents_from(seat, here, head) {
             Contents::Holds(birth) => birth,
             Contents::DeadDraft => {
                 *low = past(*low, here);
+                *born = *row;
                 return None;
             }
-            Contents::Nothing => return None,
+            Contents::Nothing => {
+                *born = *row;
+                return None;
+            }
         };
         let claim = self.words.load_claim(seat, here);
         let attempts = match self.stand_of(seat, here, claim, here == *low) {

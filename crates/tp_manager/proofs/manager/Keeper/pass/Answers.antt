@@ -5,6 +5,7 @@ use Rattle.tp_rule.specs.declared.view.Hand.{Hand}
 use Rattle.tp_manager.proofs.Calls.Fresh.{keeps_on, no_gaps, none_in, no_lows, fresh_hand, fresh_seen, fresh_rests, fresh_shows, fresh_limits}
 use Rattle.tp_rule.specs.Views.{view_of}
 use Rattle.tp_manager.specs.Marks.{IsGap}
+use Rattle.tp_manager.proofs.Claims.Runs.{of_none}
 use Rattle.tp_manager.proofs.manager.Keeper.pass.Goals as goal
 
 pub invariant_of-result-2 : goal.invariant_of-result-2
@@ -12,7 +13,7 @@ invariant_of-result-2 c = (
   fresh_rests c.self.inside.seat c.self.inside.limits c.self.inside.given c.self.invariant c.if-self.false c.hand_out-seat.result c.hand_out-seat.ensures.hands_out,
   record {
     marks = λ k p some. absurd (let none = no_lows 16 33 k p in omega arith);
-    gaps = λ k p. subst (IsGap k (view_of c.hand_out-seat.result)) (sym (no_gaps 16 66 k p)) (omega arith, λ i low high. absurd (omega arith));
+    gaps = λ k p. subst (IsGap k (view_of c.hand_out-seat.result)) (sym (no_gaps 16 99 k p)) (of_none k (view_of c.hand_out-seat.result).seen 0, (omega arith, λ i low high. absurd (omega arith)));
   },
 )
 
