@@ -66,14 +66,19 @@ gap_in gaps p = (slice_index gaps (3 * p), slice_index gaps (3 * p + 1), slice_i
 abbrev pub RemembersGaps : ℕ → View → List ℕ → Type 0
 RemembersGaps c v gaps = (p : ℕ) → IsGap c v (gap_in gaps p)
 
--- what a pass remembers of all kinds: marks, and gaps behind them
-pub record Recalls (v : View) (lows runs : List (List ℕ)) : Type 0 where
-  pub marks : RemembersAll v lows
-  pub gaps : (c : ℕ) → RemembersGaps c v (marks_of runs c)
-
 -- of the first n parts every row is below the mark that is remembered
 abbrev pub AreFinished : Limits → List ℕ → ℕ → Type 0
 AreFinished l lows n = (p : ℕ) → p < n → slice_index lows p ≡ l.rows
+
+-- the parts before this one are finished, and it is one
+abbrev pub IsBehind : Limits → List ℕ → ℕ → Type 0
+IsBehind l lows part = (part < l.parts) × AreFinished l lows part
+
+-- what a pass remembers of all kinds: marks, gaps behind them, and a part before which all are finished
+pub record Recalls (v : View) (lows runs : List (List ℕ)) (begins : List ℕ) : Type 0 where
+  pub marks : RemembersAll v lows
+  pub gaps : (c : ℕ) → RemembersGaps c v (marks_of runs c)
+  pub behind : (c : ℕ) → IsBehind v.limits (marks_of lows c) (slice_index begins c)
 
 -- no mark that the pass remembers fell, and it remembers no other than that of part p
 abbrev pub RisesAt : ℕ → List ℕ → List ℕ → Type 0

@@ -121,6 +121,8 @@ pub struct Pass {
     /// For each stage and part a run of rows of no use to the stage, and before it one of rows of the stage,
     /// as far as the pass remembers them.
     pub(crate) gaps: [Gaps; MARK_KINDS],
+    /// For each stage a part before which the pass knows all finished, as its last claim found it.
+    pub(crate) begins: [u16; MARK_KINDS],
     /// For each stage the row after the element that it took last in its turn.
     pub(crate) from: [u32; 16],
     /// The rows that a walk has come to and not gone on from: none, between two calls.
@@ -137,7 +139,7 @@ impl Model for Pass {
 
     ghost view = { λ p. shown (spot p.seat.table p.lows p.run.drawn p.from) p.seat.view };
 
-    ghost invariant = { λ p. Rests p.seat p.number p.run p.used p.task × Recalls p.seat.view p.lows p.gaps };
+    ghost invariant = { λ p. Rests p.seat p.number p.run p.used p.task × Recalls p.seat.view p.lows p.gaps p.begins };
 }
 
 impl Keeper {
@@ -208,6 +210,7 @@ impl Keeper {
             task: None,
             lows: [[0; MARKED_PARTS]; MARK_KINDS],
             gaps: [[0; 3 * MARKED_PARTS]; MARK_KINDS],
+            begins: [0; MARK_KINDS],
             from: [0; 16],
             walk: NoRows {
                 rows: RowSet::new(),

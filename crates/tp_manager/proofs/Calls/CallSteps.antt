@@ -17,7 +17,7 @@ use Rattle.tp_rule.proofs.Reading.{one_after, grew_begins}
 use Rattle.tp_manager.specs.Calls.{Follows, AtPoint, HasLooked, steps_of, opening}
 use Rattle.tp_manager.specs.Shown.{AllRise, Climbs, NoneFalls, marks_of, Spot, PassShown, shown}
 use Rattle.tp_manager.specs.CallSteps.{Steady, Stepped, Looked, Acted, opening_in, pass_in, with_trace}
-use Rattle.tp_manager.specs.Marks.{MayRemember, Recalls, Remembers, RemembersGaps, gap_in}
+use Rattle.tp_manager.specs.Marks.{IsBehind, MayRemember, Recalls, Remembers, RemembersGaps, gap_in}
 use Rattle.tp_manager.specs.Scans.{Sought}
 use Rattle.tp_manager.proofs.Claims.Runs.{gap_later}
 use Rattle.tp_manager.proofs.Marks.Useless.{Goes, may_later}
@@ -211,5 +211,9 @@ gaps_kind c gaps l n ms v w a r p =
     gap_later c l v w (gap_in gaps p) g (r p)
 
 -- and so of all kinds
-pub remembers : {gaps : List (List ℕ)} (lows : List (List ℕ)) (l : Limits) (n : ℕ) (ms : List TraceEntry) (v w : View) → Stepped l n ms v w → Recalls v lows gaps → Recalls w lows gaps
-remembers lows l n ms v w a r = record { marks = λ c. remembers_kind c (marks_of lows c) l n ms v w a (r.marks c); gaps = λ c. gaps_kind c _ l n ms v w a (r.gaps c) }
+pub remembers : {gaps : List (List ℕ)} {begins : List ℕ} (lows : List (List ℕ)) (l : Limits) (n : ℕ) (ms : List TraceEntry) (v w : View) → Stepped l n ms v w → Recalls v lows gaps begins → Recalls w lows gaps begins
+remembers {gaps} {begins} lows l n ms v w a r = record {
+  marks = λ c. remembers_kind c (marks_of lows c) l n ms v w a (r.marks c);
+  gaps = λ c. gaps_kind c _ l n ms v w a (r.gaps c);
+  behind = λ c. subst (λ (z : Limits). IsBehind z (marks_of lows c) (slice_index begins c)) (a.limits ∙ sym a.steady.pass.1) (r.behind c);
+}
