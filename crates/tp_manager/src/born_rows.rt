@@ -1,5 +1,5 @@
 //! Rows of which a pass knows that an element of a stage is born in each.
-ghost use Rattle.std.specs.Prelude.{true, ℕ, ◌≡◌, ◌+◌, ◌-◌, ◌*◌, ◌<◌, ◌≤◌, IfSome, MatchOption};
+ghost use Rattle.std.specs.Prelude.{true, ℕ, ◌≡◌, ◌+◌, ◌-◌, ◌*◌, ◌<◌, ◌≤◌, ◌⊎◌, IfSome, MatchOption};
 ghost use Rattle.tp_model.specs.declared.types.Element.{Element as element};
 ghost use Rattle.tp_model.specs.Steps.{rows_of, IsServerStage};
 ghost use Rattle.tp_model.specs.Words.{TakenWord};
@@ -103,28 +103,27 @@ impl Shared {
         }
     }
 
-    /// The same. One look where its claim is for the last attempt.
+    /// The first of these rows whose claim isn't found to be for the last attempt, or else their end. One look at each row before it, and at it. Most
+    /// of what is parked is passed by here, so the loop holds nothing else.
     #[inline(always)]
-    fn try_born(&self, seat: &mut Seat, row: u32, stage: u8, unit: u16) -> Option<Taken>
+    fn past_parked(&self, seat: &mut Seat, from: u32, to: u32, stage: u8) -> u32
         requires steady { IsSteady self.now.words seat.old }
-        requires row { row < rows_of (table_limits self.now.words) }
-        requires born { IsOfStage stage (seen_by seat.old) row }
-        requires stage { IsServerStage stage }
-        requires spare { IsSpare unit (view_of seat.old) × (unit < 65535) }
+        requires rows { (from ≤ to) × (to ≤ rows_of (table_limits self.now.words)) }
         ensures same { IsSameSeat seat.old seat.new }
-        ensures inside { IfSome result (λ t. t.element.id ≡ row) }
+        ensures row { (from ≤ result) × (result ≤ to) }
         ensures lean { let l = table_limits self.now.words in
-            IsLeanAt l stage 0 row 1 (view_of seat.old) (view_of seat.new) }
-        ensures told { let l = table_limits self.now.words in let n = try_steps in MatchOption result
-            (Sought l n (EachRow (PassedBy l stage) row (row + 1)) (view_of seat.old) (view_of seat.new))
-            (λ t. Took l n row stage unit (view_of seat.old) (view_of seat.new) t.element t.attempt
-            × (t.element.root ≡ t.root)) }
+            IsLeanAt l stage 0 from (result - from) (view_of seat.old) (view_of seat.new)
+            ⊎ ((result < to) × IsLeanAt l stage 1 from (result - from) (view_of seat.old) (view_of seat.new)) }
+        ensures told { let l = table_limits self.now.words in
+            Begun l (PassedBy l stage) (result - from + 1) from result (view_of seat.old) (view_of seat.new) }
     {
-        let claim = self.words.load_claim(seat, row);
-        if self.is_last(claim) {
-            return None;
+        for row in from..to {
+            let claim = self.words.load_claim(seat, row);
+            if !self.is_last(claim) {
+                return row;
+            }
         }
-        self.take_born(seat, row, stage, unit)
+        to
     }
 
     /// The unit takes the first element of these rows that waits, where it is known that one of the stage is
@@ -152,10 +151,16 @@ impl Shared {
             (λ t. Took l n from stage unit (view_of seat.old) (view_of seat.new) t.element t.attempt
             × (t.element.root ≡ t.root)) }
     {
-        for row in from..to {
-            if let Some(taken) = self.try_born(seat, row, stage, unit) {
+        let mut row = from;
+        while row < to {
+            row = self.past_parked(seat, row, to, stage);
+            if row == to {
+                return None;
+            }
+            if let Some(taken) = self.take_born(seat, row, stage, unit) {
                 return Some(taken);
             }
+            row += 1;
         }
         None
     }

@@ -361,11 +361,12 @@ module _ (l : Limits) where
       pub lean_changed : (x : Element) → element_of w.seen i ≡ Some x → x.stage ≡ stage → claim_changes v.seen i < claim_changes w.seen i → Stepped l try_steps ms v w → IsLeanAt l stage 0 i 1 v w
       lean_changed x is own less a = here try_steps a (λ h z. steps_changed stage v.seen h i x (found_later w.seen h z.begins i x is) own (let more = changes_later w.seen h i z.begins in omega arith))
 
-    -- a look at a row, and what is left to make at it
-    pub lean_first : (i : ℕ) (ms : List TraceEntry) (v w x : View) → Stepped l 1 ms v w → IsLean l (λ a h. try_steps_at stage a h i - 1) w x → IsLeanAt l stage 0 i 1 v x
-    lean_first i ms v w x a b = lean_then (λ p h. 1) (λ p h. try_steps_at stage p h i - 1) (λ p h. 0 + sum_rows (try_steps_at stage p h) i 1) v w x
-        (λ p q h begins after. let none : i + 0 ≡ i = omega arith in let at : try_steps_at stage p h (i + 0) ≡ try_steps_at stage p h i = ap (try_steps_at stage p h) none in
-        let less = steps_less stage p q h i begins after in let some = steps_some stage (claim_changes p i == claim_changes h i) (element_of h i) in omega arith) (lean_made 1 ms v w a) b
+    -- rows, a look at the next one, and what is left to make at that
+    pub lean_last : (from m row : ℕ) (v w x : View) → row ≡ from + m → IsLeanAt l stage 1 from m v w → IsLean l (λ a h. try_steps_at stage a h row - 1) w x → IsLeanAt l stage 0 from (m + 1) v x
+    lean_last from m row v w x at a b = lean_then _ (λ p h. try_steps_at stage p h row - 1) (λ p h. 0 + sum_rows (try_steps_at stage p h) from (m + 1)) v w x
+        (λ p q h begins after. let here : try_steps_at stage p h row ≡ try_steps_at stage p h (from + m) = ap (try_steps_at stage p h) at in
+        let next : suc m ≡ m + 1 = omega arith in let all : sum_rows (try_steps_at stage p h) from (suc m) ≡ sum_rows (try_steps_at stage p h) from (m + 1) = ap (sum_rows (try_steps_at stage p h) from) next in
+        let less = steps_less stage p q h row begins after in let some = steps_some stage (claim_changes p row == claim_changes h row) (element_of h row) in omega arith) a b
 
     module _ (i : ℕ) (ms : List TraceEntry) (v w : View) where
       rest : (k : ℕ) → Stepped l k ms v w → ((h : List Event) → IsAfter l w h → k + 1 ≤ try_steps_at stage v.seen h i) → IsLean l (λ a h. try_steps_at stage a h i - 1) v w

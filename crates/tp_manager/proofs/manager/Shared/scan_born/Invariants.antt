@@ -10,6 +10,10 @@ abbrev pub invariant-loop-row : goal.invariant-loop-row
 invariant-loop-row l = record {
   same : IsSameSeat l.initial.seat l.seat;
   from : l.from ≤ l.row;
+  top : l.row ≤ l.to;
   lean : IsLeanAt (table_limits l.self.words) l.stage 0 l.from (l.row - l.from) (view_of l.initial.seat) (view_of l.seat);
   begun : Begun (table_limits l.self.words) (PassedBy (table_limits l.self.words) l.stage) ((l.row - l.from) * try_steps) l.from l.row (view_of l.initial.seat) (view_of l.seat);
 }
+
+abbrev pub decreases-loop-row : goal.decreases-loop-row
+decreases-loop-row l = l.to - l.row
