@@ -3,9 +3,10 @@
 use Rattle.std.specs.Prelude.{◌≡◌, ◌≢◌, ◌⊎◌, ℕ, ◌+◌, ◌*◌, ◌<◌, ◌≤◌, List}
 use Rattle.std.specs.Prelude.{Option, Some, None, slice_index}
 use mathlib.Core.List.{IsPrefix}
+use Rattle.tp_model.specs.declared.types.Element.{Element}
 use Rattle.tp_model.specs.declared.types.Limits.{Limits}
 use Rattle.tp_model.specs.declared.event.Event.{Event}
-use Rattle.tp_model.specs.History.{IsSettled, status_of}
+use Rattle.tp_model.specs.History.{IsSettled, element_of, status_of}
 use Rattle.tp_model.specs.Steps.{IsServerStage}
 use Rattle.tp_rule.specs.Rule.{IsInside}
 use Rattle.tp_rule.specs.declared.view.View.{View}
@@ -43,27 +44,41 @@ Remembers c v lows = (p : ℕ) → 0 < slice_index lows p → MayRemember v.limi
 abbrev pub RemembersAll : View → List (List ℕ) → Type 0
 RemembersAll v lows = (c : ℕ) → Remembers c v (marks_of lows c)
 
--- a gap of kind c: the seat knows each row from the first of two rows on and below the second of no use to
--- that kind, whatever lies before them
-abbrev pub IsGap : ℕ → View → ℕ × ℕ → Type 0
-IsGap c v gap = Rose c v gap.0 gap.1
+-- an element of the stage is born in row i
+abbrev pub IsOfStage : ℕ → List Event → ℕ → Type 0
+IsOfStage stage h i = (x : Element) × (element_of h i ≡ Some x) × (x.stage ≡ stage)
 
--- the gap of part p, or of the spare rows, as a pass keeps it: its two rows beside each other
-abbrev pub gap_in : List ℕ → ℕ → ℕ × ℕ
-gap_in gaps p = (slice_index gaps (2 * p), slice_index gaps (2 * p + 1))
+-- and in each row from a on and below b
+abbrev pub AreOfStage : ℕ → List Event → ℕ → ℕ → Type 0
+AreOfStage stage h a b = (i : ℕ) → a ≤ i → i < b → IsOfStage stage h i
+
+-- a gap of kind c, by three rows: the seat knows each row from the second on and below the third of no use to
+-- that kind, whatever lies before them; and in each from the first on and below the second an element of that
+-- stage is born
+abbrev pub IsGap : ℕ → View → ℕ × ℕ × ℕ → Type 0
+IsGap c v gap = AreOfStage c v.seen gap.0 gap.1 × Rose c v gap.1 gap.2
+
+-- the gap of part p, or of the spare rows, as a pass keeps it: its three rows beside each other
+abbrev pub gap_in : List ℕ → ℕ → ℕ × ℕ × ℕ
+gap_in gaps p = (slice_index gaps (3 * p), slice_index gaps (3 * p + 1), slice_index gaps (3 * p + 2))
 
 -- the gaps of kind c that the pass remembers are such
 abbrev pub RemembersGaps : ℕ → View → List ℕ → Type 0
 RemembersGaps c v gaps = (p : ℕ) → IsGap c v (gap_in gaps p)
 
--- what a pass remembers of all kinds: marks, and gaps behind them
-pub record Recalls (v : View) (lows runs : List (List ℕ)) : Type 0 where
-  pub marks : RemembersAll v lows
-  pub gaps : (c : ℕ) → RemembersGaps c v (marks_of runs c)
-
 -- of the first n parts every row is below the mark that is remembered
 abbrev pub AreFinished : Limits → List ℕ → ℕ → Type 0
 AreFinished l lows n = (p : ℕ) → p < n → slice_index lows p ≡ l.rows
+
+-- the parts before this one are finished, and it is one
+abbrev pub IsBehind : Limits → List ℕ → ℕ → Type 0
+IsBehind l lows part = (part < l.parts) × AreFinished l lows part
+
+-- what a pass remembers of all kinds: marks, gaps behind them, and a part before which all are finished
+pub record Recalls (v : View) (lows runs : List (List ℕ)) (begins : List ℕ) : Type 0 where
+  pub marks : RemembersAll v lows
+  pub gaps : (c : ℕ) → RemembersGaps c v (marks_of runs c)
+  pub behind : (c : ℕ) → IsBehind v.limits (marks_of lows c) (slice_index begins c)
 
 -- no mark that the pass remembers fell, and it remembers no other than that of part p
 abbrev pub RisesAt : ℕ → List ℕ → List ℕ → Type 0

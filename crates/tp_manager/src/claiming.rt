@@ -43,6 +43,7 @@ impl Manager {
             seat,
             &mut pass.lows[stage as usize],
             &mut pass.gaps[stage as usize],
+            &mut pass.begins[stage as usize],
             &mut pass.run.drawn,
             pass.run.done,
             stage,

@@ -108,7 +108,8 @@ impl Shared {
         let mut low = known;
         let mut row = begin;
         while row < to {
-            if let Some(taken) = self.try_row(seat, &mut row, &mut low, stage, unit) {
+            let mut born = row;
+            if let Some(taken) = self.try_row(seat, &mut row, &mut low, &mut born, stage, unit) {
                 self.raise_low(seat, lows, stage, part, mark, low);
                 return Some(taken);
             }
@@ -242,7 +243,8 @@ impl Shared {
         let mut low = 0;
         let mut row = from;
         while row < end {
-            if let Some(taken) = self.try_row(seat, &mut row, &mut low, stage, unit) {
+            let mut born = row;
+            if let Some(taken) = self.try_row(seat, &mut row, &mut low, &mut born, stage, unit) {
                 return Some(taken);
             }
         }

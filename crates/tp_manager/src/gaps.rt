@@ -1,13 +1,14 @@
 //! Gaps: runs of rows of no use to a stage that lie behind a row which may be of use.
 ghost use Rattle.std.specs.Prelude.{◌≡◌, ◌⊎◌, ◌+◌, ◌-◌, ◌*◌, ◌<◌, ◌≤◌, slice_index, IfSome, MatchOption};
 ghost use Rattle.tp_model.specs.Steps.{rows_of, IsServerStage};
-ghost use Rattle.tp_rule.specs.Views.{view_of, IsSameSeat};
+ghost use Rattle.tp_rule.specs.Views.{seen_by, view_of, IsSameSeat};
 ghost use Rattle.tp_rule.specs.Tables.{table_limits};
 ghost use Rattle.tp_manager.specs.CallSteps.{IsSteady};
 ghost use Rattle.tp_manager.specs.BetweenCalls.{RemembersDone};
 ghost use Rattle.tp_manager.specs.Bounds.{try_steps};
 ghost use Rattle.tp_manager.specs.Leans.{scan_end, IsLeanAt};
-ghost use Rattle.tp_manager.specs.Marks.{IsGap, Remembers, RemembersGaps, RestsAt, RisesAt, Rose};
+ghost use Rattle.tp_manager.specs.Marks.{AreOfStage, IsGap, Remembers, RemembersGaps};
+ghost use Rattle.tp_manager.specs.Marks.{RestsAt, RisesAt, Rose};
 ghost use Rattle.tp_manager.specs.Scans.{Begun, IsSpare, OfPart, PassedBy, Sought, Took};
 ghost use Rattle.tp_manager.specs.Spares.{Passed};
 
@@ -16,35 +17,53 @@ use crate::marking::{Lows, MARKED_PARTS};
 use crate::scanning::{Taken, past_done};
 use tp_rule::Seat;
 
-/// A run of rows that a pass knows of no use to a stage: from the first of these rows on, and below the
-/// second.
-pub(crate) type Gap = (u16, u16);
+/// Two runs of rows beside each other: from the first of these rows on, and below the second, an element of a
+/// stage is born in each; from there on, and below the third, a pass knows each of no use to the stage.
+pub(crate) type Gap = (u16, u16, u16);
 
-/// The gaps of one stage that a pass remembers, by part: the two rows of each beside each other.
-pub(crate) type Gaps = [u16; 2 * MARKED_PARTS];
+/// The gaps of one stage that a pass remembers, by part: the three rows of each beside each other.
+pub(crate) type Gaps = [u16; 3 * MARKED_PARTS];
 
-/// The longer one of a gap and this run of rows, which is taken where they are as long.
+/// The longer one of a gap and this run of rows of no use, which is taken where they are as long, behind rows
+/// of the stage from `born` on.
 #[inline(always)]
-fn longer(gap: Gap, from: u32, to: u32) -> Gap
-    requires few { to < 65536 }
+fn longer(gap: Gap, born: u32, from: u32, to: u32) -> Gap
+    requires few { (born < 65536) × (to < 65536) }
     requires run { from ≤ to }
-    ensures { (result ≡ gap) ⊎ (result ≡ (from, to)) }
+    ensures { (result ≡ gap) ⊎ (result ≡ (born, from, to)) }
 {
-    if gap.1 as u32 + from <= gap.0 as u32 + to {
-        (from as u16, to as u16)
+    if gap.2 as u32 + from <= gap.1 as u32 + to {
+        (born as u16, from as u16, to as u16)
     } else {
         gap
     }
 }
 
-/// The gap, or an empty one at this row where no row of it is left from there on.
+/// The gap without the rows before this one, or an empty one at this row where none of it is left.
 #[inline(always)]
 fn left_of(gap: Gap, from: u32) -> Gap
     requires few { from < 65536 }
-    ensures { (result ≡ gap) ⊎ (result ≡ (from, from)) }
+    ensures { ((result ≡ gap) × (from ≤ gap.1))
+        ⊎ ((result ≡ (from, from, gap.2)) × (gap.1 ≤ from) × (from < gap.2))
+        ⊎ (result ≡ (from, from, from)) }
 {
-    if gap.1 as u32 <= from {
-        (from as u16, from as u16)
+    if gap.2 as u32 <= from {
+        (from as u16, from as u16, from as u16)
+    } else if (gap.1 as u32) < from {
+        (from as u16, from as u16, gap.2)
+    } else {
+        gap
+    }
+}
+
+/// The gap with the rows of the stage from `born` on, where those that it has begin at `first`.
+#[inline(always)]
+fn from_born(gap: Gap, first: u32, born: u32) -> Gap
+    requires few { born < 65536 }
+    ensures { ((result ≡ (born, gap.1, gap.2)) × (first ≡ gap.0)) ⊎ (result ≡ gap) }
+{
+    if first == gap.0 as u32 {
+        (born as u16, gap.1, gap.2)
     } else {
         gap
     }
@@ -68,14 +87,27 @@ fn later_to(a: u32, b: u32, end: u32) -> u32
 
 impl Shared {
     /// The unit takes the first element of these rows that waits in the stage. What is found of no use isn't
-    /// remembered.
-    fn scan_to(&self, seat: &mut Seat, from: u32, to: u32, stage: u8, unit: u16) -> Option<Taken>
+    /// remembered, but `born` becomes the first of the last rows in each of which an element of the stage is
+    /// born.
+    fn scan_to(
+        &self,
+        seat: &mut Seat,
+        born: &mut u32,
+        from: u32,
+        to: u32,
+        stage: u8,
+        unit: u16,
+    ) -> Option<Taken>
         requires steady { IsSteady self.now.words seat.old }
         requires rows { (from ≤ to) × (to ≤ rows_of (table_limits self.now.words)) }
+        requires born { born.old ≡ from }
         requires stage { IsServerStage stage }
         requires spare { IsSpare unit (view_of seat.old) × (unit < 65535) }
         ensures same { IsSameSeat seat.old seat.new }
-        ensures inside { IfSome result (λ t. t.element.id < to) }
+        ensures ends { MatchOption result
+            ((born.new ≤ rows_of (table_limits self.now.words))
+            × AreOfStage stage (seen_by seat.new) born.new to)
+            (λ t. t.element.id < to) }
         ensures lean { let l = table_limits self.now.words in
             IsLeanAt l stage 0 from (scan_end to result - from) (view_of seat.old) (view_of seat.new) }
         ensures told { let l = table_limits self.now.words in let n = (to - from) * try_steps in
@@ -88,7 +120,7 @@ impl Shared {
         let mut low = 0;
         let mut row = from;
         while row < to {
-            if let Some(taken) = self.try_row(seat, &mut row, &mut low, stage, unit) {
+            if let Some(taken) = self.try_row(seat, &mut row, &mut low, born, stage, unit) {
                 return Some(taken);
             }
         }
@@ -97,7 +129,8 @@ impl Shared {
 
     /// The unit takes the first element of these rows that waits in the stage. The rows from `first` on and
     /// before them are known of no use, and so are those of the gap. The longest such run that the scan comes
-    /// to takes the gap's place, unless that is longer.
+    /// to takes the gap's place, unless that is longer, and the rows of the stage before it are remembered
+    /// with it.
     fn scan_run(
         &self,
         seat: &mut Seat,
@@ -111,7 +144,7 @@ impl Shared {
         requires steady { IsSteady self.now.words seat.old }
         requires rows { (from ≤ to) × (to ≤ rows_of (table_limits self.now.words)) }
         requires gap { IsGap stage (view_of seat.old) gap.old }
-        requires run { Rose stage (view_of seat.old) first from }
+        requires run { Rose stage (view_of seat.old) first from × (first ≤ gap.old.1) }
         requires stage { IsServerStage stage }
         requires spare { IsSpare unit (view_of seat.old) × (unit < 65535) }
         ensures same { IsSameSeat seat.old seat.new }
@@ -125,21 +158,24 @@ impl Shared {
             (λ t. Took l n from stage unit (view_of seat.old) (view_of seat.new) t.element t.attempt
             × (t.element.root ≡ t.root)) }
     {
+        let mut start = gap.0 as u32;
         let mut begin = first;
         let mut low = from;
+        let mut born = from;
         let mut row = from;
         while row < to {
-            if let Some(taken) = self.try_row(seat, &mut row, &mut low, stage, unit) {
-                *gap = longer(*gap, begin, low);
+            if let Some(taken) = self.try_row(seat, &mut row, &mut low, &mut born, stage, unit) {
+                *gap = longer(*gap, start, begin, low);
                 return Some(taken);
             }
             if low < row && row < to {
-                *gap = longer(*gap, begin, low);
+                *gap = longer(*gap, start, begin, low);
+                start = born;
                 begin = row;
                 low = row;
             }
         }
-        *gap = longer(*gap, begin, low);
+        *gap = longer(*gap, start, begin, low);
         None
     }
 
@@ -176,9 +212,15 @@ impl Shared {
     {
         let left = left_of(*gap, from);
         *gap = left;
-        let begin = later_to(left.0 as u32, from, to);
-        let known = later_to(left.1 as u32, from, to);
-        if let Some(taken) = self.scan_to(seat, from, begin, stage, unit) {
+        let begin = later_to(left.1 as u32, from, to);
+        let known = later_to(left.2 as u32, from, to);
+        let first = later_to(left.0 as u32, from, begin);
+        let mut born = from;
+        if let Some(taken) = self.scan_to(seat, &mut born, from, first, stage, unit) {
+            return Some(taken);
+        }
+        *gap = from_born(left, first, born);
+        if let Some(taken) = self.scan_born(seat, first, begin, stage, unit) {
             return Some(taken);
         }
         let next = past_done(known, to, done);
@@ -232,17 +274,19 @@ impl Shared {
         let mut low = begin;
         let mut row = begin;
         while row < end {
-            if let Some(taken) = self.try_row(seat, &mut row, &mut low, stage, unit) {
+            let mut born = row;
+            if let Some(taken) = self.try_row(seat, &mut row, &mut low, &mut born, stage, unit) {
                 self.raise_low(seat, lows, stage, part, mark, low);
                 return Some(taken);
             }
             if low < row && row < end {
                 self.raise_low(seat, lows, stage, part, mark, low);
-                let at = 2 * part as usize;
-                let mut gap = (gaps[at], gaps[at + 1]);
+                let at = 3 * part as usize;
+                let mut gap = (gaps[at], gaps[at + 1], gaps[at + 2]);
                 let found = self.scan_behind(seat, &mut gap, row, end, done, stage, unit);
                 gaps[at] = gap.0;
                 gaps[at + 1] = gap.1;
+                gaps[at + 2] = gap.2;
                 return found;
             }
         }

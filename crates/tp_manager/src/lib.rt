@@ -3,6 +3,7 @@
 
 mod accounting;
 mod ahead;
+mod born_rows;
 mod bounds;
 mod cancelling;
 mod claiming;

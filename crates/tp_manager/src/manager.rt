@@ -118,8 +118,11 @@ pub struct Pass {
     /// The marks of each kind and part, as the pass last loaded or set them, or as far as a raise of a
     /// stage's mark that failed would have set it.
     pub(crate) lows: [Lows; MARK_KINDS],
-    /// For each stage and part a run of rows of no use to the stage, as far as the pass remembers one.
+    /// For each stage and part a run of rows of no use to the stage, and before it one of rows of the stage,
+    /// as far as the pass remembers them.
     pub(crate) gaps: [Gaps; MARK_KINDS],
+    /// For each stage a part before which the pass knows all finished, as its last claim found it.
+    pub(crate) begins: [u16; MARK_KINDS],
     /// For each stage the row after the element that it took last in its turn.
     pub(crate) from: [u32; 16],
     /// The rows that a walk has come to and not gone on from: none, between two calls.
@@ -136,7 +139,7 @@ impl Model for Pass {
 
     ghost view = { λ p. shown (spot p.seat.table p.lows p.run.drawn p.from) p.seat.view };
 
-    ghost invariant = { λ p. Rests p.seat p.number p.run p.used p.task × Recalls p.seat.view p.lows p.gaps };
+    ghost invariant = { λ p. Rests p.seat p.number p.run p.used p.task × Recalls p.seat.view p.lows p.gaps p.begins };
 }
 
 impl Keeper {
@@ -206,7 +209,8 @@ impl Keeper {
             used: 0,
             task: None,
             lows: [[0; MARKED_PARTS]; MARK_KINDS],
-            gaps: [[0; 2 * MARKED_PARTS]; MARK_KINDS],
+            gaps: [[0; 3 * MARKED_PARTS]; MARK_KINDS],
+            begins: [0; MARK_KINDS],
             from: [0; 16],
             walk: NoRows {
                 rows: RowSet::new(),

@@ -1,5 +1,5 @@
 //! What a pass finds at a row.
-ghost use Rattle.std.specs.Prelude.{◌≡◌, ◌<◌, ◌≤◌, ℕ, slice_index, Some, IfSome, MatchOption, true, false};
+ghost use Rattle.std.specs.Prelude.{◌≡◌, ◌+◌, ◌<◌, ◌≤◌, ℕ, slice_index, Some, IfSome, MatchOption, true, false};
 ghost use Rattle.tp_words.specs.declared.words.Head.TheVariants.{Empty, Filled};
 ghost use Rattle.tp_model.specs.History.{IsUnborn, element_of, status_of};
 ghost use Rattle.tp_model.specs.declared.types.Element.{Element};
@@ -66,6 +66,7 @@ impl Shared {
         ensures acted { Acted (table_limits self.now.words) 1 (view_of seat.old) (view_of seat.new) }
         ensures told { HeadFound (view_of seat.new) row.old result }
         ensures on { GoesOn (table_limits self.now.words) row.old row.new }
+        ensures next { ¬ (result ≡ Empty) → row.new ≡ row.old + 1 }
         ensures none { (i : ℕ) → row.old < i → i < row.new → IsUnborn (seen_by seat.new) i }
         ensures ahead { (i : ℕ) → row.old ≤ i → i < row.new → (i ≡ row.old → result ≡ Empty)
             → MayBeBorn (table_limits self.now.words) (seen_by seat.new) i }

@@ -18,8 +18,8 @@ ghost use Rattle.tp_manager.specs.declared.scanning.Stand.TheVariants as stands;
 ghost use Rattle.tp_manager.specs.Looks.{GoesOn, HasStand};
 ghost use Rattle.tp_manager.specs.Leans.{scan_end, IsLean, IsLeanAt, IsLeanIn};
 ghost use Rattle.tp_manager.specs.Spares.{SpareRests};
-ghost use Rattle.tp_manager.specs.Marks.{AreFinished, CameTo, RestInParts, RestsAt, WasOfUse, WasUnsettled};
-ghost use Rattle.tp_manager.specs.Marks.{Remembers, RemembersGaps, RisesAt, Rose};
+ghost use Rattle.tp_manager.specs.Marks.{AreFinished, AreOfStage, CameTo, IsBehind, RestInParts, RestsAt};
+ghost use Rattle.tp_manager.specs.Marks.{Remembers, RemembersGaps, RisesAt, Rose, WasOfUse, WasUnsettled};
 ghost use Rattle.tp_manager.specs.Scans.{Begun, Sought, EachRow, OfPart, PassedBy, IsSpare, Took};
 ghost use Rattle.tp_manager.specs.CallSteps.{IsSteady, Looked};
 ghost use Rattle.tp_manager.specs.BetweenCalls.{RemembersDone, RemembersDrawn};
@@ -140,25 +140,29 @@ impl Shared {
     }
 
     /// The unit takes the element of a row, if that waits in the stage; `row` goes on, and so does `low`, the
-    /// first row that isn't known finished, where that is this one. One step where the head is not of the
-    /// stage and the row isn't that one.
+    /// first row that isn't known finished, where that is this one. `born` is before rows in each of which an
+    /// element of the stage is born, and goes on where none is in this row. One step where the head is not of
+    /// the stage and the row isn't `low`.
     #[inline(always)]
     pub(crate) fn try_row(
         &self,
         seat: &mut Seat,
         row: &mut u32,
         low: &mut u32,
+        born: &mut u32,
         stage: u8,
         unit: u16,
     ) -> Option<Taken>
         requires steady { IsSteady self.now.words seat.old }
         requires row { row.old < rows_of (table_limits self.now.words) }
         requires low { low.old ≤ row.old }
+        requires born { (born.old ≤ row.old) × AreOfStage stage (seen_by seat.old) born.old row.old }
         requires stage { IsServerStage stage }
         requires spare { IsSpare unit (view_of seat.old) × (unit < 65535) }
         ensures same { IsSameSeat seat.old seat.new }
         ensures on { GoesOn (table_limits self.now.words) row.old row.new }
         ensures low { (low.new ≤ row.new) × Rose stage (view_of seat.new) low.old low.new }
+        ensures born { (born.new ≤ row.new) × AreOfStage stage (seen_by seat.new) born.new row.new }
         ensures stays { low.new < row.new → let l = table_limits self.now.words in
             ((low.old < row.old) × (low.new ≡ low.old))
             ⊎ WasOfUse l stage low.new (seen_by seat.old) (seen_by seat.new) }
@@ -174,15 +178,20 @@ impl Shared {
         let head = self.head_on(seat, row);
         if !is_of_stage(head, stage) {
             *low = past_other(*low, here, head);
+            *born = *row;
             return None;
         }
         let birth = match self.contents_from(seat, here, head) {
             Contents::Holds(birth) => birth,
             Contents::DeadDraft => {
                 *low = past(*low, here);
+                *born = *row;
                 return None;
             }
-            Contents::Nothing => return None,
+            Contents::Nothing => {
+                *born = *row;
+                return None;
+            }
         };
         let claim = self.words.load_claim(seat, here);
         let attempts = match self.stand_of(seat, here, claim, here == *low) {
@@ -255,9 +264,11 @@ impl Shared {
         self.scan_from_mark(seat, lows, gaps, part, done, stage, unit)
     }
 
-    /// The first part that has a row which the pass doesn't know finished, or else the last part. No step.
+    /// The first part that has a row which the pass doesn't know finished, or else the last part, where all
+    /// before `from` are finished. No step.
     #[inline(always)]
-    fn first_open(&self, lows: &Lows) -> u16
+    fn first_open(&self, lows: &Lows, from: u16) -> u16
+        requires from { IsBehind (table_limits self.now.words) lows.now from }
         ensures part { result < (table_limits self.now.words).parts }
         ensures finished { AreFinished (table_limits self.now.words) lows.now result }
         ensures open { result + 1 < (table_limits self.now.words).parts
@@ -265,7 +276,7 @@ impl Shared {
     {
         let limits = self.places.limits;
         let last = limits.parts - 1;
-        for part in 0..last {
+        for part in from..last {
             if lows[part as usize] != limits.rows {
                 return part;
             }
@@ -274,12 +285,14 @@ impl Shared {
     }
 
     /// The unit takes the first element of a part that waits in the stage. What the pass knows finished isn't
-    /// looked at again, but for the last part, so that each call looks.
+    /// looked at again, but for the last part, so that each call looks. `begins` goes on to the first part that
+    /// isn't known finished.
     fn scan_parts(
         &self,
         seat: &mut Seat,
         lows: &mut Lows,
         gaps: &mut Gaps,
+        begins: &mut u16,
         done: Option<u32>,
         stage: u8,
         unit: u16,
@@ -287,12 +300,14 @@ impl Shared {
         requires steady { IsSteady self.now.words seat.old }
         requires remembers { Remembers stage (view_of seat.old) lows.old }
         requires gaps { RemembersGaps stage (view_of seat.old) gaps.old }
+        requires begins { IsBehind (table_limits self.now.words) lows.old begins.old }
         requires done { RemembersDone (view_of seat.old) done }
         requires stage { IsServerStage stage }
         requires spare { IsSpare unit (view_of seat.old) × (unit < 65535) }
         ensures same { IsSameSeat seat.old seat.new }
         ensures remembers { Remembers stage (view_of seat.new) lows.new }
         ensures gaps { RemembersGaps stage (view_of seat.new) gaps.new }
+        ensures begins { IsBehind (table_limits self.now.words) lows.new begins.new }
         ensures lows { NoneFalls lows.old lows.new }
         ensures rests { let l = table_limits self.now.words in
             RestInParts l stage lows.new (view_of seat.old) (view_of seat.new) result }
@@ -306,12 +321,14 @@ impl Shared {
             (λ t. Took l n 0 stage unit (view_of seat.old) (view_of seat.new) t.element t.attempt
             × (t.element.root ≡ t.root)) }
     {
-        let rows = self.places.limits.rows as u32;
-        let begin = self.first_open(lows);
+        let limits = self.places.limits;
+        let rows = limits.rows as u32;
+        let begin = self.first_open(lows, *begins);
+        *begins = begin;
         let mut first = begin as u32 * rows;
-        let last = self.places.limits.parts - 1;
-        for part in begin..self.places.limits.parts {
-            if lows[part as usize] == self.places.limits.rows && part != last {
+        let last = limits.parts - 1;
+        for part in begin..limits.parts {
+            if lows[part as usize] == limits.rows && part != last {
                 first += rows;
                 continue;
             }
@@ -371,6 +388,7 @@ impl Shared {
         seat: &mut Seat,
         lows: &mut Lows,
         gaps: &mut Gaps,
+        begins: &mut u16,
         drawn: &mut u16,
         done: Option<u32>,
         stage: u8,
@@ -380,6 +398,7 @@ impl Shared {
         requires remembers { Remembers stage (view_of seat.old) lows.old }
         requires gaps { RemembersGaps stage (view_of seat.old) gaps.old }
         requires drawn { RemembersDrawn (view_of seat.old) drawn.old }
+        requires begins { IsBehind (table_limits self.now.words) lows.old begins.old }
         requires done { RemembersDone (view_of seat.old) done }
         requires stage { IsServerStage stage }
         requires spare { IsSpare unit (view_of seat.old) × (unit < 65535) }
@@ -388,6 +407,7 @@ impl Shared {
         ensures gaps { RemembersGaps stage (view_of seat.new) gaps.new }
         ensures drawn { RemembersDrawn (view_of seat.new) drawn.new }
         ensures risen { drawn.old ≤ drawn.new }
+        ensures begins { IsBehind (table_limits self.now.words) lows.new begins.new }
         ensures lows { NoneFalls lows.old lows.new }
         ensures rests { let l = table_limits self.now.words in
             RestInParts l stage lows.new (view_of seat.old) (view_of seat.new) result }
@@ -403,7 +423,7 @@ impl Shared {
             (λ t. Took l n 0 stage unit (view_of seat.old) (view_of seat.new) t.element t.attempt
             × (t.element.root ≡ t.root)) }
     {
-        if let Some(taken) = self.scan_parts(seat, lows, gaps, done, stage, unit) {
+        if let Some(taken) = self.scan_parts(seat, lows, gaps, begins, done, stage, unit) {
             return Some(taken);
         }
         self.scan_blocks(seat, lows, gaps, drawn, stage, unit)

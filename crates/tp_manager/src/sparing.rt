@@ -61,17 +61,19 @@ impl Shared {
         let mut low = begin;
         let mut row = begin;
         while row < end {
-            if let Some(taken) = self.try_row(seat, &mut row, &mut low, stage, unit) {
+            let mut born = row;
+            if let Some(taken) = self.try_row(seat, &mut row, &mut low, &mut born, stage, unit) {
                 self.raise_low(seat, lows, stage, part, mark, low);
                 return Some(taken);
             }
             if low < row && row < end {
                 self.raise_low(seat, lows, stage, part, mark, low);
-                let at = 2 * part as usize;
-                let mut gap = (gaps[at], gaps[at + 1]);
+                let at = 3 * part as usize;
+                let mut gap = (gaps[at], gaps[at + 1], gaps[at + 2]);
                 let found = self.scan_behind(seat, &mut gap, row, end, None, stage, unit);
                 gaps[at] = gap.0;
                 gaps[at + 1] = gap.1;
+                gaps[at + 2] = gap.2;
                 return found;
             }
         }

@@ -17,9 +17,10 @@ use Rattle.tp_rule.proofs.Reading.{one_after, grew_begins}
 use Rattle.tp_manager.specs.Calls.{Follows, AtPoint, HasLooked, steps_of, opening}
 use Rattle.tp_manager.specs.Shown.{AllRise, Climbs, NoneFalls, marks_of, Spot, PassShown, shown}
 use Rattle.tp_manager.specs.CallSteps.{Steady, Stepped, Looked, Acted, opening_in, pass_in, with_trace}
-use Rattle.tp_manager.specs.Marks.{MayRemember, Recalls, Remembers, RemembersGaps}
+use Rattle.tp_manager.specs.Marks.{IsBehind, MayRemember, Recalls, Remembers, RemembersGaps, gap_in}
 use Rattle.tp_manager.specs.Scans.{Sought}
-use Rattle.tp_manager.proofs.Marks.Useless.{Goes, may_later, rose_later}
+use Rattle.tp_manager.proofs.Claims.Runs.{gap_later}
+use Rattle.tp_manager.proofs.Marks.Useless.{Goes, may_later}
 use Rattle.tp_manager.proofs.Calls.Points.{opening_one, opening_later, opening_kept, opens_later, has_more, drop_steps}
 
 module _ (l : Limits) (kind : StepKind) (f : Hand → Hand) (es : List Event) (v w : View) (s : Steady l v) (g : Grew kind f es v w) where
@@ -207,8 +208,12 @@ remembers_kind c lows l n ms v w a r p some =
 pub gaps_kind : (c : ℕ) (gaps : List ℕ) (l : Limits) (n : ℕ) (ms : List TraceEntry) (v w : View) → Stepped l n ms v w → RemembersGaps c v gaps → RemembersGaps c w gaps
 gaps_kind c gaps l n ms v w a r p =
     let g : Goes l v w = record { limits = (a.limits, a.steady.pass.1); legal = a.steady.shows.legal; begins = walked_begins l n ms v w a; knows = a.knows } in
-    rose_later l c v w _ _ g (r p)
+    gap_later c l v w (gap_in gaps p) g (r p)
 
 -- and so of all kinds
-pub remembers : {gaps : List (List ℕ)} (lows : List (List ℕ)) (l : Limits) (n : ℕ) (ms : List TraceEntry) (v w : View) → Stepped l n ms v w → Recalls v lows gaps → Recalls w lows gaps
-remembers lows l n ms v w a r = record { marks = λ c. remembers_kind c (marks_of lows c) l n ms v w a (r.marks c); gaps = λ c. gaps_kind c _ l n ms v w a (r.gaps c) }
+pub remembers : {gaps : List (List ℕ)} {begins : List ℕ} (lows : List (List ℕ)) (l : Limits) (n : ℕ) (ms : List TraceEntry) (v w : View) → Stepped l n ms v w → Recalls v lows gaps begins → Recalls w lows gaps begins
+remembers {gaps} {begins} lows l n ms v w a r = record {
+  marks = λ c. remembers_kind c (marks_of lows c) l n ms v w a (r.marks c);
+  gaps = λ c. gaps_kind c _ l n ms v w a (r.gaps c);
+  behind = λ c. subst (λ (z : Limits). IsBehind z (marks_of lows c) (slice_index begins c)) (a.limits ∙ sym a.steady.pass.1) (r.behind c);
+}

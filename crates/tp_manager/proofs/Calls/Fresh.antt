@@ -153,5 +153,5 @@ no_lows m n c p = let all = replicate m (replicate n 0) in dite (dec_le (suc c) 
     (λ not. ap (λ (row : List ℕ). slice_index row p) (get_or_past all c [] (subst (λ z. z ≤ c) (sym (length-replicate m (replicate n 0))) (omega arith))))
 
 -- nor a gap
-pub no_gaps : (m n c p : ℕ) → gap_in (marks_of (replicate m (replicate n 0)) c) p ≡ (0, 0)
-no_gaps m n c p = λ i. (no_lows m n c (2 * p) i, no_lows m n c (2 * p + 1) i)
+pub no_gaps : (m n c p : ℕ) → gap_in (marks_of (replicate m (replicate n 0)) c) p ≡ (0, 0, 0)
+no_gaps m n c p = λ i. (no_lows m n c (3 * p) i, no_lows m n c (3 * p + 1) i, no_lows m n c (3 * p + 2) i)

@@ -1,5 +1,5 @@
 -- Scans that go on behind a row which may be of use, and pass a gap.
-use Rattle.std.proofs.Common.{◌≡◌, ◌≢◌, ◌⊎◌, ℕ, ◌+◌, ◌*◌, ◌<◌, ◌≤◌, List, ◌++◌, length, slice_index, slice_set, MatchOption, Option, Some, None, sym, ap, ◌∙◌, subst, inl, inr, ⊎_elim, arith}
+use Rattle.std.proofs.Common.{◌≡◌, ◌≢◌, ◌⊎◌, ℕ, ◌+◌, ◌*◌, ◌<◌, ◌≤◌, List, ◌++◌, length, slice_index, slice_set, MatchOption, Option, Some, None, refl, sym, ap, ◌∙◌, subst, inl, inr, ⊎_elim, arith}
 use mathlib.Core.Logic.{dite}
 use native.Mathlib.Decide.{dec_le, ℕ_discrete}
 use Rattle.std.proofs.lemmas.List.{get_or-set_same, get_or-set_other, length-set}
@@ -12,7 +12,8 @@ use Rattle.tp_model.proofs.Bridges.{begins_refl, begins_trans}
 use Rattle.tp_rule.specs.declared.view.View.{View}
 use Rattle.tp_rule.specs.Views.{hand}
 use Rattle.tp_manager.specs.CallSteps.{Looked, Steady, with_trace}
-use Rattle.tp_manager.specs.Marks.{IsGap, Remembers, RemembersGaps, Rose, gap_in}
+use Rattle.tp_manager.specs.Marks.{AreOfStage, IsGap, Remembers, RemembersGaps, Rose, gap_in}
+use Rattle.tp_manager.proofs.Claims.Runs.{of_both, of_none}
 use Rattle.tp_manager.specs.Scans.{Begun, EachRow, NoneBehind, OfPart, PassedBy, Sought, Took}
 use Rattle.tp_manager.specs.Spares.{Passed}
 use Rattle.tp_manager.specs.declared.scanning.Taken.{Taken}
@@ -23,32 +24,53 @@ use Rattle.tp_manager.proofs.Claims.Spares.{sought_passed}
 use Rattle.tp_manager.proofs.Claims.Scans.{none_passed, passed_widens, took_few, took_then}
 use Rattle.tp_manager.proofs.Marks.Raises.{goes_walked, low_remembered, over_passed, useless_passed}
 use Rattle.tp_manager.proofs.Marks.Useless.{rose_later}
-use Rattle.tp_manager.proofs.Rows.Seeks.{begun_looked}
+use Rattle.tp_manager.proofs.Rows.Seeks.{Widens, begun_few, begun_looked, begun_on}
 
--- of a gap and a run of rows of no use either is a gap
-pub longer_gap : (c : ℕ) (v : View) (gap r : ℕ × ℕ) (from to : ℕ) → (r ≡ gap) ⊎ (r ≡ (from, to)) → IsGap c v gap → Rose c v from to → IsGap c v r
-longer_gap c v gap r from to o old new = ⊎_elim (λ e. subst (IsGap c v) (sym e) old) (λ e. subst (IsGap c v) (sym e) new) o
+-- of a gap and two runs of rows either is a gap
+pub longer_gap : (c : ℕ) (v : View) (gap r : ℕ × ℕ × ℕ) (born from to : ℕ) → (r ≡ gap) ⊎ (r ≡ (born, from, to)) → IsGap c v gap → AreOfStage c v.seen born from → Rose c v from to → IsGap c v r
+longer_gap c v gap r born from to o old rows new = ⊎_elim (λ e. subst (IsGap c v) (sym e) old) (λ e. subst (IsGap c v) (sym e) (rows, new)) o
+
+-- what is left of a gap from a row on
+pub left_gap : (c : ℕ) (v : View) (gap r : ℕ × ℕ × ℕ) (from : ℕ) → ((r ≡ gap) × (from ≤ gap.1)) ⊎ (((r ≡ (from, from, gap.2)) × (gap.1 ≤ from) × (from < gap.2)) ⊎ (r ≡ (from, from, from))) → IsGap c v gap → IsGap c v r × (from ≤ r.1)
+left_gap c v gap r from o old = ⊎_elim
+    (λ t. subst (λ (z : ℕ × ℕ × ℕ). IsGap c v z × (from ≤ z.1)) (sym t.0) (old, t.1))
+    (λ x. ⊎_elim
+    (λ t. subst (λ (z : ℕ × ℕ × ℕ). IsGap c v z × (from ≤ z.1)) (sym t.0) (let up = t.1 in let some = t.2 in ((of_none c v.seen from, (omega arith, λ i low high. old.1.1 i (omega arith) high)), omega arith)))
+    (λ e. subst (λ (z : ℕ × ℕ × ℕ). IsGap c v z × (from ≤ z.1)) (sym e) ((of_none c v.seen from, (omega arith, λ i low high. absurd (omega arith))), omega arith)) x) o
 
 -- one gap beside those that the pass remembers
-pub gaps_set : (c p : ℕ) (gap : ℕ × ℕ) (gaps : List ℕ) (v : View) → 2 * p + 1 < length gaps → IsGap c v gap → RemembersGaps c v gaps → RemembersGaps c v (slice_set (slice_set gaps (2 * p) gap.0) (2 * p + 1) gap.1)
+pub gaps_set : (c p : ℕ) (gap : ℕ × ℕ × ℕ) (gaps : List ℕ) (v : View) → 3 * p + 2 < length gaps → IsGap c v gap → RemembersGaps c v gaps → RemembersGaps c v (slice_set (slice_set (slice_set gaps (3 * p) gap.0) (3 * p + 1) gap.1) (3 * p + 2) gap.2)
 gaps_set c p gap gaps v inside one all q = dite (ℕ_discrete q p)
-    (λ same. subst (λ z. IsGap c v (gap_in both z)) (sym same) (subst (IsGap c v) (λ i. (sym starts i, sym ends i)) one))
-    (λ other. subst (IsGap c v) (λ i. (sym (stays (2 * q) (λ e. other (omega arith)) (λ e. other (omega arith))) i, sym (stays (2 * q + 1) (λ e. other (omega arith)) (λ e. other (omega arith))) i)) (all q))
+    (λ same. subst (λ z. IsGap c v (gap_in three z)) (sym same) (subst (IsGap c v) (λ i. (sym starts i, sym turns i, sym ends i)) one))
+    (λ other. subst (IsGap c v) (λ i. (
+      sym (stays (3 * q) (λ e. other (omega arith)) (λ e. other (omega arith)) (λ e. other (omega arith))) i,
+      sym (stays (3 * q + 1) (λ e. other (omega arith)) (λ e. other (omega arith)) (λ e. other (omega arith))) i,
+      sym (stays (3 * q + 2) (λ e. other (omega arith)) (λ e. other (omega arith)) (λ e. other (omega arith))) i,
+    )) (all q))
   where
     first : List ℕ
-    first = slice_set gaps (2 * p) gap.0
+    first = slice_set gaps (3 * p) gap.0
 
     both : List ℕ
-    both = slice_set first (2 * p + 1) gap.1
+    both = slice_set first (3 * p + 1) gap.1
 
-    starts : slice_index both (2 * p) ≡ gap.0
-    starts = get_or-set_other first (2 * p + 1) (2 * p) gap.1 0 (λ e. absurd (omega arith)) ∙ get_or-set_same gaps (2 * p) gap.0 0 (omega arith)
+    three : List ℕ
+    three = slice_set both (3 * p + 2) gap.2
 
-    ends : slice_index both (2 * p + 1) ≡ gap.1
-    ends = get_or-set_same first (2 * p + 1) gap.1 0 (subst (λ n. 2 * p + 1 < n) (sym (length-set gaps (2 * p) gap.0)) inside)
+    long : length both ≡ length gaps
+    long = length-set first (3 * p + 1) gap.1 ∙ length-set gaps (3 * p) gap.0
 
-    stays : (k : ℕ) → k ≢ 2 * p → k ≢ 2 * p + 1 → slice_index both k ≡ slice_index gaps k
-    stays k a b = get_or-set_other first (2 * p + 1) k gap.1 0 b ∙ get_or-set_other gaps (2 * p) k gap.0 0 a
+    starts : slice_index three (3 * p) ≡ gap.0
+    starts = get_or-set_other both (3 * p + 2) (3 * p) gap.2 0 (λ e. absurd (omega arith)) ∙ (get_or-set_other first (3 * p + 1) (3 * p) gap.1 0 (λ e. absurd (omega arith)) ∙ get_or-set_same gaps (3 * p) gap.0 0 (omega arith))
+
+    turns : slice_index three (3 * p + 1) ≡ gap.1
+    turns = get_or-set_other both (3 * p + 2) (3 * p + 1) gap.2 0 (λ e. absurd (omega arith)) ∙ get_or-set_same first (3 * p + 1) gap.1 0 (subst (λ n. 3 * p + 1 < n) (sym (length-set gaps (3 * p) gap.0)) (omega arith))
+
+    ends : slice_index three (3 * p + 2) ≡ gap.2
+    ends = get_or-set_same both (3 * p + 2) gap.2 0 (subst (λ n. 3 * p + 2 < n) (sym long) inside)
+
+    stays : (k : ℕ) → k ≢ 3 * p → k ≢ 3 * p + 1 → k ≢ 3 * p + 2 → slice_index three k ≡ slice_index gaps k
+    stays k a b d = get_or-set_other both (3 * p + 2) k gap.2 0 d ∙ (get_or-set_other first (3 * p + 1) k gap.1 0 b ∙ get_or-set_other gaps (3 * p) k gap.0 0 a)
 
 -- fewer of the rows that were looked at
 pub begun_less : (l : Limits) (P : ℕ → List Event → List Event → Type 0) (n m from to row : ℕ) (v w : View) → n ≤ m → from ≤ to → to ≤ row → Begun l P n from row v w → Begun l P m from to v w
@@ -142,12 +164,32 @@ later_near r a b end le o = ⊎_elim
     (λ t. (let e = t.0 in let low = t.1 in (omega arith, omega arith, λ n p q. omega arith, λ n p q. absurd (omega arith))))
     (λ t. (let e = t.0 in let low = t.1 in (omega arith, omega arith, λ n p q. absurd (omega arith), λ n p q. omega arith))) x) o
 
--- what is left of a gap between two rows
-pub gap_between : (c : ℕ) (v : View) (gap : ℕ × ℕ) (from to begin next : ℕ) → from ≤ to → gap.0 ≤ gap.1 → IsLaterTo begin gap.0 from to → IsLaterTo next gap.1 from to → IsGap c v gap → Rose c v begin next
-gap_between c v gap from to begin next up some b e g = let p = later_near begin gap.0 from to up b in let q = later_near next gap.1 from to up e in (
+-- what is left of rows of no use between two rows
+pub gap_between : (c : ℕ) (v : View) (a b from to begin next : ℕ) → from ≤ to → IsLaterTo begin a from to → IsLaterTo next b from to → Rose c v a b → Rose c v begin next
+gap_between c v a b from to begin next up x e g = let p = later_near begin a from to up x in let q = later_near next b from to up e in let some = g.0 in (
   dite (dec_le begin next) (λ le. le) (λ not. absurd (let under = p.3 next (omega arith) q.0 in let top = p.1 in let over = q.2 next (omega arith) (omega arith) in omega arith)),
   λ i low high. (let first = p.0 in let top = q.1 in g.1 i (p.2 i (omega arith) low) (q.3 i high (omega arith))),
 )
+
+-- the later of two rows is no later than the one that comes later
+pub later_low : (r a b end : ℕ) → b ≤ a → IsLaterTo r a b end → r ≤ a
+later_low r a b end le o = ⊎_elim (λ t. let e = t.0 in omega arith) (λ x. ⊎_elim (λ t. absurd (let low = t.1 in omega arith)) (λ t. let e = t.0 in let high = t.1 in omega arith) x) o
+
+-- the rows of the stage that are left between two rows
+pub born_between : (c : ℕ) (h : List Event) (a b from begin first : ℕ) → from ≤ begin → begin ≤ b → IsLaterTo first a from begin → AreOfStage c h a b → AreOfStage c h first begin
+born_between c h a b from begin first up top o each i low high = let p = later_near first a from begin up o in each i (p.2 i high low) (omega arith)
+
+-- a gap with more rows of the stage before it
+pub born_gap : (c : ℕ) (v : View) (gap r : ℕ × ℕ × ℕ) (first born : ℕ) → ((r ≡ (born, gap.1, gap.2)) × (first ≡ gap.0)) ⊎ (r ≡ gap) → AreOfStage c v.seen born first → IsGap c v gap → IsGap c v r × (r.1 ≡ gap.1)
+born_gap c v gap r first born o rows old = ⊎_elim
+    (λ t. subst (λ (z : ℕ × ℕ × ℕ). IsGap c v z × (z.1 ≡ gap.1)) (sym t.0) ((of_both c v.seen born gap.0 gap.1 (subst (AreOfStage c v.seen born) t.1 rows) old.0, old.1), refl))
+    (λ e. subst (λ (z : ℕ × ℕ × ℕ). IsGap c v z × (z.1 ≡ gap.1)) (sym e) (old, refl)) o
+
+-- rows that were looked at, and others behind them
+pub begun_both : (l : Limits) (P : ℕ → List Event → List Event → Type 0) → Widens P → (n m from i to : ℕ) (v w y : View) → from ≤ i → Begun l P n from i v w → Begun l P m i to w y → Begun l P (n + m) from to v y
+begun_both l P widens n m from i to v w y up a b = ⊎_elim
+    (λ t. subst (λ (z : ℕ × View). Begun l P (n + m) from z.0 v z.1) (λ j. (sym t.0 j, sym t.1 j)) (begun_few l P widens n from (n + m) i v w (omega arith) a))
+    (λ s. begun_on l P widens n from m i v w y a to up s) b
 
 -- a part that the pass knows finished is passed by without a look
 pub finished_on : (l : Limits) (stage n first part : ℕ) (lows : List ℕ) (v w : View) → 1 ≤ stage → 1 ≤ l.rows → Remembers stage w lows → slice_index lows part ≡ l.rows

@@ -361,6 +361,34 @@ module _ (l : Limits) where
       pub lean_changed : (x : Element) → element_of w.seen i ≡ Some x → x.stage ≡ stage → claim_changes v.seen i < claim_changes w.seen i → Stepped l try_steps ms v w → IsLeanAt l stage 0 i 1 v w
       lean_changed x is own less a = here try_steps a (λ h z. steps_changed stage v.seen h i x (found_later w.seen h z.begins i x is) own (let more = changes_later w.seen h i z.begins in omega arith))
 
+    -- rows, a look at the next one, and what is left to make at that
+    pub lean_last : (from m row : ℕ) (v w x : View) → row ≡ from + m → IsLeanAt l stage 1 from m v w → IsLean l (λ a h. try_steps_at stage a h row - 1) w x → IsLeanAt l stage 0 from (m + 1) v x
+    lean_last from m row v w x at a b = lean_then _ (λ p h. try_steps_at stage p h row - 1) (λ p h. 0 + sum_rows (try_steps_at stage p h) from (m + 1)) v w x
+        (λ p q h begins after. let here : try_steps_at stage p h row ≡ try_steps_at stage p h (from + m) = ap (try_steps_at stage p h) at in
+        let next : suc m ≡ m + 1 = omega arith in let all : sum_rows (try_steps_at stage p h) from (suc m) ≡ sum_rows (try_steps_at stage p h) from (m + 1) = ap (sum_rows (try_steps_at stage p h) from) next in
+        let less = steps_less stage p q h row begins after in let some = steps_some stage (claim_changes p row == claim_changes h row) (element_of h row) in omega arith) a b
+
+    module _ (i : ℕ) (ms : List TraceEntry) (v w : View) where
+      rest : (k : ℕ) → Stepped l k ms v w → ((h : List Event) → IsAfter l w h → k + 1 ≤ try_steps_at stage v.seen h i) → IsLean l (λ a h. try_steps_at stage a h i - 1) v w
+      rest k a le = record {
+        few = λ h z. let one = le h z in made_few k (try_steps_at stage v.seen h i - 1) v w (omega arith) (made l k ms v w a);
+        begins = walked_begins l k ms v w a;
+        knows = a.knows;
+      }
+
+      -- where an element of the stage is born
+      pub rest_own : (x : Element) → element_of w.seen i ≡ Some x → x.stage ≡ stage → Stepped l 3 ms v w → IsLean l (λ a h. try_steps_at stage a h i - 1) v w
+      rest_own x is own a = rest 3 a (λ h z. steps_own stage v.seen h i x (found_later w.seen h z.begins i x is) own)
+
+      -- and whose claim has changed
+      pub rest_changed : (x : Element) → element_of w.seen i ≡ Some x → x.stage ≡ stage → claim_changes v.seen i < claim_changes w.seen i → Stepped l (try_steps - 1) ms v w → IsLean l (λ a h. try_steps_at stage a h i - 1) v w
+      rest_changed x is own less a = rest (try_steps - 1) a (λ h z. (let all = steps_changed stage v.seen h i x (found_later w.seen h z.begins i x is) own (let more = changes_later w.seen h i z.begins in omega arith) in omega arith))
+
+    pub rest_took : (n from u attempt : ℕ) (e : Element) (v w : View) → n ≤ try_steps - 1 → Took l n from stage u v w e attempt → IsLean l (λ a h. try_steps_at stage a h e.id - 1) v w
+    rest_took n from u attempt e v w le t = rest_changed e.id t.marks v w e t.born t.of_stage
+        (let low = changes_later v.seen t.before e.id t.begins in let more = changes_claimed t.before (hand v).number u e.id attempt in
+        subst (λ z. claim_changes v.seen e.id < claim_changes z e.id) (sym t.ends) (omega arith)) (walked_few l n (try_steps - 1) t.marks v w le t.walk)
+
     -- the row of an element that was taken
     pub lean_took : (n from u attempt : ℕ) (e : Element) (v w : View) → n ≤ try_steps → Took l n from stage u v w e attempt → IsLeanAt l stage 0 e.id 1 v w
     lean_took n from u attempt e v w le t = lean_changed e.id t.marks v w e t.born t.of_stage

@@ -1,5 +1,5 @@
 -- The steps of scans that start at the marks.
-use Rattle.std.proofs.Common.{◌≡◌, ℕ, zero, suc, ◌+◌, ◌-◌, ◌*◌, ◌<◌, ◌≤◌, List, [], length, set, slice_index, refl, sym, ap, ◌∙◌, subst, arith, suc-mul, mul-le-mul_right}
+use Rattle.std.proofs.Common.{◌≡◌, ℕ, zero, suc, ◌+◌, ◌-◌, ◌*◌, ◌<◌, ◌≤◌, List, [], length, set, slice_index, slice_set, refl, sym, ap, ◌∙◌, subst, arith, suc-mul, mul-le-mul_right}
 use Rattle.std.proofs.Math.Nat.{add-mul}
 use mathlib.Core.Logic.{dite}
 use native.Mathlib.Decide.{dec_le, ℕ_discrete}
@@ -12,7 +12,7 @@ use Rattle.tp_rule.specs.Rule.{IsInside}
 use Rattle.tp_manager.specs.Shown.{AllRise, NoneFalls, marks_of}
 use Rattle.tp_manager.specs.Bounds.{claim_next_steps_left, claim_steps_left, drawn_steps, listing_steps_left, look_steps, low_sum, marked_steps, rows_left, scan_steps, spare_left, try_steps}
 use Rattle.tp_manager.specs.CallSteps.{IsKnown, Steady}
-use Rattle.tp_manager.specs.Marks.{MayRemember, Recalls, Remembers, RemembersAll, RemembersGaps, RisesAt}
+use Rattle.tp_manager.specs.Marks.{IsBehind, MayRemember, Recalls, Remembers, RemembersAll, RemembersGaps, RisesAt}
 use Rattle.tp_manager.proofs.Marks.Raises.{low_any}
 use Rattle.tp_manager.proofs.Marks.Useless.{may_inside}
 
@@ -112,21 +112,43 @@ rises_in lows row c inside rises d p = dite (ℕ_discrete d c)
     (λ same. subst (λ z. slice_index (marks_of lows z) p ≤ slice_index (marks_of (set lows c row) z) p) (sym same) (subst (λ z. slice_index (marks_of lows c) p ≤ slice_index z p) (sym (get_or-set_same lows c row [] inside)) (rises p)))
     (λ other. subst (λ z. slice_index (marks_of lows d) p ≤ slice_index z p) (sym (get_or-set_other lows c d row [] other)) (omega arith))
 
-pub remembers_in : {gaps : List (List ℕ)} (lows : List (List ℕ)) (row : List ℕ) (c : ℕ) (v : View) → c < length lows → Remembers c v row → Recalls v lows gaps → Recalls v (set lows c row) gaps
-remembers_in lows row c v inside one all = record {
+-- nor do parts that are finished
+pub behind_rises : (l : Limits) (c n : ℕ) (lows lows' : List ℕ) (v : View) → Steady l v → Remembers c v lows' → NoneFalls lows lows' → IsBehind l lows n → IsBehind l lows' n
+behind_rises l c n lows lows' v s r rises b = (b.0, λ p less. let part = b.0 in let up = rises p in let inside = lows_inside l lows' c v s.pass.1 s.known r p (omega arith) in let is = b.1 p less in omega arith)
+
+pub remembers_in : {gaps : List (List ℕ)} {begins : List ℕ} (l : Limits) (lows : List (List ℕ)) (row : List ℕ) (c : ℕ) (v : View) → c < length lows → Steady l v → NoneFalls (marks_of lows c) row → Remembers c v row → Recalls v lows gaps begins → Recalls v (set lows c row) gaps begins
+remembers_in {gaps} {begins} l lows row c v inside s rises one all = record {
   marks = λ d. dite (ℕ_discrete d c)
       (λ same. subst (λ z. Remembers z v (marks_of (set lows c row) z)) (sym same) (subst (Remembers c v) (sym (get_or-set_same lows c row [] inside)) one))
       (λ other. subst (Remembers d v) (sym (get_or-set_other lows c d row [] other)) (all.marks d));
   gaps = all.gaps;
+  behind = λ d. dite (ℕ_discrete d c)
+      (λ same. subst (λ z. IsBehind v.limits (marks_of (set lows c row) z) (slice_index begins z)) (sym same)
+      (subst (λ z. IsBehind v.limits z (slice_index begins c)) (sym (get_or-set_same lows c row [] inside))
+      (subst (λ (z : Limits). IsBehind z row (slice_index begins c)) (sym s.pass.1) (behind_rises l c (slice_index begins c) (marks_of lows c) row v s one rises (subst (λ (z : Limits). IsBehind z (marks_of lows c) (slice_index begins c)) s.pass.1 (all.behind c))))))
+      (λ other. subst (λ z. IsBehind v.limits z (slice_index begins d)) (sym (get_or-set_other lows c d row [] other)) (all.behind d));
 }
 
 -- nor do the gaps
-pub recalls_in : {lows : List (List ℕ)} (gaps : List (List ℕ)) (row : List ℕ) (c : ℕ) (v : View) → c < length gaps → RemembersGaps c v row → Recalls v lows gaps → Recalls v lows (set gaps c row)
+pub recalls_in : {lows : List (List ℕ)} {begins : List ℕ} (gaps : List (List ℕ)) (row : List ℕ) (c : ℕ) (v : View) → c < length gaps → RemembersGaps c v row → Recalls v lows gaps begins → Recalls v lows (set gaps c row) begins
 recalls_in gaps row c v inside one all = record {
   marks = all.marks;
   gaps = λ d. dite (ℕ_discrete d c)
       (λ same. subst (λ z. RemembersGaps z v (marks_of (set gaps c row) z)) (sym same) (subst (RemembersGaps c v) (sym (get_or-set_same gaps c row [] inside)) one))
       (λ other. subst (RemembersGaps d v) (sym (get_or-set_other gaps c d row [] other)) (all.gaps d));
+  behind = all.behind;
+}
+
+-- nor do the parts behind which claims of them begin
+pub begins_in : {gaps : List (List ℕ)} (l : Limits) (lows : List (List ℕ)) (row begins : List ℕ) (n c : ℕ) (v : View) → c < length lows → c < length begins → v.limits ≡ l → IsBehind l row n → Recalls v (set lows c row) gaps begins → Recalls v (set lows c row) gaps (slice_set begins c n)
+begins_in l lows row begins n c v inside within at one all = record {
+  marks = all.marks;
+  gaps = all.gaps;
+  behind = λ d. dite (ℕ_discrete d c)
+      (λ same. subst (λ z. IsBehind v.limits (marks_of (set lows c row) z) (slice_index (slice_set begins c n) z)) (sym same)
+      (subst (λ z. IsBehind v.limits z (slice_index (slice_set begins c n) c)) (sym (get_or-set_same lows c row [] inside))
+      (subst (IsBehind v.limits row) (sym (get_or-set_same begins c n 0 within)) (subst (λ (z : Limits). IsBehind z row n) (sym at) one))))
+      (λ other. subst (IsBehind v.limits (marks_of (set lows c row) d)) (sym (get_or-set_other begins c d n 0 other)) (all.behind d));
 }
 
 -- what is remembered of a mark is so in what was seen

@@ -1,10 +1,11 @@
-use Rattle.std.proofs.Common.{refl, ◌∙◌, ◌*◌, ap, arith, subst, sym}
+use Rattle.std.proofs.Common.{refl, replicate, ◌∙◌, ◌*◌, ◌<◌, ap, arith, subst, sym}
 use Rattle.tp_model.specs.declared.types.Limits.{Limits}
-use Rattle.tp_manager.specs.Shown.{ManagerShown, KeeperShown}
+use Rattle.tp_manager.specs.Shown.{ManagerShown, KeeperShown, marks_of}
 use Rattle.tp_rule.specs.declared.view.Hand.{Hand}
 use Rattle.tp_manager.proofs.Calls.Fresh.{keeps_on, no_gaps, none_in, no_lows, fresh_hand, fresh_seen, fresh_rests, fresh_shows, fresh_limits}
 use Rattle.tp_rule.specs.Views.{view_of}
-use Rattle.tp_manager.specs.Marks.{IsGap}
+use Rattle.tp_manager.specs.Marks.{IsBehind, IsGap}
+use Rattle.tp_manager.proofs.Claims.Runs.{of_none}
 use Rattle.tp_manager.proofs.manager.Keeper.pass.Goals as goal
 
 pub invariant_of-result-2 : goal.invariant_of-result-2
@@ -12,7 +13,9 @@ invariant_of-result-2 c = (
   fresh_rests c.self.inside.seat c.self.inside.limits c.self.inside.given c.self.invariant c.if-self.false c.hand_out-seat.result c.hand_out-seat.ensures.hands_out,
   record {
     marks = λ k p some. absurd (let none = no_lows 16 33 k p in omega arith);
-    gaps = λ k p. subst (IsGap k (view_of c.hand_out-seat.result)) (sym (no_gaps 16 66 k p)) (omega arith, λ i low high. absurd (omega arith));
+    gaps = λ k p. subst (IsGap k (view_of c.hand_out-seat.result)) (sym (no_gaps 16 99 k p)) (of_none k (view_of c.hand_out-seat.result).seen 0, (omega arith, λ i low high. absurd (omega arith)));
+    behind = λ k. subst (IsBehind (view_of c.hand_out-seat.result).limits (marks_of (replicate 16 (replicate 33 0)) k)) (sym (none_in 16 k))
+        (subst (λ (z : Limits). 0 < z.parts) (sym (fresh_limits c.self.inside.seat c.self.inside.limits c.self.inside.given c.self.invariant c.if-self.false c.hand_out-seat.result c.hand_out-seat.ensures.hands_out)) c.self.invariant.valid.parts.0, λ p less. absurd (omega arith));
   },
 )
 

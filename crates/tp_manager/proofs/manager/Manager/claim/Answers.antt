@@ -1,4 +1,4 @@
-use Rattle.std.proofs.Common.{◌≡◌, ◌+◌, ◌*◌, ◌<◌, ◌≤◌, ℕ, List, length, set, sym, ◌∙◌, ap, refl, arith, subst}
+use Rattle.std.proofs.Common.{slice_index, ◌≡◌, ◌+◌, ◌*◌, ◌<◌, ◌≤◌, ℕ, List, length, set, sym, ◌∙◌, ap, refl, arith, subst}
 use Rattle.tp_model.specs.declared.types.Limits.{Limits}
 use Rattle.tp_model.specs.declared.types.Claimed.TheVariants as claimeds
 use Rattle.tp_rule.specs.Tables.{table_limits}
@@ -10,9 +10,9 @@ use Rattle.tp_manager.specs.Bounds.{claim_steps, claim_steps_left, marked_steps,
 use Rattle.tp_manager.specs.RowSteps.{lean_scan_steps}
 use Rattle.tp_manager.specs.Calls.{Claims, Takes}
 use Rattle.tp_manager.specs.CallSteps.{Steady, StepsTo}
-use Rattle.tp_manager.specs.Marks.{Recalls}
+use Rattle.tp_manager.specs.Marks.{IsBehind, Recalls}
 use Rattle.tp_manager.proofs.Calls.CallSteps.{follows, remembers}
-use Rattle.tp_manager.proofs.Marks.Lows.{claim_few, claim_shown, marked_most, recalls_in, remembers_in, rises_in}
+use Rattle.tp_manager.proofs.Marks.Lows.{begins_in, claim_few, claim_shown, marked_most, recalls_in, remembers_in, rises_in}
 use Rattle.tp_manager.proofs.Calls.Passes.{done_walked, drawn_walked, rests_drawn, steady_at}
 use Rattle.tp_manager.proofs.Claims.UnitsChosen.{chose_steady, chose_walked, chose_rests, idle_walked, idle_answer, took_walked, took_answer, took_first, took_rests}
 use Rattle.tp_rule.specs.declared.view.View.{View}
@@ -42,8 +42,11 @@ kinds c = let all = c.pass.told in let top = c.requires.stage.1 in omega arith
 wide : (c : After-choose_unit) → c.args.stage < length c.pass.inside.gaps
 wide c = let all = c.pass.told in let top = c.requires.stage.1 in omega arith
 
+begun : (c : After-choose_unit) → c.args.stage < length c.pass.inside.begins
+begun c = let all = c.pass.told in let top = c.requires.stage.1 in omega arith
+
 -- the choice of a unit leaves what is remembered
-known : (c : After-choose_unit) → Recalls (view_of c.choose_unit.new.seat) c.pass.inside.lows c.pass.inside.gaps
+known : (c : After-choose_unit) → Recalls (view_of c.choose_unit.new.seat) c.pass.inside.lows c.pass.inside.gaps c.pass.inside.begins
 known c = remembers c.pass.inside.lows _ _ _ _ _ (chose_walked _ _ _ _ (steady c) c.choose_unit.ensures.chooses) c.pass.invariant.1
 
 most : (l k : Limits) (lows : List ℕ) → l ≡ k → 1 + marked_steps l try_steps lows ≤ claim_steps k
@@ -61,6 +64,10 @@ scan-requires-clause-remembers c = (known (goal.at.scan-requires-clause-remember
 
 pub scan-requires-clause-gaps : goal.scan-requires-clause-gaps
 scan-requires-clause-gaps c = (known (goal.at.scan-requires-clause-gaps c).After-choose_unit).gaps c.args.stage
+
+pub scan-requires-clause-begins : goal.scan-requires-clause-begins
+scan-requires-clause-begins c = let at = (goal.at.scan-requires-clause-begins c).After-choose_unit in
+    subst (λ (z : Limits). IsBehind z (marks_of c.pass.inside.lows c.args.stage) (slice_index c.pass.inside.begins c.args.stage)) (lim at) (c.pass.invariant.1.behind c.args.stage)
 
 pub scan-requires-clause-drawn : goal.scan-requires-clause-drawn
 scan-requires-clause-drawn c = let at = (goal.at.scan-requires-clause-drawn c).After-choose_unit in
@@ -114,15 +121,17 @@ scan-requires-clause-done c = let at = (goal.at.scan-requires-clause-done c).Aft
 pub invariant_of-pass-in_default : goal.invariant_of-pass-in_default
 invariant_of-pass-in_default c = let at = (goal.at.invariant_of-pass-in_default c).After-choose_unit in let l : Limits = table_limits c.self.inside.shared.words in (
   rests_drawn c.scan.new.seat _ _ _ _ c.scan.new.drawn (chose_rests l _ _ c.args.stage _ _ _ _ c.pass.inside.seat c.scan.new.seat (view_of c.choose_unit.new.seat) (steady at) c.choose_unit.ensures.chooses c.in_default.ensures.told (lim at) c.pass.invariant.0) c.scan.ensures.drawn,
-  recalls_in c.pass.inside.gaps c.scan.new.gaps c.args.stage (view_of c.scan.new.seat) (wide at) c.scan.ensures.gaps
-      (remembers_in c.pass.inside.lows c.scan.new.lows c.args.stage (view_of c.scan.new.seat) (kinds at) c.scan.ensures.remembers (remembers c.pass.inside.lows _ _ _ _ _ c.in_default.ensures.told.walk (known at))),
+  begins_in l c.pass.inside.lows c.scan.new.lows c.pass.inside.begins c.scan.new.begins c.args.stage (view_of c.scan.new.seat) (kinds at) (begun at) c.in_default.ensures.told.walk.steady.pass.1 c.scan.ensures.begins
+      (recalls_in c.pass.inside.gaps c.scan.new.gaps c.args.stage (view_of c.scan.new.seat) (wide at) c.scan.ensures.gaps
+      (remembers_in l c.pass.inside.lows c.scan.new.lows c.args.stage (view_of c.scan.new.seat) (kinds at) c.in_default.ensures.told.walk.steady c.scan.ensures.lows c.scan.ensures.remembers (remembers c.pass.inside.lows _ _ _ _ _ c.in_default.ensures.told.walk (known at)))),
 )
 
 pub invariant_of-pass-2 : goal.invariant_of-pass-2
 invariant_of-pass-2 c = let at = (goal.at.invariant_of-pass-2 c).After-choose_unit in let l : Limits = table_limits c.self.inside.shared.words in let told = c.in-Some.ensures.told in (
   rests_drawn c.scan.new.seat _ _ _ _ c.scan.new.drawn (took_rests l _ _ 0 c.args.stage c.in-Some.taken.attempt c.in-Some.taken.root _ _ _ _ _ c.pass.inside.seat c.scan.new.seat (view_of c.choose_unit.new.seat) c.in-Some.taken.element (steady at) c.choose_unit.ensures.chooses told.0 (lim at) told.1 refl (not at) c.pass.invariant.0) c.scan.ensures.drawn,
-  recalls_in c.pass.inside.gaps c.scan.new.gaps c.args.stage (view_of c.scan.new.seat) (wide at) c.scan.ensures.gaps
-      (remembers_in c.pass.inside.lows c.scan.new.lows c.args.stage (view_of c.scan.new.seat) (kinds at) c.scan.ensures.remembers (remembers c.pass.inside.lows _ _ _ _ _ told.0.walk (known at))),
+  begins_in l c.pass.inside.lows c.scan.new.lows c.pass.inside.begins c.scan.new.begins c.args.stage (view_of c.scan.new.seat) (kinds at) (begun at) told.0.walk.steady.pass.1 c.scan.ensures.begins
+      (recalls_in c.pass.inside.gaps c.scan.new.gaps c.args.stage (view_of c.scan.new.seat) (wide at) c.scan.ensures.gaps
+      (remembers_in l c.pass.inside.lows c.scan.new.lows c.args.stage (view_of c.scan.new.seat) (kinds at) told.0.walk.steady c.scan.ensures.lows c.scan.ensures.remembers (remembers c.pass.inside.lows _ _ _ _ _ told.0.walk (known at)))),
 )
 
 pub returns-clause-follows : goal.returns-clause-follows

@@ -41,7 +41,7 @@ kinds : (c : After-choose_unit) → c.args.stage < length c.pass.inside.lows
 kinds c = let all = c.pass.told in let top = c.requires.stage.1 in omega arith
 
 -- the choice of a unit leaves what is remembered
-known : (c : After-choose_unit) → Recalls (view_of c.choose_unit.new.seat) c.pass.inside.lows c.pass.inside.gaps
+known : (c : After-choose_unit) → Recalls (view_of c.choose_unit.new.seat) c.pass.inside.lows c.pass.inside.gaps c.pass.inside.begins
 known c = remembers c.pass.inside.lows _ _ _ _ _ (chose_walked _ _ _ _ (steady c) c.choose_unit.ensures.chooses) c.pass.invariant.1
 
 -- the steps are those of the scan, and the choice
@@ -79,11 +79,11 @@ scan_turn-requires-clause-done c = let at = (goal.at.scan_turn-requires-clause-d
 
 pub invariant_of-pass-in_default : goal.invariant_of-pass-in_default
 invariant_of-pass-in_default c = let at = (goal.at.invariant_of-pass-in_default c).After-choose_unit in let l : Limits = table_limits c.self.inside.shared.words in
-    (rests_drawn c.scan_turn.new.seat _ _ _ _ c.scan_turn.new.drawn (chose_rests l _ _ c.args.stage _ _ _ _ c.pass.inside.seat c.scan_turn.new.seat (view_of c.choose_unit.new.seat) (steady at) c.choose_unit.ensures.chooses c.in_default.ensures.told (lim at) c.pass.invariant.0) c.scan_turn.ensures.drawn, remembers_in c.pass.inside.lows c.scan_turn.new.lows c.args.stage (view_of c.scan_turn.new.seat) (kinds at) c.scan_turn.ensures.remembers (remembers c.pass.inside.lows _ _ _ _ _ c.in_default.ensures.told.walk (known at)))
+    (rests_drawn c.scan_turn.new.seat _ _ _ _ c.scan_turn.new.drawn (chose_rests l _ _ c.args.stage _ _ _ _ c.pass.inside.seat c.scan_turn.new.seat (view_of c.choose_unit.new.seat) (steady at) c.choose_unit.ensures.chooses c.in_default.ensures.told (lim at) c.pass.invariant.0) c.scan_turn.ensures.drawn, remembers_in _ c.pass.inside.lows c.scan_turn.new.lows c.args.stage (view_of c.scan_turn.new.seat) (kinds at) c.in_default.ensures.told.walk.steady c.scan_turn.ensures.lows c.scan_turn.ensures.remembers (remembers c.pass.inside.lows _ _ _ _ _ c.in_default.ensures.told.walk (known at)))
 
 pub invariant_of-pass-2 : goal.invariant_of-pass-2
 invariant_of-pass-2 c = let at = (goal.at.invariant_of-pass-2 c).After-choose_unit in let l : Limits = table_limits c.self.inside.shared.words in let told = c.in-Some.ensures.told in
-    (rests_drawn c.scan_turn.new.seat _ _ _ _ c.scan_turn.new.drawn (took_rests l _ _ c.in-Some.taken.element.id c.args.stage c.in-Some.taken.attempt c.in-Some.taken.root _ _ _ _ _ c.pass.inside.seat c.scan_turn.new.seat (view_of c.choose_unit.new.seat) c.in-Some.taken.element (steady at) c.choose_unit.ensures.chooses told.0.took (lim at) told.1 refl (not at) c.pass.invariant.0) c.scan_turn.ensures.drawn, remembers_in c.pass.inside.lows c.scan_turn.new.lows c.args.stage (view_of c.scan_turn.new.seat) (kinds at) c.scan_turn.ensures.remembers (remembers c.pass.inside.lows _ _ _ _ _ told.0.took.walk (known at)))
+    (rests_drawn c.scan_turn.new.seat _ _ _ _ c.scan_turn.new.drawn (took_rests l _ _ c.in-Some.taken.element.id c.args.stage c.in-Some.taken.attempt c.in-Some.taken.root _ _ _ _ _ c.pass.inside.seat c.scan_turn.new.seat (view_of c.choose_unit.new.seat) c.in-Some.taken.element (steady at) c.choose_unit.ensures.chooses told.0.took (lim at) told.1 refl (not at) c.pass.invariant.0) c.scan_turn.ensures.drawn, remembers_in _ c.pass.inside.lows c.scan_turn.new.lows c.args.stage (view_of c.scan_turn.new.seat) (kinds at) told.0.took.walk.steady c.scan_turn.ensures.lows c.scan_turn.ensures.remembers (remembers c.pass.inside.lows _ _ _ _ _ told.0.took.walk (known at)))
 
 pub returns-clause-follows : goal.returns-clause-follows
 returns-clause-follows c = let at = (goal.at.returns-clause-follows c).After-choose_unit in let l : Limits = table_limits c.self.inside.shared.words in let told = c.in-Some.ensures.told in

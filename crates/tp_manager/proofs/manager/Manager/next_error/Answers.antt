@@ -36,7 +36,7 @@ kinds c = let all = c.pass.told in omega arith
 pub invariant_of-pass-2 : goal.invariant_of-pass-2
 invariant_of-pass-2 c = let at = goal.at.invariant_of-pass-2 c in (
   rests_drawn c.find.new.seat _ _ _ _ c.find.new.drawn (rests_looked _ c.pass.inside.seat c.find.new.seat (lim at.After-rows) _ _ _ _ c.pass.invariant.0 _ (looked _ _ _ _ (whole at.After-find))) c.find.ensures.drawn,
-  remembers_in c.pass.inside.lows c.find.new.lows 0 (view_of c.find.new.seat) (kinds at.After-find) c.find.ensures.remembers
+  remembers_in _ c.pass.inside.lows c.find.new.lows 0 (view_of c.find.new.seat) (kinds at.After-find) (whole at.After-find).walk.steady c.find.ensures.lows c.find.ensures.remembers
       (remembers c.pass.inside.lows _ _ _ _ _ (whole at.After-find).walk c.pass.invariant.1),
 )
 

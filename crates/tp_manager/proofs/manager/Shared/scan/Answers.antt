@@ -1,4 +1,4 @@
-use Rattle.std.proofs.Common.{◌≤◌, ◌+◌, List, slice_index, arith, subst, sym}
+use Rattle.std.proofs.Common.{◌∙◌, ◌≤◌, ◌+◌, List, slice_index, arith, subst, sym}
 use Rattle.tp_model.specs.declared.types.Limits.{Limits}
 use Rattle.tp_model.specs.Steps.{block_first, part_rows, rows_of}
 use Rattle.tp_rule.specs.Tables.{table_limits}
@@ -46,3 +46,6 @@ returns-clause-rests c = λ p inside came. let l : Limits = table_limits c.args.
 pub returns-clause-spare : goal.returns-clause-spare
 returns-clause-spare c = λ came. let l : Limits = table_limits c.args.self.now.words in let w = blocks (goal.at.returns-clause-spare c).After-scan_blocks in let a = c.in_default.ensures.told in
     spare_before l _ _ a.marks w.0 (view_of c.args.seat.now) (view_of c.scan_parts.new.seat) (view_of c.scan_blocks.new.seat) a.walk w.1 c.args.stage _ _ c.scan_blocks.ensures.rests
+
+pub returns-clause-begins : goal.returns-clause-begins
+returns-clause-begins c = let b = c.scan_parts.ensures.begins in (b.0, λ p less. let part = b.0 in c.scan_blocks.ensures.lows.1 p (λ is. absurd (omega arith)) ∙ b.1 p less)

@@ -5,7 +5,7 @@ use Rattle.tp_rule.specs.Views.{view_of}
 use Rattle.tp_manager.specs.Bounds.{scan_steps, try_steps}
 use Rattle.tp_manager.specs.RowSteps.{parts_left}
 use Rattle.tp_manager.specs.Scans.{EachRow, OfPart, PassedBy, Sought, Took}
-use Rattle.tp_manager.proofs.Marks.Lows.{rises_then, scan_next, scan_rises}
+use Rattle.tp_manager.proofs.Marks.Lows.{behind_rises, rises_then, scan_next, scan_rises}
 use Rattle.tp_manager.proofs.Calls.CallSteps.{rises_none, sought_few}
 use Rattle.tp_manager.proofs.Claims.Scans.{finished_passed, passed_widens, took_then, took_few, begun_rows, finished_took}
 use Rattle.tp_manager.proofs.Claims.Behind.{finished_on}
@@ -157,3 +157,14 @@ loop-part-preserved-then-part-last c = let l : Limits = table_limits c.args.self
           (λ sought. inr (sought_few l (scan_steps l s 3 lows n) (scan_steps l s 3 lows (n + 1)) _ _ _ (scan_rises l lows s 3 n (n + 1) (omega arith))
           (finished_on l c.args.stage (scan_steps l s 3 lows n) first n c.loop-part.lows _ _ c.requires.stage.0 c.args.self.now.words.places.valid.rows.0 i.remembers finished sought))) i.begun;
     }
+
+-- the parts before the first that was looked at are finished still
+pub returns-in-Some-clause-begins : goal.returns-in-Some-clause-begins
+returns-in-Some-clause-begins c = let l : Limits = table_limits c.args.self.now.words in let first = c.first_open-begin.ensures in
+    behind_rises l c.args.stage c.first_open-begin.result c.args.lows.now c.scan_part.new.lows (view_of c.scan_part.new.seat) c.in-Some.ensures.told.0.walk.steady c.scan_part.ensures.remembers
+    (rises_then c.args.lows.now c.loop-part.lows c.scan_part.new.lows c.loop-part.invariant.rises c.scan_part.ensures.lows.0) (first.part, first.finished)
+
+pub returns-clause-begins : goal.returns-clause-begins
+returns-clause-begins c = let l : Limits = table_limits c.args.self.now.words in let s = try_steps in let i = c.loop-part.invariant in let first = c.first_open-begin.ensures in let n = c.loop-part.part in
+    let gone = begun_looked l (OfPart l (PassedBy l c.args.stage)) (part_widens l (PassedBy l c.args.stage) (passed_widens l c.args.stage)) (scan_steps l s 3 c.args.lows.now n) c.first_open-begin.result n _ _ i.begun c.requires.steady.steady in
+    behind_rises l c.args.stage c.first_open-begin.result c.args.lows.now c.loop-part.lows (view_of c.loop-part.seat) gone.walk.steady i.remembers i.rises (first.part, first.finished)

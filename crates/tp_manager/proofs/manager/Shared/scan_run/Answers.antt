@@ -1,17 +1,18 @@
-use Rattle.std.proofs.Common.{inl, refl, ◌+◌, ◌-◌, ◌*◌, ◌≤◌, ℕ, List, arith, rules, mul-le-mul_right}
+use Rattle.std.proofs.Common.{inl, refl, ◌+◌, ◌-◌, ◌*◌, ◌<◌, ◌≤◌, ℕ, List, arith, rules, mul-le-mul_right}
 use Rattle.tp_model.specs.declared.trace.TraceEntry.{TraceEntry}
 use Rattle.tp_model.specs.declared.types.Limits.{Limits}
 use Rattle.tp_rule.specs.Tables.{table_limits}
-use Rattle.tp_rule.specs.Views.{view_of}
+use Rattle.tp_rule.specs.Views.{seen_by, view_of}
 use Rattle.tp_manager.specs.Bounds.{try_steps}
 use Rattle.tp_manager.specs.CallSteps.{Looked, Stepped}
-use Rattle.tp_manager.specs.Marks.{IsGap, Rose}
+use Rattle.tp_manager.specs.Marks.{AreOfStage, IsGap, Rose}
 use Rattle.tp_manager.specs.Scans.{Begun, PassedBy}
 use Rattle.tp_manager.proofs.Claims.Behind.{begun_less, longer_gap}
+use Rattle.tp_manager.proofs.Claims.Runs.{gap_later, of_fewer, of_later, of_none}
 use Rattle.tp_manager.proofs.Claims.Scans.{passed_widens, took_few, took_then}
 use Rattle.tp_manager.proofs.Families.Cancels.{few_rows}
 use Rattle.tp_manager.proofs.Marks.Raises.{goes_walked, rose_none, rose_then}
-use Rattle.tp_manager.proofs.Marks.Useless.{Goes, rose_later}
+use Rattle.tp_manager.proofs.Marks.Useless.{Goes}
 use Rattle.tp_manager.proofs.Rows.Seeks.{begun_few, begun_looked, begun_on, rows_more}
 use Rattle.tp_manager.specs.Leans.{IsLeanAt}
 use Rattle.tp_manager.proofs.Claims.Leans.{lean_less, lean_row, lean_start}
@@ -29,7 +30,15 @@ on c n ms a = goes_walked (table_limits c.args.self.now.words) n ms _ _ (since c
 
 -- the gap is one after it too
 gap : (c : After-try_row) (n : ℕ) (ms : List TraceEntry) → Stepped (table_limits c.args.self.now.words) n ms (view_of c.loop-row.seat) (view_of c.try_row.new.seat) → IsGap c.args.stage (view_of c.try_row.new.seat) c.loop-row.gap
-gap c n ms a = rose_later (table_limits c.args.self.now.words) c.args.stage _ _ _ _ (on c n ms a) c.loop-row.invariant.gap
+gap c n ms a = gap_later c.args.stage (table_limits c.args.self.now.words) _ _ c.loop-row.gap (on c n ms a) c.loop-row.invariant.gap
+
+-- and so are the rows of the stage before the run
+rows : (c : After-try_row) (n : ℕ) (ms : List TraceEntry) → Stepped (table_limits c.args.self.now.words) n ms (view_of c.loop-row.seat) (view_of c.try_row.new.seat) → AreOfStage c.args.stage (seen_by c.try_row.new.seat) c.loop-row.start c.loop-row.begin
+rows c n ms a = of_later c.args.stage (seen_by c.loop-row.seat) (seen_by c.try_row.new.seat) c.loop-row.start c.loop-row.begin (on c n ms a).begins c.loop-row.invariant.start.1
+
+-- a row is none of too many
+small : (c : After-try_row) → c.try_row.new.row < 65536
+small c = let few = few_rows (table_limits c.args.self.now.words) c.args.self.now.words.places.valid in let top = c.try_row.ensures.on.inside in omega arith
 
 -- and the run is as long, or a row longer
 run : (c : After-try_row) (n : ℕ) (ms : List TraceEntry) → Stepped (table_limits c.args.self.now.words) n ms (view_of c.loop-row.seat) (view_of c.try_row.new.seat) → Rose c.args.stage (view_of c.try_row.new.seat) c.loop-row.begin c.try_row.new.low
@@ -46,11 +55,11 @@ begun c b = let l : Limits = table_limits c.args.self.now.words in let i = c.loo
 )
 
 pub longer-requires-clause-few : goal.longer-requires-clause-few
-longer-requires-clause-few c = let few = few_rows (table_limits c.args.self.now.words) c.args.self.now.words.places.valid in let low = c.try_row.ensures.low.0 in let top = c.try_row.ensures.on.inside in omega arith
+longer-requires-clause-few c = let few = small (goal.at.longer-requires-clause-few c).After-try_row in let low = c.try_row.ensures.low.0 in (c.loop-row.invariant.start.0, omega arith)
 
 pub returns-in-Some-clause-gap : goal.returns-in-Some-clause-gap
 returns-in-Some-clause-gap c = let at = (goal.at.returns-in-Some-clause-gap c).After-try_row in let a = c.in-Some.ensures.told.0.walk in
-    longer_gap c.args.stage (view_of c.try_row.new.seat) c.loop-row.gap c.longer.result c.loop-row.begin c.try_row.new.low c.longer.ensures (gap at _ _ a) (run at _ _ a)
+    longer_gap c.args.stage (view_of c.try_row.new.seat) c.loop-row.gap c.longer.result c.loop-row.start c.loop-row.begin c.try_row.new.low c.longer.ensures (gap at _ _ a) (rows at _ _ a) (run at _ _ a)
 
 pub returns-in-Some-clause-told : goal.returns-in-Some-clause-told
 returns-in-Some-clause-told c = let l : Limits = table_limits c.args.self.now.words in let s = try_steps in let i = c.loop-row.invariant in let b = i.begun in let k : ℕ = b.0 in let x = b.1 in let t = c.in-Some.taken in
@@ -67,7 +76,9 @@ loop-row-init c = record {
   inside = let r = c.requires.rows in omega arith;
   low = omega arith;
   gap = c.requires.gap;
-  run = c.requires.run;
+  run = c.requires.run.0;
+  start = let up = c.requires.run.1 in (omega arith, of_fewer c.args.stage (seen_by c.args.seat.now) c.args.gap.now.0 c.args.gap.now.1 c.args.gap.now.0 c.args.first (omega arith) up c.requires.gap.0);
+  born = (omega arith, of_none c.args.stage (seen_by c.args.seat.now) c.args.from);
   lean = (0, omega arith, omega arith, lean_start (table_limits c.args.self.now.words) c.args.stage c.args.from (view_of c.args.seat.now));
   begun = (0, omega arith, omega arith, inl (refl, refl));
 }
@@ -91,8 +102,10 @@ loop-row-preserved-then-row-to c = let l : Limits = table_limits c.args.self.now
       from = omega arith;
       inside = c.try_row.ensures.on.inside;
       low = omega arith;
-      gap = longer_gap c.args.stage (view_of c.try_row.new.seat) c.loop-row.gap c.longer-then-row-to.result c.loop-row.begin c.try_row.new.low c.longer-then-row-to.ensures (gap at _ _ told.walk) (run at _ _ told.walk);
+      gap = longer_gap c.args.stage (view_of c.try_row.new.seat) c.loop-row.gap c.longer-then-row-to.result c.loop-row.start c.loop-row.begin c.try_row.new.low c.longer-then-row-to.ensures (gap at _ _ told.walk) (rows at _ _ told.walk) (run at _ _ told.walk);
       run = rose_none l c.args.stage (view_of c.try_row.new.seat) c.try_row.new.row;
+      start = let few = small at in let up = c.try_row.ensures.born.0 in (omega arith, c.try_row.ensures.born.1);
+      born = c.try_row.ensures.born;
       lean = (c.loop-row.row + 1 - c.args.from, (let up = c.try_row.ensures.on.on in omega arith), (let before = c.loop-row-test.true in omega arith), lean at);
       begun = begun at (begun_on l P (passed_widens l c.args.stage) (k * s) c.args.from s c.loop-row.row _ _ _ b.3 c.try_row.new.row from_on told);
     }
@@ -106,13 +119,15 @@ loop-row-preserved c = let l : Limits = table_limits c.args.self.now.words in le
       low = c.try_row.ensures.low.0;
       gap = gap at _ _ told.walk;
       run = run at _ _ told.walk;
+      start = (i.start.0, rows at _ _ told.walk);
+      born = c.try_row.ensures.born;
       lean = (c.loop-row.row + 1 - c.args.from, (let up = c.try_row.ensures.on.on in omega arith), (let before = c.loop-row-test.true in omega arith), lean at);
       begun = begun at (begun_on l P (passed_widens l c.args.stage) (k * s) c.args.from s c.loop-row.row _ _ _ b.3 c.try_row.new.row from_on told);
     }
 
 pub returns-clause-gap : goal.returns-clause-gap
 returns-clause-gap c = let i = c.loop-row.invariant in
-    longer_gap c.args.stage (view_of c.loop-row.seat) c.loop-row.gap c.longer-2.result c.loop-row.begin c.loop-row.low c.longer-2.ensures i.gap i.run
+    longer_gap c.args.stage (view_of c.loop-row.seat) c.loop-row.gap c.longer-2.result c.loop-row.start c.loop-row.begin c.loop-row.low c.longer-2.ensures i.gap i.start.1 i.run
 
 pub returns-clause-told : goal.returns-clause-told
 returns-clause-told c = let l : Limits = table_limits c.args.self.now.words in let s = try_steps in let b = c.loop-row.invariant.begun in let k : ℕ = b.0 in let past = c.loop-row-test.false in

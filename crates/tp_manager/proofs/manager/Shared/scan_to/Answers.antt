@@ -1,4 +1,4 @@
-use Rattle.std.proofs.Common.{inl, refl, ◌+◌, ◌-◌, ◌*◌, ◌≤◌, ℕ, arith, rules, mul-le-mul_right}
+use Rattle.std.proofs.Common.{inl, sym, subst, refl, ◌+◌, ◌-◌, ◌*◌, ◌≤◌, ℕ, arith, rules, mul-le-mul_right}
 use Rattle.tp_model.specs.declared.types.Limits.{Limits}
 use Rattle.tp_rule.specs.Tables.{table_limits}
 use Rattle.tp_manager.specs.Bounds.{try_steps}
@@ -6,7 +6,9 @@ use Rattle.tp_manager.specs.Scans.{PassedBy}
 use Rattle.tp_manager.proofs.Claims.Behind.{begun_less}
 use Rattle.tp_manager.proofs.Claims.Scans.{passed_widens, took_few, took_then}
 use Rattle.tp_manager.proofs.Rows.Seeks.{begun_few, begun_on, rows_more}
-use Rattle.tp_rule.specs.Views.{view_of}
+use Rattle.tp_rule.specs.Views.{seen_by, view_of}
+use Rattle.tp_manager.specs.Marks.{AreOfStage}
+use Rattle.tp_manager.proofs.Claims.Runs.{of_fewer, of_none}
 use Rattle.tp_manager.specs.Leans.{IsLeanAt}
 use Rattle.tp_manager.proofs.Claims.Leans.{lean_less, lean_row, lean_start}
 use Rattle.tp_manager.proofs.manager.Shared.scan_to.Goals as goal
@@ -26,6 +28,7 @@ loop-row-init c = record {
   from = omega arith;
   inside = let r = c.requires.rows in omega arith;
   low = omega arith;
+  born = let e = c.requires.born in (omega arith, subst (λ z. AreOfStage c.args.stage (seen_by c.args.seat.now) z c.args.from) (sym e) (of_none c.args.stage (seen_by c.args.seat.now) c.args.from));
   lean = (0, omega arith, omega arith, lean_start (table_limits c.args.self.now.words) c.args.stage c.args.from (view_of c.args.seat.now));
   begun = (0, omega arith, omega arith, inl (refl, refl));
 }
@@ -49,6 +52,7 @@ loop-row-preserved c = let l : Limits = table_limits c.args.self.now.words in le
       from = omega arith;
       inside = c.try_row.ensures.on.inside;
       low = c.try_row.ensures.low.0;
+      born = c.try_row.ensures.born;
       lean = (c.loop-row.row + 1 - c.args.from, omega arith, omega arith, lean (goal.at.loop-row-preserved c).After-try_row);
       begun = (
         k + 1,
@@ -63,3 +67,7 @@ pub returns-clause-told : goal.returns-clause-told
 returns-clause-told c = let l : Limits = table_limits c.args.self.now.words in let s = try_steps in let b = c.loop-row.invariant.begun in let k : ℕ = b.0 in let past = c.loop-row-test.false in
     let few : k * s ≤ (c.args.to - c.args.from) * s = mul-le-mul_right s b.2 in
     begun_less l (PassedBy l c.args.stage) (k * s) ((c.args.to - c.args.from) * s) c.args.from c.args.to c.loop-row.row _ _ few c.requires.rows.0 (omega arith) b.3
+
+pub returns-clause-ends : goal.returns-clause-ends
+returns-clause-ends c = let i = c.loop-row.invariant in let up = i.born.0 in let inside = i.inside in let past = c.loop-row-test.false in
+    (omega arith, of_fewer c.args.stage (seen_by c.loop-row.seat) c.loop-row.born c.loop-row.row c.loop-row.born c.args.to (omega arith) (omega arith) i.born.1)

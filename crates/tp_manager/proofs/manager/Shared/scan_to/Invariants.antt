@@ -1,9 +1,10 @@
 use Rattle.std.proofs.Common.{ℕ, ◌-◌, ◌*◌, ◌≤◌}
 use Rattle.tp_model.specs.Steps.{rows_of}
 use Rattle.tp_rule.specs.Tables.{table_limits}
-use Rattle.tp_rule.specs.Views.{IsSameSeat, view_of}
+use Rattle.tp_rule.specs.Views.{IsSameSeat, seen_by, view_of}
 use Rattle.tp_manager.specs.Bounds.{try_steps}
 use Rattle.tp_manager.specs.Leans.{IsLeanAt}
+use Rattle.tp_manager.specs.Marks.{AreOfStage}
 use Rattle.tp_manager.specs.Scans.{Begun, PassedBy}
 use Rattle.tp_manager.proofs.manager.Shared.scan_to.Given as goal
 
@@ -13,6 +14,7 @@ invariant-loop-row l = record {
   from : l.from ≤ l.row;
   inside : l.row ≤ rows_of (table_limits l.self.words);
   low : l.low ≤ l.row;
+  born : (l.born ≤ l.row) × AreOfStage l.stage (seen_by l.seat) l.born l.row;
   lean : (k : ℕ) × (k ≤ l.row - l.from) × (k ≤ l.to - l.from) × IsLeanAt (table_limits l.self.words) l.stage 0 l.from k (view_of l.initial.seat) (view_of l.seat);
   begun : (k : ℕ) × (k ≤ l.row - l.from) × (k ≤ l.to - l.from) × Begun (table_limits l.self.words) (PassedBy (table_limits l.self.words) l.stage) (k * try_steps) l.from l.row (view_of l.initial.seat) (view_of l.seat);
 }

@@ -21,7 +21,8 @@ use Rattle.std.proofs.lemmas.Bool.Decides.{eqb_tells}
 use Rattle.tp_rule.proofs.Reading.{grew_begins}
 use Rattle.tp_manager.specs.Looks.{IsBornAs}
 use Rattle.tp_manager.specs.CallSteps.{Looked, Stepped}
-use Rattle.tp_manager.specs.Marks.{Rose, WasOfUse, WasUnsettled}
+use Rattle.tp_manager.specs.Marks.{AreOfStage, Rose, WasOfUse, WasUnsettled}
+use Rattle.tp_manager.proofs.Claims.Runs.{of_later, of_more, of_none}
 use Rattle.tp_manager.specs.Scans.{EachRow, PassedBy, Sought}
 use Rattle.tp_manager.proofs.Families.Cancels.{few_rows}
 use Rattle.tp_manager.proofs.Marks.Raises.{near_low, near_past, not_waiting, stays_by, use_empty, use_found, use_later, use_unborn, rose_aside, rose_dead, rose_none, rose_one, unconcerned}
@@ -299,3 +300,44 @@ returns-in-Ok-clause-stays c = let l : Limits = table_limits c.args.self.now.wor
 
 pub returns-in-Ok-clause-behind : goal.returns-in-Ok-clause-behind
 returns-in-Ok-clause-behind c = let next = c.head_on-head.ensures.on.on in let low = c.requires.low in omega arith
+
+-- a run of rows of the stage begins behind the row
+pub returns-then-not-is_of_stage-clause-born : goal.returns-then-not-is_of_stage-clause-born
+returns-then-not-is_of_stage-clause-born c = (omega arith, of_none c.args.stage (seen_by c.head_on-head.new.seat) c.head_on-head.new.row)
+
+pub returns-in-DeadDraft-clause-born : goal.returns-in-DeadDraft-clause-born
+returns-in-DeadDraft-clause-born c = (omega arith, of_none c.args.stage (seen_by c.contents_from.new.seat) c.head_on-head.new.row)
+
+pub returns-in-Nothing-clause-born : goal.returns-in-Nothing-clause-born
+returns-in-Nothing-clause-born c = (omega arith, of_none c.args.stage (seen_by c.contents_from.new.seat) c.head_on-head.new.row)
+
+-- or goes on over it
+run : (c : After-load_claim-claim) (y : View) → IsPrefix (seen_by c.contents_from.new.seat) y.seen → (c.args.born.now ≤ c.head_on-head.new.row) × AreOfStage c.args.stage y.seen c.args.born.now c.head_on-head.new.row
+run c y after = let l : Limits = table_limits c.args.self.now.words in let stage = c.args.stage in let i = c.args.row.now in let t = c.in-Holds.ensures.told.0 in
+    let first = looked_begins l 1 _ _ (looked l 1 _ _ c.head_on-head.ensures.acted) in let b = looked_begins l 1 _ _ c.contents_from.ensures.looked in
+    let full = c.is_of_stage.ensures.full c.if-not-is_of_stage.false in let next = c.head_on-head.ensures.next full.0 in let up = c.requires.born.0 in (
+      omega arith,
+      of_more stage y.seen c.args.born.now i c.head_on-head.new.row t.0 next (of_later stage (seen_by c.args.seat.now) y.seen c.args.born.now i (begins_trans _ _ _ first (begins_trans _ _ _ b after)) c.requires.born.1)
+          (found_later (seen_by c.contents_from.new.seat) y.seen after i t.0 t.1) (born_stage t.0 c.in-Holds.birth t.2 ∙ of_stage c),
+    )
+
+-- the steps since it was found born
+since_born : (c : After-stand_of) → Looked (table_limits c.args.self.now.words) 1 (view_of c.load_claim-claim.new.seat) (view_of c.stand_of.new.seat) → IsPrefix (seen_by c.contents_from.new.seat) (seen_by c.stand_of.new.seat)
+since_born c s = let l : Limits = table_limits c.args.self.now.words in
+    looked_begins l 2 _ _ (looked_then l 1 1 _ _ _ (looked l 1 _ _ (acted_by l kinds.Load _ _ c.contents_from.ensures.looked.walk.steady refl c.load_claim-claim.ensures.grew)) s)
+
+pub returns-in-Over-clause-born : goal.returns-in-Over-clause-born
+returns-in-Over-clause-born c = let at = goal.at.returns-in-Over-clause-born c in run at.After-load_claim-claim (view_of c.stand_of.new.seat) (since_born at.After-stand_of c.stand_of.ensures.looked)
+
+pub returns-in-Busy-clause-born : goal.returns-in-Busy-clause-born
+returns-in-Busy-clause-born c = let at = goal.at.returns-in-Busy-clause-born c in run at.After-load_claim-claim (view_of c.stand_of.new.seat) (since_born at.After-stand_of c.stand_of.ensures.looked)
+
+pub returns-in-Err-clause-born : goal.returns-in-Err-clause-born
+returns-in-Err-clause-born c = let l : Limits = table_limits c.args.self.now.words in let at = goal.at.returns-in-Err-clause-born c in let e = c.element_at-element.ensures.looked in
+    let x = looked l 1 _ _ (acted_by l kinds.ClaimExchange _ _ e.walk.steady refl c.in-Err.ensures.miss.0) in
+    run at.After-load_claim-claim (view_of c.claim_exchange.new.seat) (begins_trans _ _ _ (since_born at.After-stand_of c.stand_of.ensures.looked) (looked_begins l _ _ _ (looked_then l body_steps 1 _ _ _ e x)))
+
+pub returns-in-Ok-clause-born : goal.returns-in-Ok-clause-born
+returns-in-Ok-clause-born c = let l : Limits = table_limits c.args.self.now.words in let at = goal.at.returns-in-Ok-clause-born c in let e = c.element_at-element.ensures.looked in
+    let up = grew_begins kinds.ClaimExchange _ _ (view_of c.element_at-element.new.seat) (view_of c.claim_exchange.new.seat) c.in-Ok.ensures.hit in
+    run at.After-load_claim-claim (view_of c.claim_exchange.new.seat) (begins_trans _ _ _ (since_born at.After-stand_of c.stand_of.ensures.looked) (begins_trans _ _ _ (looked_begins l _ _ _ e) up))
