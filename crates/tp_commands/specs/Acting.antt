@@ -21,10 +21,10 @@ use Rattle.tp_manager.specs.Calls.{AnswersAbort, Follows}
 use Rattle.tp_manager.specs.Shown.{PassShown}
 use Rattle.tp_desk.specs.declared.aside.Aside.{Aside}
 use Rattle.tp_desk.specs.declared.desk.Desk.{Desk}
-use Rattle.tp_desk.specs.declared.order.Order.{Order}
-use Rattle.tp_desk.specs.declared.order.Order.TheVariants as orders
-use Rattle.tp_desk.specs.declared.turned.Turned.{Turned}
-use Rattle.tp_desk.specs.declared.turned.Turned.TheVariants as turneds
+use Rattle.tp_server.specs.declared.order.Order.{Order}
+use Rattle.tp_server.specs.declared.order.Order.TheVariants as orders
+use Rattle.tp_server.specs.declared.turned.Turned.{Turned}
+use Rattle.tp_server.specs.declared.turned.Turned.TheVariants as turneds
 use Rattle.tp_desk.specs.InHand.{IsDeskSteady, work_of}
 use Rattle.tp_desk.specs.Given.{ClaimsGiven, given_steps}
 use Rattle.tp_desk.specs.Orders.{ClaimsBy, KeepsTurn, steps_by}

@@ -22,7 +22,7 @@ use Rattle.tp_desk.specs.Serving.{AreUnitsEnded, Leaves, gained}
 use Rattle.tp_desk.proofs.Serves.{ended_none, leaves_then, serves_more, serves_none, still_ended}
 use Rattle.tp_crew.proofs.FoldStarts.{desk_at}
 use Rattle.tp_crew.specs.declared.crew.Crew.{Crew}
-use Rattle.tp_desk.specs.declared.order.Order.{Order}
+use Rattle.tp_server.specs.declared.order.Order.{Order}
 use Rattle.tp_workers.specs.declared.plan.Plan.{Plan}
 use Rattle.tp_workers.specs.declared.tally.Shift.{Shift}
 use Rattle.tp_manager.specs.Calls.{Follows}

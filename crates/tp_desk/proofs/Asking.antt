@@ -15,7 +15,8 @@ use Rattle.tp_manager.specs.Calls.{Follows}
 use Rattle.tp_manager.specs.Shown.{PassShown}
 use Rattle.tp_desk.specs.Asking.{commit_to, prepare_of, settling, turn_asks}
 use Rattle.tp_desk.specs.InHand.{InHand, IsDeskSteady}
-use Rattle.tp_desk.specs.Turns.{registers_left, settled}
+use Rattle.tp_desk.specs.Turns.{registers_left}
+use Rattle.tp_server.specs.Settled.{settled}
 use Rattle.tp_desk.proofs.Keeping.{seen_on}
 
 no_some : (o : Option Pending) → o ≡ None → IsSome o → ⊥

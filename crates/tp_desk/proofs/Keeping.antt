@@ -32,8 +32,8 @@ use Rattle.tp_manager.specs.Calls.{Adds, Claims, Closes, Commits, AnswersAbort, 
 use Rattle.tp_manager.specs.Shown.{PassShown, view_in}
 use Rattle.tp_desk.specs.Given.{GivenFails}
 use Rattle.tp_desk.specs.Orders.{ClaimsBy}
-use Rattle.tp_desk.specs.declared.order.Order.{Order}
-use Rattle.tp_desk.specs.declared.order.Order.TheVariants as orders
+use Rattle.tp_server.specs.declared.order.Order.{Order}
+use Rattle.tp_server.specs.declared.order.Order.TheVariants as orders
 use Rattle.tp_desk.specs.InHand.{InHand, IsFree, IsDeskSteady, work_of}
 use Rattle.tp_desk.specs.Serving.{AreUnitsEnded, AreUnitsFresh, Leaves, Serves, done_with, draft_in, gained}
 use Rattle.tp_desk.specs.Turns.{EndsOpen, Finishes, kept_by, registers_left}

@@ -4,7 +4,8 @@ use Rattle.tp_model.specs.declared.types.Outcome.{Outcome}
 use Rattle.tp_model.specs.declared.types.Outcome.TheVariants as outcomes
 use Rattle.tp_model.specs.declared.types.Work.{Work}
 use Rattle.tp_server.specs.Behaviour.{Behaviour}
-use Rattle.tp_desk.specs.Turns.{Finishes, WorksOff, settled}
+use Rattle.tp_desk.specs.Turns.{Finishes, WorksOff}
+use Rattle.tp_server.specs.Settled.{settled}
 use Rattle.tp_manager.specs.Shown.{PassShown}
 
 -- work whose commit had this answer came to what the turn answers

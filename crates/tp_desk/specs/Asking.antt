@@ -8,8 +8,8 @@ use Rattle.tp_model.specs.declared.types.Outcome.TheVariants as outcomes
 use Rattle.tp_model.specs.History.{element_of}
 use Rattle.tp_server.specs.Asked.{Asked, Prepare, Undo, commit_asked}
 use Rattle.tp_server.specs.Pending.{Pending}
-use Rattle.tp_desk.specs.declared.turned.Turned.{Turned}
-use Rattle.tp_desk.specs.declared.turned.Turned.TheVariants as turneds
+use Rattle.tp_server.specs.declared.turned.Turned.{Turned}
+use Rattle.tp_server.specs.declared.turned.Turned.TheVariants as turneds
 
 -- to undo prepared work, if there is any
 abbrev pub undo_of : Option Pending → List Asked

@@ -6,8 +6,8 @@ use Rattle.tp_model.specs.declared.types.Limits.{Limits}
 use Rattle.tp_manager.specs.Bounds.{claim_steps, claim_next_steps}
 use Rattle.tp_manager.specs.Calls.{Claims, ClaimsNext}
 use Rattle.tp_manager.specs.Shown.{PassShown}
-use Rattle.tp_desk.specs.declared.order.Order.{Order}
-use Rattle.tp_desk.specs.declared.order.Order.TheVariants as orders
+use Rattle.tp_server.specs.declared.order.Order.{Order}
+use Rattle.tp_server.specs.declared.order.Order.TheVariants as orders
 
 -- the manager's claim, or its claim in turn
 abbrev pub ClaimsBy : Order → Limits → ℕ → PassShown → PassShown → Claimed → Type 0

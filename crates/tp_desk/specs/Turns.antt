@@ -15,9 +15,9 @@ use Rattle.tp_manager.specs.Bounds.{commit_steps}
 use Rattle.tp_manager.specs.Calls.{AnswersAbort, Follows, Settles}
 use Rattle.tp_manager.specs.Shown.{PassShown}
 use Rattle.tp_desk.specs.Orders.{ClaimsBy, KeepsTurn, steps_by}
-use Rattle.tp_desk.specs.declared.order.Order.{Order}
-use Rattle.tp_desk.specs.declared.turned.Turned.{Turned}
-use Rattle.tp_desk.specs.declared.turned.Turned.TheVariants as turneds
+use Rattle.tp_server.specs.declared.order.Order.{Order}
+use Rattle.tp_server.specs.declared.turned.Turned.{Turned}
+use Rattle.tp_server.specs.declared.turned.Turned.TheVariants as turneds
 use Rattle.tp_model.specs.declared.types.TheConstants.{MAX_OUTPUTS}
 
 -- the registers after a commit with this answer: those of the effect where the work was committed, and else
@@ -42,16 +42,6 @@ GivesUpUnit old new = (ended : Ended) × AnswersAbort old new ended
 abbrev pub Declines : Behaviour → List ℕ → Work → Declined → PassShown → PassShown → Type 0
 Declines behaviour registers work why old new = Allows behaviour registers work.element (Err why)
     × GivesUpUnit old new
-
--- the answer of a turn whose unit, which had taken this element, was committed with this answer
-abbrev pub settled_as : ℕ → ℕ → Outcome → Turned
-settled_as unit element (outcomes.Committed first count) = turneds.Done unit element first count
-settled_as unit element outcomes.Lost = turneds.Lost element
-settled_as unit element outcomes.Full = turneds.Full element
-
--- the answer of a turn whose commit had this answer
-abbrev pub settled : Work → Outcome → Turned
-settled work outcome = settled_as work.unit work.element.id outcome
 
 -- what becomes of work that was claimed, and the registers that are left
 abbrev pub WorksOff : Behaviour → List ℕ → Work → PassShown → PassShown → Turned → List ℕ → Type 0

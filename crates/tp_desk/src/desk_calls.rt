@@ -17,11 +17,10 @@ ghost use Rattle.tp_manager.specs.Bounds.{abort_steps, claim_steps, claim_next_s
 
 use crate::aside::Aside;
 use crate::desk::Desk;
-use crate::order::Order;
 use crate::server_calls;
 use tp_manager::{Manager, Pass};
 use tp_model::types::{Claimed, Ended, Outcome, Work};
-use tp_server::{Declined, Server};
+use tp_server::{Declined, Order, Server};
 
 impl<'m, 'p, 's> Desk<'m, 'p, 's> {
     /// A desk for a pass of this manager that has no unit open, and a server that has nothing prepared.

@@ -8,12 +8,9 @@ mod desk;
 mod desk_calls;
 mod given;
 pub mod laws;
-mod order;
 mod server_calls;
-mod turned;
 mod turning;
 
 pub use aside::Aside;
 pub use desk::Desk;
-pub use order::Order;
-pub use turned::Turned;
+pub use tp_server::{Order, Turned};

@@ -11,8 +11,7 @@ ghost use Rattle.tp_desk.specs.Steady.{IsSameDesk, SteadyDesk};
 ghost use Rattle.tp_desk.specs.Turns.{Turns, WorksOff, turn_steps};
 
 use crate::desk::Desk;
-use crate::order::Order;
-use crate::turned::Turned;
+use tp_server::{Order, Turned};
 use tp_model::types::{Claimed, Work};
 
 impl Desk<'_, '_, '_> {

@@ -17,8 +17,8 @@ use Rattle.tp_session.specs.Overviews.{names_of}
 use Rattle.tp_session.specs.Roots.{roots_of, roots_text}
 use Rattle.tp_exact.specs.Alive.{survivors_now}
 use Rattle.tp_report.specs.declared.answer.Renamed.{Renamed}
-use Rattle.tp_desk.specs.declared.order.Order.{Order}
-use Rattle.tp_desk.specs.declared.order.Order.TheVariants.{LeastFirst, InTurn}
+use Rattle.tp_server.specs.declared.order.Order.{Order}
+use Rattle.tp_server.specs.declared.order.Order.TheVariants.{LeastFirst, InTurn}
 use Rattle.tp_reference.specs.PlainReport.{ReportState, balance_answer, command_step, desk_at, drain_of, drain_step, desk_final_line, finals_below, most_rounds, round_below, round_of, round_turn, drain_rounds}
 use Rattle.tp_reference.specs.declared.plain_desk.PlainDesk.{PlainDesk}
 use Rattle.tp_script.specs.Script.{HeadView, ServerView, SettingsView, WorkerView}

@@ -1,5 +1,5 @@
 -- Each command on a desk, where nobody else acts.
-use Rattle.tp_desk.specs.declared.order.Order.TheVariants as orders
+use Rattle.tp_server.specs.declared.order.Order.TheVariants as orders
 use Rattle.tp_script.specs.declared.script.DeskAct.TheVariants as acts
 use Rattle.tp_exact.specs.Desks.{ExactDesk}
 use Rattle.tp_exact.proofs.Desks.{aborts, claims, drops, takes}

@@ -13,9 +13,9 @@ use Rattle.tp_plain.specs.OneThread as thread
 use Rattle.tp_plain.specs.OneThread.{fresh_pass, no_pass}
 use Rattle.tp_manager.specs.Accounts.{AreNumberedFrom}
 use Rattle.tp_manager.specs.Shown.{KeeperShown, ManagerShown, PassShown}
-use Rattle.tp_desk.specs.declared.order.Order.{Order}
-use Rattle.tp_desk.specs.declared.turned.Turned.{Turned}
-use Rattle.tp_desk.specs.declared.turned.Turned.TheVariants as turneds
+use Rattle.tp_server.specs.declared.order.Order.{Order}
+use Rattle.tp_server.specs.declared.turned.Turned.{Turned}
+use Rattle.tp_server.specs.declared.turned.Turned.TheVariants as turneds
 use Rattle.tp_report.specs.Answer.{answer_text, line}
 use Rattle.tp_report.specs.declared.answer.Answer.TheVariants as answer
 use Rattle.tp_report.specs.declared.answer.ServerAnswer.TheVariants as told

@@ -13,8 +13,8 @@ use Rattle.tp_model.proofs.Bridges.{begins_trans, in_either, in_left, in_one, in
 use Rattle.tp_server.specs.Behaviour.{Behaviour}
 use Rattle.tp_manager.specs.Calls.{AnswersAbort, Follows, Settles, UsesRows, opening}
 use Rattle.tp_manager.specs.Shown.{KeeperShown, PassShown}
-use Rattle.tp_desk.specs.declared.turned.Turned.{Turned}
-use Rattle.tp_desk.specs.declared.turned.Turned.TheVariants as turneds
+use Rattle.tp_server.specs.declared.turned.Turned.{Turned}
+use Rattle.tp_server.specs.declared.turned.Turned.TheVariants as turneds
 use Rattle.tp_desk.specs.Turns.{WorksOff}
 use Rattle.tp_alone.specs.Middle.{Between, Goes, as_seen}
 use Rattle.tp_alone.specs.Thread.{HasSeen}

@@ -3,7 +3,7 @@ use Rattle.std.proofs.Common.{◌≡◌, ℕ, ◌==◌, not, Bool, true, false, 
 use Rattle.std.specs.List.{list_any}
 use Rattle.std.proofs.lemmas.Bool.{eqb-true, not-false}
 use Rattle.tp_model.specs.declared.types.Limits.{Limits}
-use Rattle.tp_desk.specs.declared.order.Order.TheVariants.{InTurn, LeastFirst}
+use Rattle.tp_server.specs.declared.order.Order.TheVariants.{InTurn, LeastFirst}
 use Rattle.tp_plain.specs.OneThread.{start}
 use Rattle.tp_script.specs.Script.{HeadView, WorkerView}
 use Rattle.tp_script.specs.declared.head.Act.{Act}

@@ -1,6 +1,6 @@
 -- Any line of a session, between two gatherings.
 use Rattle.std.proofs.Common.{◌≡◌, ◌∙◌, List, ℕ, Option, None, Some, Ok, Err, ap, sym, subst}
-use Rattle.tp_desk.specs.declared.order.Order.TheVariants.{InTurn, LeastFirst}
+use Rattle.tp_server.specs.declared.order.Order.TheVariants.{InTurn, LeastFirst}
 use Rattle.tp_rollover.specs.declared.moved.RollFault.{RollFault}
 use Rattle.tp_script.specs.Grammar.{late_line}
 use Rattle.tp_script.specs.Script.{HeadView, head_view}

@@ -24,10 +24,10 @@ use Rattle.tp_server.specs.Pending.{Pending}
 use Rattle.tp_manager.specs.Bounds.{commit_steps}
 use Rattle.tp_manager.specs.Calls.{AnswersAbort, Follows, Settles}
 use Rattle.tp_manager.specs.Shown.{KeeperShown, PassShown, view_in}
-use Rattle.tp_desk.specs.declared.order.Order.{Order}
-use Rattle.tp_desk.specs.declared.order.Order.TheVariants as orders
-use Rattle.tp_desk.specs.declared.turned.Turned.{Turned}
-use Rattle.tp_desk.specs.declared.turned.Turned.TheVariants as turneds
+use Rattle.tp_server.specs.declared.order.Order.{Order}
+use Rattle.tp_server.specs.declared.order.Order.TheVariants as orders
+use Rattle.tp_server.specs.declared.turned.Turned.{Turned}
+use Rattle.tp_server.specs.declared.turned.Turned.TheVariants as turneds
 use Rattle.tp_desk.specs.Orders.{ClaimsBy, KeepsTurn, steps_by}
 use Rattle.tp_desk.specs.Turns.{Works, WorksOff, turn_steps}
 use Rattle.tp_report.specs.declared.answer.ServerAnswer.{ServerAnswer}

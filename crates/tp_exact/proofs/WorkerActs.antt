@@ -15,7 +15,7 @@ use Rattle.tp_plain.specs.OneThread.{State}
 use Rattle.tp_manager.specs.Bounds.{abort_steps, claim_id_steps, claim_next_steps, claim_steps, commit_steps}
 use Rattle.tp_manager.specs.Calls.{Claims}
 use Rattle.tp_manager.specs.Shown.{KeeperShown, PassShown}
-use Rattle.tp_desk.specs.declared.turned.Turned.TheVariants as turneds
+use Rattle.tp_server.specs.declared.turned.Turned.TheVariants as turneds
 use Rattle.tp_report.specs.declared.answer.ServerAnswer.TheVariants as told
 use Rattle.tp_script.specs.declared.head.WorkerAct.{WorkerAct}
 use Rattle.tp_script.specs.declared.head.WorkerAct.TheVariants as acts

@@ -1,7 +1,7 @@
 -- A command after which all gather, and a drain: their lines are the computed ones.
 use Rattle.std.specs.Prelude.{◌≡◌, List, ℕ}
 use Rattle.tp_manager.specs.Shown.{KeeperShown, ManagerShown}
-use Rattle.tp_desk.specs.declared.order.Order.{Order}
+use Rattle.tp_server.specs.declared.order.Order.{Order}
 use Rattle.tp_script.specs.Script.{HeadView}
 use Rattle.tp_script.specs.declared.script.Command.{Command}
 use Rattle.tp_perform.specs.Drains.{Drains}

@@ -4,7 +4,7 @@ use Rattle.std.specs.Prelude.{Option, Some, None, Result, Ok, Err, drop, length,
 use Rattle.std.specs.Prelude.{slice_get, slice_set, slice_index_or}
 use Rattle.std.specs.List.{list_any}
 use Rattle.tp_plain.specs.OneThread.{State, start}
-use Rattle.tp_desk.specs.declared.order.Order.TheVariants.{InTurn, LeastFirst}
+use Rattle.tp_server.specs.declared.order.Order.TheVariants.{InTurn, LeastFirst}
 use Rattle.tp_rollover.specs.Anew.{made_anew}
 use Rattle.tp_rollover.specs.declared.moved.Moved.{Moved}
 use Rattle.tp_rollover.specs.declared.moved.RollFault.{RollFault}

@@ -11,8 +11,8 @@ use Rattle.tp_model.specs.declared.types.Refusal.TheVariants as refusals
 use Rattle.tp_model.specs.declared.types.Work.{Work}
 use Rattle.tp_plain.specs.Computed.{abort_of, claim_id_of, claim_next_of_stage, claim_of_stage, commit_of}
 use Rattle.tp_plain.specs.OneThread as thread
-use Rattle.tp_desk.specs.Turns.{settled_as}
-use Rattle.tp_desk.specs.declared.turned.Turned.TheVariants as turned
+use Rattle.tp_server.specs.Settled.{settled_as}
+use Rattle.tp_server.specs.declared.turned.Turned.TheVariants as turned
 use Rattle.tp_report.specs.declared.answer.ServerAnswer.{ServerAnswer}
 use Rattle.tp_report.specs.declared.answer.ServerAnswer.TheVariants as told
 use Rattle.tp_script.specs.declared.head.WorkerAct.{WorkerAct}

@@ -17,7 +17,7 @@ use Rattle.tp_manager.specs.Shown.{PassShown}
 use Rattle.tp_desk.specs.InHand.{IsDeskSteady, work_of}
 use Rattle.tp_desk.specs.Serving.{AreUnitsEnded, gained}
 use Rattle.tp_desk.specs.Turns.{registers_left}
-use Rattle.tp_desk.specs.declared.order.Order.TheVariants as orders
+use Rattle.tp_server.specs.declared.order.Order.TheVariants as orders
 use Rattle.tp_desk.proofs.Keeping.{claimed, committed, emptied, gives_up, leaves}
 use Rattle.tp_desk.proofs.Serves.{ended_none, serves_none}
 use Rattle.tp_workers.specs.Gains.{commits_in, is_commit}

@@ -10,7 +10,7 @@ use crate::row_set::RowSet;
 /// The outputs of a unit are a run of rows, so in a small family two runs are enough. They are the rows from
 /// `next` on and before `end`, and after these the ones from `far` on and before `far_end`. Where they
 /// aren't, all rows go into the set.
-#[derive(Clone, Copy, Debug, PartialEq, Eq)]
+#[derive(Clone, Copy)]
 pub(crate) struct Ahead {
     next: u32,
     end: u32,

@@ -30,7 +30,7 @@ use tp_rule::Seat;
 use tp_words::UnitWord;
 
 /// What a cancel came to at an element.
-#[derive(Clone, Copy, Debug, PartialEq, Eq)]
+#[derive(Clone, Copy)]
 pub(crate) enum CancelEnd {
     /// The cancel has killed it.
     Killed,

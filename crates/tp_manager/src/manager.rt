@@ -80,7 +80,7 @@ impl Model for Keeper {
 }
 
 /// The unit of work that a pass has open, and the root and the row of the element that it took.
-#[derive(Clone, Copy, Debug, PartialEq, Eq)]
+#[derive(Clone, Copy)]
 pub(crate) struct Task {
     pub unit: u16,
     pub root: u16,
@@ -89,7 +89,7 @@ pub(crate) struct Task {
 
 /// The rows that are left to a pass: this many, from the row `next` on. And how many spare blocks were drawn,
 /// as the pass last loaded or set it, and the row of the element that it has consumed last.
-#[derive(Clone, Copy, Debug, PartialEq, Eq)]
+#[derive(Clone, Copy)]
 pub(crate) struct Run {
     pub next: u16,
     pub left: u16,

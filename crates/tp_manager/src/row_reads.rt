@@ -24,7 +24,7 @@ use tp_rule::Seat;
 use tp_words::{Claim, FoundClaim, Head, UnitWord};
 
 /// What the head of a born element says.
-#[derive(Clone, Copy, Debug, PartialEq, Eq)]
+#[derive(Clone, Copy)]
 pub(crate) struct Birth {
     pub stage: u8,
     pub root: u16,
@@ -32,7 +32,7 @@ pub(crate) struct Birth {
 }
 
 /// What a row holds.
-#[derive(Clone, Copy, Debug, PartialEq, Eq)]
+#[derive(Clone, Copy)]
 pub(crate) enum Contents {
     /// An element that is born.
     Holds(Birth),

@@ -33,7 +33,7 @@ use tp_rule::Seat;
 use tp_words::{Claim, FoundClaim, Head, UnitWord};
 
 /// An element that a unit took.
-#[derive(Clone, Copy, Debug, PartialEq, Eq)]
+#[derive(Clone, Copy)]
 pub(crate) struct Taken {
     pub attempt: u8,
     pub root: u16,
@@ -41,7 +41,7 @@ pub(crate) struct Taken {
 }
 
 /// How a claim finds an element.
-#[derive(Clone, Copy, Debug, PartialEq, Eq)]
+#[derive(Clone, Copy)]
 pub(crate) enum Stand {
     /// It was taken so often in its round, and the next attempt may begin while its claim is the one that was
     /// found.

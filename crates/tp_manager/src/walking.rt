@@ -30,7 +30,7 @@ use tp_words::{Claim, Head, UnitWord};
 pub(crate) const MAX_ROWS: u32 = 10_240;
 
 /// What a walk finds at an element that it has come to.
-#[derive(Clone, Copy, Debug, PartialEq, Eq)]
+#[derive(Clone, Copy)]
 pub(crate) enum Found {
     /// A unit consumed it, and has made this many elements, with the ids from `first` on.
     Outputs { first: u16, count: u8 },

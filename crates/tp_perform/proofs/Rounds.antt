@@ -5,7 +5,7 @@ use Rattle.std.specs.declared.dyn_box.DynBox.{DynBox}
 use Rattle.tp_server.specs.Behaviour.{Behaviour}
 use Rattle.tp_server.specs.Pending.{Pending}
 use Rattle.tp_manager.specs.Shown.{KeeperShown, ManagerShown, PassShown}
-use Rattle.tp_desk.specs.declared.order.Order.{Order}
+use Rattle.tp_server.specs.declared.order.Order.{Order}
 use Rattle.tp_report.specs.Answer.{answer_text, line}
 use Rattle.tp_report.specs.declared.answer.Answer.TheVariants as answer
 use Rattle.tp_commands.specs.declared.place.Place.{Place}

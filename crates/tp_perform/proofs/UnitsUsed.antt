@@ -7,9 +7,9 @@ use Rattle.tp_model.specs.declared.types.Limits.{Limits}
 use Rattle.tp_manager.specs.Accounts.{Attends}
 use Rattle.tp_manager.specs.Calls.{claims_in}
 use Rattle.tp_manager.specs.Shown.{KeeperShown, ManagerShown, PassShown}
-use Rattle.tp_desk.specs.declared.order.Order.{Order}
-use Rattle.tp_desk.specs.declared.turned.Turned.{Turned}
-use Rattle.tp_desk.specs.declared.turned.Turned.TheVariants as turneds
+use Rattle.tp_server.specs.declared.order.Order.{Order}
+use Rattle.tp_server.specs.declared.turned.Turned.{Turned}
+use Rattle.tp_server.specs.declared.turned.Turned.TheVariants as turneds
 use Rattle.tp_workers.specs.Tally.{claimed_in_all, turn_count}
 use Rattle.tp_workers.proofs.Turns.{turn_claims, turn_room}
 use Rattle.tp_commands.specs.Acting.{PlaceShown, TurnsAt}

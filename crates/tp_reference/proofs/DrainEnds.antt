@@ -21,8 +21,8 @@ use Rattle.tp_plain.specs.OneThread.{no_pass, pass_at, turn_of_pass}
 use Rattle.tp_server.specs.declared.recipe.Recipe.{Recipe}
 use Rattle.tp_server.specs.declared.recipe.Declined.{Declined}
 use Rattle.tp_server.specs.Effect.{Effect, effect_of}
-use Rattle.tp_desk.specs.declared.order.Order.{Order}
-use Rattle.tp_desk.specs.declared.order.Order.TheVariants.{LeastFirst, InTurn}
+use Rattle.tp_server.specs.declared.order.Order.{Order}
+use Rattle.tp_server.specs.declared.order.Order.TheVariants.{LeastFirst, InTurn}
 use Rattle.tp_script.specs.Script.{ServerView}
 use Rattle.tp_reference.specs.declared.plain_desk.PlainDesk.{PlainDesk}
 use Rattle.tp_reference.specs.PlainDesks.{DeskAnswered, claim_in_order, committed_as, takes_part, settle, settle_with, turn_as, turn_by}

@@ -1,6 +1,6 @@
 -- That a drain ends by itself, and not by the bound of its rounds.
 use Rattle.std.specs.Prelude.{◌≡◌, ◌≤◌, ◌<◌, ℕ, false, List, length}
-use Rattle.tp_desk.specs.declared.order.Order.{Order}
+use Rattle.tp_server.specs.declared.order.Order.{Order}
 use Rattle.tp_script.specs.Script.{ServerView}
 use Rattle.tp_reference.specs.PlainReport.{ReportState, drain_of, most_rounds, round_of, drain_rounds}
 

@@ -21,10 +21,10 @@ use Rattle.tp_server.specs.declared.recipe.Declined.{Declined}
 use Rattle.tp_server.specs.Effect.{Effect, effect_of}
 use Rattle.tp_script.specs.declared.script.DeskAct.{DeskAct}
 use Rattle.tp_script.specs.declared.script.DeskAct.TheVariants as acts
-use Rattle.tp_desk.specs.declared.order.Order.{Order}
-use Rattle.tp_desk.specs.declared.order.Order.TheVariants.{LeastFirst, InTurn}
-use Rattle.tp_desk.specs.declared.turned.Turned.{Turned}
-use Rattle.tp_desk.specs.declared.turned.Turned.TheVariants as turned
+use Rattle.tp_server.specs.declared.order.Order.{Order}
+use Rattle.tp_server.specs.declared.order.Order.TheVariants.{LeastFirst, InTurn}
+use Rattle.tp_server.specs.declared.turned.Turned.{Turned}
+use Rattle.tp_server.specs.declared.turned.Turned.TheVariants as turned
 use Rattle.tp_report.specs.declared.answer.ServerAnswer.{ServerAnswer}
 use Rattle.tp_report.specs.declared.answer.ServerAnswer.TheVariants as told
 use Rattle.tp_reference.specs.declared.plain_desk.PlainDesk.{PlainDesk}

@@ -14,9 +14,9 @@ use Rattle.tp_script.specs.declared.script.DeskAct.{DeskAct}
 use Rattle.tp_script.specs.declared.fault.Refused.{Refused}
 use Rattle.tp_script.specs.Fault.{refused_text}
 use Rattle.tp_script.specs.Script.{HeadView, ScriptView, ServerView}
-use Rattle.tp_desk.specs.declared.order.Order.{Order}
-use Rattle.tp_desk.specs.declared.order.Order.TheVariants.{LeastFirst, InTurn}
-use Rattle.tp_desk.specs.declared.turned.Turned.TheVariants as turned
+use Rattle.tp_server.specs.declared.order.Order.{Order}
+use Rattle.tp_server.specs.declared.order.Order.TheVariants.{LeastFirst, InTurn}
+use Rattle.tp_server.specs.declared.turned.Turned.TheVariants as turned
 use Rattle.tp_report.specs.declared.answer.Answer.TheVariants as answer
 use Rattle.tp_report.specs.declared.answer.ServerAnswer.{ServerAnswer}
 use Rattle.tp_report.specs.declared.answer.ServerAnswer.TheVariants as told

@@ -13,12 +13,11 @@ ghost use Rattle.tp_report.specs.declared.answer.ServerAnswer.TheVariants as tol
 use crate::calls;
 use crate::plain_desk::PlainDesk;
 use std::alloc::AllocError;
-use tp_desk::{Order, Turned};
 use tp_model::types::{Claimed, Ended, Outcome, Refusal, Work};
 use tp_plain::plain::Plain;
 use tp_report::ServerAnswer;
 use tp_script::DeskAct;
-use tp_server::Recipe;
+use tp_server::{Order, Recipe, Turned};
 
 // Nothing is in the desk's hand any more.
 fn clear(desk: &mut PlainDesk)

@@ -8,7 +8,7 @@ ghost use Rattle.tp_reference.specs.PlainRunning.{state, IsSetUp};
 use crate::desk_acts::turn_by;
 use crate::plain_run::{PlainRun, worker};
 use std::alloc::AllocError;
-use tp_desk::{Order, Turned};
+use tp_server::{Order, Turned};
 use tp_report::ServerAnswer;
 use tp_script::ScriptServer;
 

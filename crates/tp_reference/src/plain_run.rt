@@ -13,7 +13,7 @@ use crate::desk_acts;
 use crate::plain_desk::PlainDesk;
 use std::alloc::{AllocError, Global};
 use std::string::String;
-use tp_desk::Order;
+use tp_server::Order;
 use tp_model::types::Limits;
 use tp_plain::plain::Plain;
 use tp_report::{Answer, ServerAnswer, line};

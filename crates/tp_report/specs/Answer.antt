@@ -17,8 +17,8 @@ use Rattle.tp_report.specs.declared.answer.Renamed.{Renamed}
 use Rattle.tp_report.specs.declared.depth.Depth.{Depth}
 use Rattle.tp_report.specs.declared.answer.ServerAnswer.{ServerAnswer}
 use Rattle.tp_report.specs.declared.answer.ServerAnswer.TheVariants as server
-use Rattle.tp_desk.specs.declared.turned.Turned.{Turned}
-use Rattle.tp_desk.specs.declared.turned.Turned.TheVariants as turned
+use Rattle.tp_server.specs.declared.turned.Turned.{Turned}
+use Rattle.tp_server.specs.declared.turned.Turned.TheVariants as turned
 use Rattle.tp_script.specs.Fault.{◌<>◌}
 
 -- a text as a line

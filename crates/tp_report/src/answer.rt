@@ -7,7 +7,7 @@ ghost use Rattle.tp_report.specs.Lines.{IsLine};
 use crate::depth::Depth;
 use std::alloc::{AllocError, Global};
 use std::string::String;
-use tp_desk::Turned;
+use tp_server::Turned;
 use tp_model::types::{Counts, Element, Look, Refusal};
 use tp_script::Refused;
 

@@ -11,7 +11,7 @@ ghost use Rattle.tp_report.specs.Answer.{depth_text, depths_text, list_text, ren
 use crate::answer::{Answer, Renamed, ServerAnswer};
 use crate::depth::Depth;
 use std::fmt;
-use tp_desk::Turned;
+use tp_server::Turned;
 use tp_model::types::{Body, Counts, Element, Look, Refusal, Status};
 
 // What a turn came to.

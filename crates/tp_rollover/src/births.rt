@@ -29,7 +29,7 @@ use tp_manager::{Keeper, Manager, Pass};
 use tp_model::types::Limits;
 
 /// What stands of a family in the new manager.
-#[derive(Clone, Copy, Debug, PartialEq, Eq)]
+#[derive(Clone, Copy)]
 pub(crate) struct Family {
     /// Its root there, and the element of which its next ones are born, once there is one.
     pub carrier: Option<(u32, u32)>,
@@ -38,7 +38,7 @@ pub(crate) struct Family {
 }
 
 /// Elements that were born together: their root, the id of the first, and how many they are.
-#[derive(Clone, Copy, Debug, PartialEq, Eq)]
+#[derive(Clone, Copy)]
 struct Group {
     root: u32,
     first: u32,
@@ -46,7 +46,7 @@ struct Group {
 }
 
 /// What is yet to be born, in its order, and the limits of the manager in which it is.
-#[derive(Clone, Copy, Debug, PartialEq, Eq)]
+#[derive(Clone, Copy)]
 struct Unborn<'s> {
     limits: Limits,
     rest: &'s [Survivor],
@@ -54,7 +54,7 @@ struct Unborn<'s> {
 
 /// Those that are born next: of which element, by the next pass from which on, and whether a further carrier
 /// is born with them.
-#[derive(Clone, Copy, Debug, PartialEq, Eq)]
+#[derive(Clone, Copy)]
 struct Birth<'s> {
     group: &'s [Survivor],
     more: bool,

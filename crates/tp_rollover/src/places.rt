@@ -56,7 +56,7 @@ fn least_units(kept: &Kept, units: u16, at: usize) -> u16
 
 /// How far the passes of the new manager are used. Ids ascend: the parts are used one after another, and then
 /// spare blocks.
-#[derive(Clone, Copy, Debug, PartialEq, Eq)]
+#[derive(Clone, Copy)]
 pub(crate) struct Cursor {
     /// The pass whose part is in use, or as many as there are passes where spare blocks are.
     pub at: usize,

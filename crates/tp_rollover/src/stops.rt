@@ -9,7 +9,7 @@ use crate::moved::RollFault;
 use tp_manager::{Manager, Pass};
 
 /// Why the births or the checks have stopped.
-#[derive(Clone, Copy, Debug, PartialEq, Eq)]
+#[derive(Clone, Copy)]
 pub(crate) enum Stop {
     NoMemory,
     Full,

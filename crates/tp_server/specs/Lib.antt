@@ -7,3 +7,4 @@ pub mod Entries
 pub mod Names
 pub mod Onward
 pub mod Pending
+pub mod Settled

@@ -17,9 +17,10 @@ use Rattle.tp_manager.specs.Bounds.{abort_steps, claim_id_steps, claim_next_step
 use Rattle.tp_manager.specs.Calls.{AnswersAbort, Claims, ClaimsNext, Follows, Settles}
 use Rattle.tp_manager.specs.Given.{ClaimIdFails, TakesId}
 use Rattle.tp_manager.specs.Shown.{IsOf, ManagerShown, PassShown}
-use Rattle.tp_desk.specs.Turns.{EndsOpen, settled_as}
-use Rattle.tp_desk.specs.declared.turned.Turned.{Turned}
-use Rattle.tp_desk.specs.declared.turned.Turned.TheVariants as turneds
+use Rattle.tp_desk.specs.Turns.{EndsOpen}
+use Rattle.tp_server.specs.Settled.{settled_as}
+use Rattle.tp_server.specs.declared.turned.Turned.{Turned}
+use Rattle.tp_server.specs.declared.turned.Turned.TheVariants as turneds
 use Rattle.tp_report.specs.declared.answer.ServerAnswer.TheVariants as told
 use Rattle.tp_script.specs.declared.head.WorkerAct.{WorkerAct}
 use Rattle.tp_script.specs.declared.head.WorkerAct.TheVariants as acts

@@ -12,7 +12,7 @@ use tp_report::ServerAnswer;
 use tp_script::WorkerAct;
 
 /// What a worker has in hand.
-#[derive(Clone, Copy, Debug, PartialEq, Eq)]
+#[derive(Clone, Copy)]
 pub enum Holding {
     /// Nothing.
     Nothing,
@@ -62,7 +62,7 @@ impl Holding {
 }
 
 /// What a worker is answered.
-#[derive(Clone, Copy, Debug, PartialEq, Eq)]
+#[derive(Clone, Copy)]
 pub enum WorkerAnswer {
     /// It took this.
     Took(Work),

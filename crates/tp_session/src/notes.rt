@@ -30,7 +30,7 @@ pub struct Notes {
 }
 
 /// How the number of a send or a receive stands to how many were done.
-#[derive(Clone, Copy, Debug, PartialEq, Eq)]
+#[derive(Clone, Copy)]
 pub enum Standing {
     /// It is the next one.
     Next,

@@ -13,8 +13,8 @@ use Rattle.tp_manager.specs.Shown.{ManagerShown, PassShown}
 use Rattle.tp_desk.specs.Asking.{turn_asks, undo_of}
 use Rattle.tp_desk.specs.InHand.{InHand}
 use Rattle.tp_desk.specs.declared.desk.Desk.{Desk}
-use Rattle.tp_desk.specs.declared.order.Order.{Order}
-use Rattle.tp_desk.specs.declared.turned.Turned.{Turned}
+use Rattle.tp_server.specs.declared.order.Order.{Order}
+use Rattle.tp_server.specs.declared.turned.Turned.{Turned}
 use Rattle.tp_desk.specs.Steady.{IsSameDesk, shown}
 use Rattle.tp_desk.specs.Turns.{EndsOpen}
 use Rattle.tp_workers.specs.declared.tally.Shift.{Shift}

@@ -9,7 +9,7 @@ use Rattle.tp_manager.specs.Calls.{claims_in}
 use Rattle.tp_manager.specs.Shown.{ManagerShown, PassShown, numbers}
 use Rattle.tp_desk.specs.Serving.{AreUnitsEnded, Leaves, Serves, gained}
 use Rattle.tp_desk.proofs.Serves.{ended_none, leaves_then, serves_none}
-use Rattle.tp_desk.specs.declared.order.Order.{Order}
+use Rattle.tp_server.specs.declared.order.Order.{Order}
 use Rattle.tp_workers.specs.declared.plan.Plan.{Plan}
 use Rattle.tp_workers.specs.declared.tally.Shift.{Shift}
 use Rattle.tp_workers.specs.Calling.{MadeCalls}

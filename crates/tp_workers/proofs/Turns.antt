@@ -18,9 +18,9 @@ use Rattle.tp_desk.specs.InHand.{InHand}
 use Rattle.tp_desk.specs.Serving.{Leaves}
 use Rattle.tp_desk.proofs.Keeping.{idle_by, nounit_by, opens_by}
 use Rattle.tp_desk.specs.declared.desk.Desk.{Desk}
-use Rattle.tp_desk.specs.declared.order.Order.{Order}
-use Rattle.tp_desk.specs.declared.turned.Turned.{Turned}
-use Rattle.tp_desk.specs.declared.turned.Turned.TheVariants as turneds
+use Rattle.tp_server.specs.declared.order.Order.{Order}
+use Rattle.tp_server.specs.declared.turned.Turned.{Turned}
+use Rattle.tp_server.specs.declared.turned.Turned.TheVariants as turneds
 use Rattle.tp_desk.specs.Steady.{IsSameDesk, shown}
 use Rattle.tp_desk.specs.Turns.{EndsOpen, Turns, Works, WorksOff}
 use Rattle.tp_workers.specs.declared.plan.Plan.{Plan}

@@ -6,8 +6,8 @@ use Rattle.tp_server.specs.Pending.{Pending}
 use Rattle.tp_manager.specs.Calls.{Follows}
 use Rattle.tp_manager.specs.Shown.{ManagerShown, PassShown}
 use Rattle.tp_desk.specs.declared.desk.Desk.{Desk}
-use Rattle.tp_desk.specs.declared.order.Order.{Order}
-use Rattle.tp_desk.specs.declared.turned.Turned.{Turned}
+use Rattle.tp_server.specs.declared.order.Order.{Order}
+use Rattle.tp_server.specs.declared.turned.Turned.{Turned}
 use Rattle.tp_desk.specs.Orders.{KeepsTurn}
 use Rattle.tp_desk.specs.Serving.{Leaves}
 use Rattle.tp_desk.specs.Steady.{SteadyDesk, shown}

@@ -1,6 +1,6 @@
 -- Plans of one order.
 use Rattle.std.specs.Prelude.{ℕ}
-use Rattle.tp_desk.specs.declared.order.Order.TheVariants as orders
+use Rattle.tp_server.specs.declared.order.Order.TheVariants as orders
 use Rattle.tp_workers.specs.declared.plan.Plan.{Plan}
 
 -- this many turns, each of which claims the element with the least id

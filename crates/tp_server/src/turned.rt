@@ -1,8 +1,8 @@
 //! The answer of a turn.
 ghost use Rattle.std.specs.Prelude.{◌≡◌};
 
+use crate::recipe::Declined;
 use tp_model::types::{Outcome, Work};
-use tp_server::Declined;
 
 /// What a turn of a server came to. Elements are given by their ids.
 #[derive(Clone, Copy, Debug, PartialEq, Eq)]
@@ -35,7 +35,7 @@ pub enum Turned {
 }
 
 impl Turned {
-    ghost use Rattle.tp_desk.specs.Turns.{settled, settled_as};
+    ghost use Rattle.tp_server.specs.Settled.{settled, settled_as};
 
     /// The answer of a turn whose work was committed with this answer.
     pub fn settled(work: &Work, outcome: Outcome) -> Turned
