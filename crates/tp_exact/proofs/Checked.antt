@@ -28,7 +28,7 @@ use Rattle.tp_script.specs.Hands.{free_worker, held_of, held_words}
 use Rattle.tp_script.specs.Keyword.{keyword}
 use Rattle.tp_script.specs.LineWords.{◌>>=◌, is_name, known, number_at, one_word, require, three, two}
 use Rattle.tp_script.specs.Script.{HeadView, ServerView}
-use Rattle.tp_script.specs.ServerLines.{Shape, begin_at, with_start, free_name, has_client, new_name, recipe_at, registers_for, server_at, server_line, shape_at, start_line, with_server}
+use Rattle.tp_script.specs.ServerLines.{Shape, begin_at, with_start, free_name, has_client, new_name, recipe_at, registers_for, server_at, server_line, server_said, shape_at, start_line, with_server}
 use Rattle.tp_exact.specs.Programs.{IsChecked}
 
 abbrev pub Good : HeadView → Type 0
@@ -96,29 +96,34 @@ module _ (ws : List (List ℕ)) (s : HeadView) where
   abbrev made : Shape → NameView → Recipe → List ℕ → ServerView
   made shape name recipe registers = record { name = name.letters; kind = shape.kind; recipe = recipe; registers = registers }
 
-  abbrev of_recipe : Shape → NameView → Recipe → Result HeadView LineFault
-  of_recipe shape name recipe = registers_for recipe >>= λ registers. Ok (with_server (made shape name recipe registers) s)
+  abbrev of_recipe : Shape → NameView → Recipe → Result ServerView LineFault
+  of_recipe shape name recipe = registers_for recipe >>= λ registers. Ok (made shape name recipe registers)
 
-  abbrev in_room : Shape → NameView → Recipe → Result HeadView LineFault
+  abbrev in_room : Shape → NameView → Recipe → Result ServerView LineFault
   in_room shape name recipe = require (nat_lt (length s.servers) MAX_SERVERS) fault.BadLimits >>= λ u. of_recipe shape name recipe
 
-  abbrev of_name : Shape → NameView → Result HeadView LineFault
+  abbrev of_name : Shape → NameView → Result ServerView LineFault
   of_name shape name = recipe_at shape >>= λ recipe. in_room shape name recipe
 
-  abbrev of_shape : Shape → Result HeadView LineFault
+  abbrev of_shape : Shape → Result ServerView LineFault
   of_shape shape = new_name shape.name s >>= λ name. of_name shape name
+
+  said_good : (x : ServerView) → server_said ws s ≡ Ok x → IsChecked x
+  unfolding server_said
+  said_good x is =
+      let shape = went (shape_at ws) of_shape x is in
+      let name = went (new_name shape.0.name s) (of_name shape.0) x shape.2 in
+      let recipe = went (recipe_at shape.0) (in_room shape.0 name.0) x name.2 in
+      let room = went (require (nat_lt (length s.servers) MAX_SERVERS) fault.BadLimits) (λ u. of_recipe shape.0 name.0 recipe.0) x recipe.2 in
+      let registers = went (registers_for recipe.0) (λ registers. Ok (made shape.0 name.0 recipe.0 registers)) x room.2 in
+      let one : IsChecked (made shape.0 name.0 recipe.0 registers.0) = checked_for recipe.0 registers.0 registers.1 in
+      subst IsChecked (went_to (made shape.0 name.0 recipe.0 registers.0) x registers.2) one
 
   server_good : (t : HeadView) → server_line ws s ≡ Ok t → Good s → Good t
   unfolding server_line
   server_good t is good =
-      let shape = went (shape_at ws) of_shape t is in
-      let name = went (new_name shape.0.name s) (of_name shape.0) t shape.2 in
-      let recipe = went (recipe_at shape.0) (in_room shape.0 name.0) t name.2 in
-      let room = went (require (nat_lt (length s.servers) MAX_SERVERS) fault.BadLimits) (λ u. of_recipe shape.0 name.0 recipe.0) t recipe.2 in
-      let registers = went (registers_for recipe.0) (λ registers. Ok (with_server (made shape.0 name.0 recipe.0 registers) s)) t room.2 in
-      let x : ServerView = made shape.0 name.0 recipe.0 registers.0 in
-      let one : IsChecked x = checked_for recipe.0 registers.0 registers.1 in
-      subst Good (went_to (with_server x s) t registers.2) (All-append IsChecked s.servers (x ∷ []) good (All-cons IsChecked x [] one (All-nil IsChecked)))
+      let said = went (server_said ws s) (λ x. Ok (with_server x s)) t is in
+      subst Good (went_to (with_server said.0 s) t said.2) (All-append IsChecked s.servers (said.0 ∷ []) good (All-cons IsChecked said.0 [] (said_good said.0 said.1) (All-nil IsChecked)))
 
 -- ---- registers that begin otherwise
 

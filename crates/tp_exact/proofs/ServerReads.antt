@@ -118,14 +118,18 @@ module _ (v : ServerView) where
           ∙ bind_ok (require (is_none (worker_at v.name h)) BadName) tt _ (ap (λ (ws : List WorkerView). require (is_none (position (λ (w : WorkerView). bytes_eq w.name v.name) ws)) BadName) no_workers))
           ∙ bind_ok (require (not (has_client v.name h)) BadName) tt _ (ap (λ (cs : List ClientNote). require (not (list_any (λ (c : ClientNote). bytes_eq c.name.letters v.name) cs)) BadName) no_clients)
 
-      line_is : grammar.server_line places h ≡ Ok next
-      unfolding grammar.server_line
-      line_is =
+      said_is : grammar.server_said places h ≡ Ok (unstarted v)
+      unfolding grammar.server_said
+      said_is =
           bind_ok (shape_at places) said _ shape_is
           ∙ (bind_ok (new_name v.name h) (record { letters = v.name }) _ name_ok
           ∙ (bind_ok (recipe_at said) v.recipe _ recipe_is
           ∙ (bind_ok (require (nat_lt (length h.servers) MAX_SERVERS) BadLimits) tt _ (ap (λ b. require b BadLimits) (le_true (suc (length h.servers)) MAX_SERVERS (omega (arith, room))))
           ∙ bind_ok (registers_for v.recipe) (replicate v.recipe.registers 0) _ registers_are)))
+
+      line_is : grammar.server_line places h ≡ Ok next
+      unfolding grammar.server_line
+      line_is = bind_ok (grammar.server_said places h) (unstarted v) (λ x. Ok (with_server x h)) said_is
 
       words_read : head_words drivers.Session (codes "server" ∷ places) h ≡ Ok (next, None)
       unfolding head_words head_keyword
