@@ -278,9 +278,6 @@ module _ (l : Limits) (keeper keeper' : KeeperShown) (olds news : List PassShown
     pub quiet_end : h' ≡ h
     quiet_end = end_is l keeper keeper' olds news h h' n c old new a [] (quiet.mine ∙ sym (append_nil old.mine)) ∙ append_nil h
 
-    pub quiet_seen : new.seen ≡ h
-    quiet_seen = seen_is l keeper keeper' olds news h h' n c old new a [] (quiet.mine ∙ sym (append_nil old.mine)) ∙ append_nil h
-
   quiet_state : new.from ≡ old.from → IsQuiet old new → state_of new ≡ state_of old
   quiet_state turn quiet =
       let mine = ap claims_in quiet.mine in

@@ -93,33 +93,6 @@ module _ {X : Type 0} {F : X → Type 0} (behaviour : DynBox X Global F → Beha
   abbrev Box : Type 0
   Box = DynBox X Global F
 
-  -- without a pass there is no desk
-  pub left_none : (ps : List PassShown) (ss : List Box) (os : List (Place X F)) → AllLie behaviour registers pending ps ss os → ps ≡ [] → AllLeft behaviour registers (firsts os) ps ss
-  left_none [] [] [] all e = tt
-  left_none [] [] (o ∷ os) all e = absurd all
-  left_none [] (s ∷ ss) os all e = absurd all
-  left_none (p ∷ ps) ss os all e = absurd cc
-
-  -- the first of the places, and the others
-  pub left_more : (os : List (Place X F)) (o : Place X F) (os' : List (Place X F)) (p : PassShown) (ps : List PassShown) (s : Box) (ss : List Box)
-      → os ≡ o ∷ os' → IsLeft behaviour registers (first_of o) p s → AllLeft behaviour registers (firsts os') ps ss → AllLeft behaviour registers (firsts os) (p ∷ ps) (s ∷ ss)
-  left_more os o os' p ps s ss is one others = subst (λ zs. AllLeft behaviour registers (firsts zs) (p ∷ ps) (s ∷ ss)) (sym is) (one, others)
-
-  -- who ends as a desk's pass has the number with which it began
-  pub left_numbers : (ps : List PassShown) (ss : List Box) (qs : List PassShown) (ts : List Box) → length ps ≡ length ss → AllLeft behaviour registers (all_firsts ps ss) qs ts → numbers qs ≡ numbers ps
-  left_numbers [] [] [] [] long all = refl
-  left_numbers [] [] [] (t ∷ ts) long all = absurd all
-  left_numbers [] [] (q ∷ qs) ts long all = absurd all
-  left_numbers [] (s ∷ ss) qs ts long all = absurd (omega (arith, long))
-  left_numbers (p ∷ ps) [] qs ts long all = absurd (omega (arith, long))
-  left_numbers (p ∷ ps) (s ∷ ss) [] ts long all = absurd all
-  left_numbers (p ∷ ps) (s ∷ ss) (q ∷ qs) [] long all = absurd all
-  left_numbers (p ∷ ps) (s ∷ ss) (q ∷ qs) (t ∷ ts) long all = let n : q.number ≡ p.number = all.0.serves.number in
-      ap (λ z. z ∷ numbers qs) n ∙ ap (λ zs. p.number ∷ zs) (left_numbers ps ss qs ts (omega (arith, long)) all.1)
-
-  left_length : (ps : List PassShown) (ss : List Box) (qs : List PassShown) (ts : List Box) → length ps ≡ length ss → AllLeft behaviour registers (all_firsts ps ss) qs ts → length qs ≡ length ps
-  left_length ps ss qs ts long all = sym (length-map qs (λ p. p.number)) ∙ (ap length (left_numbers ps ss qs ts long all) ∙ length-map ps (λ p. p.number))
-
   -- the servers' passes among all
   pub workers_are : (n : ℕ) (client : PassShown) (ws rs : List PassShown) → length ws ≡ n → workers n (client ∷ (ws ++ rs)) ≡ ws
   workers_are zero client [] rs long = refl
@@ -131,15 +104,3 @@ module _ {X : Type 0} {F : X → Type 0} (behaviour : DynBox X Global F → Beha
       (all : olds ≡ client ∷ others) (parts : others ≡ ws ++ rs) (long : length ws ≡ length ss) (began : fs ≡ all_firsts ws ss) (left : AllLeft behaviour registers fs qs ts) where
     left_of : AllLeft behaviour registers (all_firsts ws ss) qs ts
     left_of = subst (λ zs. AllLeft behaviour registers zs qs ts) began left
-
-    pub left_in : AllLeft behaviour registers (all_firsts (workers (length ss) olds) ss) (workers (length ss) (client' ∷ (qs ++ rs'))) ts
-    left_in =
-        let first : workers (length ss) olds ≡ ws = ap (workers (length ss)) (all ∙ ap (λ zs. client ∷ zs) parts) ∙ workers_are (length ss) client ws rs long in
-        let last : workers (length ss) (client' ∷ (qs ++ rs')) ≡ qs = workers_are (length ss) client' qs rs' (left_length ws ss qs ts long left_of ∙ long) in
-        rw (first, last) left_of
-
-    pub numbers_in : client'.number ≡ client.number → numbers rs' ≡ numbers rs → numbers (client' ∷ (qs ++ rs')) ≡ numbers olds
-    numbers_in same behind =
-        ap (λ n. n ∷ numbers (qs ++ rs')) same
-        ∙ (ap (λ zs. client.number ∷ zs) (same_parts (λ (p : PassShown). p.number) others ws rs qs rs' parts (left_numbers ws ss qs ts long left_of) behind)
-        ∙ ap numbers (sym all))

@@ -82,18 +82,8 @@ module _ (P O D C : List PassShown) (n : ℕ) (own : O ≡ take 1 P) (some : 1 �
   pub new_desks : length D ≡ n → desks_in n (O ++ (D ++ C)) ≡ D
   new_desks e = ap (take n) others ∙ front_is D C n e
 
-  pub new_clients : length D ≡ n → clients_in n (O ++ (D ++ C)) ≡ C
-  new_clients e = ap (drop n) others ∙ rest_is D C n e
-
   pub new_all : (Q : PassShown → Type 0) → All Q P → All Q D → All Q C → All Q (O ++ (D ++ C))
   new_all Q all desks clients = All-append Q O (D ++ C) (subst (All Q) (sym own) (All-take Q 1 P all)) (All-append Q D C desks clients)
-
-  pub new_numbers : numbers D ≡ numbers (take n (drop 1 P)) → numbers C ≡ numbers (drop n (drop 1 P)) → numbers (O ++ (D ++ C)) ≡ numbers P
-  new_numbers d c =
-      let f : PassShown → ℕ = λ p. p.number in
-      let parts : numbers (D ++ C) ≡ numbers (take n (drop 1 P)) ++ numbers (drop n (drop 1 P)) = map-append f D C ∙ ap₂ ◌++◌ d c in
-      let back : numbers (D ++ C) ≡ numbers (drop 1 P) = parts ∙ (sym (map-append f (take n (drop 1 P)) (drop n (drop 1 P))) ∙ ap (map f) (take-append-drop n (drop 1 P))) in
-      map-append f O (D ++ C) ∙ (ap₂ ◌++◌ (ap (map f) own) back ∙ (sym (map-append f (take 1 P) (drop 1 P)) ∙ ap (map f) (take-append-drop 1 P)))
 
 -- what holds of all passes holds of the clients'
 pub rest_all : (Q : PassShown → Type 0) (P R C : List PassShown) (n : ℕ) → R ≡ drop 1 P → C ≡ drop n R → All Q P → All Q C

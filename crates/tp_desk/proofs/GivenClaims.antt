@@ -20,23 +20,6 @@ use Rattle.tp_manager.proofs.Calls.Follows.{steps_both}
 use Rattle.tp_manager.proofs.Calls.Points.{opening_later}
 use Rattle.tp_desk.specs.Given.{ClaimsGiven, GivenFails, HasOtherStage, HasUnwaitingOf}
 
--- a pass without units takes nothing
-pub no_units : (l : Limits) (stage id : ℕ) (p q : PassShown) (r : Result Work Refusal) → claims_in p.mine ≡ l.units
-    → MatchResult r (λ work. TakesId l id work p q) (ClaimIdFails l id p q) → ClaimsGiven l stage id p q r
-no_units l stage id p q (Ok work) none says = let room = says.opens.room in absurd (omega arith)
-no_units l stage id p q (Err refusals.NoUnit) none says = says
-no_units l stage id p q (Err refusals.NotThere) none says = says
-no_units l stage id p q (Err refusals.BadStage) none says = let room = says.0 in absurd (omega arith)
-no_units l stage id p q (Err refusals.NotWaiting) none says = let room = says.0 in absurd (omega arith)
-no_units l stage id p q (Err refusals.NoMemory) none says = absurd says
-no_units l stage id p q (Err refusals.BadLimits) none says = absurd says
-no_units l stage id p q (Err refusals.Full) none says = absurd says
-no_units l stage id p q (Err (refusals.Consumed u)) none says = absurd says
-no_units l stage id p q (Err refusals.AlreadyKilled) none says = absurd says
-no_units l stage id p q (Err refusals.NotParked) none says = absurd says
-no_units l stage id p q (Err refusals.NoRound) none says = absurd says
-no_units l stage id p q (Err refusals.NotHeld) none says = absurd says
-
 module _ (l : Limits) (n k : ℕ) (p m q : PassShown) (a : Follows n p m) (quiet : IsQuiet p m) (b : Follows k m q) where
   -- a point of the second call is one of both
   later_point : (P : List Event → Type 0) → AtPoint m q P → AtPoint p q P
@@ -104,10 +87,6 @@ module _ (l : Limits) (n k : ℕ) (p m q : PassShown) (a : Follows n p m) (quiet
   given_then stage id look (Err refusals.NotParked) server room reads is says = absurd says
   given_then stage id look (Err refusals.NoRound) server room reads is says = absurd says
   given_then stage id look (Err refusals.NotHeld) server room reads is says = absurd says
-
--- what was read isn't of the stage
-pub other_stage : (l : Limits) (stage id : ℕ) (p m : PassShown) (look : Look) → claims_in p.mine < l.units → IsQuiet p m → Reads l id p m look → look.element.stage ≢ stage → TookNone l p m (HasOtherStage stage id)
-other_stage l stage id p m look room quiet reads not = (room, quiet, (reads.0.0, reads.0.1, (look.element, reads.0.2.0, not)))
 
 -- nothing was read
 pub unread : (l : Limits) (stage id : ℕ) (p m : PassShown) (why : Refusal) → claims_in p.mine < l.units → IsQuiet p m → (why ≡ refusals.NotThere) × AtPoint p m (λ h. IsUnborn h id) → GivenFails l stage id p m why

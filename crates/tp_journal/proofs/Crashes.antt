@@ -13,9 +13,6 @@ use Rattle.tp_journal.proofs.Kept.{appended-sealed, sealed-front}
 use Rattle.tp_journal.proofs.Seals.{front-length}
 use Rattle.tp_journal.proofs.Texts.{rest-text, text-append}
 
-set-not-zero : (b : ℕ) → IsSet b → b ≡ 0 → ⊥
-set-not-zero b set is = grind (arith, nat_tests)
-
 plain-not-end : (b : ℕ) → IsPlain b → b ≡ 23 → ⊥
 plain-not-end b plain is = grind (arith, nat_tests)
 

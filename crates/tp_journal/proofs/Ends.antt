@@ -94,17 +94,6 @@ is_batch batch plain some ends = record {
       ∙ ap (λ (c : ℕ). take (length batch - 1) batch ++ c ∷ []) ends;
 }
 
--- the last byte of a batch ends a line
-pub batch-last : (batch : List ℕ) → IsBatch batch → (0 < length batch) × (get_or batch (length batch - 1) 0 ≡ 10)
-batch-last batch is = (
-  omega (arith, ap length is.ends, length-append is.front (10 ∷ [])),
-  ap (λ (l : List ℕ). get_or l (length l - 1) 0) is.ends ∙ ap (λ (n : ℕ). get_or (is.front ++ 10 ∷ []) n 0) (omega (arith, length-append is.front (10 ∷ []))) ∙ last is.front,
-)
-  where
-    last : (l : List ℕ) → get_or (l ++ 10 ∷ []) (length l) 0 ≡ 10
-    last [] = refl
-    last (x ∷ l) = last l
-
 -- an end begins with a mark
 pub end-marked : (text : List ℕ) → (rest : List ℕ) × (end_line text ≡ 35 ∷ rest)
 unfolding end_line

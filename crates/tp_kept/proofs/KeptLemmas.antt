@@ -107,30 +107,6 @@ batch_of lines (plain, inr t) some = record { plain = plain; front = t.0; ends =
 
 -- ---- the bytes that are to come
 
-pub rest_none : (line : List ℕ) (rest : Option (List ℕ)) → Consumes (coming [] line rest) (coming [] line rest) []
-rest_none line None = tt
-rest_none line (Some bytes) = refl
-
--- bytes were read, and taken behind what was there of a line
-pub rest_read : (line line' : List ℕ) (rest rest' : Option (List ℕ)) (bytes lines lines' : List ℕ) (puts : Puts bytes line lines line' lines') → Consumes rest rest' bytes → lines ≡ []
-    → Consumes (coming [] line rest) (coming lines' line' rest') []
-rest_read line line' None rest' bytes lines lines' puts consumes none = tt
-rest_read line line' (Some xs) None bytes lines lines' puts consumes none = absurd consumes
-rest_read line line' (Some xs) (Some ys) bytes lines lines' puts consumes none =
-    let added : lines' ≡ puts.added = puts.lines_are ∙ ap (λ l. l ++ puts.added) none in
-    ap (downs line) consumes ∙ (puts.follows ys ∙ ap (λ l. l ++ downs line' ys) (sym added))
-
-pub rest_then : (a b c : Option (List ℕ)) → Consumes a b [] → Consumes b c [] → Consumes a c []
-rest_then None b c p q = tt
-rest_then (Some x) None c p q = absurd p
-rest_then (Some x) (Some y) None p q = absurd q
-rest_then (Some x) (Some y) (Some z) p q = p ∙ q
-
--- at the end of the input nothing is to come behind a line that has ended
-pub rest_end : (rest : Option (List ℕ)) → IsAtEnd rest → IsAtEnd (coming [] [] rest)
-rest_end None end = tt
-rest_end (Some bytes) end = ap (downs []) end
-
 -- a front of what is ready was given
 pub rest_given : (ready line : List ℕ) (rest : Option (List ℕ)) (at n : ℕ) → Consumes (coming (drop at ready) line rest) (coming (drop (at + n) ready) line rest) (take n (drop at ready))
 rest_given ready line None at n = tt

@@ -13,18 +13,6 @@ module _ (bytes : List ℕ) (at : ℕ) (less : at < length bytes) where
   abbrev b : ℕ
   b = get_or bytes at 0
 
-  pub number_more : (n : ℕ) → is_digit b ≡ true → number_from n (drop at bytes) ≡ number_from (most (most (n * 10) + (b - 48))) (drop (at + 1) bytes)
-  number_more n is = at_drop_more (λ l. number_from n l) bytes at 0 less ∙ rw is refl
-
-  pub number_end : (n : ℕ) → is_digit b ≡ false → number_from n (drop at bytes) ≡ n
-  number_end n is = at_drop_more (λ l. number_from n l) bytes at 0 less ∙ rw is refl
-
-  pub behind_more : is_digit b ≡ true → behind_number (drop at bytes) ≡ behind_number (drop (at + 1) bytes)
-  behind_more is = at_drop_more (λ l. behind_number l) bytes at 0 less ∙ rw is refl
-
-  pub behind_end : is_digit b ≡ false → behind_number (drop at bytes) ≡ drop at bytes
-  behind_end is = at_drop_more (λ l. behind_number l) bytes at 0 less ∙ (rw is refl ∙ sym (at_drop_more (λ l. l) bytes at 0 less))
-
 -- ---- lines
 
 module _ (more less : ℕ) where

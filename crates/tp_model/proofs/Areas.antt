@@ -52,11 +52,6 @@ module _ (l : Limits) where
   part_alone h c d i row may = ⊎_elim (λ other. blocks_apart l.rows d c i other.1 other.2 row.1 row.2)
       (λ t. absurd (let inside = part_inside c i row in let behind = (block_inside t.1 i t.2).0 in omega arith)) may
 
-  -- a row of a block is of the pass alone that made all there
-  pub block_alone : (h : List Event) (c b i : ℕ) → IsRowOfBlock l b i → MayUse l h c i → IsBlockFor l h c b
-  block_alone h c b i row may = ⊎_elim (λ part. absurd (let inside = part_inside c i part in let behind = (block_inside b i row).0 in omega arith))
-      (λ t. subst (λ d. IsBlockFor l h c d) (one_block t.1 b i t.2 row) t.3) may
-
   -- areas
 
   pub own_area : (c : ℕ) (blocks : List ℕ) (first end : ℕ) → IsOwnArea l c blocks first end → IsArea l first end
@@ -81,23 +76,6 @@ module _ (l : Limits) where
       (λ t. absurd (let inside = part_inside t.0 i (row_of_part t.0 first' end' i t.1 low' high') in let at = s.1.1 in omega arith))
       (λ t. let from = s.1.1 in let to = s.1.2 in let from' = t.1.1 in let to' = t.1.2 in let same : s.0 ≡ t.0 = omega arith in (omega arith, omega arith)) area') area
 
-  -- the area of a row of a part is that part
-  pub area_of_part : (c first end i : ℕ) → IsRowOf l c i → IsArea l first end → first ≤ i → i < end → IsPart l c first end
-  area_of_part c first end i row area low high = let t = one_area first end (c * l.rows) (c * l.rows + l.rows) i area (inl (c, (row.0, refl, refl))) low high row.1 row.2 in (row.0, t.0, t.1)
-
-  -- the run of a pass that has done nothing is its part
-  pub fresh_run : (c : ℕ) → c < l.parts → IsRun l [] c [] (c * l.rows) l.rows
-  fresh_run c below = record {
-    drawn = tt;
-    first = c * l.rows;
-    end = c * l.rows + l.rows;
-    own = inl (below, refl, refl);
-    begins = omega arith;
-    ends = refl;
-    unborn = λ i low high. refl;
-    usable = λ i low high. inl (below, low, high);
-  }
-
   -- who made what is born in a block
 
   pub block_before : (h g : List Event) (c b : ℕ) → IsPrefix h g → IsBlockFor l g c b → IsBlockFor l h c b
@@ -106,17 +84,3 @@ module _ (l : Limits) where
   pub block_after : (h : List Event) (e : Event) (c b : ℕ) → IsBlockFor l h c b → ((x : Element) → In x (births e) → IsRowOfBlock l b x.id → pass_of e ≡ c) → IsBlockFor l (h ++ e ∷ []) c b
   block_after h e c b old new d x there_is made row = ⊎_elim (λ p. old d x p made row)
       (λ p. let same : d ≡ e = in_one p in ap pass_of same ∙ new x (subst (λ z. In x (births z)) same made) row) (in_either h (e ∷ []) there_is)
-
-  -- a pass that made something in a block made all that is born there
-  pub blocks_of_one : (h : List Event) → IsLegal l h → (e : Event) (x : Element) (b : ℕ) → In e h → In x (births e) → IsRowOfBlock l b x.id → IsBlockFor l h (pass_of e) b
-  blocks_of_one h legal = by_steps l (λ z. (e : Event) (x : Element) (b : ℕ) → In e z → In x (births e) → IsRowOfBlock l b x.id → IsBlockFor l z (pass_of e) b) (λ e x b p. absurd (in_none p)) more h legal
-    where
-      new : (h : List Event) (e : Event) (x : Element) (b : ℕ) → Step l h e → In x (births e) → IsRowOfBlock l b x.id → IsBlockFor l h (pass_of e) b
-      new h e x b step made row = block_alone h (pass_of e) b x.id row (births_of l h e x step made).0
-
-      more : (h : List Event) (d : Event) → IsLegal l h → Step l h d → ((e : Event) (x : Element) (b : ℕ) → In e h → In x (births e) → IsRowOfBlock l b x.id → IsBlockFor l h (pass_of e) b)
-          → (e : Event) (x : Element) (b : ℕ) → In e (h ++ d ∷ []) → In x (births e) → IsRowOfBlock l b x.id → IsBlockFor l (h ++ d ∷ []) (pass_of e) b
-      more h d legal step old e x b there_is made row = ⊎_elim
-          (λ p. block_after h d (pass_of e) b (old e x b p made row) (λ y q at. sym (new h d y b step q at e x p made row)))
-          (λ p. let same : e ≡ d = in_one p in subst (λ z. IsBlockFor l (h ++ d ∷ []) (pass_of z) b) (sym same)
-          (block_after h d (pass_of d) b (new h d x b step (subst (λ z. In x (births z)) same made) row) (λ y q at. refl))) (in_either h (d ∷ []) there_is)

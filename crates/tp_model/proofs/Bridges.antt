@@ -170,9 +170,6 @@ claim_by-none u (Requeue c i k) others = refl
 pub unused_still : (h : List Event) (e : Event) (u : ℕ) → IsUnused h u → ((c i n : ℕ) → Claim c u i n ≢ e) → IsUnused (h ++ e ∷ []) u
 unused_still h e u p others = first-snoc (claim_by u) h e ∙ (ap (λ o. option_or o (claim_by u e)) p ∙ claim_by-none u e others)
 
-pub unused_before : (h : List Event) (e : Event) (u : ℕ) → IsUnused (h ++ e ∷ []) u → IsUnused h u
-unused_before h e u p = (option_or-none (claim_of h u) (claim_by u e) (sym (first-snoc (claim_by u) h e) ∙ p)).0
-
 pub new_claim : (h : List Event) (c u i n : ℕ) → IsUnused h u → IsClaim (h ++ Claim c u i n ∷ []) c u i n
 new_claim h c u i n p = first-snoc (claim_by u) h (Claim c u i n) ∙ (ap (λ o. option_or o (claim_by u (Claim c u i n))) p ∙ if_same u u _ None refl)
 

@@ -179,14 +179,3 @@ row_empty h n none = next_row h n ∙ (ap (λ o. elements_below h n ++ cons_opti
 
 pub row_full : (h : List Event) (n : ℕ) (x : Element) → element_of h n ≡ Some x → elements_below h (n + 1) ≡ elements_below h n ++ x ∷ []
 row_full h n x is = next_row h n ∙ ap (λ o. elements_below h n ++ cons_option o []) is
-
-pub few_below : (h : List Event) (n : ℕ) → length (elements_below h n) ≤ n
-few_below h n = few 0 n
-  where
-    few : (a n : ℕ) → length (filter_map (element_of h) (range_with_len a n)) ≤ n
-    few a zero = omega arith
-    few a (suc n) = go (element_of h a) (few (a + 1) n)
-      where
-        go : (o : Option Element) → length (filter_map (element_of h) (range_with_len (a + 1) n)) ≤ n → length (cons_option o (filter_map (element_of h) (range_with_len (a + 1) n))) ≤ suc n
-        go None less = omega arith
-        go (Some x) less = omega arith

@@ -141,18 +141,6 @@ stage_counts limit h xs s d stage =
     let low : 1 ≤ s = stage.0 in let high : s ≤ 15 = stage.1 in
     mapped_index (λ z. counts_among limit h (in_stage z xs)) s 1 15 (s - 1) d (omega arith) (omega arith)
 
--- no count is above the number of elements
-pub few_in_all : (limit : ℕ) (h : List Event) (xs : List Element) (n : ℕ) → length xs ≤ n → all_in (account_among limit h xs).total ≤ n
-few_in_all limit h xs n few = let all = all_counted limit h xs in omega arith
-
-pub few_in_stage : (limit : ℕ) (h : List Event) (xs : List Element) (n s : ℕ) (d : Counts) → IsStage s → length xs ≤ n → all_in (slice_index_or (account_among limit h xs).stages (s - 1) d) ≤ n
-few_in_stage limit h xs n s d stage few =
-    let at = ap all_in (stage_counts limit h xs s d stage) in
-    let all = all_counted limit h (in_stage s xs) in
-    let passed = length-filter (λ (e : Element). e.stage == s) xs in
-    let less = count_by-le-length (λ (e : Element). e.stage == s) xs in
-    omega arith
-
 in_stage-last : (xs : List Element) (x : Element) (s : ℕ) → in_stage s (xs ++ x ∷ []) ≡ in_stage s xs ++ cond (x.stage == s) (x ∷ []) []
 in_stage-last xs x s = filter-append (λ (e : Element). e.stage == s) xs (x ∷ [])
 

@@ -15,10 +15,6 @@ use Rattle.tp_commands.specs.declared.place.Place.{Place}
 use Rattle.tp_perform.specs.Told.{AreReady}
 use Rattle.tp_perform.proofs.Gatherings.{ready_gathered}
 
--- free passes
-pub all_own_free : (m : ManagerShown) (ps : List PassShown) → All (IsOf m) ps → AreFree ps → All (IsFreePass m) ps
-all_own_free m ps own free i d within = record { own = own i d within; free = free i d within }
-
 module _ {X : Type 0} {F : X → Type 0} (behaviour : DynBox X Global F → Behaviour) (registers : DynBox X Global F → List ℕ) (pending : DynBox X Global F → Option Pending)
     (old new : Managed) (ss : List (DynBox X Global F)) (os : List (Place X F)) (is' : IsManaged new) (manager : new.manager ≡ old.manager) (given : new.keeper.given ≡ old.keeper.given)
     (gathers : Gathers old.manager.limits (gather_steps old.manager.limits (length old.passes.items)) old.keeper new.keeper old.passes.items new.passes.items)

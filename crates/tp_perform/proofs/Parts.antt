@@ -77,10 +77,6 @@ pub all_free : {X : Type 0} {F : X → Type 0} (os : List (Place X F)) → All (
 all_free os all i d within = free_now (get_or os i d) (all i d within)
 
 module _ {X : Type 0} {F : X → Type 0} (os : List (Place X F)) (front at : ℕ) where
-  pub passed_more : (d : Place X F) → at < length os → ArePassed front at os → is_free_at (get_or os at d) ≡ false → ArePassed front (at + 1) os
-  passed_more d within before one i e low high = elim (eqb_tells i at) [
-    | inl p ↦ ap is_free_at (ap (λ n. get_or os n e) p.1 ∙ get_or_default os at e d within) ∙ one
-    | inr p ↦ before i e low (omega (arith, high, p.1))
   ]
 
   pub passed_swapped : at < length os → front ≤ at → ArePassed front at os → ArePassed (front + 1) (at + 1) (swap os front at)

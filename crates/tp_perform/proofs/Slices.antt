@@ -97,24 +97,6 @@ module _ {X : Type 0} {F : X → Type 0} (behaviour : DynBox X Global F → Beha
       let one = began_number p q s t o.aside n.aside old.0 new.0 parts.0 in
       ap (λ z. z ∷ numbers qs) one ∙ ap (λ zs. p.number ∷ zs) (began_numbers ps qs ss ts os ns old.1 new.1 parts.1)
 
-  -- desks that ended have passes of the same numbers
-  ended_number : (p q : PassShown) (s t : Box) (a : Option (Aside X F)) → Lies behaviour registers pending p s a → IsLeft behaviour registers (option_map {U = PassShown × Box} (λ (x : Aside X F). (x.first_pass.value, x.first_server.value)) a) q t → q.number ≡ p.number
-  ended_number p q s t None lies left = absurd lies
-  ended_number p q s t (Some a) lies left = left.serves.number ∙ sym lies.serves.number
-
-  ended_numbers : (ps qs : List PassShown) (ss ts : List Box) (os : List (Place X F)) → AllLie behaviour registers pending ps ss os → AllLeft behaviour registers (firsts os) qs ts → numbers qs ≡ numbers ps
-  ended_numbers [] [] [] ts [] lie left = refl
-  ended_numbers [] (q ∷ qs) [] ts [] lie left = absurd left
-  ended_numbers [] qs [] ts (o ∷ os) lie left = absurd lie
-  ended_numbers [] qs (s ∷ ss) ts os lie left = absurd lie
-  ended_numbers (p ∷ ps) qs [] ts os lie left = absurd lie
-  ended_numbers (p ∷ ps) qs (s ∷ ss) ts [] lie left = absurd lie
-  ended_numbers (p ∷ ps) [] (s ∷ ss) ts (o ∷ os) lie left = absurd left
-  ended_numbers (p ∷ ps) (q ∷ qs) (s ∷ ss) [] (o ∷ os) lie left = absurd left
-  ended_numbers (p ∷ ps) (q ∷ qs) (s ∷ ss) (t ∷ ts) (o ∷ os) lie left =
-      let one = ended_number p q s t o.aside lie.0 left.0 in
-      ap (λ z. z ∷ numbers qs) one ∙ ap (λ zs. p.number ∷ zs) (ended_numbers ps qs ss ts os lie.1 left.1)
-
   -- passes that are told apart, and what is known of each part
   module _ (m : ManagerShown) (ps : List PassShown) (client : PassShown) (others ws rest front rear here back : List PassShown) (ss : List Box) (os : List (Place X F))
       (all : ps ≡ client ∷ others) (parts : others ≡ ws ++ rest) (many : length ws ≡ length ss) (before : rest ≡ front ++ rear) (race : rear ≡ here ++ back) (ready : Ready m ps ss os) where

@@ -34,10 +34,6 @@ use Rattle.tp_plain.proofs.PlainLemmas.{find-passes, looks_after}
 use Rattle.tp_plain.proofs.Claims.{mapped, found_contains}
 use Rattle.tp_plain.proofs.UnitEnds.{open_of}
 
-first_id-outputs : (u root id : ℕ) (ds : List DraftView) → first_id (outputs u root id ds) ≡ (if length ds == 0 then 0 else id)
-first_id-outputs u root id [] = refl
-first_id-outputs u root id (d ∷ ds) = sym (if_other (suc (length ds)) 0 0 id (λ e. omega arith))
-
 are_outputs : (l : Limits) (h : List Event) (c u root id : ℕ) (ds : List DraftView) → All IsWhole ds → ((i : ℕ) → id ≤ i → i < id + length ds → MayUse l h c i × IsUnborn h i) → AreOutputs l h c u root id (outputs u root id ds)
 are_outputs l h c u root id [] whole rows = tt
 are_outputs l h c u root id (d ∷ ds) whole rows = (

@@ -137,11 +137,6 @@ module _ (m : thread.State) (c : ℕ) (there : c < length m.passes) (work : Work
   settle_spends (Ok effect) = committed_spends effect (commit_of m c effect.drafts) (commit_spends m c there effect.drafts)
   settle_spends (Err why) = gives_up m c there
 
-  committed_claims : (effect : Effect) (r : Outcome × thread.State) → has_claimed (committed_as work effect r d).answer ≡ true
-  committed_claims effect (outcome.Committed first count, t) = refl
-  committed_claims effect (outcome.Lost, t) = refl
-  committed_claims effect (outcome.Full, t) = refl
-
 -- a turn begins a unit where it claims
 abbrev counts : Bool → ℕ
 counts true = 1

@@ -22,11 +22,6 @@ pub reports_done : (servers : List ServerView) (account : Bool) (cs : List Act) 
 unfolding reports
 reports_done servers account cs i s le = ap (λ (w : List Act). reports servers account w s) (drop_all i cs le)
 
--- the server at a place, without where it lies in memory
-pub server_there : (servers : List ScriptServer) (i : ℕ) (server : ScriptServer) → i < length servers → server ≡ get_or servers i server → slice_get (map server_view servers) i ≡ Some (server_view server)
-server_there servers i server less is =
-    slice_get-map server_view servers i ∙ ap (λ (o : Option ScriptServer). option_map server_view o) (slice_get_read servers (length servers) i server refl less is)
-
 -- a round, one desk after the other
 pub round_none : (order : Order) (servers : List ServerView) (s : ReportState) → round_below order servers 0 s ≡ (false, s)
 unfolding round_below

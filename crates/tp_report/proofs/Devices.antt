@@ -11,11 +11,6 @@ Appends-then (Some x) None c xs ys p q = absurd p
 Appends-then (Some x) (Some y) None xs ys p q = absurd q
 Appends-then (Some x) (Some y) (Some z) xs ys p q = q ∙ ap (λ (w : List ℕ). w ++ ys) p ∙ append_assoc x xs ys
 
-Keeps-Appends : (a b : Option (List ℕ)) → Keeps a b → Appends a b []
-Keeps-Appends None b k = tt
-Keeps-Appends (Some x) None k = k
-Keeps-Appends (Some x) (Some y) k = k ∙ sym (append-nil x)
-
 pub Appends-none : (a : Option (List ℕ)) → Appends a a []
 Appends-none None = tt
 Appends-none (Some x) = sym (append-nil x)
@@ -24,13 +19,6 @@ Appends-none (Some x) = sym (append-nil x)
 pub written_more : (a b c : Option (List ℕ)) (bytes rest : List ℕ) (n : ℕ) → IsWrittenUpTo a b bytes rest → Appends b c (take n rest) → IsWrittenUpTo a c bytes (drop n rest)
 written_more a b c bytes rest n so_far more =
     (so_far.0 ++ take n rest, so_far.1 ∙ ap (λ (w : List ℕ). so_far.0 ++ w) (sym (take-append-drop n rest)) ∙ sym (append_assoc so_far.0 (take n rest) (drop n rest)), Appends-then a b c so_far.0 (take n rest) so_far.2 more)
-
-pub written_all : (a b : Option (List ℕ)) (bytes rest : List ℕ) → length rest ≡ 0 → IsWrittenUpTo a b bytes rest → Appends a b bytes
-written_all a b bytes [] e so_far = rw (so_far.1, append-nil so_far.0) so_far.2
-written_all a b bytes (x ∷ rest) e so_far = absurd (omega arith)
-
-pub written_kept : (a b c : Option (List ℕ)) (bytes rest : List ℕ) → IsWrittenUpTo a b bytes rest → Keeps b c → IsWrittenUpTo a c bytes rest
-written_kept a b c bytes rest so_far kept = (so_far.0, so_far.1, rw (← append-nil so_far.0) (Appends-then a b c so_far.0 [] so_far.2 (Keeps-Appends b c kept)))
 
 -- ---- writing one line after the other
 

@@ -25,18 +25,6 @@ lines_front n most a b few w = (n, w.0, few, w.1, front_of a b w.0 [] (w.0, sym 
 pub nothing_written : (most : ℕ) (a : Option (List ℕ)) → WritesFront most a a
 nothing_written most a = lines_front 0 most a a (omega arith) (no_lines a)
 
--- some lines, and then others
-pub lines_then : (n m : ℕ) (a b c : Option (List ℕ)) → Writes n a b → Writes m b c → Writes (n + m) a c
-lines_then n m a b c p q = (p.0 ++ q.0, both n m p.0 q.0 p.1 q.1, Appends-then a b c p.0 q.0 p.2 q.2)
-
--- some lines, and then a prefix of others
-pub lines_then_front : (n m : ℕ) (a b c : Option (List ℕ)) → Writes n a b → WritesFront m b c → WritesFront (n + m) a c
-lines_then_front n m a b c p q = (n + q.0, p.0 ++ q.1, omega (arith, q.2), both n q.0 p.0 q.1 p.1 q.3, front_then a b c p.0 q.1 p.2 q.4)
-
--- a prefix of fewer lines
-pub front_fewer : (n m : ℕ) (a b : Option (List ℕ)) → n ≤ m → WritesFront n a b → WritesFront m a b
-front_fewer n m a b le w = (w.0, w.1, omega (arith, le, w.2), w.3, w.4)
-
 -- a line after n lines
 added : (n : ℕ) (front last : List ℕ) → AreLines n front → IsLine last → AreLines (n + 1) (front ++ last)
 added n front last lines is =
@@ -49,12 +37,3 @@ line_more n a b c last w is more = (w.0 ++ last, added n w.0 last w.1 is, Append
 
 pub line_front : (n most : ℕ) (a b c : Option (List ℕ)) (last : List ℕ) → n + 1 ≤ most → Writes n a b → IsLine last → AppendsFront b c last → WritesFront most a c
 line_front n most a b c last few w is front = (n + 1, w.0 ++ last, few, added n w.0 last w.1 is, front_then a b c w.0 last w.2 front)
-
--- the same where others may fail
-pub ok_then : {T E : Type 0} (r : Result T E) (n m : ℕ) (a b c : Option (List ℕ)) → Writes n a b → OnOk r (Writes m b c) → OnOk r (Writes (n + m) a c)
-ok_then (Ok x) n m a b c p q = lines_then n m a b c p q
-ok_then (Err e) n m a b c p q = tt
-
-pub err_then : {T E : Type 0} (r : Result T E) (n m : ℕ) (a b c : Option (List ℕ)) → Writes n a b → OnErr r (WritesFront m b c) → OnErr r (WritesFront (n + m) a c)
-err_then (Ok x) n m a b c p q = tt
-err_then (Err e) n m a b c p q = lines_then_front n m a b c p q

@@ -32,10 +32,6 @@ module _ {A B C D : Type 0} (r : Result C Stop) (why : Stop) (value : A → B) (
   pub stops_first : (next : B → Option D) (computed' : Option D) → computed' ≡ option_and_then next computed → Agrees (Err why) value computed → Agrees r value' computed'
   stops_first next computed' same e = passed_on computed' (λ n. same ∙ ap (option_and_then next) n) e
 
--- all that comes after a call that stopped does
-pub stopped : {A A' B D : Type 0} (why : Stop) (value : A → B) (value' : A' → D) (f : B → Option D) (o : Option B) → Agrees (Err why) value o → Agrees (Err why) value' (option_and_then f o)
-stopped why value value' f o e = none_too why value value' o (option_and_then f o) (λ none. ap (option_and_then f) none) e
-
 pub stopped_by : {A A' B D : Type 0} (r : Result A' Stop) (why : Stop) (value : A → B) (value' : A' → D) (f : B → Option D) (o : Option B) → IsErrAnd r (λ e. e ≡ why) → Agrees (Err why) value o → Agrees r value' (option_and_then f o)
 stopped_by r why value value' f o is e = stops_first r why value value' o is f (option_and_then f o) refl e
 
@@ -46,13 +42,3 @@ by_next (Ok id) call s s' next at cursor is made = ap (option_and_then (λ n. op
 by_next (Err stops.NoMemory) call s s' next at cursor is made = tt
 by_next (Err stops.Full) call s s' next at cursor is made = ap (option_and_then (λ n. option_and_then (λ made. Some (placed_by n.1 made)) (call n.0 s))) is ∙ ap (option_and_then (λ made. Some (placed_by cursor made))) made
 by_next (Err stops.Unequal) call s s' next at cursor is made = ap (option_and_then (λ n. option_and_then (λ made. Some (placed_by n.1 made)) (call n.0 s))) is ∙ ap (option_and_then (λ made. Some (placed_by cursor made))) made
-
--- what isn't full says nothing
-pub never_full : {A A' B D : Type 0} (r : Result A' Stop) (why : Stop) (value : A → B) (x : B) (value' : A' → D) (o : Option D) → IsErrAnd r (λ e. e ≡ why) → Agrees (Err why) value (Some x) → Agrees r value' o
-never_full (Ok a) why value x value' o is none = absurd is
-never_full (Err e) why value x value' o is none = subst (λ z. Agrees (Err z) value' o) (sym is) (one why none)
-  where
-    one : (why : Stop) → Agrees (Err why) value (Some x) → Agrees (Err why) value' o
-    one stops.NoMemory none = tt
-    one stops.Full none = absurd cc
-    one stops.Unequal none = absurd cc

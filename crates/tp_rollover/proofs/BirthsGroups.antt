@@ -41,11 +41,6 @@ named_more root first xs i d less = ap (λ k. named root first (take k xs)) (let
         (more root (first + 1) xs i d (omega (arith, less))
         ∙ ap (λ ms. named root (first + 1) (take i xs) ++ ms) (moved_as root (first + 1 + i) (first + suc i) (get_or xs i d) [] (omega arith)))
 
--- as many are named as there are
-pub named_long : (root first : ℕ) (xs : List Survivor) → length (named root first xs) ≡ length xs
-named_long root first [] = refl
-named_long root first (s ∷ xs) = ap suc (named_long root (first + 1) xs)
-
 -- what is born with them, and how many that are
 abbrev pub CountIs : Bool → ℕ → ℕ → Type 0
 CountIs more count n = ((more ≡ true) × (count ≡ n + 1)) ⊎ ((more ≡ false) × (count ≡ n))

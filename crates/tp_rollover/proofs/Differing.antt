@@ -63,9 +63,6 @@ module _ (k : Limits) (s : Survivor) (m : Moved) (p q r t : PassShown) (a : Stay
   to_r : IsPrefix p.seen r.seen
   to_r = begins_trans p.seen q.seen r.seen a.sees b.sees
 
-  pub no_element : HoldsAsSeen p q (λ h. IsUnborn h m.new) → HoldsAsSeen p q Differs
-  no_element none same stands = not_unborn k p.seen s m stands (none same)
-
   pub no_rounds : HoldsAsSeen q r (λ h. IsUnborn h m.new) → HoldsAsSeen p r Differs
   no_rounds none same stands = not_unborn k p.seen s m stands (told_second (λ h. IsUnborn h m.new) p.seen q.seen r.seen a.sees b.sees none same)
 

@@ -142,9 +142,6 @@ pub record IsUpTo (row : ℕ) (found : List ℕ) : Type 0 where
   pub once : Ascending 0 found
   pub below : (i : ℕ) → In i found → i < row
 
-pub up_none : IsUpTo 0 []
-up_none = record { once = tt; below = λ i p. elim p [ ] }
-
 pub up_next : (row : ℕ) (found found' : List ℕ) (o : Option ℕ) → IsUpTo row found → IfSome o (λ id. id ≡ row) → found' ≡ found ++ listed o → IsUpTo (row + 1) found'
 up_next row found found' None up same is = subst (IsUpTo (row + 1)) (sym (is ∙ append_nil found)) (record { once = up.once; below = λ i p. (let less = up.below i p in omega arith) })
 up_next row found found' (Some id) up same is =

@@ -81,19 +81,3 @@ module _ (l k : Limits) (old' new' : KeeperShown) (olds olds' news : List PassSh
 
 pub free_is_plain : FreeIsPlain
 free_is_plain l k old' new' olds olds' news moved r free = (plain l k old' new' olds olds' news moved r free, free_again l k old' new' olds olds' news moved r free)
-
--- where no pass holds what was described, none has a unit open once it stands again
-pub unheld_free : (k : Limits) (g : List Event) (ps : List PassShown) (survivors : List Survivor) (moved : List Moved) → AreHands k g ps survivors moved → AreUnheld survivors → AreFree ps
-unheld_free k g ps survivors moved hands unheld = λ i d less. hands.free (get_or ps i d) (in_at ps i d less)
-    (λ holder. none_holds holder.0 (get_or ps i d).number (each_of (λ (s : Survivor). s.holder ≡ None) survivors holder.0 unheld holder.1) holder.2)
-  where
-    none_holds : (s : Survivor) (c : ℕ) → s.holder ≡ None → s.holder ≡ Some c → ⊥
-    none_holds s c none some = let q : None ≡ Some c = sym none ∙ some in absurd cc
-
--- and what passes without a unit hold is nothing
-pub free_unheld : (ps : List PassShown) (survivors : List Survivor) → AreFree ps → AreInHand ps survivors → AreUnheld survivors
-free_unheld ps survivors free hands = λ k d less. go (get_or survivors k d).holder (hands k d less)
-  where
-    go : (o : Option ℕ) → IfSome o (HasOpen ps) → o ≡ None
-    go None is = refl
-    go (Some c) is = absurd (none_open ps c free is)

@@ -39,9 +39,6 @@ module _ (l : Limits) (ps : List PassShown) (h : List Event) (c : ℕ) (p : Pass
   pub gives_open : is_some (get_or ps c p).open_unit ≡ true → hand_given_up c (thread_of l ps h) ≡ (abort_of (thread_of l ps h) c).1
   gives_open some = ap (λ b. cond b (abort_of (thread_of l ps h) c).1 (thread_of l ps h)) (in_hand ∙ some)
 
-  pub gives_none : is_some (get_or ps c p).open_unit ≡ false → hand_given_up c (thread_of l ps h) ≡ thread_of l ps h
-  gives_none none = ap (λ b. cond b (abort_of (thread_of l ps h) c).1 (thread_of l ps h)) (in_hand ∙ none)
-
 pub steps_open : (l : Limits) (q : ℕ) (ps : List PassShown) (p : PassShown) → 1 ≤ length ps → is_some (get_or ps 0 p).open_unit ≡ true → give_up_steps l q ps ≡ gathered l q abort_steps
 steps_open l q [] p some open_is = absurd (omega (arith, some))
 steps_open l q (x ∷ ps) p some open_is = ap (λ b. cond b (gathered l q abort_steps) 0) open_is

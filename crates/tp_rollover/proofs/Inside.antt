@@ -57,15 +57,10 @@ module _ (s t : State) (c i : ℕ) (w : Work) (inside : c < length s.passes) whe
 -- ---- a pass that has nothing in hand
 
 module _ {A : Type 0} (s : State) (c : ℕ) (made : Option A) where
-  pub free_none : (pass_at s c).holding ≡ None → if_free c s made ≡ made
-  free_none none = ap (λ o. if is_none o then made else None) none
 
   taken_some : (o : Option ℕ) → is_some o ≡ true → (if is_none o then made else None) ≡ None
   taken_some None some = absurd cc
   taken_some (Some u) some = refl
-
-  pub free_some : is_some (pass_at s c).holding ≡ true → if_free c s made ≡ None
-  free_some some = taken_some (pass_at s c).holding some
 
 pub is_nothing : (o : Option ℕ) → is_some o ≡ false → o ≡ None
 is_nothing None is = refl

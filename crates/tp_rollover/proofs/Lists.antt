@@ -42,15 +42,6 @@ in_map f [] x p = elim p [ ]
 in_map f (y ∷ ys) x here = here
 in_map f (y ∷ ys) x (there p) = there (in_map f ys x p)
 
-pub from_map : {A B : Type 0} (f : A → B) (xs : List A) (y : B) → In y (map f xs) → (x : A) × In x xs × (f x ≡ y)
-from_map f [] y p = elim p [ ]
-from_map f (x ∷ xs) y here = (x, here, refl)
-from_map f (x ∷ xs) y (there p) = let t = from_map f xs y p in (t.0, there t.1, t.2)
-
--- a loop has come to the end of the list
-pub in_taken : {A : Type 0} (m : A) (xs : List A) (i : ℕ) → length xs ≤ i → i ≤ length xs → In m xs → In m (take i xs)
-in_taken m xs i low high p = subst (λ k. In m (take k xs)) (let e : length xs ≡ i = omega (arith, low, high) in e) (in_all_taken m xs p)
-
 -- two lists, place by place, and one more of each
 pub zip_snoc : {A B : Type 0} (R : A → B → Type 0) (xs : List A) (ys : List B) (x : A) (y : B) → AllZip R xs ys → R x y → AllZip R (xs ++ x ∷ []) (ys ++ y ∷ [])
 zip_snoc R [] [] x y zip last = (last, tt)

@@ -154,9 +154,3 @@ module _ (m : Managed) (keeper : KeeperShown) (qs : List PassShown) (h : IsManag
       let t = subst (λ n. made_anew m.manager.limits n survivors (start m.manager.limits) ≡ Some (moved, lone m.manager keeper qs)) long made in
       let u = subst (λ z. made_anew z l.parts survivors (start z) ≡ Some (moved, thread_of z qs keeper.seen)) same t in
       subst (λ ps. made_anew l l.parts survivors (start l) ≡ Some (moved, thread_of l ps keeper.seen)) (sym again_is) u
-
-  pub rolls_again : (l k : Limits) (old' : KeeperShown) (olds olds' : List PassShown) (moved : List Moved) → Rolls l k old' keeper olds olds' qs moved → Rolls l k old' keeper olds olds' (with_items m.passes qs).items moved
-  rolls_again l k old' olds olds' moved rolls = subst (λ ps. Rolls l k old' keeper olds olds' ps moved) (sym again_is) rolls
-
-  pub restores_again : (k : Limits) (survivors : List Survivor) (moved : List Moved) → Restores k keeper qs survivors moved → Restores k keeper (with_items m.passes qs).items survivors moved
-  restores_again k survivors moved restores = subst (λ ps. Restores k keeper ps survivors moved) (sym again_is) restores

@@ -171,9 +171,6 @@ some_is : (o : Option ℕ) → is_some o ≡ true → (u : ℕ) × (o ≡ Some u
 some_is None is = absurd cc
 some_is (Some u) is = (u, refl)
 
-pub open_at : (ps : List PassShown) (c : ℕ) (d : PassShown) → AreNumberedFrom 0 ps → c < length ps → is_some (get_or ps c d).open_unit ≡ true → HasOpen ps c
-open_at ps c d from less is = let u = some_is (get_or ps c d).open_unit is in (get_or ps c d, in_at ps c d less, (let e = number_at 0 ps c d from less in omega (arith, e)), u.0, u.1)
-
 -- also where the passes have done nothing but look
 open_stays : (ps qs : List PassShown) → AllZip Stays ps qs → (c : ℕ) → HasOpen qs c → HasOpen ps c
 open_stays ps qs zip c has = let t = zip_of_right Stays ps qs has.0 zip has.1 in (t.0, t.1, sym t.2.number ∙ has.2, has.3, sym t.2.quiet.open_unit ∙ has.4)

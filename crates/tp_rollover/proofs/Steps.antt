@@ -16,10 +16,6 @@ one_makes n [] i p d less makes = absurd (omega (arith, less))
 one_makes n (q ∷ ps) zero p d less makes = omega (arith, makes)
 one_makes n (q ∷ ps) (suc i) p d less makes = let rest = one_makes n ps i p d (omega (arith, less)) makes in omega (arith, rest)
 
--- the same of the first
-pub first_makes : (n : ℕ) (ps qs : List PassShown) (p q : PassShown) → ps ≡ p ∷ qs → PassMakes n p q → PassesMake n ps (q ∷ qs)
-first_makes n ps qs p q is makes = let e = ap steps_made is in omega (arith, makes, e)
-
 -- steps that are counted by pass
 pub together_make : (ps qs : List PassShown) → length qs ≡ length ps → steps_made qs ≤ steps_made ps + steps_together ps qs
 together_make [] [] same = omega arith
@@ -33,10 +29,6 @@ once_more i n = let e = add-mul i 1 n in omega (arith, e)
 
 pub no_more : (i j n : ℕ) → i ≤ j → i * n ≤ j * n
 no_more i j n less = mul-le-mul_right n less
-
--- one of the rest is some of them
-pub some_times : (i n : ℕ) → 1 ≤ i → n ≤ i * n
-some_times i n some = let e = mul-le-mul_right n some in omega (arith, e)
 
 -- the next of n
 pub next_of : (i n c : ℕ) → i < n → i * c + c ≤ n * c
@@ -64,9 +56,6 @@ stays_less i n limit a b less =
 -- rounds of all attempts
 pub rounds_next : (l : Limits) (q i n : ℕ) → i < n → replay_steps l q (i * l.attempts) i + (l.attempts * attempt_steps l q + gathered l q requeue_steps) ≤ replay_steps l q (n * l.attempts) n
 rounds_next l q i n less = grows i n l.attempts (attempt_steps l q) (gathered l q requeue_steps) less
-
-pub rounds_done : (l : Limits) (q i n : ℕ) → i ≤ n → replay_steps l q (i * l.attempts) i ≤ replay_steps l q (n * l.attempts) n
-rounds_done l q i n less = stays_less i n l.attempts (attempt_steps l q) (gathered l q requeue_steps) less
 
 -- one more round, as far as it has come
 module _ (l : Limits) (q i n a : ℕ) (k k1 k2 k3 : KeeperShown) (ps ps1 ps2 ps3 : List PassShown) (less : i < n) (same : a ≡ l.attempts) (given : k1.given ≡ q)

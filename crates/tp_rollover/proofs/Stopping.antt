@@ -79,9 +79,6 @@ module _ (l : Limits) where
 
   -- ---- why looks stop
 
-  pub stops_memory : (p q : PassShown) (Holds : List Event → Type 0) (stop : Stop) → stop ≡ NoMemory → StopsLooking p q Holds stop
-  stops_memory p q Holds stop is = subst (StopsLooking p q Holds) (sym is) tt
-
   -- its root isn't there
   pub stops_root : (id : ℕ) (look : Look) (p q r : PassShown) → Stays p q → Stays q r → HoldsAsSeen p q (IsLook l id look) → HoldsAsSeen q r (λ h. IsUnborn h look.element.root)
       → StopsLooking p r (λ h. IsLegal l h × StandsLiving l.attempts id h) Unequal

@@ -31,12 +31,8 @@ count_is limit a h n is counted = ap (λ (b : Account). b.total.waiting + b.tota
 
 -- a survey has come so far
 module _ (l : Limits) (p n : ℕ) (keeper keeper1 : KeeperShown) (olds olds1 : List PassShown) (counted : AllMake (account_steps l p) keeper olds keeper1 olds1) where
-  pub survey_counted : AllMake (survey_steps l p n) keeper olds keeper1 olds1
-  survey_counted = omega (arith, counted)
 
   module _ (olds2 : List PassShown) (found : PassesMake (search_steps l n + n * describe_steps l) olds1 olds2) where
-    pub survey_found : AllMake (survey_steps l p n) keeper olds keeper1 olds2
-    survey_found = omega (arith, counted, found)
 
     pub survey_gathered : (keeper2 : KeeperShown) (olds3 : List PassShown) → AllMake (gather_steps l p) keeper1 olds2 keeper2 olds3 → AllMake (survey_steps l p n) keeper olds keeper2 olds3
     survey_gathered keeper2 olds3 gathered = omega (arith, counted, found, gathered)
@@ -67,8 +63,6 @@ module _ (k : Limits) (q n : ℕ) (k0 k1 k2 : KeeperShown) (ps0 ps1 ps2 : List P
       again_counted = let e = each_renewed in let f = all_born in let g = all_replayed in let h = all_counted in omega (arith, e, f, g, h, began)
 
       module _ (ps5 : List PassShown) (held : PassesMake (n * compare_steps k) ps4 ps5) where
-        pub again_held : AllMake (most_new_steps k q n) k0 ps0 k4 ps5
-        again_held = let e = each_renewed in let f = all_born in let g = all_replayed in let h = all_counted in omega (arith, e, f, g, h, began, held)
 
         module _ (k5 : KeeperShown) (ps6 : List PassShown) (given4 : k4.given ≡ k3.given) (gathered : AllMake (gather_steps k k4.given) k4 ps5 k5 ps6) where
           all_gathered : AllMake (gather_steps k q) k4 ps5 k5 ps6
@@ -111,9 +105,6 @@ module _ (k : Limits) (q : ℕ) (survivors : List Survivor) (k0 k1 k2 : KeeperSh
 -- for no more than were counted
 pub most_for : (k : Limits) (q a n : ℕ) (keeper keeper' : KeeperShown) (news news' : List PassShown) → a ≤ n → AllMake (most_new_steps k q a) keeper news keeper' news' → AllMake (most_new_steps k q n) keeper news keeper' news'
 most_for k q a n keeper keeper' news news' few made = let e = no_more a n (renewal_steps k q) few in let f = no_more a n (compare_steps k) few in omega (arith, e, f, made)
-
-pub most_none : (k : Limits) (q n : ℕ) (keeper : KeeperShown) (news : List PassShown) → AllMake (most_new_steps k q n) keeper news keeper news
-most_none k q n keeper news = omega arith
 
 -- and the old ones to the end
 pub old_buried : (l : Limits) (p q n : ℕ) (keeper keeper1 keeper2 : KeeperShown) (olds olds1 olds2 : List PassShown) → AllMake (survey_steps l p n) keeper olds keeper1 olds1 → q ≡ p

@@ -30,16 +30,6 @@ missed_told kind v w l x word r lim there at t = t.1 x (subst (λ (z : Limits). 
 pub found_told : (h : List Event) (k l : Limits) (x : Word) (word r : ℕ) → k ≡ l → IsThere l x → word ≡ place_of l x → Found k h word r → WordIs h x r
 found_told h k l x word r lim there at t = t x (subst (λ (z : Limits). IsThere z x) (sym lim) there) (at ∙ ap (λ (z : Limits). place_of z x) (sym lim))
 
--- what was unpacked is what was packed
-pub map_none : {A B : Type 0} (f : A → B) (o : Option A) (y : B) → o ≡ None → option_map f o ≡ Some y → ⊥
-map_none {B = B} f o y a b = let q : ◌≡◌ {A = Option B} None (Some y) = sym (ap (option_map f) a) ∙ b in absurd cc
-
-pub map_some : {A B : Type 0} (f : A → B) (o : Option A) (x : A) (y : B) → o ≡ Some x → option_map f o ≡ Some y → f x ≡ y
-map_some f o x y a b = let q : Some (f x) ≡ Some y = sym (ap (option_map f) a) ∙ b in cc
-
-pub of_some : {A : Type 0} (o : Option A) (x y : A) → o ≡ Some x → o ≡ Some y → x ≡ y
-of_some o x y a b = cc
-
 pub not_none : {A : Type 0} (o : Option A) (y : A) → o ≡ None → o ≡ Some y → ⊥
 not_none {A} o y a b = let q : ◌≡◌ {A = Option A} None (Some y) = sym a ∙ b in absurd cc
 
@@ -51,9 +41,3 @@ one_after kind f seen known v w one is = let g : Hand → Hand = λ z. noted kin
 -- what was seen before begins what is seen now
 pub grew_begins : (kind : StepKind) (f : Hand → Hand) (es : List Event) (v w : View) → Grew kind f es v w → IsPrefix v.seen w.seen
 grew_begins kind f es v w g = (g.between ++ es, sym (append_assoc v.seen g.between es) ∙ sym g.seen)
-
--- a client's head is that of a born element
-pub client_born : (h : List Event) (row stage root : ℕ) (head : Head) → head ≡ Filled stage root None → (IsUnborn h row → IsDraft head) → ((e : Element) → element_of h row ≡ Some e → head ≡ head_of e)
-    → (x : Element) × (element_of h row ≡ Some x) × (x.stage ≡ stage) × (x.root ≡ root)
-client_born h row stage root head is draft full = ⊎_elim (λ t. let p = born_at h row t.0 t.1 t.2 in let e : Filled t.0.stage t.0.root t.0.by ≡ Filled stage root None = sym (full t.0 p) ∙ is in (t.0, p, cc, cc))
-    (λ un. absurd (subst IsDraft is (draft un) refl)) (born_or_not h row)

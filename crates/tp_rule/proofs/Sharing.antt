@@ -30,10 +30,6 @@ abbrev among : ℕ → List Hand → Bool
 among c [] = false
 among c (a ∷ hs) = cond (eqb a.number c) true (among c hs)
 
-among_or : (b : Bool) (rest : Bool) → cond b true rest ≡ true → (b ≡ true) ⊎ (rest ≡ true)
-among_or true rest e = inl refl
-among_or false rest e = inr e
-
 among_in : (c : ℕ) (hs : List Hand) (a : Hand) → In a hs → a.number ≡ c → among c hs ≡ true
 among_in c [] a p e = absurd (in_none p)
 among_in c (b ∷ hs) a p e = ⊎_elim (λ is. ap (λ t. cond t true (among c hs)) (eq-eqb b.number c (ap (λ (z : Hand). z.number) (sym is) ∙ e)))

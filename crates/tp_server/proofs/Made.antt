@@ -15,11 +15,6 @@ made_of behaviour r x None drafts r' made is = absurd made
 made_of behaviour r x (Some p) drafts r' (same, allowed) is =
     subst (λ (l : List ℕ). Allows behaviour r x (Ok (record { registers = l; drafts = drafts }))) (sym (same_some r' p.registers is)) allowed
 
--- prepared work may come to its drafts
-pub makes_of : (behaviour : Behaviour) (r : List ℕ) (x : Element) (pending : Option Pending) (drafts : List DraftView) → IsMade behaviour r x pending drafts → Makes behaviour r x drafts
-makes_of behaviour r x None drafts made = absurd made
-makes_of behaviour r x (Some p) drafts (same, allowed) = (p.registers, allowed)
-
 -- one chain after another
 pub folds-append : (behaviour : Behaviour) (start mid end : List ℕ) (xs ys : List Done) → Folds behaviour start xs mid → Folds behaviour mid ys end
     → Folds behaviour start (xs ++ ys) end

@@ -5,7 +5,7 @@ use Rattle.tp_model.specs.declared.types.Element.{Element}
 use Rattle.tp_server.specs.declared.recipe.Declined.{Declined}
 use Rattle.tp_server.specs.declared.recipe.Recipe.{Recipe}
 use Rattle.tp_server.specs.Behaviour.{Allows, Done, Folds, Makes, behaviour_of}
-use Rattle.tp_server.specs.Effect.{drafts_after, effect_of, fold_from, fold_of, registers_after}
+use Rattle.tp_server.specs.Effect.{effect_of, fold_from, fold_of, registers_after}
 
 -- it is the fold of the recipe
 pub folds_recipe : (recipe : Recipe) (start : List ℕ) (ds : List Done) (end : List ℕ) → Folds (behaviour_of recipe) start ds end
@@ -13,10 +13,6 @@ pub folds_recipe : (recipe : Recipe) (start : List ℕ) (ds : List Done) (end : 
 folds_recipe recipe start [] end same = ap Some same
 folds_recipe recipe start (d ∷ ds) end (next, (heard, came), others) =
     ap (λ x. fold_from recipe (registers_after x) (map (λ (d : Done). d.element) ds)) came ∙ folds_recipe recipe next ds end others
-
--- it makes the drafts of the recipe
-pub makes_recipe : (recipe : Recipe) (r : List ℕ) (x : Element) (drafts : List DraftView) → Makes (behaviour_of recipe) r x drafts → drafts_after (effect_of recipe r x) ≡ Ok drafts
-makes_recipe recipe r x drafts (after, (heard, came)) = ap drafts_after came
 
 -- it declines what the recipe declines
 pub declines_recipe : (recipe : Recipe) (r : List ℕ) (x : Element) (why : Declined) → Allows (behaviour_of recipe) r x (Err why) → effect_of recipe r x ≡ Err why

@@ -85,11 +85,6 @@ abbrev pub registers_after : Result Effect Declined → Option (List ℕ)
 registers_after (Ok e) = Some e.registers
 registers_after (Err why) = None
 
--- the drafts that an effect makes, or why it was declined
-abbrev pub drafts_after : Result Effect Declined → Result (List DraftView) Declined
-drafts_after (Ok e) = Ok e.drafts
-drafts_after (Err why) = Err why
-
 -- the registers after the effects of the elements in order, from registers that are there only if nothing was
 -- declined yet
 abbrev pub fold_from : Recipe → Option (List ℕ) → List Element → Option (List ℕ)

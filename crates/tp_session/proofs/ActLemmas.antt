@@ -47,7 +47,7 @@ use Rattle.tp_session.specs.declared.held.Held.{Held}
 use Rattle.tp_session.proofs.LiveLemmas.{is_live, live_of, live_there}
 use Rattle.tp_session.proofs.OpenLemmas.{live_open}
 use Rattle.tp_session.proofs.OverviewLemmas.{shown_holds}
-use Rattle.tp_session.proofs.PassLemmas.{client_first, held_first, held_set, racers_are, ready_first, ready_set, numbered_set, scene_first, scene_set, worker_there}
+use Rattle.tp_session.proofs.PassLemmas.{client_first, held_set, racers_are, ready_set, numbered_set, scene_first, scene_set, worker_there}
 
 -- what is written back as a slice is what was lent
 pub refilled : {A : Type 0} (n : ℕ) (xs ws : List A) → n ≡ length xs → length ws ≡ length xs → take n (ws ++ drop (length ws) xs) ≡ ws
@@ -236,18 +236,6 @@ module _ {X : Type 0} {F : X → Type 0} (behaviour : DynBox X Global F → Beha
       (servers : new.servers.items ≡ old.servers.items) (places : new.places.items ≡ old.places.items) (works : new.works.items ≡ old.works.items) where
     some_client : 1 ≤ length old.managed.passes.items
     some_client = omega (arith, held.parts)
-
-    pub client_held : IsFreePass old.managed.manager p → AreAll new.managed.keeper new.managed.passes.items → IsHeldBySession behaviour registers pending head new
-    client_held free all =
-        held_on head old new held manager (subst (λ m. IsKeptBy m new.managed.keeper) (sym manager) (subst (IsKeptBy old.managed.manager) (sym keeper) held.managed.keeper)) all
-        (subst (λ m. AreReady behaviour registers pending m new.managed.passes.items new.servers.items new.places.items) (sym manager)
-        (subst (λ ps. AreReady behaviour registers pending old.managed.manager ps new.servers.items new.places.items) (sym passes)
-        (subst (λ ss. AreReady behaviour registers pending old.managed.manager (slice_set old.managed.passes.items 0 p) ss new.places.items) (sym servers)
-        (subst (λ os. AreReady behaviour registers pending old.managed.manager (slice_set old.managed.passes.items 0 p) old.servers.items os) (sym places)
-        (ready_first behaviour registers pending old.managed.manager p old.servers.items old.places.items old.managed.passes.items some_client free held.ready)))))
-        (ap length passes ∙ length-set old.managed.passes.items 0 p) (ap length servers) (ap length works) (subst (λ (zs : List Holding). All (λ x. x ≡ Nothing) (drop (length head.workers.items) zs)) (sym works) held.racers)
-        (ap (λ ss. units_held (length ss) new.managed.passes.items) servers ∙ (ap (units_held (length old.servers.items)) passes
-        ∙ (held_first behaviour registers pending (length old.servers.items) p old.managed.passes.items ∙ (held.in_hand ∙ ap (map unit_of) (sym works)))))
 
     pub client_leads : new.notes ≡ old.notes → (text : List ℕ) (b : Bool) (d : PassShown) → b ≡ (list_any has_unit old.works.items || list_any (λ o. is_some (work_in o.aside)) old.places.items) → d ≡ get_or old.managed.passes.items 0 d → TellsAccount old.managed.manager b d text p
         → Leads behaviour registers pending (λ a b. ClientCounts a text b) old new

@@ -28,15 +28,6 @@ abbrev pub HeadSoFar : Option (List ℕ) → Option (List ℕ) → ℕ → HeadV
 HeadSoFar a b n old new w x answers prior =
     HeadLinesTold (λ taken. Hears a taken b × (length taken ≡ n)) old new (λ text. Tells w x answers (prior ++ text))
 
-pub head_none : (a : Option (List ℕ)) (old : HeadView) (w : Option (List ℕ)) (prior : List ℕ) → HeadSoFar a a 0 old old w w prior prior
-head_none a old w prior = record {
-  taken = [];
-  heard = (Hears-none a, refl);
-  text = [];
-  lines = (refl, refl);
-  told = subst (Tells w w prior) (sym (append-nil prior)) (told_none w prior);
-}
-
 -- a line of the head more
 pub head_next : (a b b' b'' : Option (List ℕ)) (n : ℕ) (old mid new : HeadView) (w x y : Option (List ℕ)) (kept answers answers' answers'' prior : List ℕ)
     → HeadSoFar a b n old mid w x answers prior → Next true b kept b' → Tells x y answers' answers → b'' ≡ b'

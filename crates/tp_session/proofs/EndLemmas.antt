@@ -52,9 +52,3 @@ module _ {X : Type 0} {F : X → Type 0} (behaviour : DynBox X Global F → Beha
 
     pub all_left : (ts : List (DynBox X Global F)) → AllLeft behaviour registers (firsts os) qs ts → AllLeft behaviour registers (firsts os) (workers (length ss) (client ∷ (qs ++ rs))) ts
     all_left ts left = subst (λ zs. AllLeft behaviour registers (firsts os) zs ts) (sym (workers_are behaviour registers pending (length ss) client qs rs (long ∙ many))) left
-
-    pub all_given_up : AllZip WorkerGivesUp (hands rest works) (hands rs works') → AllZip WorkerGivesUp (hands (after_servers (length ss) ps) works) (hands (after_servers (length ss) (client ∷ (qs ++ rs))) works')
-    all_given_up given =
-        let rear : after_servers (length ss) (client ∷ (qs ++ rs)) ≡ rs = ap (λ n. drop n (qs ++ rs)) (sym (long ∙ many)) ∙ drop-append_seam qs rs in
-        subst (λ zs. AllZip WorkerGivesUp (hands zs works) (hands (after_servers (length ss) (client ∷ (qs ++ rs))) works')) (sym behind)
-        (subst (λ zs. AllZip WorkerGivesUp (hands rest works) (hands zs works')) (sym rear) given)

@@ -190,9 +190,6 @@ reads_on a b c kept so_far p = record {
   kept_is = so_far.kept_is;
 }
 
-pub reads_none : (a : Option (List ℕ)) → ReadsLine a a []
-reads_none a = record { bytes = []; in_line = All-nil (λ b. (b == 10) ≡ false); consumed = Consumes-none a; kept_is = refl }
-
 -- it has ended
 pub read_whole : (a b c : Option (List ℕ)) (kept : List ℕ) → ReadsLine a b kept → Consumes b c (10 ∷ []) → Next true a kept c
 read_whole a b c kept so_far p = (so_far.bytes, so_far.kept_is, hears_next a c so_far.bytes so_far.in_line (Consumes-then a b c so_far.bytes (10 ∷ []) so_far.consumed p))

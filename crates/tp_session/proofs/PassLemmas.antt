@@ -131,15 +131,3 @@ module _ {X : Type 0} {F : X → Type 0} (behaviour : DynBox X Global F → Beha
     pub scene_first : (ps : List PassShown) (s : Scene) → IsScene behaviour registers pending ps ss os s → IsScene behaviour registers pending (slice_set ps 0 p) ss os (record s { client = p })
     scene_first [] s is = let e : [] ≡ s.client ∷ (workers (length ss) [] ++ s.racers) = is.0 in absurd cc
     scene_first (q ∷ qs) s is = (ap (λ zs. p ∷ zs) (first_same q s.client qs (take (length ss) qs ++ s.racers) is.0).1, is.1)
-
-    pub ready_first : (ps : List PassShown) → 1 ≤ length ps → IsFreePass m p → AreReady behaviour registers pending m ps ss os → AreReady behaviour registers pending m (slice_set ps 0 p) ss os
-    ready_first [] some free ready = absurd (omega (arith, some))
-    ready_first (q ∷ qs) some free ready = record {
-      own = all_set (IsOf m) (q ∷ qs) 0 p free.own ready.own;
-      client = All-cons (IsFreePass m) p [] free (All-nil (IsFreePass m));
-      lie = ready.lie;
-    }
-
-  pub held_first : (n : ℕ) (p : PassShown) (ps : List PassShown) → units_held n (slice_set ps 0 p) ≡ units_held n ps
-  held_first n p [] = refl
-  held_first n p (q ∷ qs) = refl

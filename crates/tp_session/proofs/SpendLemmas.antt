@@ -14,10 +14,6 @@ Gave n old None new after = Unit {0}
 Gave n old (Some before) new None = ⊥
 Gave n old (Some before) new (Some after) = old.left + length after ≤ new.left + length before + n
 
-pub gave_none : (a b : Lines) (rest : Option (List ℕ)) → b.left ≡ a.left → Gave 0 a rest b rest
-gave_none a b None left = tt
-gave_none a b (Some bytes) left = omega (arith, left)
-
 pub spends_none : (l : Lines) (rest : Option (List ℕ)) → Spends 0 l rest l rest
 spends_none l None = tt
 spends_none l (Some bytes) = omega arith
@@ -85,21 +81,4 @@ spends_same n a b c None y p left same = tt
 spends_same n a b c (Some x) None p left same = absurd p
 spends_same n a b c (Some x) (Some y) p left same = omega (arith, p, left, ap length same, length-append (unused b) y, length-append (unused c) y)
 
-pub spends_long : (a b : Lines) (x y : Option (List ℕ)) → Spends 0 a x b y → IsLong b y → IsLong a x
-spends_long a b None y p long = tt
-spends_long a b (Some x) None p long = absurd p
-spends_long a b (Some x) (Some y) p long = omega (arith, p, long)
-
-pub long_same : (a b : Lines) (x : Option (List ℕ)) → b.left ≡ a.left → unused b ≡ unused a → IsLong b x → IsLong a x
-long_same a b None left same long = tt
-long_same a b (Some x) left same long = omega (arith, long, left, ap length same, length-append (unused a) x, length-append (unused b) x)
-
 -- ---- in the place of a fault
-
-pub then_long : (failed : Type 0) (a b : Lines) (x y : Option (List ℕ)) → Spends 0 a x b y → failed ⊎ IsLong b y → failed ⊎ IsLong a x
-then_long failed a b x y p (inl f) = inl f
-then_long failed a b x y p (inr long) = inr (spends_long a b x y p long)
-
-pub also_long : (failed : Type 0) (a b : Lines) (x : Option (List ℕ)) → b.left ≡ a.left → unused b ≡ unused a → failed ⊎ IsLong b x → failed ⊎ IsLong a x
-also_long failed a b x left same (inl f) = inl f
-also_long failed a b x left same (inr long) = inr (long_same a b x left same long)

@@ -15,17 +15,6 @@ pub come_all : (l : Lines) (rest : Option (List ℕ)) → unused l ≡ [] → to
 come_all l None is = refl
 come_all l (Some bytes) is = ap (λ u. Some (u ++ bytes)) is
 
--- the same lines, and something else of what was told
-pub body_then : (past : ℕ) (before : Option Act) (Heard Heard' : List (List ℕ) → Type 0) (old new : Now) (Told Told' : List ℕ → Type 0)
-    → ((ls : List (List ℕ)) → Heard ls → Heard' ls) → ((t : List ℕ) → Told t → Told' t) → BodyTold past before Heard old new Told → BodyTold past before Heard' old new Told'
-body_then past before Heard Heard' old new Told Told' also so b = record {
-  taken = b.taken;
-  heard = also b.taken b.heard;
-  text = b.text;
-  lines = b.lines;
-  told = so b.text b.told;
-}
-
 -- no front of nothing
 no_front : (xs ys : List (List ℕ)) → xs ++ ys ≡ [] → xs ≡ []
 no_front [] ys is = refl

@@ -44,10 +44,6 @@ zip_append (x ∷ xs) us [] vs e = absurd (omega (arith, e))
 zip_append (x ∷ xs) us (y ∷ ys) vs e = ap (λ l. (x, y) ∷ l) (zip_append xs us ys vs (omega (arith, e)))
 
 module _ {T U : Type 0} (R : T × U → Shift → T × U → Type 0) where
-  pub each_none : (xs : List T) (ys : List U) (s : Shift) → length xs ≡ 0 → length xs ≡ length ys → s ≡ empty_shift → RanEach R xs ys s xs ys
-  each_none [] [] s z e n = record { ran = n; on_kept = refl; by_kept = refl }
-  each_none [] (y ∷ ys) s z e n = absurd (omega (arith, e))
-  each_none (x ∷ xs) ys s z e n = absurd (omega (arith, z))
 
   pub each_single : (xs : List T) (ys : List U) (x dx : T) (y dy : U) (s : Shift) → length xs ≡ 1 → length xs ≡ length ys
       → R (get_or xs 0 dx, get_or ys 0 dy) s (x, y) → RanEach R xs ys s (slice_set xs 0 x) (slice_set ys 0 y)

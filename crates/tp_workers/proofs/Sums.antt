@@ -13,20 +13,6 @@ ran_weaker R Q w [] s (y ∷ ys) h = absurd h
 ran_weaker R Q w (x ∷ xs) s [] h = absurd h
 ran_weaker R Q w (x ∷ xs) s (y ∷ ys) h = (h.0, h.1, w x h.0 y h.2, ran_weaker R Q w xs h.1 ys h.3, h.4)
 
--- what a run makes so of each worker is so of all
-pub ran_all : {T : Type 0} (R : T → Shift → T → Type 0) (P Q : T → Type 0) → ((x : T) (s : Shift) (y : T) → R x s y → P x → Q y) → (xs : List T) (s : Shift) (ys : List T) → RanAll R xs s ys → All P xs → All Q ys
-ran_all R P Q each [] s [] h all = All-nil Q
-ran_all R P Q each [] s (y ∷ ys) h all = absurd h
-ran_all R P Q each (x ∷ xs) s [] h all = absurd h
-ran_all R P Q each (x ∷ xs) s (y ∷ ys) h all =
-    All-cons Q y ys (each x h.0 y h.2 (All-head P x xs all)) (ran_all R P Q each xs h.1 ys h.3 (All-tail P x xs all))
-
-pub ran_length : {T : Type 0} (R : T → Shift → T → Type 0) (xs : List T) (s : Shift) (ys : List T) → RanAll R xs s ys → length ys ≡ length xs
-ran_length R [] s [] h = refl
-ran_length R [] s (y ∷ ys) h = absurd h
-ran_length R (x ∷ xs) s [] h = absurd h
-ran_length R (x ∷ xs) s (y ∷ ys) h = ap suc (ran_length R xs h.1 ys h.3)
-
 -- what holds of each worker's counts, and of sums, holds of the sum
 pub ran_keeps : {T : Type 0} (R : T → Shift → T → Type 0) (P : Shift → Type 0) → P empty_shift → ((a b : Shift) → P a → P b → P (plus a b)) → ((x : T) (s : Shift) (y : T) → R x s y → P s) → (xs : List T) (s : Shift) (ys : List T) → RanAll R xs s ys → P s
 ran_keeps R P z p r [] s [] h = subst P (sym h) z

@@ -96,13 +96,6 @@ module _ (l : Limits) where
   pub walked_few : (n m : ℕ) (ms : List TraceEntry) (v w : View) → n ≤ m → Stepped l n ms v w → Stepped l m ms v w
   walked_few n m ms v w le a = record { traced = a.traced; few = let p = a.few in omega arith; opens = a.opens; closes = a.closes; number = a.number; limits = a.limits; steady = a.steady; knows = a.knows }
 
-  -- a point of a first part is one of both, where that part has a step that is no draft store
-  pub point_first : (m : ℕ) (ms ns : List TraceEntry) (v w x : View) → HasLook ms → Stepped l m ns w x → (p : List Event) → IsPoint (opening_of v.seen ms) w.seen p → IsPoint (opening_of v.seen (ms ++ ns)) x.seen p
-  point_first m ms ns v w x h b p q = record {
-    opened = subst (λ z. IsPrefix z p) (sym (opening_kept v.seen ms ns h.0 h.1 h.2)) q.opened;
-    seen = begins_trans _ _ _ q.seen (walked_begins m ns w x b);
-  }
-
   pub point_last : (n : ℕ) (ms : List TraceEntry) (v w : View) → Stepped l n ms v w → IsPoint (opening_of v.seen ms) w.seen w.seen
   point_last n ms v w a = record { opened = a.closes; seen = begins_refl w.seen }
 

@@ -58,20 +58,6 @@ module _ (l : Limits) (i : ℕ) where
 
   -- what a refused kill left
 
-  pub past_before : (h : List Event) (e : Refusal) → IsPastKill l h i e → ((u : ℕ) → e ≢ refusals.Consumed u) → IsUnworked l i h
-  past_before h refusals.NoMemory p not = absurd p
-  past_before h refusals.BadLimits p not = absurd p
-  past_before h refusals.BadStage p not = absurd p
-  past_before h refusals.NotThere p not = absurd p
-  past_before h (refusals.Consumed u) p not = absurd (not u refl)
-  past_before h refusals.AlreadyKilled p not = inl p
-  past_before h refusals.Full p not = absurd p
-  past_before h refusals.NotParked p not = absurd p
-  past_before h refusals.NoRound p not = absurd p
-  past_before h refusals.NotHeld p not = absurd p
-  past_before h refusals.NotWaiting p not = absurd p
-  past_before h refusals.NoUnit p not = absurd p
-
   pub unworked_later : (a b : List Event) → IsLegal l b → IsPrefix a b → IsUnworked l i a → IsUnworked l i b
   unworked_later a b legal begins (inl killed) = inl (settled_stay l a b i legal begins (subst IsSettled (sym killed) tt) ∙ killed)
   unworked_later a b legal begins (inr t) = inr (t.0, found_later a b begins i t.0 t.1, t.2)

@@ -41,9 +41,6 @@ clear_others xs p inside i other = both_ways _ _ (other_bit xs p _ i other insid
 pub zero_has : (xs : List ℕ) (i : ℕ) → slice_index xs (i / 64) ≡ 0 → ¬ Has xs i
 zero_has xs i none h = let off : bit_at (slice_index xs (i / 64)) (i % 64) ≡ 0 = ap (λ z. bit_at z (i % 64)) none ∙ bit_at-zero (i % 64) in off_on off h
 
-pub has_some : (xs : List ℕ) (i : ℕ) → Has xs i → 0 < slice_index xs (i / 64)
-has_some xs i h = ⊎_elim (λ none. absurd (zero_has xs i none h)) (λ some. omega arith) (cases_eq (slice_index xs (i / 64)) 0)
-
 -- the lowest bit of the first word that isn't 0
 pub lowest_has : (xs : List ℕ) (w : ℕ) → 0 < slice_index xs w → slice_index xs w < 18446744073709551616 → ((j : ℕ) → j < w → slice_index xs j ≡ 0)
     → let b = trailing_zeros w64 (slice_index xs w) in (b < 64) × IsLeast xs (w * 64 + b)
@@ -74,10 +71,6 @@ lowest_has xs w some fits none =
 -- the words before the first that a group has are 0
 pub first_word : (xs groups : List ℕ) (w : ℕ) → IsSummed xs groups → IsLeast groups w → (j : ℕ) → j < w → slice_index xs j ≡ 0
 first_word xs groups w summed least j low = elim (cases_lt 0 (slice_index xs j)) [ inl some ↦ (let more = least.1 j ((summed j).1 some) in absurd (omega arith)) | inr none ↦ omega arith ]
-
--- a word that isn't 0 is one of the list
-pub word_inside : (xs : List ℕ) (w : ℕ) → 0 < slice_index xs w → w < length xs
-word_inside xs w some = elim (cases_lt w (length xs)) [ inl less ↦ less | inr past ↦ (let none : slice_index xs w ≡ 0 = get_or_past xs w 0 past in absurd (omega arith)) ]
 
 -- nothing but zeros
 pub zeros_empty : (xs : List ℕ) → ((w : ℕ) → slice_index xs w ≡ 0) → IsEmpty xs

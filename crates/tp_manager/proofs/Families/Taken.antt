@@ -85,9 +85,6 @@ module _ (l : Limits) (root : ℕ) where
       go i None e is = let q : is_member root (element_of a i) ≡ is_member root None = ap (is_member root) e in absurd cc
       go i (Some x) e is = ap (is_member root) (found_later a b begins i x e ∙ sym e) ∙ is
 
-  pub taking_begins : (v : View) → Steady l v → CollectingNext l root 0 0 v v
-  taking_begins v s = record { looked = looked_few l 0 (0 * one_take_steps (length (family v.seen root))) v v (omega arith) (looked_none l v s); killed = λ x born reply less. absurd (omega arith); tries = omega arith; lost = omega arith; inside = omega arith }
-
   sum_few : (k a b z : ℕ) → a ≤ z → b ≤ z → k * a + b ≤ (k + 1) * z
   sum_few k a b z first second = let all : k * a ≤ k * z = mul-le-mul_left k first in omega arith
 

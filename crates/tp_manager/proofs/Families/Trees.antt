@@ -179,9 +179,6 @@ module _ (l : Limits) (root : ℕ) where
   come_wider : (i : ℕ) (gone : ℕ → Bool) (h : List Event) (j : ℕ) → IsComeTo h root gone j → IsComeTo h root (and_from i gone) j
   come_wider i gone h j c = (c.0, c.1, c.2, ⊎_elim (λ own. inl own) (λ p. inr (p.0, p.1, p.2, p.3, gone_before i gone p.1.item p.4)) c.3)
 
-  pub tree_later : (k : ℕ) (Left : ℕ → Type 0) (gone : ℕ → Bool) (h g : List Event) → IsPrefix h g → Tree l root k Left gone h → Tree l root k Left gone g
-  tree_later k Left gone h g begins t = record { counted = t.counted; apart = t.apart; root_too = t.root_too; each = λ i r. come_later gone h g i begins (t.each i r) }
-
   pub tree_begins : (Left : ℕ → Type 0) (h : List Event) → IsLegal l h → IsRequest h root → Left root → ((i : ℕ) → Left i → i ≡ root) → Tree l root 0 Left (λ i. false) h
   tree_begins Left h legal r left only = record {
     counted = none_gone (rows_of l);

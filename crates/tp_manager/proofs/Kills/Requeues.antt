@@ -84,10 +84,6 @@ module _ (l : Limits) where
       go true e = let below : n < l.attempts = grind (arith, nat_tests) in absurd (omega arith)
       go false e = (n, refl)
 
-  -- where the last attempt of a round that isn't the last one was aborted, there may be another round
-  pub allows_again : (h : List Event) (n u r : ℕ) → end_of h u ≡ Some Aborted → l.attempts ≤ n → r < 3 → AllowsRequeue l h (TakenWord n u r)
-  allows_again h n u r ended high few = (parked_status n u (end_of h u) ended high, few)
-
   -- the unit of the last attempt of the last round was found aborted
   pub no_round : (a b : List Event) (i n u r : ℕ) → IsLegal l b → IsPrefix a b → claim_word a i ≡ TakenWord n u r → end_of b u ≡ Some Aborted → l.attempts ≤ n → 3 ≤ r
       → IsBetween a b (λ h. IsParked (status_of l.attempts h i) × (rounds h i ≡ MAX_ROUNDS))

@@ -47,7 +47,3 @@ module _ (l : Limits) where
   -- which is inside its part
   pub may_inside : (c : ℕ) (v : View) (p n : ℕ) → IsKnown l v → MayRemember l c v p n → IsInside l p n
   may_inside c v p n low may = ⊎_elim (λ k. (low (PartMark c p n) k).0) (λ m. m.inside) may
-
-  -- and which the seat knows, where the kind is no server's stage
-  pub may_known : (c : ℕ) (v : View) (p n : ℕ) → ¬ IsServerStage c → MayRemember l c v p n → Knows v (PartMark c p n)
-  may_known c v p n not may = ⊎_elim (λ k. k) (λ m. absurd (not m.stage)) may

@@ -155,11 +155,6 @@ wrote_shut l xs es v w y wr sh = record {
   open_unit = sh.open_unit;
 }
 
--- the outputs are in rows below the end of their range
-pub outs_below : (u root i : ℕ) (ds : List DraftView) (x : Element) → In x (outputs u root i ds) → x.id < i + length ds
-outs_below u root i [] x p = absurd (in_none p)
-outs_below u root i (d ∷ ds) x p = ⊎_elim (λ e. let at : x.id ≡ i = ap (λ (z : Element). z.id) e in omega arith) (λ q. let r = outs_below u root (i + 1) ds x q in omega arith) (in_cons p)
-
 pub outs_fit : (u root i : ℕ) (ds : List DraftView) (y : Element) → All IsWhole ds → In y (outputs u root i ds) → IsOut u root y
 outs_fit u root i [] y whole p = absurd (in_none p)
 outs_fit u root i (d ∷ ds) y whole p =

@@ -101,17 +101,6 @@ module _ (l : Limits) (p m q : PassShown) where
       (λ r. inr record { few = less; block = b; first_is = r.first_is; next = r.next; left = r.left; blocks = r.blocks; fresh = fresh; seen = seen })
       (λ r. absurd (let out = r.few in omega arith)) uses
 
-  pub room_submits : (id stage : ℕ) (body : List ℕ) → HasRoom l 1 p m → m.seen_blocks ≤ q.seen_blocks → Submits id stage body m q → Submits id stage body p q
-  room_submits id stage body room up s = ⊎_elim
-      (λ t. subst (λ z. Submits id stage body z q) t.1 s)
-      (λ t. let r : Submits id stage body (on_block t.1 p m) q = subst (λ z. Submits id stage body z q) t.2 s in record {
-        stage_is = r.stage_is;
-        adds = record { mine = r.adds.mine; before = r.adds.before; seen = r.adds.seen; begins = r.adds.begins };
-        is_born = r.is_born;
-        open_unit = r.open_unit;
-        run = uses_block 1 id t.1 (omega arith) (omega arith) t.0 t.3.0 (let seen = t.3.1 in omega arith) r.run;
-      }) room
-
   pub room_settles : (ds : List DraftView) (o : Outcome) → length ds ≤ 4 → HasRoom l (length ds) p m → m.seen_blocks ≤ q.seen_blocks → Settles ds m q o → Settles ds p q o
   room_settles ds o few room up s = ⊎_elim
       (λ t. subst (λ z. Settles ds z q o) t.1 s)
@@ -132,20 +121,3 @@ module _ (l : Limits) (p m q : PassShown) where
         first_is = r.first_is;
         count_is = r.count_is;
       }
-
-  -- no room, and the unit is given up
-  pub none_settles : (ds : List DraftView) (e : Ended) → NoRoom l (length ds) p m → q.seen_blocks ≡ m.seen_blocks → AnswersAbort m q e → Settles ds p q outcomes.Full
-  none_settles ds e none kept ends =
-      let n : FindsNoBlock (length ds) p m = none.0 in
-      let blocks : q.seen_blocks ≡ p.limits.spare = kept ∙ ap (λ (z : PassShown). z.seen_blocks) n.same in
-      go e blocks (subst (λ z. AnswersAbort z q e) n.same ends)
-    where
-      go : (e : Ended) → q.seen_blocks ≡ p.limits.spare → AnswersAbort (record p { trace = m.trace; seen_blocks = p.limits.spare }) q e → Settles ds p q outcomes.Full
-      go endeds.Aborted blocks r = (none.0.few, blocks, (r.0, record { was_open = r.1.was_open; open_unit = r.1.open_unit; ended = r.1.ended }, r.2, inl (record { mine = r.3.mine; before = r.3.before; seen = r.3.seen; begins = r.3.begins })))
-      go endeds.AlreadyAborted blocks r = (none.0.few, blocks, (r.0, record { was_open = r.1.was_open; open_unit = r.1.open_unit; ended = r.1.ended }, r.2, inr r.3))
-
--- whatever a commit answers, the unit is closed
-pub settles_closes : (ds : List DraftView) (p q : PassShown) (o : Outcome) → Settles ds p q o → (u : ℕ) × Closes u p q
-settles_closes ds p q outcomes.Full s = (s.2.0, s.2.1)
-settles_closes ds p q outcomes.Lost s = (s.0, s.1)
-settles_closes ds p q (outcomes.Committed first count) s = (s.unit, s.closes)

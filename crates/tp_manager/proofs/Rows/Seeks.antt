@@ -143,12 +143,6 @@ part_of size (suc parts) i less = dite (dec_le (parts * size) i)
 pub part_on : (l : Limits) (i next c : ℕ) → GoesOn l i next → IsRowOf l c i → next ≤ c * l.rows + l.rows
 part_on l i next c on row = on.area (c * l.rows) (c * l.rows + l.rows) (inl (c, (row.0, refl, refl))) row.1 row.2
 
--- a scan that goes on from a row of the parts doesn't leave them
-pub part_end : (l : Limits) (i next : ℕ) → i < part_rows l → GoesOn l i next → next ≤ part_rows l
-part_end l i next less on = let t = part_of l.rows l.parts i less in let below : t.0 < l.parts = t.1 in
-    let end = part_on l i next t.0 on (t.1, t.2, t.3) in
-    let all = rows_more t.0 l.parts l.rows below in omega arith
-
 pub all_parts : (l : Limits) (Passed : ℕ → List Event → List Event → Type 0) (a b : List Event) → EachRow (OfPart l Passed) 0 l.parts a b → EachRow Passed 0 (part_rows l) a b
 all_parts l Passed a b each i low high = let t = part_of l.rows l.parts i high in each t.0 (omega arith) t.1 i t.2 t.3
 
