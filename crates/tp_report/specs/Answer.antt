@@ -170,13 +170,17 @@ member_text look = (codes " " <> decimal look.element.id <> codes ":" <> decimal
 abbrev pub family_text : ℕ → List Look → List ℕ
 family_text root looks = (codes "family " <> decimal root) <> flat_map member_text looks
 
+-- ids one after the other
+abbrev pub ids_text : List ℕ → List ℕ
+ids_text ids = flat_map (λ id. codes " " <> decimal id) ids
+
 -- the parked elements
 abbrev pub errors_text : List ℕ → List ℕ
-errors_text ids = codes "errors" <> flat_map (λ id. codes " " <> decimal id) ids
+errors_text ids = codes "errors" <> ids_text ids
 
 -- the elements that wait in a stage
 abbrev pub list_text : ℕ → List ℕ → List ℕ
-list_text stage ids = (codes "list " <> decimal stage) <> flat_map (λ id. codes " " <> decimal id) ids
+list_text stage ids = (codes "list " <> decimal stage) <> ids_text ids
 
 -- how many elements of a stage wait, are held and are parked; nothing where there are none
 abbrev pub is_empty : Depth → Bool

@@ -51,14 +51,14 @@ pub enum ServerAnswer {
 pub const MAX_LISTED: usize = 200;
 
 /// An element that a rollover carried over: its id in the old manager, and in the new one.
-#[derive(Clone, Copy, Debug, PartialEq, Eq)]
+#[derive(Clone, Copy)]
 pub struct Renamed {
     pub old: u32,
     pub new: u32,
 }
 
 /// What a command came to.
-#[derive(Clone, Copy, Debug, PartialEq, Eq)]
+#[derive(Clone, Copy)]
 pub enum Answer<'a> {
     /// The submitted element has this id.
     Submitted {

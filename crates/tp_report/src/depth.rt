@@ -8,7 +8,7 @@ ghost use Rattle.tp_report.specs.Depths.{with_look};
 use tp_model::types::{Look, STAGES, Status};
 
 /// How many elements of a stage wait, are held and are parked.
-#[derive(Clone, Copy, Debug, PartialEq, Eq)]
+#[derive(Clone, Copy)]
 pub struct Depth {
     pub stage: u8,
     pub waiting: u32,

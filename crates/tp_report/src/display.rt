@@ -1,12 +1,13 @@
 //! The texts of answers: the one place where the texts of a report's lines are.
 ghost use Rattle.std.specs.Prelude.{◌≡◌, Some};
 ghost use Rattle.std.specs.Fmt.{WritesOnOk};
+ghost use Rattle.std.specs.List.{flat_map};
 ghost use Rattle.tp_report.specs.Answer.{turned_text, server_text, refusal_name, refusal_number};
 ghost use Rattle.tp_report.specs.Answer.{refusal_text, maker_text, status_text, is_short, more_words_text};
 ghost use Rattle.tp_report.specs.Answer.{element_text, look_text, reply_text, replies_text, collected_text};
 ghost use Rattle.tp_report.specs.Answer.{state_text, member_text, family_text, errors_text, counts_text};
 ghost use Rattle.tp_report.specs.Answer.{account_text, balance_text, final_text, answer_text};
-ghost use Rattle.tp_report.specs.Answer.{depth_text, depths_text, list_text, renamed_text, rolled_text};
+ghost use Rattle.tp_report.specs.Answer.{depth_text, depths_text, ids_text, list_text, renamed_text, reply_text, rolled_text};
 
 use crate::answer::{Answer, Renamed, ServerAnswer};
 use crate::depth::Depth;
@@ -192,15 +193,22 @@ fn reply<W: fmt::Write>(f: &mut fmt::Formatter<W>, reply: &Element) -> fmt::Resu
     write!(f, ":{word_two}:{word_three}")
 }
 
+// Replies one after the other.
+fn each_reply<W: fmt::Write>(f: &mut fmt::Formatter<W>, replies: &[Element]) -> fmt::Result
+    ensures { WritesOnOk W.write_str_gives f.old result (flat_map reply_text replies.now) f.new }
+{
+    for element in replies {
+        reply(f, element)?;
+    }
+    Ok(())
+}
+
 // The replies to a request.
 fn replies<W: fmt::Write>(f: &mut fmt::Formatter<W>, root: u32, replies: &[Element]) -> fmt::Result
     ensures { WritesOnOk W.write_str_gives f.old result (replies_text root replies.now) f.new }
 {
     write!(f, "replies {root}")?;
-    for element in replies {
-        reply(f, element)?;
-    }
-    Ok(())
+    each_reply(f, replies)
 }
 
 // The replies to a request that were taken.
@@ -212,25 +220,22 @@ fn collected<W: fmt::Write>(
     ensures { WritesOnOk W.write_str_gives f.old result (collected_text root replies.now) f.new }
 {
     write!(f, "collected {root}")?;
-    for element in replies {
-        reply(f, element)?;
-    }
-    Ok(())
+    each_reply(f, replies)
 }
 
 // The status of an element, in one word.
-fn state<W: fmt::Write>(f: &mut fmt::Formatter<W>, status: Status) -> fmt::Result
-    ensures { WritesOnOk W.write_str_gives f.old result (state_text status) f.new }
+fn state(status: Status) -> &'static str
+    ensures { result.now ≡ state_text status }
 {
     match status {
-        Status::Waiting { attempts: _ } => write!(f, "waiting"),
+        Status::Waiting { attempts: _ } => "waiting",
         Status::Held {
             unit: _,
             attempt: _,
-        } => write!(f, "held"),
-        Status::Consumed { unit: _ } => write!(f, "consumed"),
-        Status::Parked { attempts: _ } => write!(f, "parked"),
-        Status::Killed => write!(f, "killed"),
+        } => "held",
+        Status::Consumed { unit: _ } => "consumed",
+        Status::Parked { attempts: _ } => "parked",
+        Status::Killed => "killed",
     }
 }
 
@@ -240,8 +245,8 @@ fn member<W: fmt::Write>(f: &mut fmt::Formatter<W>, look: &Look) -> fmt::Result
 {
     let id = look.element.id;
     let stage = look.element.stage;
-    write!(f, " {id}:{stage}:")?;
-    state(f, look.status)
+    let state = state(look.status);
+    write!(f, " {id}:{stage}:{state}")
 }
 
 // The elements of a request.
@@ -255,15 +260,22 @@ fn family<W: fmt::Write>(f: &mut fmt::Formatter<W>, root: u32, looks: &[Look]) -
     Ok(())
 }
 
+// Ids one after the other.
+fn each_id<W: fmt::Write>(f: &mut fmt::Formatter<W>, ids: &[u32]) -> fmt::Result
+    ensures { WritesOnOk W.write_str_gives f.old result (ids_text ids.now) f.new }
+{
+    for id in ids {
+        write!(f, " {id}")?;
+    }
+    Ok(())
+}
+
 // The parked elements.
 fn errors<W: fmt::Write>(f: &mut fmt::Formatter<W>, ids: &[u32]) -> fmt::Result
     ensures { WritesOnOk W.write_str_gives f.old result (errors_text ids.now) f.new }
 {
     write!(f, "errors")?;
-    for id in ids {
-        write!(f, " {id}")?;
-    }
-    Ok(())
+    each_id(f, ids)
 }
 
 // The elements that wait in a stage.
@@ -271,10 +283,7 @@ fn list<W: fmt::Write>(f: &mut fmt::Formatter<W>, stage: u8, ids: &[u32]) -> fmt
     ensures { WritesOnOk W.write_str_gives f.old result (list_text stage ids.now) f.new }
 {
     write!(f, "list {stage}")?;
-    for id in ids {
-        write!(f, " {id}")?;
-    }
-    Ok(())
+    each_id(f, ids)
 }
 
 // A stage, where anything waits in it, is held or is parked.

@@ -1,4 +1,4 @@
-use Rattle.std.proofs.Common.{◌<◌, ◌≤◌, ◌≢◌, ◌∙◌, length, get_or-set_other, arith}
+use Rattle.std.proofs.Common.{◌<◌, ◌≢◌, ◌∙◌, length, get_or-set_other, arith}
 use Rattle.std.proofs.lemmas.List.{length-set}
 use Rattle.tp_report.specs.Depths.{with_look}
 use Rattle.tp_report.proofs.DepthLemmas.{step}

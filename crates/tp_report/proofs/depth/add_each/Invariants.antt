@@ -1,4 +1,4 @@
-use Rattle.std.proofs.Common.{◌≡◌, ℕ, ◌<◌, ◌≤◌, ◌++◌, length, get_or, map, take, drop}
+use Rattle.std.proofs.Common.{◌≡◌, ℕ, ◌≤◌, ◌++◌, length, get_or, map, take, drop}
 use Rattle.tp_report.specs.declared.depth.Depth.{Depth}
 use Rattle.tp_report.specs.Depths.{with_look}
 use Rattle.tp_report.proofs.depth.add_each.Given as goal
