@@ -11,8 +11,8 @@ ghost use Rattle.tp_desk.specs.Steady.{IsSameDesk, SteadyDesk};
 ghost use Rattle.tp_desk.specs.Turns.{Turns, WorksOff, turn_steps};
 
 use crate::desk::Desk;
-use tp_server::{Order, Turned};
 use tp_model::types::{Claimed, Work};
+use tp_server::{Order, Turned};
 
 impl Desk<'_, '_, '_> {
     /// Takes an element in hand, does its work and commits it: one claim, and where it took an element, one

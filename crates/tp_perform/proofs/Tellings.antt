@@ -36,7 +36,6 @@ named_is (s ∷ servers) (suc at) it within is = named_is servers at it (omega (
 
 -- what all that there is has come to
 module _ {T E : Type 0} (r : Result T E) (bytes : T → List ℕ) (old new : Scene) where
-
   pub server_told : (m : ManagerShown) (servers : List ScriptServer) (act : DeskAct) (at : ℕ) → OnlyPlaces old new → at < length servers
       → IfOk r (λ s. (answer : ServerAnswer) × DoesIn m.limits act at old.places answer new.places × IfSome (slice_get servers at) (λ it. bytes s ≡ line (named_text (string_bytes it.name) answer)))
       → IfOk r (λ s. ServerLine m (map server_view servers) act at old (bytes s) new)

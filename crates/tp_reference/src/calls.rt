@@ -8,9 +8,9 @@ ghost use Rattle.tp_plain.specs.OneThread.{held_after, pass_at};
 ghost use Rattle.tp_reference.specs.PlainDesks.{claim_in_order, claim_given, is_of_other};
 
 use std::alloc::AllocError;
-use tp_server::Order;
 use tp_model::types::{Claimed, Draft, Ended, Outcome, Refusal, Work};
 use tp_plain::plain::Plain;
+use tp_server::Order;
 
 /// A claim in this order.
 pub(crate) fn claim_by(

@@ -8,9 +8,9 @@ ghost use Rattle.tp_reference.specs.PlainRunning.{state, IsSetUp};
 use crate::desk_acts::turn_by;
 use crate::plain_run::{PlainRun, worker};
 use std::alloc::AllocError;
-use tp_server::{Order, Turned};
 use tp_report::ServerAnswer;
 use tp_script::ScriptServer;
+use tp_server::{Order, Turned};
 
 /// Whether a turn claimed an element.
 fn has_claimed(answer: ServerAnswer) -> bool

@@ -13,11 +13,11 @@ use crate::desk_acts;
 use crate::plain_desk::PlainDesk;
 use std::alloc::{AllocError, Global};
 use std::string::String;
-use tp_server::Order;
 use tp_model::types::Limits;
 use tp_plain::plain::Plain;
 use tp_report::{Answer, ServerAnswer, line};
 use tp_script::{Act, Command, DeskAct, Head, Script, ScriptServer};
+use tp_server::Order;
 
 /// A script that runs: the manager of one thread, and a desk for each server.
 #[derive(Drop)]

@@ -7,9 +7,9 @@ ghost use Rattle.tp_report.specs.Lines.{IsLine};
 use crate::depth::Depth;
 use std::alloc::{AllocError, Global};
 use std::string::String;
-use tp_server::Turned;
 use tp_model::types::{Counts, Element, Look, Refusal};
 use tp_script::Refused;
+use tp_server::Turned;
 
 /// What a command on a server came to. Elements are given by their ids.
 #[derive(Clone, Copy, Debug, PartialEq, Eq)]

@@ -12,8 +12,8 @@ ghost use Rattle.tp_report.specs.Answer.{depth_text, depths_text, ids_text, list
 use crate::answer::{Answer, Renamed, ServerAnswer};
 use crate::depth::Depth;
 use std::fmt;
-use tp_server::Turned;
 use tp_model::types::{Body, Counts, Element, Look, Refusal, Status};
+use tp_server::Turned;
 
 // What a turn came to.
 fn turned<W: fmt::Write>(f: &mut fmt::Formatter<W>, turned: Turned) -> fmt::Result

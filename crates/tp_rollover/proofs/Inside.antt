@@ -57,7 +57,6 @@ module _ (s t : State) (c i : ℕ) (w : Work) (inside : c < length s.passes) whe
 -- ---- a pass that has nothing in hand
 
 module _ {A : Type 0} (s : State) (c : ℕ) (made : Option A) where
-
   taken_some : (o : Option ℕ) → is_some o ≡ true → (if is_none o then made else None) ≡ None
   taken_some None some = absurd cc
   taken_some (Some u) some = refl

@@ -31,9 +31,7 @@ count_is limit a h n is counted = ap (λ (b : Account). b.total.waiting + b.tota
 
 -- a survey has come so far
 module _ (l : Limits) (p n : ℕ) (keeper keeper1 : KeeperShown) (olds olds1 : List PassShown) (counted : AllMake (account_steps l p) keeper olds keeper1 olds1) where
-
   module _ (olds2 : List PassShown) (found : PassesMake (search_steps l n + n * describe_steps l) olds1 olds2) where
-
     pub survey_gathered : (keeper2 : KeeperShown) (olds3 : List PassShown) → AllMake (gather_steps l p) keeper1 olds2 keeper2 olds3 → AllMake (survey_steps l p n) keeper olds keeper2 olds3
     survey_gathered keeper2 olds3 gathered = omega (arith, counted, found, gathered)
 
@@ -63,7 +61,6 @@ module _ (k : Limits) (q n : ℕ) (k0 k1 k2 : KeeperShown) (ps0 ps1 ps2 : List P
       again_counted = let e = each_renewed in let f = all_born in let g = all_replayed in let h = all_counted in omega (arith, e, f, g, h, began)
 
       module _ (ps5 : List PassShown) (held : PassesMake (n * compare_steps k) ps4 ps5) where
-
         module _ (k5 : KeeperShown) (ps6 : List PassShown) (given4 : k4.given ≡ k3.given) (gathered : AllMake (gather_steps k k4.given) k4 ps5 k5 ps6) where
           all_gathered : AllMake (gather_steps k q) k4 ps5 k5 ps6
           all_gathered = subst (λ z. AllMake (gather_steps k z) k4 ps5 k5 ps6) (given4 ∙ (given3 ∙ (given2 ∙ given))) gathered

@@ -8,5 +8,4 @@ use Rattle.tp_rule.specs.Rule.{IsDrawn, Rule, drawn_in}
 use Rattle.tp_rule.proofs.Owning.{S}
 
 module _ (k : Limits) (s : S) (r : Rule k s) where
-
   module _ (next : S) (rule : Rule k next) where

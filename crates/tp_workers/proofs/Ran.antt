@@ -44,7 +44,6 @@ zip_append (x ∷ xs) us [] vs e = absurd (omega (arith, e))
 zip_append (x ∷ xs) us (y ∷ ys) vs e = ap (λ l. (x, y) ∷ l) (zip_append xs us ys vs (omega (arith, e)))
 
 module _ {T U : Type 0} (R : T × U → Shift → T × U → Type 0) where
-
   pub each_single : (xs : List T) (ys : List U) (x dx : T) (y dy : U) (s : Shift) → length xs ≡ 1 → length xs ≡ length ys
       → R (get_or xs 0 dx, get_or ys 0 dy) s (x, y) → RanEach R xs ys s (slice_set xs 0 x) (slice_set ys 0 y)
   each_single [] ys x dx y dy s one e h = absurd (omega (arith, one))

@@ -63,7 +63,6 @@ pub unborn_before : (a b : List Event) (i : ℕ) → IsPrefix a b → IsUnborn b
 unborn_before a b i begins un = unborn_if a i (λ x p. let e : None ≡ Some x = sym un ∙ found_later a b begins i x p in absurd cc)
 
 module _ (l : Limits) where
-
   pub none_outside : (v : View) (i s r u : ℕ) (b : Option ℕ) (head : Head) → head ≡ Filled s r b → b ≡ Some u → HeadFound v i head → IsLegal l v.seen → ¬ (u < units_of l) → IsUnborn v.seen i
   none_outside v i s r u b head is q t legal out = unborn_if v.seen i (λ x p. out (by_unit l v.seen legal i x u p (same_by x s r u b head is (t.born x p) q)).inside)
 
