@@ -77,8 +77,6 @@ pub all_free : {X : Type 0} {F : X → Type 0} (os : List (Place X F)) → All (
 all_free os all i d within = free_now (get_or os i d) (all i d within)
 
 module _ {X : Type 0} {F : X → Type 0} (os : List (Place X F)) (front at : ℕ) where
-  ]
-
   pub passed_swapped : at < length os → front ≤ at → ArePassed front at os → ArePassed (front + 1) (at + 1) (swap os front at)
   passed_swapped within low before i d from_on high =
       let swapped = swapped_from_swap os (swap os front at) front at d (omega (arith, low, within)) within refl in
