@@ -25,5 +25,4 @@ pub mod Requeueing
 pub mod Meetings
 pub mod Raising
 pub mod Drawing
-pub mod Counted
 pub mod Voiding
