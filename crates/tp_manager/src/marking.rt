@@ -231,6 +231,8 @@ impl Shared {
             Acted l 1 (view_of seat.old) (view_of seat.new)
             × ((i : ℕ) → row ≤ i → i < part * l.rows + l.rows → IsUnborn (seen_by seat.new) i) }
         ensures ahead { result ≡ true → MayBeBorn (table_limits self.now.words) (seen_by seat.new) row }
+        ensures acted { ¬ (row ≡ end) → Acted (table_limits self.now.words) 1 (view_of seat.old)
+            (view_of seat.new) }
         ensures more { result ≡ false → Looked (table_limits self.now.words) 1 (view_of seat.old)
             (view_of seat.new) }
     {

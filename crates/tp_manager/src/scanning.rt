@@ -214,54 +214,43 @@ impl Shared {
         }
     }
 
-    /// The unit takes the first element of a part that waits in the stage. One look where no row has a head
-    /// from the mark on that the pass remembers. Where the part begins, and how long it is, is handed down,
-    /// since an Idle claim does little more than this.
+    /// The first part from `from` on that the pass knows finished, or in which a row has a head from the mark
+    /// on that it remembers, or else the number of parts. One look at each part before that one, and at it
+    /// where it isn't known finished. An Idle claim does little more than this.
     #[inline(always)]
-    fn scan_part(
-        &self,
-        seat: &mut Seat,
-        lows: &mut Lows,
-        gaps: &mut Gaps,
-        part: u16,
-        first: u32,
-        rows: u32,
-        done: Option<u32>,
-        stage: u8,
-        unit: u16,
-    ) -> Option<Taken>
+    fn past_bare(&self, seat: &mut Seat, lows: &Lows, from: u16, stage: u8) -> u16
         requires steady { IsSteady self.now.words seat.old }
-        requires remembers { Remembers stage (view_of seat.old) lows.old }
-        requires gaps { RemembersGaps stage (view_of seat.old) gaps.old }
-        requires part { part < (table_limits self.now.words).parts }
-        requires first { let l = table_limits self.now.words in (first ≡ part * l.rows) × (rows ≡ l.rows) }
-        requires done { RemembersDone (view_of seat.old) done }
+        requires remembers { Remembers stage (view_of seat.old) lows.now }
+        requires from { from ≤ (table_limits self.now.words).parts }
         requires stage { IsServerStage stage }
-        requires spare { IsSpare unit (view_of seat.old) × (unit < 65535) }
         ensures same { IsSameSeat seat.old seat.new }
-        ensures remembers { Remembers stage (view_of seat.new) lows.new }
-        ensures gaps { RemembersGaps stage (view_of seat.new) gaps.new }
-        ensures lows { RisesAt part lows.old lows.new }
-        ensures rests { let l = table_limits self.now.words in
-            RestsAt l stage part (slice_index lows.new part) (view_of seat.old) (view_of seat.new) }
-        ensures inside { let l = table_limits self.now.words in
-            IfSome result (λ t. t.element.id < part * l.rows + l.rows) }
-        ensures lean { let l = table_limits self.now.words in
-            let end = scan_end (part * l.rows + l.rows) result in
-            let n = part * l.rows + slice_index lows.old part in
-            IsLeanAt l stage 3 n (end - n) (view_of seat.old) (view_of seat.new) }
+        ensures part { (from ≤ result) × (result ≤ (table_limits self.now.words).parts) }
+        ensures left { (q : ℕ) → from ≤ q → q < result
+            → ¬ (slice_index lows.now q ≡ (table_limits self.now.words).rows) }
+        ensures rests { (q : ℕ) → from ≤ q → q < result → let l = table_limits self.now.words in
+            RestsAt l stage q (slice_index lows.now q) (view_of seat.old) (view_of seat.new) }
+        ensures few { let l = table_limits self.now.words in
+            Looked l (result - from) (view_of seat.old) (view_of seat.new)
+            ⊎ ((result < l.parts) × ¬ (slice_index lows.now result ≡ l.rows)
+            × Looked l (result - from + 1) (view_of seat.old) (view_of seat.new)) }
         ensures told { let l = table_limits self.now.words in
-            let n = 3 + (l.rows - slice_index lows.old part) * try_steps in MatchOption result
-            (Sought l n (OfPart l (PassedBy l stage) part) (view_of seat.old) (view_of seat.new))
-            (λ t. Took l n (part * l.rows) stage unit (view_of seat.old)
-            (view_of seat.new) t.element t.attempt
-            × (t.element.root ≡ t.root)) }
+            Begun l (OfPart l (PassedBy l stage)) (result - from + 1) from result
+            (view_of seat.old) (view_of seat.new) }
     {
-        let row = first + lows[part as usize] as u32;
-        if self.is_bare_to(seat, part, row, first + rows) {
-            return None;
+        let limits = self.places.limits;
+        let rows = limits.rows as u32;
+        let mut first = from as u32 * rows;
+        for part in from..limits.parts {
+            let low = lows[part as usize];
+            if low == limits.rows {
+                return part;
+            }
+            if !self.is_bare_to(seat, part, first + low as u32, first + rows) {
+                return part;
+            }
+            first += rows;
         }
-        self.scan_from_mark(seat, lows, gaps, part, done, stage, unit)
+        limits.parts
     }
 
     /// The first part that has a row which the pass doesn't know finished, or else the last part, where all
@@ -322,22 +311,23 @@ impl Shared {
             × (t.element.root ≡ t.root)) }
     {
         let limits = self.places.limits;
-        let rows = limits.rows as u32;
         let begin = self.first_open(lows, *begins);
         *begins = begin;
-        let mut first = begin as u32 * rows;
         let last = limits.parts - 1;
-        for part in begin..limits.parts {
+        let mut part = begin;
+        while part < limits.parts {
+            part = self.past_bare(seat, lows, part, stage);
+            if part == limits.parts {
+                return None;
+            }
             if lows[part as usize] == limits.rows && part != last {
-                first += rows;
+                part += 1;
                 continue;
             }
-            if let Some(taken) = self.scan_part(
-                seat, lows, gaps, part, first, rows, done, stage, unit,
-            ) {
+            if let Some(taken) = self.scan_from_mark(seat, lows, gaps, part, done, stage, unit) {
                 return Some(taken);
             }
-            first += rows;
+            part += 1;
         }
         None
     }

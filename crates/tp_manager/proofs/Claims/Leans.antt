@@ -207,6 +207,14 @@ module _ (l : Limits) (lows : List ℕ) where
   parts_more n left = let next : suc n ≡ n + 1 = omega arith in subst (λ z. parts_left l lows n + 1 ≤ parts_left l lows z) next
       (⊎_elim (λ t. absurd (left t.1)) (λ t. (let is : ◌≡◌ {A = ℕ} (cond (slice_index lows n == l.rows) 0 1) 1 = ap (λ b. cond b 0 1) t.0 in omega arith)) (eqb_tells (slice_index lows n) l.rows))
 
+  -- several that have
+  pub parts_all : (n m : ℕ) → n ≤ m → ((q : ℕ) → n ≤ q → q < m → slice_index lows q ≢ l.rows) → parts_left l lows n + (m - n) ≤ parts_left l lows m
+  parts_all n zero le left = let none : n ≡ 0 = omega arith in subst (λ z. parts_left l lows z + (0 - z) ≤ 0) (sym none) (omega arith)
+  parts_all n (suc m) le left = dite (dec_le n m)
+      (λ less. let rest = parts_all n m less (λ q low high. left q low (omega arith)) in let one = parts_more m (left m less (omega arith)) in let next : m + 1 ≡ suc m = omega arith in
+      subst (λ z. parts_left l lows n + (z - n) ≤ parts_left l lows z) next (omega arith))
+      (λ not. let same : n ≡ suc m = omega arith in subst (λ z. parts_left l lows z + (suc m - z) ≤ parts_left l lows (suc m)) (sym same) (omega arith))
+
 -- where a scan ended
 
 pub ends_most : (a b : ℕ) (o : Option Taken) → a ≤ b → scan_end a o ≤ scan_end b o
@@ -298,6 +306,10 @@ module _ (l : Limits) where
     -- fewer parts
     pub lean_parts : (k n most m end : ℕ) (lows : List ℕ) (v w : View) → k ≤ most → n ≤ m → IsLeanIn l stage k lows n end v w → IsLeanIn l stage most lows m end v w
     lean_parts k n most m end lows v w le up a = lean_few _ _ v w (λ p h. let less = left_rises l lows (until end (try_steps_at stage p h)) n m up in omega arith) a
+
+    -- and steps at no row
+    pub lean_skip : (k n m most r end : ℕ) (lows : List ℕ) (ms : List TraceEntry) (v w x : View) → k + m ≤ most → n ≤ r → IsLeanIn l stage k lows n end v w → Stepped l m ms w x → IsLeanIn l stage most lows r end v x
+    lean_skip k n m most r end lows ms v w x le up a b = lean_then _ (λ p h. m) _ v w x (λ p q h begins after. let less = left_rises l lows (until end (try_steps_at stage p h)) n r up in omega arith) a (lean_made m ms w x b)
 
     -- some rows, with those before an end
     rows_until : (p q h : List Event) (i m end : ℕ) → IsPrefix p q → IsPrefix q h → i + m ≤ end ⊎ (m ≡ 0) → sum_rows (try_steps_at stage q h) i m ≤ sum_rows (until end (try_steps_at stage p h)) i m

@@ -38,6 +38,14 @@ module _ (l : Limits) (lows : List ℕ) where
     scan_rises n (suc m) le = dite (dec_le n m) (λ less. let rest = scan_rises n m less in omega arith)
         (λ not. let same : n ≡ suc m = omega arith in subst (λ z. scan_steps l t k lows z ≤ scan_steps l t k lows (suc m)) (sym same) (omega arith))
 
+    -- each part counts
+    pub scan_apart : (n m : ℕ) → n ≤ m → scan_steps l t k lows n + k * (m - n) ≤ scan_steps l t k lows m
+    scan_apart n zero le = let none : n ≡ 0 = omega arith in subst (λ z. scan_steps l t k lows z + k * (0 - z) ≤ 0) (sym none) (omega arith)
+    scan_apart n (suc m) le = dite (dec_le n m)
+        (λ less. let rest = scan_apart n m less in let one : suc m - n ≡ suc (m - n) = omega arith in let more : k * suc (m - n) ≡ k * (m - n) + k = omega arith in
+        subst (λ z. scan_steps l t k lows n + k * z ≤ scan_steps l t k lows (suc m)) (sym one) (omega arith))
+        (λ not. let same : n ≡ suc m = omega arith in subst (λ z. scan_steps l t k lows z + k * (suc m - z) ≤ scan_steps l t k lows (suc m)) (sym same) (let none : suc m - suc m ≡ 0 = omega arith in subst (λ z. scan_steps l t k lows (suc m) + k * z ≤ scan_steps l t k lows (suc m)) (sym none) (omega arith)))
+
     module _ (inside : (p : ℕ) → p < l.parts → slice_index lows p ≤ l.rows) where
       sum_few : (n : ℕ) → n ≤ l.parts → low_sum lows n ≤ n * l.rows
       sum_few zero le = omega arith

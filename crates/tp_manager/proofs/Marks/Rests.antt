@@ -105,6 +105,14 @@ parts_on l stage first n k m P ns lows lows' v w y b a old new same q low high =
     (λ other. ⊎_elim (λ p. absurd (let e = p.0 in omega arith))
     (λ s. subst (λ z. RestsAt l stage q z v y) (sym (same q other)) (rests_behind l k m s.marks ns v w y s.walk a stage q (slice_index lows q) s.step (old q low (omega arith)))) b)
 
+-- several parts more
+pub parts_both : (l : Limits) (stage first n r k m : ℕ) (P : ℕ → List Event → List Event → Type 0) (ns : List TraceEntry) (lows : List ℕ) (v w y : View) → Begun l P k first n v w → Stepped l m ns w y
+    → ((q : ℕ) → first ≤ q → q < n → RestsAt l stage q (slice_index lows q) v w) → ((q : ℕ) → n ≤ q → q < r → RestsAt l stage q (slice_index lows q) w y)
+    → (q : ℕ) → first ≤ q → q < r → RestsAt l stage q (slice_index lows q) v y
+parts_both l stage first n r k m P ns lows v w y b a old new q low high = dite (dec_le n q)
+    (λ past. ⊎_elim (λ p. subst (λ z. RestsAt l stage q (slice_index lows q) z y) p.1 (new q past high)) (λ s. rests_before l k m s.marks ns v w y s.walk a stage q (slice_index lows q) (new q past high)) b)
+    (λ not. ⊎_elim (λ p. absurd (let e = p.0 in omega arith)) (λ s. rests_behind l k m s.marks ns v w y s.walk a stage q (slice_index lows q) s.step (old q low (omega arith))) b)
+
 -- a part that begins no later than a row of part n is that part or one before it
 pub part_before : (rows p n i : ℕ) → i < n * rows + rows → p * rows ≤ i → p < n + 1
 part_before rows p n i less low = dite (dec_le (n + 1) p) (λ past. absurd (let all : suc n * rows ≤ p * rows = mul-le-mul_right rows (omega arith) in omega (arith, suc-mul n rows))) (λ not. omega arith)
