@@ -1,8 +1,8 @@
 -- What is there before the first command of a session.
-use Rattle.std.proofs.Common.{◌≡◌, ◌∙◌, ℕ, ◌+◌, ◌≤◌, List, All, None, Option, sym, ap, subst, arith, length, map, drop}
+use Rattle.std.proofs.Common.{◌≡◌, ◌∙◌, ℕ, ◌+◌, ◌≤◌, List, All, None, Option, sym, ap, subst, arith, length, map, drop, take}
 use Rattle.std.specs.declared.alloc.Global.{Global}
 use Rattle.std.specs.declared.dyn_box.DynBox.{DynBox}
-use Rattle.std.proofs.lemmas.List.{length-drop, length-map, length-take-le}
+use Rattle.std.proofs.lemmas.List.{length-drop, length-map, length-take-le, take_all}
 use Rattle.std.proofs.lemmas.List.Elements.{All-drop, All-take}
 use Rattle.tp_server.specs.Behaviour.{Behaviour, behaviour_of}
 use Rattle.tp_server.specs.Pending.{Pending}
@@ -33,6 +33,10 @@ use Rattle.tp_session.proofs.HandLemmas.{none_in_hand}
 -- as many as there are lines
 pub as_many : {A B C : Type 0} (f : A → C) (g : B → C) (xs : List A) (ys : List B) → map f xs ≡ map g ys → length xs ≡ length ys
 as_many f g xs ys same = sym (length-map xs f) ∙ (ap length same ∙ length-map ys g)
+
+-- what is known of each so far is known of all, where there is no other
+pub all_made : {B C : Type 0} (h : C → B) (made : List B) (items all : List C) (n : ℕ) → made ≡ map h (take n items) → length items ≤ n → items ≡ all → made ≡ map h all
+all_made h made items all n so_far end is = so_far ∙ (ap (map h) (take_all n items end) ∙ ap (map h) is)
 
 -- the client's pass, and one for each server
 pub enough : (head : Head) (racers : ℕ) (m : Managed) (n : ℕ) → IsNewInMemory (limits_of (head_view head) racers) m → n ≡ length head.servers.items → 1 + n ≤ length m.passes.items

@@ -1,5 +1,5 @@
 //! The whole run of a script, from the reader's bytes to the writer's.
-ghost use Rattle.std.specs.Prelude.{◌≡◌, ◌+◌, ◌++◌, ◌^◌, ◌<◌, ◌≤◌, None, Result, All, IfSome, IsErrOf};
+ghost use Rattle.std.specs.Prelude.{◌≡◌, ◌+◌, ◌++◌, ◌^◌, ◌<◌, ◌≤◌, Result, IfSome, IsErrOf};
 ghost use Rattle.std.specs.Prelude.{IsTrue};
 ghost use Rattle.std.specs.Prelude.{OnErr, OnOk, length, map};
 ghost use Rattle.std.specs.Io.KnownBytes.{Appends};
@@ -7,12 +7,8 @@ ghost use Rattle.tp_report.specs.Faults.{TellsFault, exit_status};
 ghost use Rattle.tp_report.specs.Written.{AppendsFront};
 ghost use Rattle.tp_report.specs.declared.fault.Exit.{Exit};
 ghost use Rattle.tp_report.specs.declared.fault.Fault.{Fault};
-ghost use Rattle.tp_script.specs.Passes.{racing};
-ghost use Rattle.tp_script.specs.Script.{head_view};
 ghost use Rattle.tp_script.specs.Whole.{script};
 ghost use Rattle.tp_script.specs.declared.source.TheConstants.{MAX_READS};
-ghost use Rattle.tp_server.specs.Behaviour.{behaviour_of};
-ghost use Rattle.tp_session.specs.Conversed.{IsNewInMemory, limits_of};
 ghost use Rattle.tp_session.specs.Performed.{Ran, Report, ReportFront, closing_text, finals_text};
 
 use crate::ending::tell_finals;
@@ -86,7 +82,7 @@ pub fn run_to_end<T: Threads + Sync, R: Source, W: Sink, E: Sink>(
     exit_status(outcome)
 }
 
-/// Makes the manager that a script needs, performs it, and writes its report.
+/// Makes the manager that a script needs and the boxed servers, performs it, and writes its report.
 pub fn serve<T: Threads + Sync, W: Sink>(
     rt: &T,
     alloc: Global,
@@ -99,30 +95,13 @@ pub fn serve<T: Threads + Sync, W: Sink>(
     ensures write { IsErrOf result Fault.Write → IsTrue (W.has_failed writer.new) }
     ensures no_read { ¬ (IsErrOf result Fault.Read) }
 {
-    match Managed::new(alloc, limits_of(&script.head, script.racers())) {
-        Ok(managed) => serve_by(rt, alloc, script, managed, writer),
-        Err(MakeFault::NoMemory) => Err(Fault::NoMemory),
+    let racers = script.racers();
+    let managed = match Managed::new(alloc, limits_of(&script.head, racers)) {
+        Ok(managed) => managed,
+        Err(MakeFault::NoMemory) => return Err(Fault::NoMemory),
         Err(MakeFault::BadLimits) => unreachable!(),
         Err(MakeFault::NoPart) => unreachable!(),
-    }
-}
-
-/// Makes the boxed servers.
-fn serve_by<T: Threads + Sync, W: Sink>(
-    rt: &T,
-    alloc: Global,
-    script: &Script,
-    managed: Managed,
-    writer: &mut W,
-) -> Result<(), Fault>
-    requires new { IsNewInMemory (limits_of (head_view script.now.head) (racing script.now.acts.items))
-        managed }
-    ensures told { OnOk result (Report script.now (Appends (W.contents writer.old) (W.contents writer.new))) }
-    ensures front { OnErr result
-        (ReportFront script.now (AppendsFront (W.contents writer.old) (W.contents writer.new))) }
-    ensures write { IsErrOf result Fault.Write → IsTrue (W.has_failed writer.new) }
-    ensures no_read { ¬ (IsErrOf result Fault.Read) }
-{
+    };
     let mut servers: Vec<Box<dyn Server + Send>> = Vec::new(alloc);
     for server in &script.head.servers {
         match server.kind {
@@ -130,35 +109,7 @@ fn serve_by<T: Threads + Sync, W: Sink>(
             Kind::Lazy => put(&mut servers, Box::new(alloc, lazy(server)?)?)?,
         }
     }
-    serve_with(rt, alloc, script, managed, servers, writer)
-}
-
-/// Performs the script with these servers, and writes the rest of its report.
-fn serve_with<T: Threads + Sync, W: Sink>(
-    rt: &T,
-    alloc: Global,
-    script: &Script,
-    managed: Managed,
-    servers: Vec<Box<dyn Server + Send>>,
-    writer: &mut W,
-) -> Result<(), Fault>
-    requires new { IsNewInMemory (limits_of (head_view script.now.head) (racing script.now.acts.items))
-        managed }
-    requires behaviours { map (λ server. behaviour server) servers.items
-        ≡ map (λ line. behaviour_of line.recipe) script.now.head.servers.items }
-    requires registers { map (λ server. registers server) servers.items
-        ≡ map (λ line. line.registers) script.now.head.servers.items }
-    requires clear { All (λ server. pending server ≡ None) servers.items }
-    ensures told { OnOk result (Report script.now (Appends (W.contents writer.old) (W.contents writer.new))) }
-    ensures front { OnErr result
-        (ReportFront script.now (AppendsFront (W.contents writer.old) (W.contents writer.new))) }
-    ensures write { IsErrOf result Fault.Write → IsTrue (W.has_failed writer.new) }
-    ensures no_read { ¬ (IsErrOf result Fault.Read) }
-{
-    let works = no_works(
-        alloc,
-        script.head.workers.len() + usize::from(script.racers()),
-    )?;
+    let works = no_works(alloc, script.head.workers.len() + usize::from(racers))?;
     let notes = first_notes(alloc, &script.head, works.as_slice())?;
     let places = first_places(managed.passes.as_slice(), servers.as_slice());
     let mut held = Held {

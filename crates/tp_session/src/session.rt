@@ -6,7 +6,6 @@ ghost use Rattle.std.specs.Prelude.{OnErr, OnOk, Result, length, map, vec_len};
 ghost use Rattle.std.specs.Io.KnownBytes.{Appends};
 ghost use Rattle.tp_model.specs.declared.types.TheConstants.{MAX_PASSES};
 ghost use Rattle.tp_workers.specs.Free.{IsFreePass};
-ghost use Rattle.tp_server.specs.Behaviour.{behaviour_of};
 ghost use Rattle.tp_report.specs.Faults.{TellsFault, exit_status};
 ghost use Rattle.tp_report.specs.Written.{AppendsFront};
 ghost use Rattle.tp_report.specs.declared.fault.Exit.{Exit};
@@ -15,7 +14,7 @@ ghost use Rattle.tp_script.specs.Ranges.{IsActInRange};
 ghost use Rattle.tp_script.specs.Script.{head_view};
 ghost use Rattle.tp_script.specs.declared.head.Head.{Head};
 ghost use Rattle.tp_session.specs.Conversed.{BodyFront, BodyWhole, Conversed, ConversedAs, ConversedFront};
-ghost use Rattle.tp_session.specs.Conversed.{IsNewInMemory, LiveEnds, limits_of};
+ghost use Rattle.tp_session.specs.Conversed.{LiveEnds, limits_of};
 ghost use Rattle.tp_session.specs.Heard.{HearsFront, IsAllOf, IsSilent, Tells};
 ghost use Rattle.tp_commands.specs.Places.{workers};
 ghost use Rattle.tp_perform.specs.Told.{AllLeftAt};
@@ -105,7 +104,8 @@ pub(crate) fn limits_of(head: &Head, racers: u16) -> Limits
     }
 }
 
-/// Makes the manager that a session needs, and answers the first command and the lines behind it.
+/// Makes the manager that a session needs and the boxed servers, answers the first command and the lines
+/// behind it, and then writes the final lines of these servers.
 fn hold<W: Wire>(
     alloc: Global,
     head: &mut Head,
@@ -133,44 +133,12 @@ fn hold<W: Wire>(
     ensures long { IsErrOf result Fault.Read
         → IsTrue (W.read_failed wire.new) ⊎ IsLong lines.old (W.rest wire.old) }
 {
-    match Managed::new(alloc, limits_of(head, 0)) {
-        Ok(managed) => with_managed(alloc, head, first, managed, lines, wire),
-        Err(MakeFault::NoMemory) => Err(Fault::NoMemory),
+    let managed = match Managed::new(alloc, limits_of(head, 0)) {
+        Ok(managed) => managed,
+        Err(MakeFault::NoMemory) => return Err(Fault::NoMemory),
         Err(MakeFault::BadLimits) => unreachable!(),
         Err(MakeFault::NoPart) => unreachable!(),
-    }
-}
-
-/// Makes the boxed servers.
-fn with_managed<W: Wire>(
-    alloc: Global,
-    head: &mut Head,
-    first: Option<First>,
-    managed: Managed,
-    lines: &mut Lines,
-    wire: &mut W,
-) -> Result<(), Fault>
-    requires ready { W.ready wire.old }
-    requires new { IsNewInMemory (limits_of (head_view head.old) 0) managed }
-    requires asked { W.asked wire.old + lines.old.left < 2 ^ 64 }
-    requires in_range { IfSome (first_act first) (IsActInRange
-        (vec_len head.old.servers) (vec_len head.old.workers)) }
-    requires few { past_of first + room lines.old + 2 < 2 ^ 64 }
-    requires ended { first ≡ None → IsSilent (to_come lines.old (W.rest wire.old)) }
-    ensures ready { W.ready wire.new }
-    ensures told { OnOk result (BodyWhole head.old (past_of first) (first_act first)
-        (to_come lines.old (W.rest wire.old))
-        (λ text. Appends (W.contents wire.old) (W.contents wire.new) (lines.old.answers.items ++ text))) }
-    ensures front { OnErr result (BodyFront head.old (past_of first) (first_act first)
-        (to_come lines.old (W.rest wire.old))
-        (λ text. AppendsFront (W.contents wire.old) (W.contents wire.new)
-        (lines.old.answers.items ++ text))) }
-    ensures write { IsErrOf result Fault.Write → IsTrue (W.write_failed wire.new) }
-    ensures read { IsErrOf result Fault.Read
-        → IsOver (W.read_failed wire.new) (W.asked wire.old + lines.old.left) (W.asked wire.new) }
-    ensures long { IsErrOf result Fault.Read
-        → IsTrue (W.read_failed wire.new) ⊎ IsLong lines.old (W.rest wire.old) }
-{
+    };
     let mut servers: Vec<Box<dyn Server + Send>> = Vec::new(alloc);
     for server in &head.servers {
         match server.kind {
@@ -178,45 +146,6 @@ fn with_managed<W: Wire>(
             Kind::Lazy => put(&mut servers, Box::new(alloc, lazy(server)?)?)?,
         }
     }
-    with_servers(alloc, head, first, managed, servers, lines, wire)
-}
-
-/// Answers the lines, and then writes the final lines of these servers.
-fn with_servers<W: Wire>(
-    alloc: Global,
-    head: &mut Head,
-    first: Option<First>,
-    managed: Managed,
-    servers: Vec<Box<dyn Server + Send>>,
-    lines: &mut Lines,
-    wire: &mut W,
-) -> Result<(), Fault>
-    requires ready { W.ready wire.old }
-    requires new { IsNewInMemory (limits_of (head_view head.old) 0) managed }
-    requires behaviours { map (λ server. behaviour server) servers.items
-        ≡ map (λ line. behaviour_of line.recipe) head.old.servers.items }
-    requires registers { map (λ server. registers server) servers.items
-        ≡ map (λ line. line.registers) head.old.servers.items }
-    requires clear { All (λ server. pending server ≡ None) servers.items }
-    requires asked { W.asked wire.old + lines.old.left < 2 ^ 64 }
-    requires in_range { IfSome (first_act first) (IsActInRange
-        (vec_len head.old.servers) (vec_len head.old.workers)) }
-    requires few { past_of first + room lines.old + 2 < 2 ^ 64 }
-    requires ended { first ≡ None → IsSilent (to_come lines.old (W.rest wire.old)) }
-    ensures ready { W.ready wire.new }
-    ensures told { OnOk result (BodyWhole head.old (past_of first) (first_act first)
-        (to_come lines.old (W.rest wire.old))
-        (λ text. Appends (W.contents wire.old) (W.contents wire.new) (lines.old.answers.items ++ text))) }
-    ensures front { OnErr result (BodyFront head.old (past_of first) (first_act first)
-        (to_come lines.old (W.rest wire.old))
-        (λ text. AppendsFront (W.contents wire.old) (W.contents wire.new)
-        (lines.old.answers.items ++ text))) }
-    ensures write { IsErrOf result Fault.Write → IsTrue (W.write_failed wire.new) }
-    ensures read { IsErrOf result Fault.Read
-        → IsOver (W.read_failed wire.new) (W.asked wire.old + lines.old.left) (W.asked wire.new) }
-    ensures long { IsErrOf result Fault.Read
-        → IsTrue (W.read_failed wire.new) ⊎ IsLong lines.old (W.rest wire.old) }
-{
     let works = no_works(alloc, head.workers.len())?;
     let notes = first_notes(alloc, head, works.as_slice())?;
     let places = first_places(managed.passes.as_slice(), servers.as_slice());

@@ -1,9 +1,9 @@
 use Rattle.std.proofs.Common.{◌≡◌, None, map, take, All}
 use Rattle.tp_server.specs.Behaviour.{behaviour_of}
 use Rattle.tp_perform.specs.contracts.boxes.put.{dyn-1-ghosts}
-use Rattle.tp_session.proofs.session.with_managed.OwnLists.{own-1, lawful-own-1}
-use Rattle.tp_session.proofs.session.with_managed.Hidden.{sends-own-1}
-use Rattle.tp_session.proofs.session.with_managed.Given as goal
+use Rattle.tp_session.proofs.scripts.serve.OwnLists.{own-1, lawful-own-1}
+use Rattle.tp_session.proofs.scripts.serve.Hidden.{sends-own-1}
+use Rattle.tp_session.proofs.scripts.serve.Given as goal
 
 -- each box so far shows the recipe and the registers of its line, and has nothing prepared
 abbrev pub invariant-loop-server : goal.invariant-loop-server
