@@ -316,6 +316,10 @@ impl Shared {
         let last = limits.parts - 1;
         let mut part = begin;
         while part < limits.parts {
+            if lows[part as usize] == limits.rows && part != last {
+                part += 1;
+                continue;
+            }
             part = self.past_bare(seat, lows, part, stage);
             if part == limits.parts {
                 return None;

@@ -20,7 +20,7 @@ use Rattle.tp_model.specs.Steps.{part_rows}
 use Rattle.tp_manager.specs.Leans.{IsLeanAt, IsLeanIn}
 use Rattle.tp_manager.proofs.Claims.Leans.{lean_from, lean_part, lean_parts, lean_skip, parts_all, parts_more, parts_rise}
 use Rattle.tp_manager.proofs.manager.Shared.scan_parts.Goals as goal
-use Rattle.tp_manager.proofs.manager.Shared.scan_parts.Goals.{After-past_bare-part, After-scan_from_mark, else-lows-part-via-then-lows-part+else-part-last, else-lows-part-via-else-lows-part}
+use Rattle.tp_manager.proofs.manager.Shared.scan_parts.Goals.{After-past_bare-part, After-scan_from_mark, else-lows-part-2-via-then-lows-part-2+else-part-last-2, else-lows-part-2-via-else-lows-part-2}
 
 -- the looks at bare parts
 gone : (c : After-past_bare-part) → Looked (table_limits c.args.self.now.words) (c.past_bare-part.result - c.loop-part.part + 1) (view_of c.loop-part.seat) (view_of c.past_bare-part.new.seat)
@@ -90,9 +90,32 @@ returns-then-part-limits-clause-told c = let l : Limits = table_limits c.args.se
 
 -- a part that the pass knows finished: it isn't the first of those that are looked at
 pub loop-part-preserved-then-part-last : goal.loop-part-preserved-then-part-last
-loop-part-preserved-then-part-last c = let l : Limits = table_limits c.args.self.now.words in let P = PassedBy l c.args.stage in let at = (goal.at.loop-part-preserved-then-part-last c).After-past_bare-part in let n = c.loop-part.part in let r = c.past_bare-part.result in let s = try_steps in let i = c.loop-part.invariant in let lows = c.args.lows.now in
+loop-part-preserved-then-part-last c = let l : Limits = table_limits c.args.self.now.words in let n = c.loop-part.part in let s = try_steps in let i = c.loop-part.invariant in let lows = c.args.lows.now in
     let count : l.parts ≡ c.args.self.now.places.limits.parts = ap (λ (z : Limits). z.parts) c.args.self.now.same in let wide : l.rows ≡ c.args.self.now.places.limits.rows = ap (λ (z : Limits). z.rows) c.args.self.now.same in
-    let finished : slice_index c.loop-part.lows r ≡ l.rows = c.if-lows-part.true ∙ sym wide in let first = c.first_open-begin.result in let from = i.from in let up = c.past_bare-part.ensures.part.0 in let high = c.past_bare-part.ensures.part.1 in let not_end = c.if-part-limits.false in let below = c.loop-part-test.true in
+    let finished : slice_index c.loop-part.lows n ≡ l.rows = c.if-lows-part.true ∙ sym wide in let first = c.first_open-begin.result in let from = i.from in let below = c.loop-part-test.true in record {
+      same = i.same;
+      remembers = i.remembers;
+      gaps = i.gaps;
+      rises = i.rises;
+      from = omega arith;
+      top = omega arith;
+      rest = λ q low. i.rest q (omega arith);
+      done = i.done;
+      rests = λ q low high. dite (dec_le n q)
+          (λ at. let same : n ≡ q = omega arith in inl (subst (λ z. slice_index c.loop-part.lows z ≡ l.rows) same finished))
+          (λ not. i.rests q low (omega arith));
+      lean = let rise = parts_rise l lows n (n + 1) (omega arith) in lean_parts l c.args.stage (3 * parts_left l lows n + 3 * (n + 1 - l.parts)) n _ (n + 1) (part_rows l) lows _ _ (omega arith) (omega arith) i.lean;
+      begun = ⊎_elim
+          (λ t. absurd (let at = t.0 in let more = c.if-part-last.true in c.first_open-begin.ensures.open (omega arith) (subst (λ z. slice_index lows z ≡ l.rows) at (sym (i.rest n (omega arith)) ∙ finished))))
+          (λ sought. inr (sought_few l (scan_steps l s 3 lows n) (scan_steps l s 3 lows (n + 1)) _ _ _ (scan_rises l lows s 3 n (n + 1) (omega arith))
+          (finished_on l c.args.stage (scan_steps l s 3 lows n) first n c.loop-part.lows _ _ c.requires.stage.0 c.args.self.now.words.places.valid.rows.0 i.remembers finished sought))) i.begun;
+    }
+
+-- nor is one that is found behind bare ones
+pub loop-part-preserved-then-part-last-2 : goal.loop-part-preserved-then-part-last-2
+loop-part-preserved-then-part-last-2 c = let l : Limits = table_limits c.args.self.now.words in let P = PassedBy l c.args.stage in let at = (goal.at.loop-part-preserved-then-part-last-2 c).After-past_bare-part in let n = c.loop-part.part in let r = c.past_bare-part.result in let s = try_steps in let i = c.loop-part.invariant in let lows = c.args.lows.now in
+    let count : l.parts ≡ c.args.self.now.places.limits.parts = ap (λ (z : Limits). z.parts) c.args.self.now.same in let wide : l.rows ≡ c.args.self.now.places.limits.rows = ap (λ (z : Limits). z.rows) c.args.self.now.same in
+    let finished : slice_index c.loop-part.lows r ≡ l.rows = c.if-lows-part-2.true ∙ sym wide in let first = c.first_open-begin.result in let from = i.from in let up = c.past_bare-part.ensures.part.0 in let high = c.past_bare-part.ensures.part.1 in let not_end = c.if-part-limits.false in let below = c.loop-part-test.true in
     let still = remembers_kind c.args.stage c.loop-part.lows _ _ _ _ _ (gone at).walk i.remembers in let k : ℕ = scan_steps l s 3 lows n + (r - n + 1) in record {
       same = search rules;
       remembers = still;
@@ -109,7 +132,7 @@ loop-part-preserved-then-part-last c = let l : Limits = table_limits c.args.self
           (λ a. lean_skip l c.args.stage (3 * parts_left l lows n + 3 * (n + 1 - l.parts)) n (r - n) _ (r + 1) (part_rows l) lows _ _ _ _ (omega arith) (omega arith) i.lean a.walk)
           (λ a. absurd (a.1 finished)) c.past_bare-part.ensures.few;
       begun = ⊎_elim
-          (λ t. absurd (let same = t.0 in let more = c.if-part-last.true in c.first_open-begin.ensures.open (omega arith) (subst (λ z. slice_index lows z ≡ l.rows) same (sym (i.rest r up) ∙ finished))))
+          (λ t. absurd (let same = t.0 in let more = c.if-part-last-2.true in c.first_open-begin.ensures.open (omega arith) (subst (λ z. slice_index lows z ≡ l.rows) same (sym (i.rest r up) ∙ finished))))
           (λ sought. inr (sought_few l k (scan_steps l s 3 lows (r + 1)) _ _ _ (let apart = scan_apart l lows s 3 n (r + 1) (omega arith) in omega arith)
           (finished_on l c.args.stage k first r c.loop-part.lows _ _ c.requires.stage.0 c.args.self.now.words.places.valid.rows.0 still finished sought))) (begun at);
     }
@@ -129,9 +152,9 @@ more : (c : After-scan_from_mark) → parts_left (table_limits c.args.self.now.w
     ≤ 3 * parts_left (table_limits c.args.self.now.words) c.args.lows.now (c.past_bare-part.result + 1) + 3 * (c.past_bare-part.result + 2 - (table_limits c.args.self.now.words).parts)
 more c several = let l : Limits = table_limits c.args.self.now.words in let n = c.loop-part.part in let r = c.past_bare-part.result in let lows = c.args.lows.now in let count : l.parts ≡ c.args.self.now.places.limits.parts = ap (λ (z : Limits). z.parts) c.args.self.now.same in
     let wide : l.rows ≡ c.args.self.now.places.limits.rows = ap (λ (z : Limits). z.rows) c.args.self.now.same in let rise = parts_rise l lows r (r + 1) (omega arith) in let before = c.loop-part-test.true in let up = c.past_bare-part.ensures.part.0 in
-    elim c.else-lows-part.branch [
-      | else-lows-part-via-then-lows-part+else-part-last w ↦ (let last = w.if-part-last.false in omega arith)
-      | else-lows-part-via-else-lows-part w ↦ (let one = parts_more l lows r (λ is. w.if-lows-part.false (c.loop-part.invariant.rest r up ∙ (is ∙ wide))) in omega arith)
+    elim c.else-lows-part-2.branch [
+      | else-lows-part-2-via-then-lows-part-2+else-part-last-2 w ↦ (let last = w.if-part-last-2.false in omega arith)
+      | else-lows-part-2-via-else-lows-part-2 w ↦ (let one = parts_more l lows r (λ is. w.if-lows-part-2.false (c.loop-part.invariant.rest r up ∙ (is ∙ wide))) in omega arith)
     ]
 
 -- what is made in the parts so far, and in this one up to row e
