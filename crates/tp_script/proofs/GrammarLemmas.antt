@@ -105,5 +105,5 @@ begins_kept settings items workers alive lost clients requests ends place old ne
 begins_kept settings items workers alive lost clients requests ends place old new (Err e) at kept = ap (λ (servers : List ServerView). record { settings = settings; servers = servers; workers = workers; alive = alive; lost = lost; clients = clients; requests = requests; ends = ends }) (servers_kept items place old new at kept)
 
 -- a list has room for one more, also as it is shown
-pub has_room : {A B : Type 0} (f : A → B) (xs : List A) (n most : ℕ) → n ≡ length xs → n < most → nat_lt (length (map f xs)) most ≡ true
-has_room f xs n most is lt = rw (length-map xs f, ← is) search (rules, tests)
+pub room_shown : {A B : Type 0} (f : A → B) (xs : List A) (n most : ℕ) → n ≡ length xs → n < most → nat_lt (length (map f xs)) most ≡ true
+room_shown f xs n most is lt = rw (length-map xs f, ← is) search (rules, tests)
