@@ -104,7 +104,7 @@ impl Shared {
     }
 
     /// The first of these rows whose claim isn't found to be for the last attempt, or else their end. One
-    /// look at each row before it, and at it. What is parked is passed by here, so the loop holds nothing else.
+    /// look at each row before it, and at it. What is parked is passed by here, so the loop holds no more.
     #[inline(always)]
     fn past_parked(&self, seat: &mut Seat, from: u32, to: u32, stage: u8) -> u32
         requires steady { IsSteady self.now.words seat.old }
