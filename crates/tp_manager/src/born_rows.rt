@@ -42,8 +42,8 @@ fn birth_of(head: Head) -> Birth
 }
 
 impl Shared {
-    /// Whether a unit took the element for the last attempt in its round, by the claim that was found: then it
-    /// doesn't wait.
+    /// Whether a unit took the element for the last attempt in its round, by the claim that was found: then
+    /// it doesn't wait.
     #[inline(always)]
     fn is_last(&self, claim: FoundClaim) -> bool
         ensures { result ≡ true → (n u r : ℕ) × (claim_value claim.tells ≡ TakenWord n u r)
@@ -65,8 +65,8 @@ impl Shared {
         }
     }
 
-    /// The unit takes the element of a row, if that waits: it is known that one of the stage is born there. It
-    /// makes a step less than other rows allow, and stands apart, since what is parked never comes to it.
+    /// The unit takes the element of a row, if that waits: it is known that one of the stage is born there.
+    /// This makes a step less than other rows allow, and stands apart, since no parked row comes to it.
     #[inline(never)]
     fn take_born(&self, seat: &mut Seat, row: u32, stage: u8, unit: u16) -> Option<Taken>
         requires steady { IsSteady self.now.words seat.old }
@@ -103,8 +103,8 @@ impl Shared {
         }
     }
 
-    /// The first of these rows whose claim isn't found to be for the last attempt, or else their end. One look at each row before it, and at it. Most
-    /// of what is parked is passed by here, so the loop holds nothing else.
+    /// The first of these rows whose claim isn't found to be for the last attempt, or else their end. One
+    /// look at each row before it, and at it. What is parked is passed by here, so the loop holds no more.
     #[inline(always)]
     fn past_parked(&self, seat: &mut Seat, from: u32, to: u32, stage: u8) -> u32
         requires steady { IsSteady self.now.words seat.old }
@@ -113,7 +113,8 @@ impl Shared {
         ensures row { (from ≤ result) × (result ≤ to) }
         ensures lean { let l = table_limits self.now.words in
             IsLeanAt l stage 0 from (result - from) (view_of seat.old) (view_of seat.new)
-            ⊎ ((result < to) × IsLeanAt l stage 1 from (result - from) (view_of seat.old) (view_of seat.new)) }
+            ⊎ ((result < to)
+            × IsLeanAt l stage 1 from (result - from) (view_of seat.old) (view_of seat.new)) }
         ensures told { let l = table_limits self.now.words in
             Begun l (PassedBy l stage) (result - from + 1) from result (view_of seat.old) (view_of seat.new) }
     {

@@ -139,7 +139,8 @@ impl Model for Pass {
 
     ghost view = { λ p. shown (spot p.seat.table p.lows p.run.drawn p.from) p.seat.view };
 
-    ghost invariant = { λ p. Rests p.seat p.number p.run p.used p.task × Recalls p.seat.view p.lows p.gaps p.begins };
+    ghost invariant = { λ p. Rests p.seat p.number p.run p.used p.task
+        × Recalls p.seat.view p.lows p.gaps p.begins };
 }
 
 impl Keeper {

@@ -1,5 +1,6 @@
 //! What a pass finds at a row.
-ghost use Rattle.std.specs.Prelude.{◌≡◌, ◌+◌, ◌<◌, ◌≤◌, ℕ, slice_index, Some, IfSome, MatchOption, true, false};
+ghost use Rattle.std.specs.Prelude.{◌≡◌, ◌+◌, ◌<◌, ◌≤◌, ℕ, slice_index, Some, IfSome, MatchOption};
+ghost use Rattle.std.specs.Prelude.{true, false};
 ghost use Rattle.tp_words.specs.declared.words.Head.TheVariants.{Empty, Filled};
 ghost use Rattle.tp_model.specs.History.{IsUnborn, element_of, status_of};
 ghost use Rattle.tp_model.specs.declared.types.Element.{Element};

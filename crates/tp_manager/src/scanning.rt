@@ -274,8 +274,8 @@ impl Shared {
     }
 
     /// The unit takes the first element of a part that waits in the stage. What the pass knows finished isn't
-    /// looked at again, but for the last part, so that each call looks. `begins` goes on to the first part that
-    /// isn't known finished.
+    /// looked at again, but for the last part, so that each call looks. `begins` goes on to the first part
+    /// that isn't known finished.
     fn scan_parts(
         &self,
         seat: &mut Seat,
