@@ -39,6 +39,10 @@ pub look_untaken-requires-clause-waits : goal.look_untaken-requires-clause-waits
 look_untaken-requires-clause-waits c = let o = one (goal.at.look_untaken-requires-clause-waits c).After-load_claim-claim in
     status_free (table_limits c.args.self.now.words) (seen_by c.load_claim-claim.new.seat) c.args.row o.walk.steady.shows.legal (sym c.load_claim-claim.ensures.claim ∙ ap claim_value c.in-Free.is)
 
+pub look_untaken-requires-in-Again-clause-steady :
+    goal.look_untaken-requires-in-Again-clause-steady
+look_untaken-requires-in-Again-clause-steady c = record { own = c.load_claim-claim.ensures.same ∙ c.requires.steady.own; steady = (one (goal.at.look_untaken-requires-in-Again-clause-steady c).After-load_claim-claim).walk.steady }
+
 pub look_untaken-requires-in-Again-clause-row : goal.look_untaken-requires-in-Again-clause-row
 look_untaken-requires-in-Again-clause-row c = (c.requires.row.0, born (goal.at.look_untaken-requires-in-Again-clause-row c).After-load_claim-claim)
 
