@@ -3,3 +3,12 @@ pub mod Acting
 pub mod Asked
 pub mod Registers
 pub mod Received
+pub mod Ending
+pub mod Drains
+pub mod GivingUp
+pub mod Rollover
+pub mod Restore
+pub mod Scenes
+pub mod Together
+pub mod Told
+pub mod Units

@@ -9,7 +9,7 @@ use Rattle.tp_plain.specs.OneThread.{State}
 use Rattle.tp_rollover.specs.declared.moved.Moved.{Moved}
 use Rattle.tp_rollover.specs.declared.moved.RollFault.{RollFault}
 use Rattle.tp_report.specs.Answer.{line, rolled_text}
-use Rattle.tp_perform.specs.Rollover.{renamed}
+use Rattle.tp_commands.specs.Rollover.{renamed}
 use Rattle.tp_script.specs.Fault.{◌<>◌}
 use Rattle.tp_session.specs.Answers.{units_text}
 use Rattle.tp_session.specs.NoteTexts.{note_lines}

@@ -24,9 +24,9 @@ use Rattle.tp_script.specs.Script.{HeadView, ServerView, head_view}
 use Rattle.tp_script.specs.declared.head.Head.{Head}
 use Rattle.tp_script.specs.declared.head.LostLine.{LostLine}
 use Rattle.tp_commands.specs.Acting.{DeskShown, PlaceShown}
-use Rattle.tp_perform.specs.Restore.{IsUnrestoredFor, IsUnrestoredIn}
-use Rattle.tp_perform.specs.Rollover.{BeginsAgain, IsUnrolled, IsUnrolledFor, RollRefused, renamed, roll_refused_text}
-use Rattle.tp_perform.specs.Scenes.{Scene, own_passes, passes_in}
+use Rattle.tp_commands.specs.Restore.{IsUnrestoredFor, IsUnrestoredIn}
+use Rattle.tp_commands.specs.Rollover.{BeginsAgain, IsUnrolled, IsUnrolledFor, RollRefused, renamed, roll_refused_text}
+use Rattle.tp_commands.specs.Scenes.{Scene, own_passes, passes_in}
 use Rattle.tp_reference.specs.declared.plain_desk.PlainDesk.{PlainDesk}
 use Rattle.tp_alone.specs.Thread.{AreTogether, not_given, state_of, thread_of}
 use Rattle.tp_alone.proofs.Idle.{alone_idle}

@@ -18,7 +18,7 @@ use Rattle.tp_script.specs.declared.head.Act.{Act}
 use Rattle.tp_script.specs.declared.head.Act.TheVariants as act
 use Rattle.tp_script.specs.Script.{ServerView}
 use Rattle.tp_commands.specs.Acting.{PlaceShown}
-use Rattle.tp_perform.specs.Scenes.{IsNewPlace}
+use Rattle.tp_commands.specs.Scenes.{IsNewPlace}
 use Rattle.tp_reference.specs.PlainReport.{new_desk}
 use Rattle.tp_exact.specs.Programs.{IsChecked}
 use Rattle.tp_exact.specs.Stands.{IsFor, IsServedBy}

@@ -16,7 +16,7 @@ use Rattle.tp_script.specs.declared.script.ClientAct.{ClientAct}
 use Rattle.tp_commands.specs.Acting.{PlaceShown}
 use Rattle.tp_commands.specs.Asked.{TellsClient}
 use Rattle.tp_commands.specs.Registers.{TellsBalance, counted_value, register_sum}
-use Rattle.tp_perform.specs.Scenes.{Scene, passes_in}
+use Rattle.tp_commands.specs.Scenes.{Scene, passes_in}
 use Rattle.tp_reference.specs.declared.plain_desk.PlainDesk.{PlainDesk}
 use Rattle.tp_reference.specs.PlainClient.{client, client_step}
 use Rattle.tp_reference.specs.PlainReport as plain

@@ -4,7 +4,7 @@ use Rattle.std.specs.Prelude.{slice_get}
 use Rattle.tp_report.specs.declared.answer.Answer.TheVariants as answer
 use Rattle.tp_report.specs.Answer.{answer_text, line}
 use Rattle.tp_script.specs.declared.script.Command.TheVariants as command
-use Rattle.tp_perform.specs.Scenes.{Scene}
+use Rattle.tp_commands.specs.Scenes.{Scene}
 use Rattle.tp_reference.specs.PlainReport.{balance_answer}
 use Rattle.tp_exact.specs.Commands.{ExactCommand, ExactDrain}
 use Rattle.tp_exact.specs.Stands.{IsFor}

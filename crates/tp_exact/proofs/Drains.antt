@@ -21,8 +21,8 @@ use Rattle.tp_report.specs.declared.answer.Answer.TheVariants as answer
 use Rattle.tp_report.specs.declared.answer.ServerAnswer.TheVariants as told
 use Rattle.tp_script.specs.Script.{ServerView}
 use Rattle.tp_commands.specs.Acting.{PlaceShown, is_free}
-use Rattle.tp_perform.specs.Drains.{Drains, NoTurn, Round, RoundsClaim, TurnTaken, TurnsBelow, turn_claimed}
-use Rattle.tp_perform.specs.Scenes.{Scene, passes_in}
+use Rattle.tp_commands.specs.Drains.{Drains, NoTurn, Round, RoundsClaim, TurnTaken, TurnsBelow, turn_claimed}
+use Rattle.tp_commands.specs.Scenes.{Scene, passes_in}
 use Rattle.tp_reference.specs.declared.plain_desk.PlainDesk.{PlainDesk}
 use Rattle.tp_reference.specs.PlainDesks as desks
 use Rattle.tp_reference.specs.PlainDesks.{DeskAnswered, claim_in_order, has_open, turn_by}

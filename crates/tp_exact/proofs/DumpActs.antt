@@ -8,7 +8,7 @@ use Rattle.tp_rollover.proofs.Seen.{stays_trans}
 use Rattle.tp_script.specs.Script.{HeadView, head_view}
 use Rattle.tp_script.specs.declared.head.Head.{Head}
 use Rattle.tp_commands.specs.Acting.{PlaceShown}
-use Rattle.tp_perform.specs.Scenes.{Gathered, OnlyPass, passes_in}
+use Rattle.tp_commands.specs.Scenes.{Gathered, OnlyPass, passes_in}
 use Rattle.tp_reference.specs.declared.plain_desk.PlainDesk.{PlainDesk}
 use Rattle.tp_alone.specs.Thread.{AreTogether, Stays, thread_of}
 use Rattle.tp_alone.proofs.Idle.{alone_idle}

@@ -23,7 +23,7 @@ use Rattle.tp_script.specs.Script.{HeadView, WorkerView}
 use Rattle.tp_script.specs.declared.head.AliveLine.{AliveLine}
 use Rattle.tp_script.specs.declared.head.LostLine.{LostLine}
 use Rattle.tp_script.specs.declared.head.TheConstants.{MAX_ALIVE}
-use Rattle.tp_perform.specs.Scenes.{passes_in}
+use Rattle.tp_commands.specs.Scenes.{passes_in}
 use Rattle.tp_session.specs.Dump.{holds_one, life_text, lost_element, lost_lines}
 use Rattle.tp_session.specs.Hands.{unit_of}
 use Rattle.tp_session.specs.Live as lives

@@ -6,7 +6,7 @@ use Rattle.std.specs.List.{AllZip}
 use Rattle.tp_manager.specs.Shown.{PassShown}
 use Rattle.tp_commands.specs.Acting.{AllEnded, PlaceShown}
 use Rattle.tp_script.specs.Script.{ServerView}
-use Rattle.tp_perform.specs.Ending.{final_line, final_lines}
+use Rattle.tp_commands.specs.Ending.{final_line, final_lines}
 use Rattle.tp_reference.specs.declared.plain_desk.PlainDesk.{PlainDesk}
 use Rattle.tp_reference.specs.PlainReport as plain
 use Rattle.tp_reference.specs.PlainReport.{finals_below}

@@ -5,8 +5,8 @@ use Rattle.tp_plain.specs.OneThread as thread
 use Rattle.tp_manager.specs.Shown.{KeeperShown, ManagerShown}
 use Rattle.tp_script.specs.Script.{ServerView}
 use Rattle.tp_commands.specs.Acting.{PlaceShown}
-use Rattle.tp_perform.specs.GivingUp.{GiveUpBelow, DeskGivesUp}
-use Rattle.tp_perform.specs.Scenes.{Scene, passes_in}
+use Rattle.tp_commands.specs.GivingUp.{GiveUpBelow, DeskGivesUp}
+use Rattle.tp_commands.specs.Scenes.{Scene, passes_in}
 use Rattle.tp_reference.specs.PlainDesks.{after_giving_up}
 use Rattle.tp_reference.specs.PlainReport.{ReportState, ended_below, worker}
 use Rattle.tp_exact.specs.Stands.{IsFor, IsServedBy, StandsAsComputed}

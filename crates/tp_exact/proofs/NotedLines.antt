@@ -12,7 +12,7 @@ use Rattle.tp_script.specs.declared.head.Act.TheVariants as acts
 use Rattle.tp_script.specs.declared.head.Head.{Head}
 use Rattle.tp_script.specs.declared.notes.NotedAct.{NotedAct}
 use Rattle.tp_script.specs.declared.notes.UnitEnd.{UnitEnd}
-use Rattle.tp_perform.specs.Scenes.{Gathered, Scene, Stand, passes_in}
+use Rattle.tp_commands.specs.Scenes.{Gathered, Scene, Stand, passes_in}
 use Rattle.tp_reference.specs.PlainClient.{client}
 use Rattle.tp_alone.specs.Thread.{thread_of}
 use Rattle.tp_session.specs.Lasts.{HandRead, end_at, open_text}

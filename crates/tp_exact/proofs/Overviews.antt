@@ -18,7 +18,7 @@ use Rattle.tp_script.specs.declared.head.Head.{Head}
 use Rattle.tp_script.specs.declared.script.Overview.{Overview}
 use Rattle.tp_script.specs.declared.script.Overview.TheVariants as overviews
 use Rattle.tp_commands.specs.Acting.{PlaceShown}
-use Rattle.tp_perform.specs.Scenes.{Scene, passes_in}
+use Rattle.tp_commands.specs.Scenes.{Scene, passes_in}
 use Rattle.tp_reference.specs.PlainClient.{client}
 use Rattle.tp_reference.specs.declared.plain_desk.PlainDesk.{PlainDesk}
 use Rattle.tp_alone.specs.Thread.{HasSeen, drawn_of, not_given, state_of, thread_of}

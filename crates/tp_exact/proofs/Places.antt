@@ -31,8 +31,8 @@ use Rattle.tp_script.specs.declared.script.Command.TheVariants as command
 use Rattle.tp_script.specs.declared.script.DeskAct.{DeskAct}
 use Rattle.tp_script.specs.declared.script.DeskAct.TheVariants as acts
 use Rattle.tp_commands.specs.Acting.{DeskShown, Does, DoesUnless, PlaceShown, TellsClaim, is_drop}
-use Rattle.tp_perform.specs.Scenes.{Scene, passes_in}
-use Rattle.tp_perform.specs.Told.{ServerLine}
+use Rattle.tp_commands.specs.Scenes.{Scene, passes_in}
+use Rattle.tp_commands.specs.Told.{ServerLine}
 use Rattle.tp_reference.specs.declared.plain_desk.PlainDesk.{PlainDesk}
 use Rattle.tp_reference.specs.PlainDesks.{DeskAnswered, abort_work, aborted_as, claim_in_order, claim_given, claimed_as, commit_work, committed_as, does, does_unless_dropped, given_as, has_open, work_in_hand, nothing_done, prepare_with, prepare_work, settle_with, turn_as}
 use Rattle.tp_reference.specs.PlainReport.{ReportState, command_step, desk_at, with_acted, worker}

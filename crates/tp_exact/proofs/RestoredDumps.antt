@@ -20,7 +20,7 @@ use Rattle.tp_rollover.proofs.Carrying.{each_of}
 use Rattle.tp_rollover.proofs.Restored.{restored_rolls}
 use Rattle.tp_script.specs.Script.{HeadView}
 use Rattle.tp_commands.specs.Acting.{PlaceShown}
-use Rattle.tp_perform.specs.Scenes.{Scene, passes_in}
+use Rattle.tp_commands.specs.Scenes.{Scene, passes_in}
 use Rattle.tp_reference.specs.declared.plain_desk.PlainDesk.{PlainDesk}
 use Rattle.tp_session.specs.Dump.{attempts_of}
 use Rattle.tp_session.specs.Live.{FoundAlive, Live, status_at, status_before, survivor_of, survivors_of}

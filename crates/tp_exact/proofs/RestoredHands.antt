@@ -19,8 +19,8 @@ use Rattle.tp_rollover.proofs.Lists.{zip_of_left}
 use Rattle.tp_script.specs.Holders.{is_holder}
 use Rattle.tp_script.specs.declared.head.LostLine.{LostLine}
 use Rattle.tp_commands.specs.Acting.{PlaceShown}
-use Rattle.tp_perform.specs.Rollover.{BeginsAgain}
-use Rattle.tp_perform.specs.Scenes.{Scene, passes_in}
+use Rattle.tp_commands.specs.Rollover.{BeginsAgain}
+use Rattle.tp_commands.specs.Scenes.{Scene, passes_in}
 use Rattle.tp_session.specs.Carried.{hand_after, held_in, lost_at, lost_by, lost_works, works_after}
 use Rattle.tp_session.specs.Dump.{holds_one, lost_element}
 use Rattle.tp_session.specs.Live.{survivors_of}

@@ -18,8 +18,8 @@ use Rattle.tp_session.specs.Dump.{drop_lines}
 use Rattle.tp_reference.specs.PlainReport.{finals_below, new_desk, worker}
 use Rattle.tp_script.specs.Script.{HeadView, ServerView, WorkerView, head_view}
 use Rattle.tp_script.specs.declared.head.Head.{Head}
-use Rattle.tp_perform.specs.Rollover.{BeginsAgain}
-use Rattle.tp_perform.specs.Scenes.{passes_in}
+use Rattle.tp_commands.specs.Rollover.{BeginsAgain}
+use Rattle.tp_commands.specs.Scenes.{passes_in}
 use Rattle.tp_session.specs.Answers.{restored_text}
 use Rattle.tp_report.specs.Answer.{rolled_text}
 use Rattle.tp_session.specs.Carried.{lost_works, works_after}

@@ -7,7 +7,7 @@ use Rattle.tp_model.proofs.Bridges.{in_none}
 use Rattle.tp_manager.specs.Bounds.{gather_steps}
 use Rattle.tp_manager.specs.Shown.{IsOf, KeeperShown, ManagerShown, PassShown}
 use Rattle.tp_commands.specs.Acting.{PlaceShown}
-use Rattle.tp_perform.specs.Scenes.{Gathered, GatheredIn, OnlyPass, Scene, passes_in}
+use Rattle.tp_commands.specs.Scenes.{Gathered, GatheredIn, OnlyPass, Scene, passes_in}
 use Rattle.tp_alone.specs.Thread.{AreTogether, Stays}
 use Rattle.tp_alone.proofs.Gatherings.{gathered_together}
 use Rattle.tp_exact.specs.Stands.{SceneOnlyLooks, OnlyLooksAt}

@@ -24,7 +24,7 @@ use Rattle.tp_script.specs.declared.head.Act.TheVariants as acts
 use Rattle.tp_script.specs.declared.head.Head.{Head}
 use Rattle.tp_script.specs.declared.head.WorkerAct.TheVariants.{Abort}
 use Rattle.tp_script.specs.declared.whole.Script.{Script}
-use Rattle.tp_perform.specs.Scenes.{passes_in}
+use Rattle.tp_commands.specs.Scenes.{passes_in}
 use Rattle.tp_reference.specs.PlainClient.{counts_of}
 use Rattle.tp_reference.specs.PlainReport.{ended_below, finals_below}
 use Rattle.tp_session.specs.Answers.{worker_answer_line}

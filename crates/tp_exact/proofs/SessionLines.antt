@@ -19,7 +19,7 @@ use Rattle.tp_script.specs.declared.head.WorkerAct.TheVariants.{Abort}
 use Rattle.tp_script.specs.Notes.{NameView}
 use Rattle.tp_script.specs.declared.script.Command.{Command}
 use Rattle.tp_commands.specs.Acting.{PlaceShown}
-use Rattle.tp_perform.specs.Scenes.{Gathered, Scene, Stand, passes_in}
+use Rattle.tp_commands.specs.Scenes.{Gathered, Scene, Stand, passes_in}
 use Rattle.tp_reference.specs.declared.plain_desk.PlainDesk.{PlainDesk}
 use Rattle.tp_reference.specs.PlainClient.{client, counts_of}
 use Rattle.tp_reference.specs.PlainReport.{ReportState, command_step, drain_step}

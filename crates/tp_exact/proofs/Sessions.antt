@@ -16,7 +16,7 @@ use Rattle.tp_script.specs.declared.head.Act.TheVariants as acts
 use Rattle.tp_script.specs.declared.head.Head.{Head}
 use Rattle.tp_rollover.specs.Managed.{IsNewPass}
 use Rattle.tp_rollover.specs.declared.moved.RollFault.{RollFault}
-use Rattle.tp_perform.specs.Scenes.{Scene, passes_in}
+use Rattle.tp_commands.specs.Scenes.{Scene, passes_in}
 use Rattle.tp_reference.specs.PlainReport.{finals_below}
 use Rattle.tp_alone.specs.Thread.{AreDrawn, AreTogether, IsFresh, drawn_of}
 use Rattle.tp_alone.proofs.Starts.{alone_start}

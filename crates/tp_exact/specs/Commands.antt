@@ -4,9 +4,9 @@ use Rattle.tp_manager.specs.Shown.{KeeperShown, ManagerShown}
 use Rattle.tp_server.specs.declared.order.Order.{Order}
 use Rattle.tp_script.specs.Script.{HeadView}
 use Rattle.tp_script.specs.declared.script.Command.{Command}
-use Rattle.tp_perform.specs.Drains.{Drains}
-use Rattle.tp_perform.specs.Scenes.{Gathered, Scene}
-use Rattle.tp_perform.specs.Told.{TellsCommand}
+use Rattle.tp_commands.specs.Drains.{Drains}
+use Rattle.tp_commands.specs.Scenes.{Gathered, Scene}
+use Rattle.tp_commands.specs.Told.{TellsCommand}
 use Rattle.tp_reference.specs.PlainReport.{ReportState, command_step, drain_step}
 use Rattle.tp_exact.specs.Stands.{StandsAsComputed}
 

@@ -16,8 +16,8 @@ use Rattle.tp_script.specs.Script.{HeadView, head_view}
 use Rattle.tp_script.specs.declared.head.AliveLine.{AliveLine}
 use Rattle.tp_script.specs.declared.head.Head.{Head}
 use Rattle.tp_script.specs.declared.head.LostLine.{LostLine}
-use Rattle.tp_perform.specs.Restore.{Restored}
-use Rattle.tp_perform.specs.Scenes.{Stand}
+use Rattle.tp_commands.specs.Restore.{Restored}
+use Rattle.tp_commands.specs.Scenes.{Stand}
 use Rattle.tp_session.specs.Dump.{attempts_of, dump_text, holds_one, lost_element}
 use Rattle.tp_session.specs.Live as lives
 use Rattle.tp_session.specs.Live.{DumpTold, FoundAlive, HoldsUnits, Live, RestoredLive, Unsurveyed}

@@ -22,7 +22,7 @@ use Rattle.tp_script.specs.declared.head.Act.{Act}
 use Rattle.tp_script.specs.declared.head.Act.TheVariants as acts
 use Rattle.tp_script.specs.declared.head.WorkerAct.{WorkerAct}
 use Rattle.tp_script.specs.declared.head.WorkerAct.TheVariants.{Abort}
-use Rattle.tp_perform.specs.Rollover.{renamed, roll_refused_text}
+use Rattle.tp_commands.specs.Rollover.{renamed, roll_refused_text}
 use Rattle.tp_reference.specs.PlainClient.{counts_of}
 use Rattle.tp_reference.specs.PlainReport.{ReportState, command_step, drain_step, finals_below, new_desk}
 use Rattle.tp_session.specs.Answers.{joined_line, left_line, refused_line, restored_text, units_text}

@@ -8,7 +8,7 @@ use Rattle.tp_server.specs.Behaviour.{behaviour_of}
 use Rattle.tp_manager.specs.Shown.{KeeperShown}
 use Rattle.tp_script.specs.Script.{ServerView}
 use Rattle.tp_commands.specs.Acting.{DeskShown, PlaceShown}
-use Rattle.tp_perform.specs.Scenes.{Scene, passes_in}
+use Rattle.tp_commands.specs.Scenes.{Scene, passes_in}
 use Rattle.tp_reference.specs.declared.plain_desk.PlainDesk.{PlainDesk}
 use Rattle.tp_reference.specs.PlainReport.{ReportState}
 use Rattle.tp_alone.specs.Thread.{AreTogether, Stays, thread_of}

@@ -25,10 +25,10 @@ use Rattle.tp_commands.specs.Acting.{IsSteadyPlace, PlaceShown, work_in}
 use Rattle.tp_commands.specs.Asked.{FoundLine, TellsClient}
 use Rattle.tp_commands.specs.Places.{workers}
 use Rattle.tp_commands.proofs.Lies.{lie_servers}
-use Rattle.tp_perform.specs.Scenes.{Scene}
-use Rattle.tp_perform.specs.Told.{AreReady, IsScene, TellsCommand, units_held}
-use Rattle.tp_perform.proofs.Chains.{all_steady}
-use Rattle.tp_perform.proofs.Gatherings.{gathered, held_gathered, ready_gathered}
+use Rattle.tp_commands.specs.Scenes.{Scene}
+use Rattle.tp_commands.specs.Told.{AreReady, IsScene, TellsCommand, units_held}
+use Rattle.tp_commands.proofs.Chains.{all_steady}
+use Rattle.tp_commands.proofs.Gatherings.{gathered, held_gathered, ready_gathered}
 use Rattle.tp_session.specs.declared.hand.Holding.{Holding}
 use Rattle.tp_session.specs.declared.hand.Holding.TheVariants.{Nothing}
 use Rattle.tp_session.specs.Hands.{IsHand, WorkerDoes, worker_hand, unit_of, has_unit}

@@ -18,12 +18,12 @@ use Rattle.tp_script.specs.declared.head.Head.{Head}
 use Rattle.tp_commands.specs.declared.place.Place.{Place}
 use Rattle.tp_commands.specs.Acting.{places_shown, work_in}
 use Rattle.tp_commands.specs.Places.{AllLie, workers}
-use Rattle.tp_perform.specs.Rollover.{stand}
-use Rattle.tp_perform.specs.Scenes.{OnlyPass, Scene, Stand, passes_in}
-use Rattle.tp_perform.specs.Told.{AreReady, IsScene, units_held}
-use Rattle.tp_perform.proofs.Gatherings.{Looks, all_in, only_passes, ready_on, same_held, scene_on, zip_drop, zip_take, zip_with}
-use Rattle.tp_perform.proofs.Rollovers.{own_of, stayed}
-use Rattle.tp_perform.proofs.Slices.{scene_there}
+use Rattle.tp_commands.specs.Rollover.{stand}
+use Rattle.tp_commands.specs.Scenes.{OnlyPass, Scene, Stand, passes_in}
+use Rattle.tp_commands.specs.Told.{AreReady, IsScene, units_held}
+use Rattle.tp_commands.proofs.Gatherings.{Looks, all_in, only_passes, ready_on, same_held, scene_on, zip_drop, zip_take, zip_with}
+use Rattle.tp_commands.proofs.Rollovers.{own_of, stayed}
+use Rattle.tp_commands.proofs.Slices.{scene_there}
 use Rattle.tp_session.specs.Dump.{dump_lines, dump_text}
 use Rattle.tp_session.specs.Live.{FoundAlive, HoldsUnits, IsHeldBySession, IsLive, Leads, Live, LiveLooks, Surveyed, TellsDump, Unsurveyed, has_desk_open, lines_of}
 use Rattle.tp_session.specs.Notes.{notes_view}

@@ -17,11 +17,11 @@ use Rattle.tp_script.specs.declared.script.ScriptServer.{ScriptServer}
 use Rattle.tp_commands.specs.Acting.{new_places, places_shown}
 use Rattle.tp_commands.specs.Places.{AllLie, workers}
 use Rattle.tp_workers.specs.Free.{IsFreePass}
-use Rattle.tp_perform.specs.Scenes.{IsNewPlace}
-use Rattle.tp_perform.specs.Scenes.{passes_in}
-use Rattle.tp_perform.specs.Told.{AreReady, after_servers}
-use Rattle.tp_perform.proofs.Beginnings.{all_new, new_behaviours, new_registers, recipes_shown, registers_shown}
-use Rattle.tp_perform.proofs.Gatherings.{all_in}
+use Rattle.tp_commands.specs.Scenes.{IsNewPlace}
+use Rattle.tp_commands.specs.Scenes.{passes_in}
+use Rattle.tp_commands.specs.Told.{AreReady, after_servers}
+use Rattle.tp_commands.proofs.Beginnings.{all_new, new_behaviours, new_registers, recipes_shown, registers_shown}
+use Rattle.tp_commands.proofs.Gatherings.{all_in}
 use Rattle.tp_session.specs.declared.hand.Holding.{Holding}
 use Rattle.tp_session.specs.declared.hand.Holding.TheVariants.{Nothing}
 use Rattle.tp_session.specs.Conversed.{IsNewInMemory, LiveBegins, limits_of}

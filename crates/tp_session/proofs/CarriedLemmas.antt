@@ -30,10 +30,10 @@ use Rattle.tp_script.specs.declared.head.AliveLine.{AliveLine}
 use Rattle.tp_script.specs.declared.head.LostLine.{LostLine}
 use Rattle.tp_commands.specs.declared.place.Place.{Place}
 use Rattle.tp_commands.proofs.Lies.{lie_servers}
-use Rattle.tp_perform.specs.Scenes.{Scene}
-use Rattle.tp_perform.specs.Told.{AreReady, IsScene, units_held}
-use Rattle.tp_perform.proofs.Rollovers.{idle_on}
-use Rattle.tp_perform.proofs.Rounds.{places_long}
+use Rattle.tp_commands.specs.Scenes.{Scene}
+use Rattle.tp_commands.specs.Told.{AreReady, IsScene, units_held}
+use Rattle.tp_commands.proofs.Rollovers.{idle_on}
+use Rattle.tp_commands.proofs.Rounds.{places_long}
 use Rattle.tp_session.proofs.PassLemmas.{racers_are}
 use Rattle.tp_session.specs.Carried.{hand_after, held_in, lost_at, lost_by, lost_works, not_carried, works_after}
 use Rattle.tp_session.specs.Hands.{unit_of}

@@ -11,9 +11,9 @@ use Rattle.tp_manager.specs.Bounds.{account_steps}
 use Rattle.tp_manager.specs.Shown.{IsOf, KeeperShown, ManagerShown, PassShown}
 use Rattle.tp_script.specs.declared.head.Head.{Head}
 use Rattle.tp_script.specs.declared.head.WorkerLine.{WorkerLine}
-use Rattle.tp_perform.specs.Scenes.{GatheredIn, Scene, passes_in}
-use Rattle.tp_perform.specs.Told.{AreReady, IsScene, units_held}
-use Rattle.tp_perform.proofs.Gatherings.{all_in, gathered_in, held_looked, ready_looked}
+use Rattle.tp_commands.specs.Scenes.{GatheredIn, Scene, passes_in}
+use Rattle.tp_commands.specs.Told.{AreReady, IsScene, units_held}
+use Rattle.tp_commands.proofs.Gatherings.{all_in, gathered_in, held_looked, ready_looked}
 use Rattle.tp_session.specs.Hands.{unit_of}
 use Rattle.tp_session.specs.Live.{IsHeldBySession, Leads, Live}
 use Rattle.tp_session.specs.Performed.{LiveCounts, WorkerCloses, WorkersBelow}

@@ -13,7 +13,7 @@ use Rattle.tp_commands.specs.declared.place.Place.{Place}
 use Rattle.tp_commands.specs.Acting.{AllEnded, places_shown}
 use Rattle.tp_commands.specs.Places.{AllLeft, AllLie, firsts, workers}
 use Rattle.tp_commands.proofs.Lefts.{workers_are}
-use Rattle.tp_perform.specs.Told.{AreReady, after_servers, units_held}
+use Rattle.tp_commands.specs.Told.{AreReady, after_servers, units_held}
 use Rattle.tp_session.specs.declared.hand.Holding.{Holding}
 use Rattle.tp_session.specs.Hands.{AllHold, WorkerGivesUp, hands, unit_of}
 use Rattle.tp_session.proofs.HandLemmas.{free_hands, hands_hold}

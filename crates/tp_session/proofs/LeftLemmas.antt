@@ -9,8 +9,8 @@ use Rattle.tp_script.specs.declared.head.Act.{Act}
 use Rattle.tp_script.specs.declared.head.Head.{Head}
 use Rattle.tp_commands.specs.declared.place.Place.{Place}
 use Rattle.tp_commands.specs.Places.{firsts}
-use Rattle.tp_perform.specs.Told.{began_of}
-use Rattle.tp_perform.proofs.Began.{began_same, scene_began}
+use Rattle.tp_commands.specs.Told.{began_of}
+use Rattle.tp_commands.proofs.Began.{began_same, scene_began}
 use Rattle.tp_session.specs.Heard.{HearsFront, Next, Tells}
 use Rattle.tp_session.specs.Left.{ActDone, BodyDone, LineDone, OrSame, Reaches, began_at, began_in}
 use Rattle.tp_session.specs.Live.{IsHeldBySession, IsLive, Leads, Live, TellsAct}

@@ -5,9 +5,9 @@ use Rattle.std.specs.declared.dyn_box.DynBox.{DynBox}
 use Rattle.tp_server.specs.Behaviour.{Behaviour}
 use Rattle.tp_server.specs.Pending.{Pending}
 use Rattle.tp_script.specs.declared.head.Head.{Head}
-use Rattle.tp_perform.specs.Scenes.{Scene}
-use Rattle.tp_perform.specs.Told.{IsScene}
-use Rattle.tp_perform.proofs.Slices.{one_scene, scene_there}
+use Rattle.tp_commands.specs.Scenes.{Scene}
+use Rattle.tp_commands.specs.Told.{IsScene}
+use Rattle.tp_commands.proofs.Slices.{one_scene, scene_there}
 use Rattle.tp_session.specs.Live.{Begins, IsHeldBySession, IsLive, Leads, Live}
 use Rattle.tp_session.specs.Notes.{notes_view}
 use Rattle.tp_session.specs.declared.held.Held.{Held}

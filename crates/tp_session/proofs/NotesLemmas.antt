@@ -5,7 +5,7 @@ use Rattle.std.specs.declared.dyn_box.DynBox.{DynBox}
 use Rattle.tp_server.specs.Behaviour.{Behaviour}
 use Rattle.tp_server.specs.Pending.{Pending}
 use Rattle.tp_script.specs.declared.head.Head.{Head}
-use Rattle.tp_perform.specs.Scenes.{Stand}
+use Rattle.tp_commands.specs.Scenes.{Stand}
 use Rattle.tp_session.specs.Live.{HoldsUnits, IsHeldBySession, Leads, with_notes}
 use Rattle.tp_session.specs.Notes.{NotesView, notes_view}
 use Rattle.tp_session.specs.declared.hand.Holding.{Holding}

@@ -15,8 +15,8 @@ use Rattle.tp_commands.specs.Acting.{places_shown, work_in}
 use Rattle.tp_commands.specs.Places.{AllLie, workers}
 use Rattle.tp_commands.specs.declared.place.Place.{Place}
 use Rattle.tp_commands.proofs.Lies.{lie_servers}
-use Rattle.tp_perform.specs.Scenes.{passes_in}
-use Rattle.tp_perform.proofs.Gatherings.{all_in}
+use Rattle.tp_commands.specs.Scenes.{passes_in}
+use Rattle.tp_commands.proofs.Gatherings.{all_in}
 use Rattle.tp_script.specs.Fault.{◌<>◌}
 use Rattle.tp_script.specs.Script.{HeadView, ServerView, WorkerView, head_view, server_view, worker_view}
 use Rattle.tp_script.specs.declared.head.Head.{Head}

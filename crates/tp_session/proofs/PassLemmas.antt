@@ -14,8 +14,8 @@ use Rattle.tp_workers.specs.Free.{IsFreePass}
 use Rattle.tp_commands.specs.declared.place.Place.{Place}
 use Rattle.tp_commands.specs.Acting.{places_shown}
 use Rattle.tp_commands.specs.Places.{AllLie, workers}
-use Rattle.tp_perform.specs.Scenes.{Scene}
-use Rattle.tp_perform.specs.Told.{AreReady, IsScene, after_servers, units_held}
+use Rattle.tp_commands.specs.Scenes.{Scene}
+use Rattle.tp_commands.specs.Told.{AreReady, IsScene, after_servers, units_held}
 use Rattle.tp_session.specs.declared.hand.Holding.{Holding}
 use Rattle.tp_session.specs.Hands.{unit_of}
 

@@ -6,7 +6,7 @@ use Rattle.tp_script.specs.declared.head.Act.{Act}
 use Rattle.tp_script.specs.declared.head.Act.TheVariants as act
 use Rattle.tp_script.specs.declared.head.Head.{Head}
 use Rattle.tp_script.specs.declared.script.Race.{Race}
-use Rattle.tp_perform.specs.Told.{RaceFree, after_servers, units_held}
+use Rattle.tp_commands.specs.Told.{RaceFree, after_servers, units_held}
 use Rattle.tp_workers.specs.Free.{IsFreePass}
 use Rattle.tp_session.specs.declared.hand.Holding.{Holding}
 use Rattle.tp_session.specs.declared.hand.Holding.TheVariants.{Nothing}

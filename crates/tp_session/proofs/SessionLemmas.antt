@@ -7,7 +7,7 @@ use Rattle.tp_report.proofs.Devices.{front_none}
 use Rattle.tp_script.specs.Script.{HeadView, head_view, no_head}
 use Rattle.tp_script.specs.declared.head.Act.{Act}
 use Rattle.tp_script.specs.declared.head.Head.{Head}
-use Rattle.tp_perform.specs.Ending.{final_lines}
+use Rattle.tp_commands.specs.Ending.{final_lines}
 use Rattle.tp_session.specs.Conversed.{BodyFront, BodyWhole, Conversed, ConversedFront, HeadRead, LiveBegins, LiveEnds}
 use Rattle.tp_session.specs.Heard.{HearsFront, IsAllOf, IsSilent, Tells}
 use Rattle.tp_session.specs.Live.{Live}

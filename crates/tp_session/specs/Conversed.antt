@@ -21,8 +21,8 @@ use Rattle.tp_script.specs.declared.fault.LineFault.{LineFault}
 use Rattle.tp_script.specs.declared.head.Act.{Act}
 use Rattle.tp_script.specs.declared.head.Head.{Head}
 use Rattle.tp_commands.specs.Acting.{AllEnded, IsSteadyPlace}
-use Rattle.tp_perform.specs.Ending.{final_lines}
-use Rattle.tp_perform.specs.Scenes.{IsNewPlace, Stand, passes_in}
+use Rattle.tp_commands.specs.Ending.{final_lines}
+use Rattle.tp_commands.specs.Scenes.{IsNewPlace, Stand, passes_in}
 use Rattle.tp_session.specs.declared.hand.Holding.{Holding}
 use Rattle.tp_session.specs.declared.hand.Holding.TheVariants.{Nothing}
 use Rattle.tp_session.specs.Hands.{WorkerGivesUp, hands}

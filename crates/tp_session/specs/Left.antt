@@ -7,7 +7,7 @@ use Rattle.tp_server.specs.Pending.{Pending}
 use Rattle.tp_manager.specs.Shown.{PassShown}
 use Rattle.tp_script.specs.declared.head.Act.{Act}
 use Rattle.tp_script.specs.declared.head.Head.{Head}
-use Rattle.tp_perform.specs.Told.{began_of}
+use Rattle.tp_commands.specs.Told.{began_of}
 use Rattle.tp_session.specs.Heard.{HearsFront}
 use Rattle.tp_session.specs.Live.{IsLive, Live, TellsAct}
 use Rattle.tp_session.specs.Told.{BodyTold, LineTold, now, said_now}

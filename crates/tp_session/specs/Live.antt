@@ -41,12 +41,12 @@ use Rattle.tp_script.specs.declared.script.Overview.TheVariants as overviews
 use Rattle.tp_script.specs.declared.script.Race.{Race}
 use Rattle.tp_commands.specs.Acting.{IsSteadyPlace}
 use Rattle.tp_commands.specs.Asked.{FoundLine, TellsCount}
-use Rattle.tp_perform.specs.Drains.{Drains}
-use Rattle.tp_perform.specs.Restore.{IsUnrestoredIn, Restored}
-use Rattle.tp_perform.specs.Rollover.{IsUnrolled, OnlyLooked, RollRefused, RolledOver, renamed}
-use Rattle.tp_perform.specs.Rollover.{roll_refused_text}
-use Rattle.tp_perform.specs.Scenes.{Gathered, Scene, Stand, passes_in}
-use Rattle.tp_perform.specs.Told.{AreReady, IsScene, RacedAll, TellsCommand, units_held}
+use Rattle.tp_commands.specs.Drains.{Drains}
+use Rattle.tp_commands.specs.Restore.{IsUnrestoredIn, Restored}
+use Rattle.tp_commands.specs.Rollover.{IsUnrolled, OnlyLooked, RollRefused, RolledOver, renamed}
+use Rattle.tp_commands.specs.Rollover.{roll_refused_text}
+use Rattle.tp_commands.specs.Scenes.{Gathered, Scene, Stand, passes_in}
+use Rattle.tp_commands.specs.Told.{AreReady, IsScene, RacedAll, TellsCommand, units_held}
 use Rattle.tp_session.specs.Answers.{joined_line, left_line, restored_text, units_text, worker_answer_line}
 use Rattle.tp_session.specs.Carried.{lost_works, works_after}
 use Rattle.tp_session.specs.Clients.{NotedDoes, noting}

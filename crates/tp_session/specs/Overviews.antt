@@ -15,8 +15,8 @@ use Rattle.tp_report.specs.declared.answer.Answer.TheVariants as answer
 use Rattle.tp_script.specs.Fault.{◌<>◌}
 use Rattle.tp_script.specs.Script.{HeadView}
 use Rattle.tp_commands.specs.Asked.{TellsRead}
-use Rattle.tp_perform.specs.Scenes.{Scene}
-use Rattle.tp_perform.specs.Units.{units_left_to}
+use Rattle.tp_commands.specs.Scenes.{Scene}
+use Rattle.tp_commands.specs.Units.{units_left_to}
 use Rattle.tp_session.specs.declared.hand.Holding.{Holding}
 use Rattle.tp_session.specs.declared.hand.Holding.TheVariants.{Nothing, Open}
 

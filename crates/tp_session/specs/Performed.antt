@@ -21,8 +21,8 @@ use Rattle.tp_script.specs.declared.head.Head.{Head}
 use Rattle.tp_script.specs.declared.head.WorkerAct.TheVariants as acts
 use Rattle.tp_script.specs.declared.head.WorkerLine.{WorkerLine}
 use Rattle.tp_script.specs.declared.whole.Script.{Script}
-use Rattle.tp_perform.specs.GivingUp.{GiveUpAll}
-use Rattle.tp_perform.specs.Scenes.{GatheredIn, passes_in}
+use Rattle.tp_commands.specs.GivingUp.{GiveUpAll}
+use Rattle.tp_commands.specs.Scenes.{GatheredIn, passes_in}
 use Rattle.tp_session.specs.Conversed.{LiveBegins, LiveEnds, finals_of}
 use Rattle.tp_session.specs.Live.{ActTold, Live, LiveGathers, SceneTold, WorkerDid}
 use Rattle.tp_session.specs.declared.hand.WorkerAnswer.{WorkerAnswer}

@@ -6,8 +6,8 @@ ghost use Rattle.tp_session.specs.Performed.{SessionCloses, CountsAtEnd, DesksCl
 
 use crate::acts::{gather, worker_does};
 use crate::held::Held;
+use tp_commands::give_up_all;
 use tp_model::types::Account;
-use tp_perform::give_up_all;
 use tp_script::{Head, WorkerAct};
 use tp_server::Server;
 

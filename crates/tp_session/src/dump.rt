@@ -22,7 +22,7 @@ use crate::notes::Notes;
 use std::alloc::{AllocError, Global};
 use std::string::String;
 use tp_commands::Place;
-use tp_perform::rollover::refused_line;
+use tp_commands::rollover::refused_line;
 use tp_report::{Answer, line};
 use tp_rollover::{RollFault, Survivor};
 use tp_script::Head;

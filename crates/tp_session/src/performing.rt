@@ -3,7 +3,7 @@ ghost use Rattle.std.specs.Prelude.{◌≡◌, ◌+◌, ◌≤◌, None, List, �
 ghost use Rattle.std.specs.Prelude.{length, map};
 ghost use Rattle.std.specs.Io.KnownBytes.{Appends};
 ghost use Rattle.tp_commands.specs.Places.{workers};
-ghost use Rattle.tp_perform.specs.Told.{AllLeftAt};
+ghost use Rattle.tp_commands.specs.Told.{AllLeftAt};
 ghost use Rattle.tp_report.specs.Written.{AppendsFront};
 ghost use Rattle.tp_script.specs.Passes.{racing};
 ghost use Rattle.tp_session.specs.Left.{Reaches};

@@ -12,7 +12,7 @@ use crate::held::Held;
 use std::alloc::{AllocError, Global};
 use std::string::String;
 use std::thread::Threads;
-use tp_perform::{Racing, race_next};
+use tp_commands::{Racing, race_next};
 use tp_script::{Act, Head, Race};
 use tp_server::Server;
 

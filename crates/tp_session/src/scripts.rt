@@ -20,9 +20,9 @@ use crate::reading::Lines;
 use crate::session::limits_of;
 use std::alloc::Global;
 use std::thread::Threads;
+use tp_commands::boxes::{eager, lazy, put};
 use tp_manager::MakeFault;
 use tp_model::types::Account;
-use tp_perform::boxes::{eager, lazy, put};
 use tp_report::{
     Answer, Exit, Fault, Sink, exit_status, fault_of, line, write_all, write_fault, write_refusal,
 };

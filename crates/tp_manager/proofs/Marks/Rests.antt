@@ -89,12 +89,6 @@ module _ (l : Limits) (n m : ℕ) (ns : List TraceEntry) (v w y x : View) (a : A
   pub spare_rests : (stage p k low row end : ℕ) → p * l.rows ≡ part_rows l → p * l.rows + k ≡ low → (low < row → WasOfUse l stage low w.seen y.seen) → (low < row) ⊎ (end ≤ low) → SpareRests l stage end k v x
   spare_rests stage p k low row end first at stuck stands = ⊎_elim (λ less. inr (stuck_in stage (part_rows l + k) low (omega arith) (stuck less))) (λ past. inl (omega arith)) stands
 
--- the steps of a scan, whether it found something or not
-pub found_walked : (l : Limits) (stage u n from end : ℕ) (v w : View) (o : Option Taken)
-    → MatchOption o (Sought l n (EachRow (PassedBy l stage) from end) v w) (λ (t : Taken). Took l n from stage u v w t.element t.attempt × (t.element.root ≡ t.root)) → (ms : List TraceEntry) × Stepped l n ms v w
-found_walked l stage u n from end v w None s = (s.marks, s.walk)
-found_walked l stage u n from end v w (Some t) s = (s.0.marks, s.0.walk)
-
 -- one part more that a scan came to
 pub parts_on : (l : Limits) (stage first n k m : ℕ) (P : ℕ → List Event → List Event → Type 0) (ns : List TraceEntry) (lows lows' : List ℕ) (v w y : View) → Begun l P k first n v w → Stepped l m ns w y
     → ((q : ℕ) → first ≤ q → q < n → RestsAt l stage q (slice_index lows q) v w) → RestsAt l stage n (slice_index lows' n) w y → ((q : ℕ) → q ≢ n → slice_index lows' q ≡ slice_index lows q)

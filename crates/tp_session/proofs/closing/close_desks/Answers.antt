@@ -1,8 +1,8 @@
 use Rattle.std.proofs.Common.{◌∙◌, ap, length, refl}
 use Rattle.std.specs.Vec.{with_items}
 use Rattle.std.specs.List.{refill}
-use Rattle.tp_perform.specs.GivingUp.{GiveUpAll}
-use Rattle.tp_perform.specs.Told.{units_held}
+use Rattle.tp_commands.specs.GivingUp.{GiveUpAll}
+use Rattle.tp_commands.specs.Told.{units_held}
 use Rattle.tp_session.proofs.ActLemmas.{at_of, held_of, refilled, scene_leads}
 use Rattle.tp_session.proofs.LeftLemmas.{began_refilled}
 use Rattle.tp_session.proofs.closing.close_desks.Goals as goal

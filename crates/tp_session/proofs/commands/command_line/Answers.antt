@@ -10,9 +10,9 @@ use Rattle.tp_commands.specs.Places.{workers}
 use Rattle.tp_commands.specs.Registers.{TellsBalance, register_sum}
 use Rattle.tp_commands.proofs.Lies.{lie_servers}
 use Rattle.tp_commands.proofs.Shows.{shown_sum}
-use Rattle.tp_perform.specs.Told.{units_held}
-use Rattle.tp_perform.proofs.Everyone.{all_same}
-use Rattle.tp_perform.proofs.Tellings.{balance_told}
+use Rattle.tp_commands.specs.Told.{units_held}
+use Rattle.tp_commands.proofs.Everyone.{all_same}
+use Rattle.tp_commands.proofs.LineTellings.{balance_told}
 use Rattle.tp_session.proofs.ActLemmas.{at_of, client_did, command_did, held_of, places_many, refilled, steady_in}
 use Rattle.tp_session.proofs.LeftLemmas.{began_refilled}
 use Rattle.tp_session.proofs.LiveLemmas.{live_there}

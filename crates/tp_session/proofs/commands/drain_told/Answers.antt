@@ -3,8 +3,8 @@ use Rattle.std.specs.Vec.{with_items}
 use Rattle.std.specs.List.{refill}
 use Rattle.std.specs.Prelude.{string_bytes}
 use Rattle.std.proofs.lemmas.Result.{IfOk-weaker}
-use Rattle.tp_perform.specs.Drains.{Drains}
-use Rattle.tp_perform.specs.Told.{units_held}
+use Rattle.tp_commands.specs.Drains.{Drains}
+use Rattle.tp_commands.specs.Told.{units_held}
 use Rattle.tp_session.proofs.ActLemmas.{at_of, held_of, refilled, scene_leads}
 use Rattle.tp_session.proofs.LeftLemmas.{began_refilled}
 use Rattle.tp_session.proofs.commands.drain_told.Goals as goal

@@ -4,9 +4,9 @@ use Rattle.std.specs.List.{AllZip}
 use Rattle.tp_workers.specs.Free.{IsFreePass}
 use Rattle.tp_commands.specs.Acting.{AllEnded, IsSteadyPlace, places_shown}
 use Rattle.tp_commands.specs.Places.{workers}
-use Rattle.tp_perform.specs.Told.{AllLeftAt, after_servers}
-use Rattle.tp_perform.proofs.Began.{left_at}
-use Rattle.tp_perform.proofs.Chains.{all_steady}
+use Rattle.tp_commands.specs.Told.{AllLeftAt, after_servers}
+use Rattle.tp_commands.proofs.Began.{left_at}
+use Rattle.tp_commands.proofs.Chains.{all_steady}
 use Rattle.tp_session.specs.Hands.{WorkerGivesUp, hands}
 use Rattle.tp_session.proofs.ActLemmas.{refilled}
 use Rattle.tp_session.proofs.PassLemmas.{racers_are}

@@ -1,6 +1,6 @@
 use Rattle.std.proofs.Common.{◌≡◌, ◌∙◌, ◌++◌, ap, arith, length, map}
 use Rattle.tp_script.specs.Script.{head_view}
-use Rattle.tp_perform.specs.Ending.{final_lines}
+use Rattle.tp_commands.specs.Ending.{final_lines}
 use Rattle.tp_session.proofs.ending.tell_finals.Goals as goal
 
 pub returns-clause-told : goal.returns-clause-told

@@ -1,6 +1,6 @@
 use Rattle.std.proofs.Common.{◌≡◌, ◌++◌, map}
 use Rattle.tp_script.specs.Script.{head_view}
-use Rattle.tp_perform.specs.Ending.{final_lines}
+use Rattle.tp_commands.specs.Ending.{final_lines}
 use Rattle.tp_session.proofs.ending.tell_finals.Given as goal
 
 -- the lines so far

@@ -1,6 +1,6 @@
 use Rattle.std.proofs.Common.{◌≡◌, ◌∙◌, length, subst, sym}
 use Rattle.tp_commands.specs.Places.{workers}
-use Rattle.tp_perform.specs.Told.{AllLeftAt}
+use Rattle.tp_commands.specs.Told.{AllLeftAt}
 use Rattle.tp_session.proofs.LiveLemmas.{leads_both}
 use Rattle.tp_session.proofs.performing.perform.Goals as goal
 

@@ -3,7 +3,7 @@ use Rattle.std.specs.Vec.{with_items}
 use Rattle.std.specs.List.{refill}
 use Rattle.std.specs.Prelude.{IfOk, string_bytes}
 use Rattle.std.proofs.lemmas.Result.{IfOk-weaker}
-use Rattle.tp_perform.specs.Told.{RacedAll, units_held}
+use Rattle.tp_commands.specs.Told.{RacedAll, units_held}
 use Rattle.tp_script.specs.Passes.{racers}
 use Rattle.tp_script.specs.Script.{head_view}
 use Rattle.tp_script.specs.declared.head.Act.TheVariants as act

@@ -4,8 +4,8 @@ use Rattle.std.specs.List.{refill}
 use Rattle.std.specs.Vec.{with_items}
 use Rattle.std.proofs.lemmas.Result.{IfErr-weaker, IfOk-weaker}
 use Rattle.tp_report.specs.Answer.{line}
-use Rattle.tp_perform.specs.Restore.{IsUnrestoredIn, Restored}
-use Rattle.tp_perform.specs.Rollover.{RollRefused, roll_refused_text}
+use Rattle.tp_commands.specs.Restore.{IsUnrestoredIn, Restored}
+use Rattle.tp_commands.specs.Rollover.{RollRefused, roll_refused_text}
 use Rattle.tp_session.specs.Carried.{lost_works}
 use Rattle.tp_session.specs.Live.{survivors_of, works_in}
 use Rattle.tp_rollover.specs.declared.survivors.Survivor.{Survivor}

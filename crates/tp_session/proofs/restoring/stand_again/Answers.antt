@@ -1,8 +1,8 @@
 use Rattle.std.proofs.Common.{◌≡◌, ◌∙◌, [], ap, inl, inr, map, refl, subst, sym}
 use Rattle.std.specs.Prelude.{string_bytes}
 use Rattle.std.proofs.lemmas.Result.{IfOk-weaker}
-use Rattle.tp_perform.specs.Restore.{IsUnrestoredIn, Restored}
-use Rattle.tp_perform.specs.Rollover.{RollRefused, renamed, roll_refused_text}
+use Rattle.tp_commands.specs.Restore.{IsUnrestoredIn, Restored}
+use Rattle.tp_commands.specs.Rollover.{RollRefused, renamed, roll_refused_text}
 use Rattle.tp_report.specs.Answer.{line}
 use Rattle.tp_script.specs.Fault.{◌<>◌}
 use Rattle.tp_script.specs.Script.{head_view}

@@ -3,7 +3,7 @@ use Rattle.std.specs.List.{refill}
 use Rattle.std.specs.Vec.{with_items}
 use Rattle.std.proofs.lemmas.Result.{IfErr-weaker, IfOk-weaker}
 use Rattle.tp_report.specs.Answer.{line}
-use Rattle.tp_perform.specs.Rollover.{IsUnrolled, RollRefused, RolledOver, roll_refused_text}
+use Rattle.tp_commands.specs.Rollover.{IsUnrolled, RollRefused, RolledOver, roll_refused_text}
 use Rattle.tp_session.specs.Live.{works_in}
 use Rattle.tp_session.proofs.ActLemmas.{at_of, refilled}
 use Rattle.tp_session.proofs.AliveLemmas.{held_anew, works_leads}

@@ -1,6 +1,6 @@
 use Rattle.std.proofs.Common.{◌≡◌, ◌∙◌, ap, inl, inr, map, refl, subst, sym}
 use Rattle.std.proofs.lemmas.Result.{IfOk-weaker}
-use Rattle.tp_perform.specs.Rollover.{IsUnrolled, RollRefused, RolledOver, renamed}
+use Rattle.tp_commands.specs.Rollover.{IsUnrolled, RollRefused, RolledOver, renamed}
 use Rattle.tp_session.specs.Live.{works_in}
 use Rattle.tp_report.specs.Answer.{line, rolled_text}
 use Rattle.tp_script.specs.Fault.{◌<>◌}

@@ -2,9 +2,9 @@ use Rattle.std.proofs.Common.{◌≡◌, ◌+◌, ap, arith, ◌∙◌, length, 
 use Rattle.std.proofs.lemmas.Result.{on_err_weaker, on_ok_weaker}
 use mathlib.Core.Logic.{inl, inr}
 use Rattle.tp_report.proofs.Devices.{Appends-then, always_err, front_none, front_then}
-use Rattle.tp_perform.proofs.Pushes.{extended, renamed}
+use Rattle.tp_commands.proofs.Pushes.{extended, renamed}
 use Rattle.tp_server.specs.Behaviour.{Behaviour, behaviour_of}
-use Rattle.tp_perform.specs.contracts.boxes.put.{dyn-1-ghosts}
+use Rattle.tp_commands.specs.contracts.boxes.put.{dyn-1-ghosts}
 use denote.Param.Object.{read_made}
 use Rattle.tp_session.proofs.scripts.serve.OwnLists.{own-1, lawful-own-1}
 use Rattle.tp_session.proofs.scripts.serve.Hidden.{sends-own-1}

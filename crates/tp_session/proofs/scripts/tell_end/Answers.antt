@@ -3,7 +3,7 @@ use Rattle.std.specs.Prelude.{OnOk, if◌then◌else◌, []}
 use Rattle.std.proofs.lemmas.List.{length-map}
 use Rattle.std.proofs.lemmas.Result.{on_ok_weaker}
 use Rattle.tp_script.specs.Script.{head_view, server_view}
-use Rattle.tp_perform.specs.Ending.{final_lines}
+use Rattle.tp_commands.specs.Ending.{final_lines}
 use Rattle.tp_session.specs.Conversed.{finals_of}
 use Rattle.tp_session.specs.Performed.{closing_text}
 use Rattle.tp_session.proofs.scripts.tell_end.Goals as goal

@@ -1,7 +1,7 @@
 use Rattle.std.proofs.Common.{◌≡◌, ◌∙◌, length, subst, sym}
 use Rattle.std.proofs.lemmas.Result.{on_ok_weaker}
 use Rattle.tp_commands.specs.Places.{workers}
-use Rattle.tp_perform.specs.Told.{AllLeftAt}
+use Rattle.tp_commands.specs.Told.{AllLeftAt}
 use Rattle.tp_session.proofs.TellLemmas.{many_of}
 use Rattle.tp_session.proofs.session.answer_to_end.Goals as goal
 

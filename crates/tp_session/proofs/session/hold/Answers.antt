@@ -4,15 +4,15 @@ use Rattle.std.proofs.lemmas.Result.{on_err_weaker, on_ok_weaker}
 use mathlib.Core.Logic.{inl, inr}
 use Rattle.tp_report.proofs.Devices.{always_err}
 use Rattle.tp_session.proofs.SessionLemmas.{body_whole, body_whole_front, front_before, front_nothing}
-use Rattle.tp_perform.proofs.Pushes.{extended, renamed}
+use Rattle.tp_commands.proofs.Pushes.{extended, renamed}
 use Rattle.tp_server.specs.Behaviour.{Behaviour, behaviour_of}
-use Rattle.tp_perform.specs.contracts.boxes.put.{dyn-1-ghosts}
+use Rattle.tp_commands.specs.contracts.boxes.put.{dyn-1-ghosts}
 use denote.Param.Object.{read_made}
 use Rattle.tp_session.proofs.session.hold.OwnLists.{own-1, lawful-own-1}
 use Rattle.tp_session.proofs.session.hold.Hidden.{sends-own-1}
 use Rattle.tp_session.proofs.session.hold.Goals.{in-Eager+in_ok-eager-in-Eager+in_ok-new-in-Eager+in_ok-put-in-Eager, in-Lazy+in_ok-lazy-in-Lazy+in_ok-new-in-Lazy+in_ok-put-in-Lazy}
 use Rattle.tp_script.specs.Script.{head_view, server_view}
-use Rattle.tp_perform.specs.Ending.{final_lines}
+use Rattle.tp_commands.specs.Ending.{final_lines}
 use Rattle.std.proofs.Common.{Global, Vec}
 use Rattle.tp_script.specs.declared.script.ScriptServer.{ScriptServer}
 use Rattle.tp_session.specs.Conversed.{IsNewInMemory, limits_of}

@@ -1,6 +1,6 @@
 use Rattle.std.proofs.Common.{◌≡◌, None, map, take, All}
 use Rattle.tp_server.specs.Behaviour.{behaviour_of}
-use Rattle.tp_perform.specs.contracts.boxes.put.{dyn-1-ghosts}
+use Rattle.tp_commands.specs.contracts.boxes.put.{dyn-1-ghosts}
 use Rattle.tp_session.proofs.session.hold.OwnLists.{own-1, lawful-own-1}
 use Rattle.tp_session.proofs.session.hold.Hidden.{sends-own-1}
 use Rattle.tp_session.proofs.session.hold.Given as goal

@@ -1,9 +1,0 @@
-pub mod Ending
-pub mod Drains
-pub mod GivingUp
-pub mod Rollover
-pub mod Restore
-pub mod Scenes
-pub mod Together
-pub mod Told
-pub mod Units
