@@ -9,7 +9,7 @@ use Rattle.tp_model.specs.Steps.{part_rows}
 use Rattle.tp_rule.specs.Steps.{IsSo, Knows}
 use Rattle.tp_rule.specs.declared.view.Known.{Known}
 use Rattle.tp_rule.specs.declared.view.View.{View}
-use Rattle.tp_manager.specs.declared.scanning.Taken.{Taken}
+use Rattle.tp_manager.specs.declared.seeker.Taken.{Taken}
 use Rattle.tp_manager.specs.Bounds.{drawn_steps}
 use Rattle.tp_manager.specs.RowSteps.{sum_left, sum_rows, try_steps_at, until}
 use Rattle.tp_manager.specs.CallSteps.{StepsTo}

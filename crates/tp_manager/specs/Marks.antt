@@ -10,7 +10,7 @@ use Rattle.tp_model.specs.History.{IsSettled, element_of, status_of}
 use Rattle.tp_model.specs.Steps.{IsServerStage}
 use Rattle.tp_rule.specs.Rule.{IsInside}
 use Rattle.tp_rule.specs.declared.view.View.{View}
-use Rattle.tp_manager.specs.declared.scanning.Taken.{Taken}
+use Rattle.tp_manager.specs.declared.seeker.Taken.{Taken}
 use Rattle.tp_rule.specs.Steps.{KnowsUseless, Knows}
 use Rattle.tp_rule.specs.declared.view.Known.TheVariants.{MarkAbove, PartMark}
 use Rattle.tp_manager.specs.Shown.{NoneFalls, marks_of}

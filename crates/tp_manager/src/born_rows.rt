@@ -16,7 +16,8 @@ ghost use Rattle.tp_manager.specs.Scans.{Begun, EachRow, IsSpare, PassedBy, Soug
 
 use crate::manager::Shared;
 use crate::row_reads::Birth;
-use crate::scanning::{Stand, Taken};
+use crate::scanning::Stand;
+use crate::seeker::Taken;
 use tp_rule::Seat;
 use tp_words::{Claim, FoundClaim, Head};
 

@@ -10,6 +10,7 @@ ghost use Rattle.tp_manager.specs.Upward.{FirstInFirstOut};
 ghost use Rattle.tp_manager.specs.Raises.{FewAgain, RaisesMarks};
 
 use crate::manager::{Manager, Pass, Task};
+use crate::seeker::Seeker;
 use tp_model::types::{Claimed, Work};
 
 impl Manager {
@@ -45,9 +46,11 @@ impl Manager {
             &mut pass.gaps[stage as usize],
             &mut pass.begins[stage as usize],
             &mut pass.run.drawn,
-            pass.run.done,
-            stage,
-            unit,
+            Seeker {
+                stage,
+                unit,
+                done: pass.run.done,
+            },
         )
         else {
             return Claimed::Idle;

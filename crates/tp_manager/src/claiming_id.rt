@@ -15,7 +15,8 @@ ghost use Rattle.tp_manager.specs.Scans.{IsSpare, Took};
 
 use crate::manager::{Manager, Pass, Shared, Task};
 use crate::row_reads::Birth;
-use crate::scanning::{Stand, Taken};
+use crate::scanning::Stand;
+use crate::seeker::Taken;
 use tp_model::types::{REPLY_STAGE, Refusal, Work};
 use tp_rule::Seat;
 

@@ -22,7 +22,8 @@ ghost use Rattle.tp_manager.specs.Turns.{EachHasItsTurn};
 
 use crate::manager::{Manager, Pass, Shared, Task};
 use crate::marking::Lows;
-use crate::scanning::{Taken, past_done};
+use crate::scanning::past_done;
+use crate::seeker::{Seeker, Taken};
 use tp_model::types::{Claimed, Work};
 use tp_rule::Seat;
 
@@ -73,48 +74,47 @@ impl Shared {
         part: u16,
         from: u32,
         to: u32,
-        done: Option<u32>,
-        stage: u8,
-        unit: u16,
+        who: Seeker,
     ) -> Option<Taken>
         requires steady { IsSteady self.now.words seat.old }
-        requires remembers { Remembers stage (view_of seat.old) lows.old }
+        requires remembers { Remembers who.stage (view_of seat.old) lows.old }
         requires part { part < (table_limits self.now.words).parts }
         requires span { let l = table_limits self.now.words in (part * l.rows ≤ from) × (from ≤ to)
             × (to ≤ part * l.rows + l.rows) }
-        requires done { RemembersDone (view_of seat.old) done }
-        requires stage { IsServerStage stage }
-        requires spare { IsSpare unit (view_of seat.old) × (unit < 65535) }
+        requires done { RemembersDone (view_of seat.old) who.done }
+        requires spare { IsSpare who.unit (view_of seat.old) }
         ensures same { IsSameSeat seat.old seat.new }
-        ensures remembers { Remembers stage (view_of seat.new) lows.new }
+        ensures remembers { Remembers who.stage (view_of seat.new) lows.new }
         ensures lows { RisesAt part lows.old lows.new }
         ensures few { let l = table_limits self.now.words in
             StepsTo (2 + (l.rows - slice_index lows.old part) * try_steps) (view_of seat.old)
             (view_of seat.new) }
         ensures lean { let l = table_limits self.now.words in let n = slice_index lows.old part in
-            IsLeanWithin l stage 2 (part * l.rows + n) (l.rows - n) from to
+            IsLeanWithin l who.stage 2 (part * l.rows + n) (l.rows - n) from to
             (view_of seat.old) (view_of seat.new) }
         ensures told { let l = table_limits self.now.words in let n = 2 + (to - from) * try_steps in
             MatchOption result
-            (Sought l n (EachRow (PassedBy l stage) from to) (view_of seat.old) (view_of seat.new))
-            (λ t. Took l n from stage unit (view_of seat.old) (view_of seat.new) t.element t.attempt
+            (Sought l n (EachRow (PassedBy l who.stage) from to) (view_of seat.old) (view_of seat.new))
+            (λ t. Took l n from who.stage who.unit (view_of seat.old) (view_of seat.new) t.element t.attempt
             × (t.element.root ≡ t.root)) }
     {
-        let mark = self.low_at(seat, lows, stage, part);
+        let mark = self.low_at(seat, lows, who.stage, part);
         let rows = self.places.limits.rows as u32;
         let first = part as u32 * rows;
-        let known = past_done(first + lows[part as usize] as u32, first + rows, done);
+        let known = past_done(first + lows[part as usize] as u32, first + rows, who.done);
         let begin = later(known, from);
         let mut low = known;
         let mut row = begin;
         while row < to {
             let mut born = row;
-            if let Some(taken) = self.try_row(seat, &mut row, &mut low, &mut born, stage, unit) {
-                self.raise_low(seat, lows, stage, part, mark, low);
+            if let Some(taken) = self.try_row(
+                seat, &mut row, &mut low, &mut born, who.stage, who.unit,
+            ) {
+                self.raise_low(seat, lows, who.stage, part, mark, low);
                 return Some(taken);
             }
         }
-        self.raise_low(seat, lows, stage, part, mark, low);
+        self.raise_low(seat, lows, who.stage, part, mark, low);
         None
     }
 
@@ -128,31 +128,28 @@ impl Shared {
         part: u16,
         from: u32,
         to: u32,
-        done: Option<u32>,
-        stage: u8,
-        unit: u16,
+        who: Seeker,
     ) -> Option<Taken>
         requires steady { IsSteady self.now.words seat.old }
-        requires remembers { Remembers stage (view_of seat.old) lows.old }
+        requires remembers { Remembers who.stage (view_of seat.old) lows.old }
         requires part { part < (table_limits self.now.words).parts }
         requires span { let l = table_limits self.now.words in (part * l.rows ≤ from) × (from ≤ to)
             × (to ≤ part * l.rows + l.rows) }
-        requires done { RemembersDone (view_of seat.old) done }
-        requires stage { IsServerStage stage }
-        requires spare { IsSpare unit (view_of seat.old) × (unit < 65535) }
+        requires done { RemembersDone (view_of seat.old) who.done }
+        requires spare { IsSpare who.unit (view_of seat.old) }
         ensures same { IsSameSeat seat.old seat.new }
-        ensures remembers { Remembers stage (view_of seat.new) lows.new }
+        ensures remembers { Remembers who.stage (view_of seat.new) lows.new }
         ensures lows { RisesAt part lows.old lows.new }
         ensures few { let l = table_limits self.now.words in
             StepsTo (3 + (l.rows - slice_index lows.old part) * try_steps) (view_of seat.old)
             (view_of seat.new) }
         ensures lean { let l = table_limits self.now.words in let n = slice_index lows.old part in
-            IsLeanWithin l stage 3 (part * l.rows + n) (l.rows - n) from to
+            IsLeanWithin l who.stage 3 (part * l.rows + n) (l.rows - n) from to
             (view_of seat.old) (view_of seat.new) }
         ensures told { let l = table_limits self.now.words in let n = 3 + (to - from) * try_steps in
             MatchOption result
-            (Sought l n (EachRow (PassedBy l stage) from to) (view_of seat.old) (view_of seat.new))
-            (λ t. Took l n from stage unit (view_of seat.old) (view_of seat.new) t.element t.attempt
+            (Sought l n (EachRow (PassedBy l who.stage) from to) (view_of seat.old) (view_of seat.new))
+            (λ t. Took l n from who.stage who.unit (view_of seat.old) (view_of seat.new) t.element t.attempt
             × (t.element.root ≡ t.root)) }
     {
         let known = part as u32 * self.places.limits.rows as u32 + lows[part as usize] as u32;
@@ -160,7 +157,7 @@ impl Shared {
         if self.is_bare(seat, part, begin) {
             return None;
         }
-        self.scan_span_from_mark(seat, lows, part, from, to, done, stage, unit)
+        self.scan_span_from_mark(seat, lows, part, from, to, who)
     }
 
     /// The unit takes the first element of these rows of the parts that waits in the stage.
@@ -170,27 +167,24 @@ impl Shared {
         lows: &mut Lows,
         from: u32,
         to: u32,
-        done: Option<u32>,
-        stage: u8,
-        unit: u16,
+        who: Seeker,
     ) -> Option<Taken>
         requires steady { IsSteady self.now.words seat.old }
-        requires remembers { Remembers stage (view_of seat.old) lows.old }
+        requires remembers { Remembers who.stage (view_of seat.old) lows.old }
         requires span { (from ≤ to) × (to ≤ part_rows (table_limits self.now.words)) }
-        requires done { RemembersDone (view_of seat.old) done }
-        requires stage { IsServerStage stage }
-        requires spare { IsSpare unit (view_of seat.old) × (unit < 65535) }
+        requires done { RemembersDone (view_of seat.old) who.done }
+        requires spare { IsSpare who.unit (view_of seat.old) }
         ensures same { IsSameSeat seat.old seat.new }
-        ensures remembers { Remembers stage (view_of seat.new) lows.new }
+        ensures remembers { Remembers who.stage (view_of seat.new) lows.new }
         ensures lows { NoneFalls lows.old lows.new }
         ensures few { let l = table_limits self.now.words in
             StepsTo (scan_steps l try_steps 3 lows.old l.parts) (view_of seat.old) (view_of seat.new) }
         ensures lean { let l = table_limits self.now.words in
-            IsLeanAmong l stage (3 * l.parts) lows.old l.parts from to (view_of seat.old) (view_of seat.new) }
+            IsLeanAmong l who.stage (3 * l.parts) lows.old l.parts from to (view_of seat.old) (view_of seat.new) }
         ensures told { let l = table_limits self.now.words in let n = 3 * l.parts + (to - from) * try_steps in
             MatchOption result
-            (Begun l (PassedBy l stage) n from to (view_of seat.old) (view_of seat.new))
-            (λ t. Took l n from stage unit (view_of seat.old) (view_of seat.new) t.element t.attempt
+            (Begun l (PassedBy l who.stage) n from to (view_of seat.old) (view_of seat.new))
+            (λ t. Took l n from who.stage who.unit (view_of seat.old) (view_of seat.new) t.element t.attempt
             × (t.element.root ≡ t.root)) }
     {
         let rows = self.places.limits.rows as u32;
@@ -198,7 +192,7 @@ impl Shared {
         for part in 0..self.places.limits.parts {
             let end = earlier(part as u32 * rows + rows, to);
             if row < end {
-                if let Some(taken) = self.scan_span(seat, lows, part, row, end, done, stage, unit) {
+                if let Some(taken) = self.scan_span(seat, lows, part, row, end, who) {
                     return Some(taken);
                 }
                 row = end;
@@ -259,19 +253,16 @@ impl Shared {
         drawn: &mut u16,
         from: u32,
         to: u32,
-        done: Option<u32>,
-        stage: u8,
-        unit: u16,
+        who: Seeker,
     ) -> Option<Taken>
         requires steady { IsSteady self.now.words seat.old }
-        requires remembers { Remembers stage (view_of seat.old) lows.old }
+        requires remembers { Remembers who.stage (view_of seat.old) lows.old }
         requires drawn { RemembersDrawn (view_of seat.old) drawn.old }
         requires span { (from ≤ to) × (to ≤ rows_of (table_limits self.now.words)) }
-        requires done { RemembersDone (view_of seat.old) done }
-        requires stage { IsServerStage stage }
-        requires spare { IsSpare unit (view_of seat.old) × (unit < 65535) }
+        requires done { RemembersDone (view_of seat.old) who.done }
+        requires spare { IsSpare who.unit (view_of seat.old) }
         ensures same { IsSameSeat seat.old seat.new }
-        ensures remembers { Remembers stage (view_of seat.new) lows.new }
+        ensures remembers { Remembers who.stage (view_of seat.new) lows.new }
         ensures drawn { RemembersDrawn (view_of seat.new) drawn.new }
         ensures risen { drawn.old ≤ drawn.new }
         ensures lows { NoneFalls lows.old lows.new }
@@ -279,24 +270,24 @@ impl Shared {
             let n = drawn_steps l.spare + (to - p - (from - p)) * try_steps in
             StepsTo (scan_steps l try_steps 3 lows.old l.parts + n) (view_of seat.old) (view_of seat.new) }
         ensures lean { let l = table_limits self.now.words in
-            IsLean l (span_steps l stage lows.old drawn.new from to) (view_of seat.old) (view_of seat.new) }
+            IsLean l (span_steps l who.stage lows.old drawn.new from to) (view_of seat.old) (view_of seat.new) }
         ensures told { let l = table_limits self.now.words in let n = circle_steps l (to - from) in
             MatchOption result
-            (Begun l (PassedBy l stage) n from to (view_of seat.old) (view_of seat.new))
-            (λ t. Took l n from stage unit (view_of seat.old) (view_of seat.new) t.element t.attempt
+            (Begun l (PassedBy l who.stage) n from to (view_of seat.old) (view_of seat.new))
+            (λ t. Took l n from who.stage who.unit (view_of seat.old) (view_of seat.new) t.element t.attempt
             × (t.element.root ≡ t.root)) }
     {
         let parts = self.places.part_rows();
         if from >= parts {
-            return self.scan_block_span(seat, drawn, from, to, stage, unit);
+            return self.scan_block_span(seat, drawn, from, to, who.stage, who.unit);
         }
         if to <= parts {
-            return self.scan_spans(seat, lows, from, to, done, stage, unit);
+            return self.scan_spans(seat, lows, from, to, who);
         }
-        if let Some(taken) = self.scan_spans(seat, lows, from, parts, done, stage, unit) {
+        if let Some(taken) = self.scan_spans(seat, lows, from, parts, who) {
             return Some(taken);
         }
-        self.scan_block_span(seat, drawn, parts, to, stage, unit)
+        self.scan_block_span(seat, drawn, parts, to, who.stage, who.unit)
     }
 
     /// The unit takes the first element from row `turn` on that waits in the stage, where the rows are a
@@ -307,18 +298,15 @@ impl Shared {
         lows: &mut Lows,
         drawn: &mut u16,
         turn: u32,
-        done: Option<u32>,
-        stage: u8,
-        unit: u16,
+        who: Seeker,
     ) -> Option<Taken>
         requires steady { IsSteady self.now.words seat.old }
-        requires remembers { Remembers stage (view_of seat.old) lows.old }
+        requires remembers { Remembers who.stage (view_of seat.old) lows.old }
         requires drawn { RemembersDrawn (view_of seat.old) drawn.old }
-        requires done { RemembersDone (view_of seat.old) done }
-        requires stage { IsServerStage stage }
-        requires spare { IsSpare unit (view_of seat.old) × (unit < 65535) }
+        requires done { RemembersDone (view_of seat.old) who.done }
+        requires spare { IsSpare who.unit (view_of seat.old) }
         ensures same { IsSameSeat seat.old seat.new }
-        ensures remembers { Remembers stage (view_of seat.new) lows.new }
+        ensures remembers { Remembers who.stage (view_of seat.new) lows.new }
         ensures drawn { RemembersDrawn (view_of seat.new) drawn.new }
         ensures risen { drawn.old ≤ drawn.new }
         ensures lows { NoneFalls lows.old lows.new }
@@ -327,19 +315,19 @@ impl Shared {
             StepsTo (2 * scan_steps l try_steps 3 lows.old l.parts + n) (view_of seat.old)
             (view_of seat.new) }
         ensures lean { let l = table_limits self.now.words in
-            IsLean l (lean_turn_steps l stage lows.old drawn.new) (view_of seat.old) (view_of seat.new) }
+            IsLean l (lean_turn_steps l who.stage lows.old drawn.new) (view_of seat.old) (view_of seat.new) }
         ensures told { let l = table_limits self.now.words in
             let n = 6 * l.parts + 2 * drawn_steps l.spare + rows_of l * try_steps in MatchOption result
-            (Sought l n (EachRow (PassedBy l stage) 0 (rows_of l)) (view_of seat.old) (view_of seat.new))
-            (λ t. TookNext l n turn stage unit (view_of seat.old) (view_of seat.new) t.element t.attempt
+            (Sought l n (EachRow (PassedBy l who.stage) 0 (rows_of l)) (view_of seat.old) (view_of seat.new))
+            (λ t. TookNext l n turn who.stage who.unit (view_of seat.old) (view_of seat.new) t.element t.attempt
             × (t.element.root ≡ t.root)) }
     {
         let rows = self.places.rows();
         let from = earlier(turn, rows);
-        if let Some(taken) = self.scan_rows(seat, lows, drawn, from, rows, done, stage, unit) {
+        if let Some(taken) = self.scan_rows(seat, lows, drawn, from, rows, who) {
             return Some(taken);
         }
-        self.scan_rows(seat, lows, drawn, 0, from, done, stage, unit)
+        self.scan_rows(seat, lows, drawn, 0, from, who)
     }
 }
 
@@ -374,9 +362,11 @@ impl Manager {
             &mut pass.lows[stage as usize],
             &mut pass.run.drawn,
             turn,
-            pass.run.done,
-            stage,
-            unit,
+            Seeker {
+                stage,
+                unit,
+                done: pass.run.done,
+            },
         )
         else {
             return Claimed::Idle;

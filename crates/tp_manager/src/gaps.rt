@@ -14,7 +14,8 @@ ghost use Rattle.tp_manager.specs.Spares.{Passed};
 
 use crate::manager::Shared;
 use crate::marking::{Lows, MARKED_PARTS};
-use crate::scanning::{Taken, past_done};
+use crate::scanning::past_done;
+use crate::seeker::{Seeker, Taken};
 use tp_rule::Seat;
 
 /// Two runs of rows beside each other: from the first of these rows on, and below the second, an element of a
@@ -138,24 +139,22 @@ impl Shared {
         first: u32,
         from: u32,
         to: u32,
-        stage: u8,
-        unit: u16,
+        who: Seeker,
     ) -> Option<Taken>
         requires steady { IsSteady self.now.words seat.old }
         requires rows { (from ≤ to) × (to ≤ rows_of (table_limits self.now.words)) }
-        requires gap { IsGap stage (view_of seat.old) gap.old }
-        requires run { Rose stage (view_of seat.old) first from × (first ≤ gap.old.1) }
-        requires stage { IsServerStage stage }
-        requires spare { IsSpare unit (view_of seat.old) × (unit < 65535) }
+        requires gap { IsGap who.stage (view_of seat.old) gap.old }
+        requires run { Rose who.stage (view_of seat.old) first from × (first ≤ gap.old.1) }
+        requires spare { IsSpare who.unit (view_of seat.old) }
         ensures same { IsSameSeat seat.old seat.new }
-        ensures gap { IsGap stage (view_of seat.new) gap.new }
+        ensures gap { IsGap who.stage (view_of seat.new) gap.new }
         ensures inside { IfSome result (λ t. t.element.id < to) }
         ensures lean { let l = table_limits self.now.words in
-            IsLeanAt l stage 0 from (scan_end to result - from) (view_of seat.old) (view_of seat.new) }
+            IsLeanAt l who.stage 0 from (scan_end to result - from) (view_of seat.old) (view_of seat.new) }
         ensures told { let l = table_limits self.now.words in let n = (to - from) * try_steps in
             MatchOption result
-            (Begun l (PassedBy l stage) n from to (view_of seat.old) (view_of seat.new))
-            (λ t. Took l n from stage unit (view_of seat.old) (view_of seat.new) t.element t.attempt
+            (Begun l (PassedBy l who.stage) n from to (view_of seat.old) (view_of seat.new))
+            (λ t. Took l n from who.stage who.unit (view_of seat.old) (view_of seat.new) t.element t.attempt
             × (t.element.root ≡ t.root)) }
     {
         let mut start = gap.0 as u32;
@@ -164,7 +163,9 @@ impl Shared {
         let mut born = from;
         let mut row = from;
         while row < to {
-            if let Some(taken) = self.try_row(seat, &mut row, &mut low, &mut born, stage, unit) {
+            if let Some(taken) = self.try_row(
+                seat, &mut row, &mut low, &mut born, who.stage, who.unit,
+            ) {
                 *gap = longer(*gap, start, begin, low);
                 return Some(taken);
             }
@@ -189,25 +190,22 @@ impl Shared {
         gap: &mut Gap,
         from: u32,
         to: u32,
-        done: Option<u32>,
-        stage: u8,
-        unit: u16,
+        who: Seeker,
     ) -> Option<Taken>
         requires steady { IsSteady self.now.words seat.old }
         requires rows { (from ≤ to) × (to ≤ rows_of (table_limits self.now.words)) }
-        requires gap { IsGap stage (view_of seat.old) gap.old }
-        requires done { RemembersDone (view_of seat.old) done }
-        requires stage { IsServerStage stage }
-        requires spare { IsSpare unit (view_of seat.old) × (unit < 65535) }
+        requires gap { IsGap who.stage (view_of seat.old) gap.old }
+        requires done { RemembersDone (view_of seat.old) who.done }
+        requires spare { IsSpare who.unit (view_of seat.old) }
         ensures same { IsSameSeat seat.old seat.new }
-        ensures gap { IsGap stage (view_of seat.new) gap.new }
+        ensures gap { IsGap who.stage (view_of seat.new) gap.new }
         ensures inside { IfSome result (λ t. t.element.id < to) }
         ensures lean { let l = table_limits self.now.words in
-            IsLeanAt l stage 0 from (scan_end to result - from) (view_of seat.old) (view_of seat.new) }
+            IsLeanAt l who.stage 0 from (scan_end to result - from) (view_of seat.old) (view_of seat.new) }
         ensures told { let l = table_limits self.now.words in let n = (to - from) * try_steps in
             MatchOption result
-            (Passed l n (PassedBy l stage) from to (view_of seat.old) (view_of seat.new))
-            (λ t. Took l n from stage unit (view_of seat.old) (view_of seat.new) t.element t.attempt
+            (Passed l n (PassedBy l who.stage) from to (view_of seat.old) (view_of seat.new))
+            (λ t. Took l n from who.stage who.unit (view_of seat.old) (view_of seat.new) t.element t.attempt
             × (t.element.root ≡ t.root)) }
     {
         let left = left_of(*gap, from);
@@ -216,15 +214,15 @@ impl Shared {
         let known = later_to(left.2 as u32, from, to);
         let first = later_to(left.0 as u32, from, begin);
         let mut born = from;
-        if let Some(taken) = self.scan_to(seat, &mut born, from, first, stage, unit) {
+        if let Some(taken) = self.scan_to(seat, &mut born, from, first, who.stage, who.unit) {
             return Some(taken);
         }
         *gap = from_born(left, first, born);
-        if let Some(taken) = self.scan_born(seat, first, begin, stage, unit) {
+        if let Some(taken) = self.scan_born(seat, first, begin, who.stage, who.unit) {
             return Some(taken);
         }
-        let next = past_done(known, to, done);
-        self.scan_run(seat, gap, begin, next, to, stage, unit)
+        let next = past_done(known, to, who.done);
+        self.scan_run(seat, gap, begin, next, to, who)
     }
 
     /// The unit takes the first element of a part that waits in the stage. The scan starts at the part's
@@ -236,61 +234,60 @@ impl Shared {
         lows: &mut Lows,
         gaps: &mut Gaps,
         part: u16,
-        done: Option<u32>,
-        stage: u8,
-        unit: u16,
+        who: Seeker,
     ) -> Option<Taken>
         requires steady { IsSteady self.now.words seat.old }
-        requires remembers { Remembers stage (view_of seat.old) lows.old }
-        requires gaps { RemembersGaps stage (view_of seat.old) gaps.old }
+        requires remembers { Remembers who.stage (view_of seat.old) lows.old }
+        requires gaps { RemembersGaps who.stage (view_of seat.old) gaps.old }
         requires part { part < (table_limits self.now.words).parts }
-        requires done { RemembersDone (view_of seat.old) done }
-        requires stage { IsServerStage stage }
-        requires spare { IsSpare unit (view_of seat.old) × (unit < 65535) }
+        requires done { RemembersDone (view_of seat.old) who.done }
+        requires spare { IsSpare who.unit (view_of seat.old) }
         ensures same { IsSameSeat seat.old seat.new }
-        ensures remembers { Remembers stage (view_of seat.new) lows.new }
-        ensures gaps { RemembersGaps stage (view_of seat.new) gaps.new }
+        ensures remembers { Remembers who.stage (view_of seat.new) lows.new }
+        ensures gaps { RemembersGaps who.stage (view_of seat.new) gaps.new }
         ensures lows { RisesAt part lows.old lows.new }
         ensures rests { let l = table_limits self.now.words in
-            RestsAt l stage part (slice_index lows.new part) (view_of seat.old) (view_of seat.new) }
+            RestsAt l who.stage part (slice_index lows.new part) (view_of seat.old) (view_of seat.new) }
         ensures inside { let l = table_limits self.now.words in
             IfSome result (λ t. t.element.id < part * l.rows + l.rows) }
         ensures lean { let l = table_limits self.now.words in
             let end = scan_end (part * l.rows + l.rows) result in
             let n = part * l.rows + slice_index lows.old part in
-            IsLeanAt l stage 2 n (end - n) (view_of seat.old) (view_of seat.new) }
+            IsLeanAt l who.stage 2 n (end - n) (view_of seat.old) (view_of seat.new) }
         ensures told { let l = table_limits self.now.words in
             let n = 2 + (l.rows - slice_index lows.old part) * try_steps in MatchOption result
-            (Sought l n (OfPart l (PassedBy l stage) part) (view_of seat.old) (view_of seat.new))
-            (λ t. Took l n (part * l.rows) stage unit (view_of seat.old)
+            (Sought l n (OfPart l (PassedBy l who.stage) part) (view_of seat.old) (view_of seat.new))
+            (λ t. Took l n (part * l.rows) who.stage who.unit (view_of seat.old)
             (view_of seat.new) t.element t.attempt
             × (t.element.root ≡ t.root)) }
     {
-        let mark = self.low_at(seat, lows, stage, part);
+        let mark = self.low_at(seat, lows, who.stage, part);
         let rows = self.places.limits.rows as u32;
         let first = part as u32 * rows;
         let end = first + rows;
-        let begin = past_done(first + lows[part as usize] as u32, end, done);
+        let begin = past_done(first + lows[part as usize] as u32, end, who.done);
         let mut low = begin;
         let mut row = begin;
         while row < end {
             let mut born = row;
-            if let Some(taken) = self.try_row(seat, &mut row, &mut low, &mut born, stage, unit) {
-                self.raise_low(seat, lows, stage, part, mark, low);
+            if let Some(taken) = self.try_row(
+                seat, &mut row, &mut low, &mut born, who.stage, who.unit,
+            ) {
+                self.raise_low(seat, lows, who.stage, part, mark, low);
                 return Some(taken);
             }
             if low < row && row < end {
-                self.raise_low(seat, lows, stage, part, mark, low);
+                self.raise_low(seat, lows, who.stage, part, mark, low);
                 let at = 3 * part as usize;
                 let mut gap = (gaps[at], gaps[at + 1], gaps[at + 2]);
-                let found = self.scan_behind(seat, &mut gap, row, end, done, stage, unit);
+                let found = self.scan_behind(seat, &mut gap, row, end, who);
                 gaps[at] = gap.0;
                 gaps[at + 1] = gap.1;
                 gaps[at + 2] = gap.2;
                 return found;
             }
         }
-        self.raise_low(seat, lows, stage, part, mark, low);
+        self.raise_low(seat, lows, who.stage, part, mark, low);
         None
     }
 }

@@ -29,6 +29,7 @@ mod rounds;
 mod row_reads;
 mod row_set;
 mod scanning;
+mod seeker;
 mod sparing;
 mod submitting;
 mod walking;

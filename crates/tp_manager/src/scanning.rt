@@ -28,17 +28,9 @@ use crate::gaps::Gaps;
 use crate::manager::Shared;
 use crate::marking::{Lows, past, past_other};
 use crate::row_reads::Contents;
-use tp_model::types::Element;
+use crate::seeker::{Seeker, Taken};
 use tp_rule::Seat;
 use tp_words::{Claim, FoundClaim, Head, UnitWord};
-
-/// An element that a unit took.
-#[derive(Clone, Copy)]
-pub(crate) struct Taken {
-    pub attempt: u8,
-    pub root: u16,
-    pub element: Element,
-}
 
 /// How a claim finds an element.
 #[derive(Clone, Copy)]
@@ -282,32 +274,29 @@ impl Shared {
         lows: &mut Lows,
         gaps: &mut Gaps,
         begins: &mut u16,
-        done: Option<u32>,
-        stage: u8,
-        unit: u16,
+        who: Seeker,
     ) -> Option<Taken>
         requires steady { IsSteady self.now.words seat.old }
-        requires remembers { Remembers stage (view_of seat.old) lows.old }
-        requires gaps { RemembersGaps stage (view_of seat.old) gaps.old }
+        requires remembers { Remembers who.stage (view_of seat.old) lows.old }
+        requires gaps { RemembersGaps who.stage (view_of seat.old) gaps.old }
         requires begins { IsBehind (table_limits self.now.words) lows.old begins.old }
-        requires done { RemembersDone (view_of seat.old) done }
-        requires stage { IsServerStage stage }
-        requires spare { IsSpare unit (view_of seat.old) × (unit < 65535) }
+        requires done { RemembersDone (view_of seat.old) who.done }
+        requires spare { IsSpare who.unit (view_of seat.old) }
         ensures same { IsSameSeat seat.old seat.new }
-        ensures remembers { Remembers stage (view_of seat.new) lows.new }
-        ensures gaps { RemembersGaps stage (view_of seat.new) gaps.new }
+        ensures remembers { Remembers who.stage (view_of seat.new) lows.new }
+        ensures gaps { RemembersGaps who.stage (view_of seat.new) gaps.new }
         ensures begins { IsBehind (table_limits self.now.words) lows.new begins.new }
         ensures lows { NoneFalls lows.old lows.new }
         ensures rests { let l = table_limits self.now.words in
-            RestInParts l stage lows.new (view_of seat.old) (view_of seat.new) result }
+            RestInParts l who.stage lows.new (view_of seat.old) (view_of seat.new) result }
         ensures inside { IfSome result (λ t. t.element.id < part_rows (table_limits self.now.words)) }
         ensures lean { let l = table_limits self.now.words in let end = scan_end (part_rows l) result in
             let k = 3 * (parts_left l lows.old l.parts + 1) in
-            IsLeanIn l stage k lows.old l.parts end (view_of seat.old) (view_of seat.new) }
+            IsLeanIn l who.stage k lows.old l.parts end (view_of seat.old) (view_of seat.new) }
         ensures told { let l = table_limits self.now.words in
             let n = scan_steps l try_steps 3 lows.old l.parts in MatchOption result
-            (Sought l n (EachRow (PassedBy l stage) 0 (part_rows l)) (view_of seat.old) (view_of seat.new))
-            (λ t. Took l n 0 stage unit (view_of seat.old) (view_of seat.new) t.element t.attempt
+            (Sought l n (EachRow (PassedBy l who.stage) 0 (part_rows l)) (view_of seat.old) (view_of seat.new))
+            (λ t. Took l n 0 who.stage who.unit (view_of seat.old) (view_of seat.new) t.element t.attempt
             × (t.element.root ≡ t.root)) }
     {
         let limits = self.places.limits;
@@ -320,7 +309,7 @@ impl Shared {
                 part += 1;
                 continue;
             }
-            part = self.past_bare(seat, lows, part, stage);
+            part = self.past_bare(seat, lows, part, who.stage);
             if part == limits.parts {
                 return None;
             }
@@ -328,7 +317,7 @@ impl Shared {
                 part += 1;
                 continue;
             }
-            if let Some(taken) = self.scan_from_mark(seat, lows, gaps, part, done, stage, unit) {
+            if let Some(taken) = self.scan_from_mark(seat, lows, gaps, part, who) {
                 return Some(taken);
             }
             part += 1;
@@ -384,42 +373,39 @@ impl Shared {
         gaps: &mut Gaps,
         begins: &mut u16,
         drawn: &mut u16,
-        done: Option<u32>,
-        stage: u8,
-        unit: u16,
+        who: Seeker,
     ) -> Option<Taken>
         requires steady { IsSteady self.now.words seat.old }
-        requires remembers { Remembers stage (view_of seat.old) lows.old }
-        requires gaps { RemembersGaps stage (view_of seat.old) gaps.old }
+        requires remembers { Remembers who.stage (view_of seat.old) lows.old }
+        requires gaps { RemembersGaps who.stage (view_of seat.old) gaps.old }
         requires drawn { RemembersDrawn (view_of seat.old) drawn.old }
         requires begins { IsBehind (table_limits self.now.words) lows.old begins.old }
-        requires done { RemembersDone (view_of seat.old) done }
-        requires stage { IsServerStage stage }
-        requires spare { IsSpare unit (view_of seat.old) × (unit < 65535) }
+        requires done { RemembersDone (view_of seat.old) who.done }
+        requires spare { IsSpare who.unit (view_of seat.old) }
         ensures same { IsSameSeat seat.old seat.new }
-        ensures remembers { Remembers stage (view_of seat.new) lows.new }
-        ensures gaps { RemembersGaps stage (view_of seat.new) gaps.new }
+        ensures remembers { Remembers who.stage (view_of seat.new) lows.new }
+        ensures gaps { RemembersGaps who.stage (view_of seat.new) gaps.new }
         ensures drawn { RemembersDrawn (view_of seat.new) drawn.new }
         ensures risen { drawn.old ≤ drawn.new }
         ensures begins { IsBehind (table_limits self.now.words) lows.new begins.new }
         ensures lows { NoneFalls lows.old lows.new }
         ensures rests { let l = table_limits self.now.words in
-            RestInParts l stage lows.new (view_of seat.old) (view_of seat.new) result }
+            RestInParts l who.stage lows.new (view_of seat.old) (view_of seat.new) result }
         ensures spare { let l = table_limits self.now.words in CameTo (part_rows l) result
-            → SpareRests l stage
+            → SpareRests l who.stage
             (block_first l drawn.new) (slice_index lows.new l.parts) (view_of seat.old) (view_of seat.new) }
         ensures lean { let l = table_limits self.now.words in
-            let n = lean_scan_steps l stage lows.old (scan_end (block_first l drawn.new) result) in
+            let n = lean_scan_steps l who.stage lows.old (scan_end (block_first l drawn.new) result) in
             IsLean l n (view_of seat.old) (view_of seat.new) }
         ensures told { let l = table_limits self.now.words in let t = try_steps in
             let n = marked_steps l t lows.old in MatchOption result
-            (Sought l n (EachRow (PassedBy l stage) 0 (rows_of l)) (view_of seat.old) (view_of seat.new))
-            (λ t. Took l n 0 stage unit (view_of seat.old) (view_of seat.new) t.element t.attempt
+            (Sought l n (EachRow (PassedBy l who.stage) 0 (rows_of l)) (view_of seat.old) (view_of seat.new))
+            (λ t. Took l n 0 who.stage who.unit (view_of seat.old) (view_of seat.new) t.element t.attempt
             × (t.element.root ≡ t.root)) }
     {
-        if let Some(taken) = self.scan_parts(seat, lows, gaps, begins, done, stage, unit) {
+        if let Some(taken) = self.scan_parts(seat, lows, gaps, begins, who) {
             return Some(taken);
         }
-        self.scan_blocks(seat, lows, gaps, drawn, stage, unit)
+        self.scan_blocks(seat, lows, gaps, drawn, who.stage, who.unit)
     }
 }

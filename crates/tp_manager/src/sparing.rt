@@ -16,7 +16,7 @@ use crate::error_queue::later;
 use crate::gaps::Gaps;
 use crate::manager::Shared;
 use crate::marking::Lows;
-use crate::scanning::Taken;
+use crate::seeker::{Seeker, Taken};
 use tp_rule::Seat;
 
 impl Shared {
@@ -70,7 +70,12 @@ impl Shared {
                 self.raise_low(seat, lows, stage, part, mark, low);
                 let at = 3 * part as usize;
                 let mut gap = (gaps[at], gaps[at + 1], gaps[at + 2]);
-                let found = self.scan_behind(seat, &mut gap, row, end, None, stage, unit);
+                let who = Seeker {
+                    stage,
+                    unit,
+                    done: None,
+                };
+                let found = self.scan_behind(seat, &mut gap, row, end, who);
                 gaps[at] = gap.0;
                 gaps[at + 1] = gap.1;
                 gaps[at + 2] = gap.2;

@@ -16,7 +16,7 @@ use Rattle.tp_manager.specs.Marks.{AreOfStage, IsGap, Remembers, RemembersGaps, 
 use Rattle.tp_manager.proofs.Claims.Runs.{of_both, of_none}
 use Rattle.tp_manager.specs.Scans.{Begun, EachRow, NoneBehind, OfPart, PassedBy, Sought, Took}
 use Rattle.tp_manager.specs.Spares.{Passed}
-use Rattle.tp_manager.specs.declared.scanning.Taken.{Taken}
+use Rattle.tp_manager.specs.declared.seeker.Taken.{Taken}
 use Rattle.tp_manager.proofs.Calls.CallSteps.{looked_begins, looked_few, looked_then, sought_few, walked_then}
 use Rattle.tp_manager.proofs.Calls.Points.{has_more, opening_kept}
 use Rattle.tp_manager.proofs.Claims.Circles.{sought_less}

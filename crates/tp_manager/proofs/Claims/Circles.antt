@@ -15,7 +15,7 @@ use Rattle.tp_rule.specs.Steps.{claimed, with_claim}
 use Rattle.tp_rule.specs.Views.{hand}
 use Rattle.tp_rule.specs.declared.view.View.{View}
 use Rattle.tp_manager.specs.Bounds.{drawn_steps, try_steps, circle_steps}
-use Rattle.tp_manager.specs.declared.scanning.Taken.{Taken}
+use Rattle.tp_manager.specs.declared.seeker.Taken.{Taken}
 use Rattle.tp_manager.specs.CallSteps.{with_trace}
 use Rattle.tp_manager.specs.Scans.{Begun, EachRow, PassedBy, Sought, Took, TookNext}
 use Rattle.tp_manager.proofs.Calls.Points.{has_more, opening_kept}

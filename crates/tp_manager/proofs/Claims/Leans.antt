@@ -29,7 +29,7 @@ use Rattle.tp_manager.specs.Bounds.{drawn_steps, try_steps}
 use Rattle.tp_manager.specs.RowSteps.{changes_claim, claim_changes, lean_scan_steps, own_steps, parts_left, sum_left, sum_rows, try_steps_at, try_steps_of, until}
 use Rattle.tp_manager.specs.CallSteps.{Steady, Stepped, StepsTo}
 use Rattle.tp_manager.specs.Leans.{IsAfter, IsLean, IsLeanAt, IsLeanIn, scan_end}
-use Rattle.tp_manager.specs.declared.scanning.Taken.{Taken}
+use Rattle.tp_manager.specs.declared.seeker.Taken.{Taken}
 use Rattle.tp_manager.specs.Scans.{Took}
 use Rattle.tp_manager.proofs.Calls.CallSteps.{walked_begins, walked_few}
 use Rattle.tp_manager.proofs.Calls.Makes.{made, made_few}

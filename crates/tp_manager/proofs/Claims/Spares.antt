@@ -23,7 +23,7 @@ use Rattle.tp_manager.specs.Spares.{AreHeaded, AreLeft, Passed}
 use Rattle.tp_manager.specs.CallSteps.{Acted, Steady, Tried, with_trace}
 use Rattle.tp_manager.specs.Scans.{Begun, EachRow, PassedBy, Sought, Took}
 use Rattle.tp_manager.specs.Drafts.{Drew}
-use Rattle.tp_manager.specs.declared.scanning.Taken.{Taken}
+use Rattle.tp_manager.specs.declared.seeker.Taken.{Taken}
 use Rattle.tp_manager.proofs.Rows.Finds.{over_widens}
 use Rattle.tp_manager.proofs.Claims.Scans.{passed_widens, took_behind, took_few}
 use Rattle.tp_manager.proofs.Rows.Seeks.{Widens}

@@ -19,7 +19,7 @@ use Rattle.tp_manager.specs.Shown.{PassShown, Spot, marks_of, shown, spot}
 use Rattle.tp_manager.specs.Spares.{Passed, SpareRests}
 use Rattle.tp_rule.specs.Steps.{Knows}
 use Rattle.tp_rule.specs.declared.view.Known.TheVariants.{PartMark}
-use Rattle.tp_manager.specs.declared.scanning.Taken.{Taken}
+use Rattle.tp_manager.specs.declared.seeker.Taken.{Taken}
 use Rattle.tp_manager.specs.CallSteps.{Acted, Steady, Stepped, opening_in}
 use Rattle.tp_manager.specs.Marks.{MayRemember, Remembers, RestsAt, Rose, WasOfUse, WasOfUseIn}
 use Rattle.tp_manager.specs.Scans.{Begun, EachRow, PassedBy, Sought, Took}

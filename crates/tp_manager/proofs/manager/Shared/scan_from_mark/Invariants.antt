@@ -16,10 +16,10 @@ invariant-loop-row l = record {
   inside : l.row ≤ l.end;
   above : l.begin ≤ l.low;
   low : l.low ≤ l.row;
-  rose : Rose l.stage (view_of l.seat) (l.first + l.mark) l.low;
-  stuck : l.low < l.row → WasOfUse (table_limits l.self.words) l.stage l.low (seen_by l.initial.seat) (seen_by l.seat);
-  lean : IsLeanAt (table_limits l.self.words) l.stage 0 l.begin (l.row - l.begin) (view_of l.initial.seat) (view_of l.seat);
-  begun : Begun (table_limits l.self.words) (PassedBy (table_limits l.self.words) l.stage) ((l.row - l.begin) * try_steps) l.begin l.row (view_of l.initial.seat) (view_of l.seat);
+  rose : Rose l.who.stage (view_of l.seat) (l.first + l.mark) l.low;
+  stuck : l.low < l.row → WasOfUse (table_limits l.self.words) l.who.stage l.low (seen_by l.initial.seat) (seen_by l.seat);
+  lean : IsLeanAt (table_limits l.self.words) l.who.stage 0 l.begin (l.row - l.begin) (view_of l.initial.seat) (view_of l.seat);
+  begun : Begun (table_limits l.self.words) (PassedBy (table_limits l.self.words) l.who.stage) ((l.row - l.begin) * try_steps) l.begin l.row (view_of l.initial.seat) (view_of l.seat);
 }
 
 abbrev pub decreases-loop-row : goal.decreases-loop-row

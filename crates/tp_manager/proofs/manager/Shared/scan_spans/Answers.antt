@@ -32,20 +32,20 @@ more p n from row end to s less a b d = let e = split_rows from row end s a b in
 
 pub scan_span-requires-clause-done : goal.scan_span-requires-clause-done
 scan_span-requires-clause-done c = let l : Limits = table_limits c.args.self.now.words in
-    let gone = begun_looked l (PassedBy l c.args.stage) (passed_widens l c.args.stage) _ _ _ _ _ c.loop-part.invariant.begun c.requires.steady.steady in
-    done_walked l _ gone.marks _ _ c.args.done c.requires.steady.steady.pass.1 gone.walk c.requires.done
+    let gone = begun_looked l (PassedBy l c.args.who.stage) (passed_widens l c.args.who.stage) _ _ _ _ _ c.loop-part.invariant.begun c.requires.steady.steady in
+    done_walked l _ gone.marks _ _ c.args.who.done c.requires.steady.steady.pass.1 gone.walk c.requires.done
 
 pub returns-in-Some-clause-told : goal.returns-in-Some-clause-told
 returns-in-Some-clause-told c = let l : Limits = table_limits c.args.self.now.words in let i = c.loop-part.invariant in let s = try_steps in let n = c.loop-part.part in let t = c.in-Some.taken in let end = c.earlier-end.result in
     let less : n < l.parts = subst (λ (z : Limits). n < z.parts) (sym c.args.self.now.same) c.loop-part-test.true in let row = c.loop-part.row in let before = c.if-row-end.true in
     let top = ends end _ c.args.to c.earlier-end.ensures in (
-      took_few l c.args.stage c.args.unit t.attempt t.element (3 * n + (row - c.args.from) * s + (3 + (end - row) * s)) (3 * l.parts + (c.args.to - c.args.from) * s) c.args.from _ _ (more n l.parts c.args.from row end c.args.to s less i.from (omega arith) top.1)
-          (took_then l c.args.stage c.args.unit t.attempt t.element (3 * n + (row - c.args.from) * s) (3 + (end - row) * s) c.args.from row _ _ _ i.from i.begun c.in-Some.ensures.told.0),
+      took_few l c.args.who.stage c.args.who.unit t.attempt t.element (3 * n + (row - c.args.from) * s + (3 + (end - row) * s)) (3 * l.parts + (c.args.to - c.args.from) * s) c.args.from _ _ (more n l.parts c.args.from row end c.args.to s less i.from (omega arith) top.1)
+          (took_then l c.args.who.stage c.args.who.unit t.attempt t.element (3 * n + (row - c.args.from) * s) (3 + (end - row) * s) c.args.from row _ _ _ i.from i.begun c.in-Some.ensures.told.0),
       c.in-Some.ensures.told.1,
     )
 
 pub loop-part-preserved : goal.loop-part-preserved
-loop-part-preserved c = let l : Limits = table_limits c.args.self.now.words in let i = c.loop-part.invariant in let n = c.loop-part.part in let s = try_steps in let P = PassedBy l c.args.stage in let W = passed_widens l c.args.stage in let lows = c.args.lows.now in
+loop-part-preserved c = let l : Limits = table_limits c.args.self.now.words in let i = c.loop-part.invariant in let n = c.loop-part.part in let s = try_steps in let P = PassedBy l c.args.who.stage in let W = passed_widens l c.args.who.stage in let lows = c.args.lows.now in
     let from_on = i.from in let reach = i.reach in let inside = i.inside in let end = c.earlier-end.result in let row = c.loop-part.row in
     let next = suc-mul n c.args.self.now.places.limits.rows in let top = ends end _ c.args.to c.earlier-end.ensures in let a = top.0 in let b = top.1 in let d = top.2 in
     let rest : (n + 1) * c.args.self.now.places.limits.rows ≡ n * c.args.self.now.places.limits.rows + c.args.self.now.places.limits.rows = omega arith in
@@ -56,15 +56,15 @@ loop-part-preserved c = let l : Limits = table_limits c.args.self.now.words in l
             reach = omega arith;
             inside = omega arith;
             same = ap (λ (z : SeatShown). z.table) w.seat-is ∙ (found.same ∙ i.same);
-            remembers = subst (λ (z : SeatShown × List ℕ). Remembers c.args.stage (view_of z.0) z.1) (λ j. (sym w.seat-is j, sym w.lows-is j)) found.remembers;
+            remembers = subst (λ (z : SeatShown × List ℕ). Remembers c.args.who.stage (view_of z.0) z.1) (λ j. (sym w.seat-is j, sym w.lows-is j)) found.remembers;
             rises = subst (NoneFalls lows) (sym w.lows-is) (rises_then lows c.loop-part.lows _ i.rises found.lows.0);
             rest = λ q low. subst (λ z. slice_index z q ≡ slice_index lows q) (sym w.lows-is) (found.lows.1 q (λ is. absurd (omega arith)) ∙ i.rest q (omega arith));
             few = subst (λ (z : SeatShown). StepsTo (scan_steps l s 3 lows (n + 1)) (view_of c.args.seat.now) (view_of z)) (sym w.seat-is)
                 (made_few (scan_steps l s 3 lows n + (3 + (l.rows - slice_index lows n) * s)) (scan_steps l s 3 lows (n + 1)) (view_of c.args.seat.now) (view_of w.scan_span.new.seat) (scan_next l lows s 3 n)
                 (made_then (scan_steps l s 3 lows n) (3 + (l.rows - slice_index lows n) * s) (view_of c.args.seat.now) (view_of c.loop-part.seat) (view_of w.scan_span.new.seat) i.few
                 (subst (λ m. StepsTo (3 + (l.rows - m) * s) (view_of c.loop-part.seat) (view_of w.scan_span.new.seat)) (i.rest n (omega arith)) found.few)));
-            lean = subst (λ (z : SeatShown). IsLeanAmong l c.args.stage (3 * (n + 1)) lows (n + 1) c.args.from c.args.to (view_of c.args.seat.now) (view_of z)) (sym w.seat-is)
-                (among_part l c.args.stage (3 * n) n 3 (3 * (n + 1)) (slice_index c.loop-part.lows n) c.args.from c.args.to row end lows _ _ _ (omega arith) (i.rest n (omega arith)) from_on b i.lean found.lean);
+            lean = subst (λ (z : SeatShown). IsLeanAmong l c.args.who.stage (3 * (n + 1)) lows (n + 1) c.args.from c.args.to (view_of c.args.seat.now) (view_of z)) (sym w.seat-is)
+                (among_part l c.args.who.stage (3 * n) n 3 (3 * (n + 1)) (slice_index c.loop-part.lows n) c.args.from c.args.to row end lows _ _ _ (omega arith) (i.rest n (omega arith)) from_on b i.lean found.lean);
             begun = subst (λ (z : ℕ × SeatShown). Begun l P (3 * (n + 1) + (z.0 - c.args.from) * s) c.args.from z.0 (view_of c.args.seat.now) (view_of z.1)) (λ j. (sym e j, sym w.seat-is j))
                 (begun_few l P W (3 * n + (row - c.args.from) * s + (3 + (end - row) * s)) c.args.from (3 * (n + 1) + (end - c.args.from) * s) end _ _ (more n (n + 1) c.args.from row end end s (omega arith) from_on (omega arith) (omega arith))
                 (begun_on l P W (3 * n + (row - c.args.from) * s) c.args.from (3 + (end - row) * s) row _ _ _ i.begun end from_on w.in_default.ensures.told));
@@ -75,13 +75,13 @@ loop-part-preserved c = let l : Limits = table_limits c.args.self.now.words in l
             reach = omega arith;
             inside = omega arith;
             same = ap (λ (z : SeatShown). z.table) w.seat-is ∙ i.same;
-            remembers = subst (λ (z : SeatShown × List ℕ). Remembers c.args.stage (view_of z.0) z.1) (λ j. (sym w.seat-is j, sym w.lows-is j)) i.remembers;
+            remembers = subst (λ (z : SeatShown × List ℕ). Remembers c.args.who.stage (view_of z.0) z.1) (λ j. (sym w.seat-is j, sym w.lows-is j)) i.remembers;
             rises = subst (NoneFalls lows) (sym w.lows-is) i.rises;
             rest = λ q low. subst (λ z. slice_index z q ≡ slice_index lows q) (sym w.lows-is) (i.rest q (omega arith));
             few = subst (λ (z : SeatShown). StepsTo (scan_steps l s 3 lows (n + 1)) (view_of c.args.seat.now) (view_of z)) (sym w.seat-is)
                 (made_few (scan_steps l s 3 lows n) (scan_steps l s 3 lows (n + 1)) (view_of c.args.seat.now) (view_of c.loop-part.seat) (scan_rises l lows s 3 n (n + 1) (omega arith)) i.few);
-            lean = subst (λ (z : SeatShown). IsLeanAmong l c.args.stage (3 * (n + 1)) lows (n + 1) c.args.from c.args.to (view_of c.args.seat.now) (view_of z)) (sym w.seat-is)
-                (among_parts l c.args.stage (3 * n) n (3 * (n + 1)) (n + 1) c.args.from c.args.to lows _ _ (omega arith) (omega arith) i.lean);
+            lean = subst (λ (z : SeatShown). IsLeanAmong l c.args.who.stage (3 * (n + 1)) lows (n + 1) c.args.from c.args.to (view_of c.args.seat.now) (view_of z)) (sym w.seat-is)
+                (among_parts l c.args.who.stage (3 * n) n (3 * (n + 1)) (n + 1) c.args.from c.args.to lows _ _ (omega arith) (omega arith) i.lean);
             begun = subst (λ (z : ℕ × SeatShown). Begun l P (3 * (n + 1) + (z.0 - c.args.from) * s) c.args.from z.0 (view_of c.args.seat.now) (view_of z.1)) (λ j. (sym e j, sym w.seat-is j))
                 (begun_few l P W (3 * n + (row - c.args.from) * s) c.args.from (3 * (n + 1) + (row - c.args.from) * s) row _ _ (omega arith) i.begun);
           }
@@ -109,17 +109,17 @@ loop-part-init c = let span = c.requires.span in let up = span.0 in record {
   rises = rises_none c.args.lows.now;
   rest = λ q low. refl;
   few = omega arith;
-  lean = among_start (table_limits c.args.self.now.words) c.args.stage (3 * 0) 0 c.args.from c.args.to c.args.lows.now (view_of c.args.seat.now);
+  lean = among_start (table_limits c.args.self.now.words) c.args.who.stage (3 * 0) 0 c.args.from c.args.to c.args.lows.now (view_of c.args.seat.now);
   begun = inl (refl, refl);
 }
 
 pub returns-in-Some-clause-lean : goal.returns-in-Some-clause-lean
 returns-in-Some-clause-lean c = let l : Limits = table_limits c.args.self.now.words in let i = c.loop-part.invariant in let n = c.loop-part.part in let lows = c.args.lows.now in let end = c.earlier-end.result in
     let less : n < l.parts = subst (λ (z : Limits). n < z.parts) (sym c.args.self.now.same) c.loop-part-test.true in let top = ends end _ c.args.to c.earlier-end.ensures in
-    among_parts l c.args.stage (3 * (n + 1)) (n + 1) (3 * l.parts) l.parts c.args.from c.args.to lows _ _ (omega arith) (omega arith)
-    (among_part l c.args.stage (3 * n) n 3 (3 * (n + 1)) (slice_index c.loop-part.lows n) c.args.from c.args.to c.loop-part.row end lows _ _ _ (omega arith) (i.rest n (omega arith)) i.from top.1 i.lean c.scan_span.ensures.lean)
+    among_parts l c.args.who.stage (3 * (n + 1)) (n + 1) (3 * l.parts) l.parts c.args.from c.args.to lows _ _ (omega arith) (omega arith)
+    (among_part l c.args.who.stage (3 * n) n 3 (3 * (n + 1)) (slice_index c.loop-part.lows n) c.args.from c.args.to c.loop-part.row end lows _ _ _ (omega arith) (i.rest n (omega arith)) i.from top.1 i.lean c.scan_span.ensures.lean)
 
 pub returns-clause-lean : goal.returns-clause-lean
 returns-clause-lean c = let l : Limits = table_limits c.args.self.now.words in let n = c.loop-part.part in let lows = c.args.lows.now in
     let count : l.parts ≡ c.args.self.now.places.limits.parts = ap (λ (z : Limits). z.parts) c.args.self.now.same in let high = c.loop-part.auto.part-end in
-    among_parts l c.args.stage (3 * n) n (3 * l.parts) l.parts c.args.from c.args.to lows _ _ (omega arith) (omega arith) c.loop-part.invariant.lean
+    among_parts l c.args.who.stage (3 * n) n (3 * l.parts) l.parts c.args.from c.args.to lows _ _ (omega arith) (omega arith) c.loop-part.invariant.lean

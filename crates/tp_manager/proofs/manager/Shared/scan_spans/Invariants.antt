@@ -16,10 +16,10 @@ invariant-loop-part l = record {
   reach : l.part * l.rows ≤ l.row + (l.part * l.rows - l.to);
   inside : l.row ≤ l.to;
   same : IsSameSeat l.initial.seat l.seat;
-  remembers : Remembers l.stage (view_of l.seat) l.lows;
+  remembers : Remembers l.who.stage (view_of l.seat) l.lows;
   rises : NoneFalls l.initial.lows l.lows;
   rest : (q : ℕ) → l.part ≤ q → slice_index l.lows q ≡ slice_index l.initial.lows q;
   few : StepsTo (scan_steps (table_limits l.self.words) try_steps 3 l.initial.lows l.part) (view_of l.initial.seat) (view_of l.seat);
-  lean : IsLeanAmong (table_limits l.self.words) l.stage (3 * l.part) l.initial.lows l.part l.from l.to (view_of l.initial.seat) (view_of l.seat);
-  begun : Begun (table_limits l.self.words) (PassedBy (table_limits l.self.words) l.stage) (3 * l.part + (l.row - l.from) * try_steps) l.from l.row (view_of l.initial.seat) (view_of l.seat);
+  lean : IsLeanAmong (table_limits l.self.words) l.who.stage (3 * l.part) l.initial.lows l.part l.from l.to (view_of l.initial.seat) (view_of l.seat);
+  begun : Begun (table_limits l.self.words) (PassedBy (table_limits l.self.words) l.who.stage) (3 * l.part + (l.row - l.from) * try_steps) l.from l.row (view_of l.initial.seat) (view_of l.seat);
 }

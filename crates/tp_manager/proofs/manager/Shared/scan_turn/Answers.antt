@@ -26,16 +26,16 @@ inside c = ⊎_elim (λ t. (let e = t.0 in let le = t.1 in omega arith)) (λ t. 
 
 pub returns-in-Some-clause-told : goal.returns-in-Some-clause-told
 returns-in-Some-clause-told c = let at = (goal.at.returns-in-Some-clause-told c).After-earlier-from in let l : Limits = table_limits c.args.self.now.words in
-    (turn_first l c.args.stage c.args.unit c.rows-rows.result c.earlier-from.result c.args.turn (all at) (inside at) c.earlier-from.ensures (view_of c.args.seat.now) (view_of c.scan_rows.new.seat) c.in-Some.taken c.in-Some.ensures.told.0, c.in-Some.ensures.told.1)
+    (turn_first l c.args.who.stage c.args.who.unit c.rows-rows.result c.earlier-from.result c.args.turn (all at) (inside at) c.earlier-from.ensures (view_of c.args.seat.now) (view_of c.scan_rows.new.seat) c.in-Some.taken c.in-Some.ensures.told.0, c.in-Some.ensures.told.1)
 
 pub scan_rows-requires-2-clause-done : goal.scan_rows-requires-2-clause-done
 scan_rows-requires-2-clause-done c = let l : Limits = table_limits c.args.self.now.words in
-    let gone = begun_looked l (PassedBy l c.args.stage) (passed_widens l c.args.stage) _ _ _ _ _ c.in_default.ensures.told c.requires.steady.steady in
-    done_walked l _ gone.marks _ _ c.args.done c.requires.steady.steady.pass.1 gone.walk c.requires.done
+    let gone = begun_looked l (PassedBy l c.args.who.stage) (passed_widens l c.args.who.stage) _ _ _ _ _ c.in_default.ensures.told c.requires.steady.steady in
+    done_walked l _ gone.marks _ _ c.args.who.done c.requires.steady.steady.pass.1 gone.walk c.requires.done
 
 pub returns-clause-told : goal.returns-clause-told
 returns-clause-told c = let at = (goal.at.returns-clause-told c).After-earlier-from in let l : Limits = table_limits c.args.self.now.words in
-    turn_both l c.args.stage c.args.unit c.rows-rows.result c.earlier-from.result c.args.turn (all at) (inside at) c.earlier-from.ensures (view_of c.args.seat.now) (view_of c.scan_rows.new.seat) (view_of c.scan_rows-2.new.seat) c.scan_rows-2.result (rows_some l c.args.self.now.words.places.valid) c.in_default.ensures.told c.scan_rows-2.ensures.told
+    turn_both l c.args.who.stage c.args.who.unit c.rows-rows.result c.earlier-from.result c.args.turn (all at) (inside at) c.earlier-from.ensures (view_of c.args.seat.now) (view_of c.scan_rows.new.seat) (view_of c.scan_rows-2.new.seat) c.scan_rows-2.result (rows_some l c.args.self.now.words.places.valid) c.in_default.ensures.told c.scan_rows-2.ensures.told
 
 -- the rows of the spare blocks, in two scans
 both : (l : Limits) (from : ℕ) → from ≤ rows_of l → (rows_of l - part_rows l - (from - part_rows l)) * try_steps + (from - part_rows l - (0 - part_rows l)) * try_steps ≤ BLOCK_ROWS * l.spare * try_steps
@@ -60,8 +60,8 @@ returns-clause-few c = let at = (goal.at.returns-clause-few c).After-earlier-fro
     made_few (a + b) _ v y (omega arith) (made_then a b v w y (one l c.rows-rows.result from k v w e c.scan_rows.ensures.few) c.scan_rows-2.ensures.few)
 
 pub returns-in-Some-clause-lean : goal.returns-in-Some-clause-lean
-returns-in-Some-clause-lean c = turn_early (table_limits c.args.self.now.words) c.args.stage c.args.lows.now c.scan_rows.new.drawn c.earlier-from.result c.rows-rows.result _ _ c.scan_rows.ensures.lean
+returns-in-Some-clause-lean c = turn_early (table_limits c.args.self.now.words) c.args.who.stage c.args.lows.now c.scan_rows.new.drawn c.earlier-from.result c.rows-rows.result _ _ c.scan_rows.ensures.lean
 
 pub returns-clause-lean : goal.returns-clause-lean
-returns-clause-lean c = turn_lean (table_limits c.args.self.now.words) c.args.stage c.args.lows.now c.scan_rows.new.lows c.scan_rows.new.drawn c.scan_rows-2.new.drawn c.earlier-from.result c.rows-rows.result _ _ _
+returns-clause-lean c = turn_lean (table_limits c.args.self.now.words) c.args.who.stage c.args.lows.now c.scan_rows.new.lows c.scan_rows.new.drawn c.scan_rows-2.new.drawn c.earlier-from.result c.rows-rows.result _ _ _
     c.scan_rows.ensures.lows c.scan_rows-2.ensures.risen c.scan_rows.ensures.lean c.scan_rows-2.ensures.lean
