@@ -142,6 +142,21 @@ cancel_steps l = family_cancel_steps l (rows_of l)
 abbrev pub look_steps : Limits → ℕ
 look_steps l = birth_steps + status_steps l
 
+-- what it makes at most to see whether an element is parked: whether one is born, its claim, the word of the
+-- unit that took it, and the claim again
+abbrev pub error_steps : ℕ
+error_steps = birth_steps + 3
+
+-- in a part, beside its mark and the exchange of that: those at every row; and where it has rows a look before
+-- the mark, which is counted with each
+abbrev pub listed_steps : ℕ
+listed_steps = error_steps + 1
+
+-- and how many looks at words of the part's units before that for each row, where in each part there may be
+-- one more
+abbrev pub unit_looks : ℕ
+unit_looks = 5
+
 -- what a listing makes in a part: a look before its mark, the mark, those at every row, and the exchange of
 -- the mark
 abbrev pub find_steps : Limits → ℕ

@@ -8,7 +8,7 @@ use Rattle.tp_manager.specs.Lists.{NoneParked, NextError}
 use Rattle.tp_manager.specs.Bounds.{next_error_steps, listing_steps_left, look_steps, marked_steps}
 use Rattle.tp_manager.specs.Calls.{Follows}
 use Rattle.tp_manager.specs.CallSteps.{Acted, IsKnown}
-use Rattle.tp_manager.proofs.Marks.Lows.{listing_few, listing_shown, remembers_in, rises_in, marked_most}
+use Rattle.tp_manager.proofs.Marks.Lows.{listing_few, listing_shown, remembers_in, rises_in, marked_most, units_in}
 use Rattle.tp_manager.proofs.Calls.CallSteps.{looked, follows, has_looked, remembers, climbs_same, walked_none}
 use Rattle.tp_manager.proofs.Calls.Passes.{rests_drawn, quiet_looked, rests_looked}
 use Rattle.tp_manager.proofs.Rows.Finds.{finds_acted, error_answer, none_beyond}
@@ -36,8 +36,9 @@ kinds c = let all = c.pass.told in omega arith
 pub invariant_of-pass-2 : goal.invariant_of-pass-2
 invariant_of-pass-2 c = let at = goal.at.invariant_of-pass-2 c in (
   rests_drawn c.find.new.seat _ _ _ _ c.find.new.drawn (rests_looked _ c.pass.inside.seat c.find.new.seat (lim at.After-rows) _ _ _ _ c.pass.invariant.0 _ (looked _ _ _ _ (whole at.After-find))) c.find.ensures.drawn,
-  remembers_in _ c.pass.inside.lows c.find.new.lows 0 (view_of c.find.new.seat) (kinds at.After-find) (whole at.After-find).walk.steady c.find.ensures.lows c.find.ensures.remembers
-      (remembers c.pass.inside.lows _ _ _ _ _ (whole at.After-find).walk c.pass.invariant.1),
+  units_in c.find.new.units.committed (view_of c.find.new.seat) c.find.ensures.units
+      (remembers_in _ c.pass.inside.lows c.find.new.lows 0 (view_of c.find.new.seat) (kinds at.After-find) (whole at.After-find).walk.steady c.find.ensures.lows c.find.ensures.remembers
+      (remembers c.pass.inside.lows _ _ _ _ _ (whole at.After-find).walk c.pass.invariant.1)),
 )
 
 within : (c : After-find) (m : ℕ) → marked_steps (table_limits c.self.inside.shared.words) (look_steps (table_limits c.self.inside.shared.words)) (marks_of c.pass.inside.lows 0) ≤ m
