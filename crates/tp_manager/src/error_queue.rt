@@ -10,9 +10,8 @@ ghost use Rattle.tp_words.specs.declared.words.Head.TheVariants.{Filled};
 ghost use Rattle.tp_words.specs.declared.places.TheConstants.{MARK_KINDS};
 ghost use Rattle.tp_rule.specs.Rule.{Concerns};
 ghost use Rattle.tp_manager.specs.Shown.{marks_of, IsOf, NoneFalls};
-ghost use Rattle.tp_manager.specs.Bounds.{error_steps, listed_steps, listing_steps_left, look_steps};
-ghost use Rattle.tp_manager.specs.Bounds.{marked_steps, next_error_steps};
-ghost use Rattle.tp_manager.specs.Bounds.{scan_steps, spare_left};
+ghost use Rattle.tp_manager.specs.Bounds.{error_steps, listed_steps, listing_steps_left, marked_steps};
+ghost use Rattle.tp_manager.specs.Bounds.{next_error_steps, seek_steps, scan_steps, spare_left};
 ghost use Rattle.tp_manager.specs.Calls.{Follows, HasLooked, IsQuiet};
 ghost use Rattle.tp_manager.specs.Lists.{NoneParked, NextError};
 ghost use Rattle.tp_manager.specs.Looks.{GoesOn};
@@ -94,8 +93,8 @@ pub(crate) fn later(row: u32, other: u32) -> u32
 }
 
 impl Shared {
-    /// How the element of a row is found. At most three steps: whatever its claim has become by the third, it
-    /// wasn't parked at the moment after the change.
+    /// How the element of a row is found. At most three steps: where its claim has changed by the third, it
+    /// wasn't parked right after the change.
     #[inline(always)]
     fn fate_of(&self, seat: &mut Seat, row: u32) -> Fate
         requires steady { IsSteady self.now.words seat.old }
@@ -355,8 +354,8 @@ impl Shared {
         ensures risen { drawn.old ≤ drawn.new }
         ensures lows { NoneFalls lows.old lows.new }
         ensures inside { IfSome result (λ id. id < rows_of (table_limits self.now.words)) }
-        ensures told { let l = table_limits self.now.words in let t = look_steps l in
-            Finds l (marked_steps l t lows.old) from (rows_of l)
+        ensures told { let l = table_limits self.now.words in
+            Finds l (marked_steps l seek_steps lows.old) from (rows_of l)
             (view_of seat.old) (view_of seat.new) result }
     {
         if self.none_parked(seat, units, lows) {

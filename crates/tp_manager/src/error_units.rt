@@ -16,7 +16,8 @@ use crate::marking::{Lows, MARKED_PARTS};
 use tp_rule::Seat;
 use tp_words::UnitWord;
 
-/// How many looks at the units of a part a listing makes at most for each row that it may have to walk over.
+/// How many looks at the units of a part a listing makes at most for each row that it may have to walk over,
+/// beside one: a walk leaves as many in the bound (`unit_looks`).
 const UNIT_LOOKS: u16 = 5;
 
 /// What a pass remembers of units.

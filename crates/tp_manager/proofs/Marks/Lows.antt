@@ -1,17 +1,16 @@
 -- The steps of scans that start at the marks.
 use Rattle.std.proofs.Common.{◌≡◌, ℕ, zero, suc, ◌+◌, ◌-◌, ◌*◌, ◌<◌, ◌≤◌, List, [], length, set, slice_index, slice_set, refl, sym, ap, ◌∙◌, subst, arith, suc-mul, mul-le-mul_right}
-use Rattle.std.proofs.Math.Nat.{add-mul, mul-le-mul_left}
+use Rattle.std.proofs.Math.Nat.{add-mul}
 use mathlib.Core.Logic.{dite}
 use native.Mathlib.Decide.{dec_le, ℕ_discrete}
 use Rattle.std.proofs.lemmas.List.{get_or-set_same, get_or-set_other}
 use Rattle.tp_model.specs.declared.types.Limits.{Limits}
 use Rattle.tp_model.specs.declared.types.TheConstants.{BLOCK_ROWS}
-use Rattle.tp_model.specs.Steps.{AreLimits}
 use Rattle.tp_rule.specs.Steps.{IsLow}
 use Rattle.tp_rule.specs.declared.view.View.{View}
 use Rattle.tp_rule.specs.Rule.{IsInside}
 use Rattle.tp_manager.specs.Shown.{AllRise, NoneFalls, marks_of}
-use Rattle.tp_manager.specs.Bounds.{claim_next_steps_left, claim_steps_left, drawn_steps, error_steps, listed_steps, listing_steps_left, look_steps, low_sum, marked_steps, rows_left, scan_steps, spare_left, try_steps, unit_looks}
+use Rattle.tp_manager.specs.Bounds.{claim_next_steps_left, claim_steps_left, drawn_steps, error_steps, listed_steps, listing_steps_left, low_sum, marked_steps, seek_steps, rows_left, scan_steps, spare_left, try_steps, unit_looks}
 use Rattle.tp_manager.specs.CallSteps.{IsKnown, Steady}
 use Rattle.tp_manager.specs.UnitsSeen.{RemembersUnits}
 use Rattle.tp_manager.specs.Marks.{IsBehind, MayRemember, Recalls, Remembers, RemembersAll, RemembersGaps, RisesAt}
@@ -76,8 +75,8 @@ module _ (l : Limits) (lows : List ℕ) where
 
   -- a listing, and a claim
   module _ (c : ℕ) (v : View) (at : v.limits ≡ l) (low : IsKnown l v) (r : Remembers c v lows) where
-    pub listing_few : marked_steps l (look_steps l) lows ≤ listing_steps_left l lows
-    listing_few = let inside = lows_inside c v at low r in let t = look_steps l in let all = scan_sum t 3 inside l.parts (omega arith) in
+    pub listing_few : marked_steps l seek_steps lows ≤ listing_steps_left l lows
+    listing_few = let inside = lows_inside c v at low r in let t = seek_steps in let all = scan_sum t 3 inside l.parts (omega arith) in
         let split = left_split t 3 inside (sum_few t 3 inside l.parts (omega arith)) (low_spare c v at low r) in omega arith
 
     pub claim_few : 1 + marked_steps l try_steps lows ≤ claim_steps_left l lows
@@ -96,18 +95,12 @@ pub marked_most : (l : Limits) (t : ℕ) (lows : List ℕ) → marked_steps l t 
 marked_most l t lows = let all = scan_most l lows t 3 l.parts in let less = spare_rises l t 0 (slice_index lows l.parts) (omega arith) in omega arith
 
 -- a walk over the rows that are left, and looks at units before it
-scan_both : (l : Limits) (lows : List ℕ) (t : ℕ) → 11 ≤ t → (n : ℕ) → scan_steps l listed_steps 2 lows n + scan_steps l unit_looks 1 lows n ≤ scan_steps l t 3 lows n
-scan_both l lows t le zero = omega arith
-scan_both l lows t le (suc n) = let rest = scan_both l lows t le n in let d : ℕ = l.rows - slice_index lows n in let more : d * 11 ≤ d * t = mul-le-mul_left d le in omega arith
+scan_both : (l : Limits) (lows : List ℕ) (n : ℕ) → scan_steps l listed_steps 2 lows n + scan_steps l unit_looks 1 lows n ≤ scan_steps l seek_steps 3 lows n
+scan_both l lows zero = omega arith
+scan_both l lows (suc n) = let rest = scan_both l lows n in omega arith
 
--- a row may cost as many steps as both
-looks_many : (l : Limits) → AreLimits l → 11 ≤ look_steps l
-looks_many l fair = let some = fair.attempts.0 in omega arith
-
-pub units_before : (l : Limits) (lows : List ℕ) → AreLimits l
-    → scan_steps l unit_looks 1 lows l.parts + (scan_steps l listed_steps 2 lows l.parts + spare_left l error_steps (slice_index lows l.parts)) ≤ marked_steps l (look_steps l) lows
-units_before l lows fair = let many = looks_many l fair in let both = scan_both l lows (look_steps l) many l.parts in let d : ℕ = BLOCK_ROWS * l.spare - slice_index lows l.parts in
-    let more : d * error_steps ≤ d * look_steps l = mul-le-mul_left d (omega arith) in omega arith
+pub units_before : (l : Limits) (lows : List ℕ) → scan_steps l unit_looks 1 lows l.parts + (scan_steps l listed_steps 2 lows l.parts + spare_left l error_steps (slice_index lows l.parts)) ≤ marked_steps l seek_steps lows
+units_before l lows = let both = scan_both l lows l.parts in omega arith
 
 -- by the limits and the marks that a caller sees
 pub listing_shown : (l k : Limits) (lows lows' : List ℕ) (n : ℕ) → l ≡ k → lows ≡ lows' → n ≤ listing_steps_left l lows → n ≤ listing_steps_left k lows'

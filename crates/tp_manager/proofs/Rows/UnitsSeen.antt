@@ -1,11 +1,10 @@
 -- Where no unit is aborted, nothing is parked.
-use Rattle.std.proofs.Common.{◌≡◌, ◌≢◌, ℕ, ◌+◌, ◌*◌, ◌<◌, ◌≤◌, List, [], ◌∷◌, Option, Some, None, refl, sym, ap, ◌∙◌, subst, arith, slice_index}
-use mathlib.Core.List.{IsPrefix}
+use Rattle.std.proofs.Common.{◌≡◌, ℕ, ◌+◌, ◌<◌, List, Option, Some, None, refl, sym, ap, ◌∙◌, subst, arith}
 use mathlib.Core.Logic.{dite}
 use native.Mathlib.Decide.{dec_le, ℕ_discrete}
 use Rattle.tp_model.specs.declared.event.Event.{Event}
 use Rattle.tp_model.specs.declared.types.Limits.{Limits}
-use Rattle.tp_model.specs.declared.types.Status.TheVariants.{Waiting, Held, Consumed, Parked, Killed}
+use Rattle.tp_model.specs.declared.types.Status.TheVariants.{Waiting, Parked, Killed}
 use Rattle.tp_model.specs.History.{Aborted, Committed, UnitEnd, end_of, status_of}
 use Rattle.tp_model.specs.Passes.{opening_of}
 use Rattle.tp_model.specs.Steps.{IsLegal, IsParked, IsUnitOf, rows_of}

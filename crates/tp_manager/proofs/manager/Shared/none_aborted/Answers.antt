@@ -1,7 +1,6 @@
-use Rattle.std.proofs.Common.{◌+◌, ◌≤◌, arith, rules}
+use Rattle.std.proofs.Common.{◌+◌, arith, rules}
 use Rattle.tp_model.specs.declared.types.Limits.{Limits}
 use Rattle.tp_rule.specs.Tables.{table_limits}
-use Rattle.tp_rule.specs.Views.{view_of}
 use Rattle.tp_manager.specs.Scans.{EachRow}
 use Rattle.tp_manager.specs.UnitsSeen.{NoneAborted}
 use Rattle.tp_manager.proofs.Calls.CallSteps.{looked_few, looked_none, looked_then, sought_few}

@@ -1,14 +1,12 @@
-use Rattle.std.proofs.Common.{◌≡◌, ◌+◌, ◌-◌, ◌*◌, ◌<◌, ◌≤◌, ℕ, slice_index, inl, ap, refl, rules, arith, subst}
+use Rattle.std.proofs.Common.{◌≡◌, ◌+◌, ◌-◌, ◌*◌, ℕ, slice_index, inl, ap, refl, rules, arith, subst}
 use Rattle.tp_model.specs.declared.types.Limits.{Limits}
-use Rattle.tp_model.specs.Steps.{rows_of}
 use Rattle.tp_rule.specs.Tables.{table_limits}
 use Rattle.tp_rule.specs.Views.{view_of}
 use Rattle.tp_manager.specs.Bounds.{scan_steps, unit_looks}
-use Rattle.tp_manager.specs.CallSteps.{IsSteady, Looked}
-use Rattle.tp_manager.specs.Finds.{PassedOver}
+use Rattle.tp_manager.specs.CallSteps.{Looked}
 use Rattle.tp_manager.specs.Scans.{Begun}
 use Rattle.tp_manager.specs.UnitsSeen.{NoneAborted}
-use Rattle.tp_manager.proofs.Calls.CallSteps.{looked_few, looked_none, looked_then, sought_few}
+use Rattle.tp_manager.proofs.Calls.CallSteps.{looked_few, looked_then}
 use Rattle.tp_manager.proofs.Marks.Lows.{scan_next, scan_rises}
 use Rattle.tp_manager.proofs.Rows.Seeks.{begun_done, begun_few, begun_looked, begun_on}
 use Rattle.tp_manager.proofs.Rows.UnitsSeen.{all_over, well_widens}
