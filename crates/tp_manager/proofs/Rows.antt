@@ -7,3 +7,4 @@ pub mod Blocks
 pub mod Looks
 pub mod Seeks
 pub mod Finds
+pub mod UnitsSeen

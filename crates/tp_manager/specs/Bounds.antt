@@ -138,14 +138,30 @@ lean_cancel_steps l xs = root_steps + each_end_steps l xs
 abbrev pub cancel_steps : Limits → ℕ
 cancel_steps l = family_cancel_steps l (rows_of l)
 
--- what a listing makes at a row
+-- a look at an element and its status: whether it is born, and those
 abbrev pub look_steps : Limits → ℕ
 look_steps l = birth_steps + status_steps l
 
--- what a listing makes in a part: a look before its mark, the mark, those at every row, and the exchange of
--- the mark
+-- what a listing makes at a row: whether an element is born there, its claim, the word of the unit that took
+-- it, and the claim again
+abbrev pub error_steps : ℕ
+error_steps = birth_steps + 3
+
+-- in a part it makes besides a look before the mark, where there are rows, and is counted with each
+abbrev pub listed_steps : ℕ
+listed_steps = error_steps + 1
+
+-- before all that it looks at the words of the part's units, once and so often for each row
+abbrev pub unit_looks : ℕ
+unit_looks = 5
+
+-- all of this, which is counted with a spare row too
+abbrev pub seek_steps : ℕ
+seek_steps = listed_steps + unit_looks
+
+-- in a part: the one look, the mark, those at every row, and the exchange of the mark
 abbrev pub find_steps : Limits → ℕ
-find_steps l = 2 + l.rows * look_steps l + 1
+find_steps l = 2 + l.rows * seek_steps + 1
 
 -- a scan of the spare blocks that begins at their mark, with t steps at each row: that load, the mark, those
 -- at every row but the n below the mark, and the exchange of the mark
@@ -154,7 +170,7 @@ spare_left l t n = 3 * drawn_steps l.spare + (BLOCK_ROWS * l.spare - n) * t
 
 -- in every part, and in the spare blocks
 abbrev pub listing_steps : Limits → ℕ
-listing_steps l = l.parts * find_steps l + spare_left l (look_steps l) 0
+listing_steps l = l.parts * find_steps l + spare_left l seek_steps 0
 
 -- a walk that looks for replies at this many elements: the claim of each, and the word of the unit that took
 -- it or its head
@@ -244,7 +260,7 @@ abbrev pub claim_steps_left : Limits → List ℕ → ℕ
 claim_steps_left l lows = 1 + rows_left l lows * try_steps + 3 * l.parts + 3 * drawn_steps l.spare
 
 abbrev pub listing_steps_left : Limits → List ℕ → ℕ
-listing_steps_left l lows = rows_left l lows * look_steps l + 3 * l.parts + 3 * drawn_steps l.spare
+listing_steps_left l lows = rows_left l lows * seek_steps + 3 * l.parts + 3 * drawn_steps l.spare
 
 -- a claim in turn goes through the parts, and to the spare blocks, twice, and comes to each row once
 abbrev pub circle_steps : Limits → ℕ → ℕ
@@ -308,8 +324,7 @@ pub record RoundBounds (l : Limits) : Type 0 where
   pub claim_left : (lows : List ℕ)
       → claim_steps_left l lows ≤ rows_left l lows * 9 + 3 * l.parts + 1 + 3 * drawn_steps l.spare
   pub listing_left : (lows : List ℕ)
-      → listing_steps_left l lows ≤ rows_left l lows * (2 * changes l.attempts + 8) + 3 * l.parts
-      + 3 * drawn_steps l.spare
+      → listing_steps_left l lows ≤ rows_left l lows * 11 + 3 * l.parts + 3 * drawn_steps l.spare
   pub commit : (k : ℕ) → commit_steps l k ≤ 6 * k + 3 + l.spare
   pub abort : abort_steps ≤ 2
   pub kill : kill_steps l ≤ 4 * changes l.attempts + 8
@@ -320,8 +335,7 @@ pub record RoundBounds (l : Limits) : Type 0 where
   pub read : read_steps l ≤ 2 * changes l.attempts + 10
   pub reply : (n : ℕ) → family_reply_steps n ≤ 2 * n + 1
   pub family : (n : ℕ) → family_look_steps l n ≤ 2 * n + 2 * changes l.attempts + 11
-  pub next_error : next_error_steps l ≤ rows_of l * (2 * changes l.attempts + 8) + 3 * l.parts
-      + 3 * drawn_steps l.spare
+  pub next_error : next_error_steps l ≤ rows_of l * 11 + 3 * l.parts + 3 * drawn_steps l.spare
   pub meet : meet_steps ≤ 3
   pub gather : (n : ℕ) → 1 ≤ n → n ≤ l.parts → gather_steps l n + 1 ≡ 5 * n + 2 * l.parts
   pub account : AreLimits l → (n : ℕ) → n ≤ l.parts

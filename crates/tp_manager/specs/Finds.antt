@@ -5,15 +5,24 @@ use mathlib.Core.List.{IsPrefix}
 use Rattle.tp_model.specs.declared.types.Element.{Element}
 use Rattle.tp_model.specs.declared.types.Limits.{Limits}
 use Rattle.tp_model.specs.declared.event.Event.{Event}
-use Rattle.tp_model.specs.History.{element_of, status_of}
+use Rattle.tp_model.specs.History.{IsSettled, element_of, status_of}
 use Rattle.tp_rule.specs.declared.view.View.{View}
 use Rattle.tp_model.specs.Steps.{IsParked}
 use Rattle.tp_manager.specs.Scans.{EachRow, Sought}
+use Rattle.tp_manager.specs.Requeues.{IsBetween}
+use Rattle.tp_manager.specs.declared.error_queue.Fate.{Fate}
+use Rattle.tp_manager.specs.declared.error_queue.Fate.TheVariants.{Error, Over, Other}
 
 -- the element of row i is parked
 abbrev pub Hits : Limits → ℕ → List Event → Type 0
 Hits l i h = (x : Element) × (element_of h i ≡ Some x)
     × IsParked (status_of l.attempts h i)
+
+-- so the element of row i was found: parked, or over, or at some history from a to b not parked
+abbrev pub HasFate : Limits → ℕ → List Event → List Event → Fate → Type 0
+HasFate l i a b Error = IsParked (status_of l.attempts b i)
+HasFate l i a b Over = IsSettled (status_of l.attempts b i)
+HasFate l i a b Other = IsBetween a b (λ h. ¬ IsParked (status_of l.attempts h i))
 
 -- if row i had an element in history a, that wasn't parked in some history from a to b
 abbrev pub PassedOver : Limits → ℕ → List Event → List Event → Type 0

@@ -18,6 +18,7 @@ pub mod Given
 pub mod Meetings
 pub mod Lists
 pub mod Finds
+pub mod UnitsSeen
 pub mod Cancels
 pub mod Draws
 pub mod Accounts

@@ -15,6 +15,7 @@ use Rattle.tp_rule.specs.Steps.{KnowsUseless, Knows}
 use Rattle.tp_rule.specs.declared.view.Known.TheVariants.{MarkAbove, PartMark}
 use Rattle.tp_manager.specs.Shown.{NoneFalls, marks_of}
 use Rattle.tp_manager.specs.Raises.{IsOfUse}
+use Rattle.tp_manager.specs.UnitsSeen.{RemembersUnits}
 use Rattle.tp_manager.specs.CallSteps.{opening_in}
 
 -- the seat knows each row from a on and below b of no use to kind c: so a mark of that kind may rise from a
@@ -74,11 +75,13 @@ AreFinished l lows n = (p : ℕ) → p < n → slice_index lows p ≡ l.rows
 abbrev pub IsBehind : Limits → List ℕ → ℕ → Type 0
 IsBehind l lows part = (part < l.parts) × AreFinished l lows part
 
--- what a pass remembers of all kinds: marks, gaps behind them, and a part before which all are finished
-pub record Recalls (v : View) (lows runs : List (List ℕ)) (begins : List ℕ) : Type 0 where
+-- what a pass remembers of all kinds: marks, gaps behind them, and a part before which all are finished; and
+-- of units
+pub record Recalls (v : View) (lows runs : List (List ℕ)) (begins units : List ℕ) : Type 0 where
   pub marks : RemembersAll v lows
   pub gaps : (c : ℕ) → RemembersGaps c v (marks_of runs c)
   pub behind : (c : ℕ) → IsBehind v.limits (marks_of lows c) (slice_index begins c)
+  pub committed : RemembersUnits v units
 
 -- no mark that the pass remembers fell, and it remembers no other than that of part p
 abbrev pub RisesAt : ℕ → List ℕ → List ℕ → Type 0

@@ -2,8 +2,7 @@
 ghost use Rattle.std.specs.Prelude.{◌≡◌, ◌⊎◌, ◌+◌, ◌-◌, ◌*◌, ◌<◌, ◌≤◌, ℕ, slice_index, IfSome, MatchOption};
 ghost use Rattle.std.specs.Prelude.{Option, true, false};
 ghost use Rattle.tp_model.specs.declared.types.Element.{Element as element};
-ghost use Rattle.tp_model.specs.declared.types.Status.{Status as status};
-ghost use Rattle.tp_model.specs.Steps.{part_rows, rows_of, IsParked, IsRowOf};
+ghost use Rattle.tp_model.specs.Steps.{part_rows, rows_of, IsRowOf};
 ghost use Rattle.tp_rule.specs.Views.{seen_by, view_of, IsSameSeat};
 ghost use Rattle.tp_rule.specs.Tables.{table_limits};
 ghost use Rattle.tp_words.specs.Words.{head_of};
@@ -11,8 +10,8 @@ ghost use Rattle.tp_words.specs.declared.words.Head.TheVariants.{Filled};
 ghost use Rattle.tp_words.specs.declared.places.TheConstants.{MARK_KINDS};
 ghost use Rattle.tp_rule.specs.Rule.{Concerns};
 ghost use Rattle.tp_manager.specs.Shown.{marks_of, IsOf, NoneFalls};
-ghost use Rattle.tp_manager.specs.Bounds.{listing_steps_left, look_steps, marked_steps, next_error_steps};
-ghost use Rattle.tp_manager.specs.Bounds.{scan_steps, spare_left};
+ghost use Rattle.tp_manager.specs.Bounds.{error_steps, listed_steps, listing_steps_left, marked_steps};
+ghost use Rattle.tp_manager.specs.Bounds.{next_error_steps, seek_steps, scan_steps, spare_left};
 ghost use Rattle.tp_manager.specs.Calls.{Follows, HasLooked, IsQuiet};
 ghost use Rattle.tp_manager.specs.Lists.{NoneParked, NextError};
 ghost use Rattle.tp_manager.specs.Looks.{GoesOn};
@@ -21,22 +20,48 @@ ghost use Rattle.tp_manager.specs.BetweenCalls.{RemembersDrawn};
 ghost use Rattle.tp_manager.specs.Marks.{Remembers, RisesAt, Rose};
 ghost use Rattle.tp_manager.specs.Scans.{Begun, EachRow};
 ghost use Rattle.tp_manager.specs.Scans.{Sought};
-ghost use Rattle.tp_manager.specs.Finds.{Finds, Hits, PassedOver};
+ghost use Rattle.tp_manager.specs.UnitsSeen.{RemembersUnits};
+ghost use Rattle.tp_manager.specs.Finds.{Finds, HasFate, Hits, PassedOver};
+ghost use Rattle.tp_manager.specs.declared.error_queue.Fate.TheVariants as fates;
 
+use crate::error_units::UnitsSeen;
 use crate::manager::{Manager, Pass, Shared};
-use crate::marking::{Lows, low_after, past, past_other};
+use crate::marking::{Lows, past, past_other};
 use crate::row_reads::Contents;
-use tp_model::types::{REPLY_STAGE, Status};
+use tp_model::types::REPLY_STAGE;
 use tp_rule::Seat;
-use tp_words::Head;
+use tp_words::{Claim, Head, UnitWord};
 
-/// Whether it is the status of a parked element.
+/// How a listing finds an element.
+#[derive(Clone, Copy)]
+pub(crate) enum Fate {
+    /// It is parked.
+    Error,
+    /// It is consumed or killed.
+    Over,
+    /// At some moment of the look it wasn't parked.
+    Other,
+}
+
 #[inline(always)]
-fn is_parked(status: Status) -> bool
-    ensures yes { result ≡ true → IsParked status }
-    ensures no { result ≡ false → ¬ IsParked status }
+fn is_error(fate: Fate) -> bool
+    ensures yes { result ≡ true → fate ≡ fates.Error }
+    ensures no { result ≡ false → ¬ (fate ≡ fates.Error) }
 {
-    matches!(status, Status::Parked { attempts: _ })
+    matches!(fate, Fate::Error)
+}
+
+/// The first row that isn't known of no use: this one's element was found so.
+#[inline(always)]
+fn past_over(low: u32, row: u32, fate: Fate) -> u32
+    requires few { row < 65536 }
+    ensures moves { (result ≡ low) ⊎ ((result ≡ low + 1) × (low ≡ row) × (fate ≡ fates.Over)) }
+{
+    match fate {
+        Fate::Error => low,
+        Fate::Over => past(low, row),
+        Fate::Other => low,
+    }
 }
 
 /// Whether the marks at which a listing starts are about an element with this head.
@@ -68,6 +93,46 @@ pub(crate) fn later(row: u32, other: u32) -> u32
 }
 
 impl Shared {
+    /// How the element of a row is found. At most three steps: where its claim has changed by the third, it
+    /// wasn't parked right after the change.
+    #[inline(always)]
+    fn fate_of(&self, seat: &mut Seat, row: u32) -> Fate
+        requires steady { IsSteady self.now.words seat.old }
+        requires row { row < rows_of (table_limits self.now.words) }
+        ensures same { IsSameSeat seat.old seat.new }
+        ensures acted { Acted (table_limits self.now.words) 3 (view_of seat.old) (view_of seat.new) }
+        ensures fate { HasFate (table_limits self.now.words) row (seen_by seat.old) (seen_by seat.new) result }
+    {
+        let claim = self.words.load_claim(seat, row);
+        match claim.tells {
+            Claim::Free => Fate::Other,
+            Claim::Again { round: _ } => Fate::Other,
+            Claim::Killed {
+                attempt: _,
+                unit: _,
+                round: _,
+            } => Fate::Over,
+            Claim::Taken {
+                attempt,
+                unit,
+                round: _,
+            } => match self.words.load_unit(seat, unit) {
+                UnitWord::Undecided => Fate::Other,
+                UnitWord::Committed { first: _, count: _ } => Fate::Over,
+                UnitWord::Aborted => {
+                    if attempt < self.places.limits.attempts {
+                        return Fate::Other;
+                    }
+                    let again = self.words.load_claim(seat, row);
+                    if again.tells != claim.tells {
+                        return Fate::Other;
+                    }
+                    Fate::Error
+                }
+            },
+        }
+    }
+
     /// Whether the element of a row is parked; `row` goes on, and so does `low`, the first row that isn't
     /// known of no use, where that is this one. One step where the head says that it isn't.
     #[inline(always)]
@@ -79,10 +144,10 @@ impl Shared {
         ensures on { GoesOn (table_limits self.now.words) row.old row.new }
         ensures low { (low.new ≤ row.new) × Rose 0 (view_of seat.new) low.old low.new }
         ensures acted { let l = table_limits self.now.words in
-            Acted l (look_steps l) (view_of seat.old) (view_of seat.new) }
+            Acted l error_steps (view_of seat.old) (view_of seat.new) }
         ensures yes { result ≡ true → Hits (table_limits self.now.words) row.old (seen_by seat.new) }
         ensures no { result ≡ false → let l = table_limits self.now.words in
-            Sought l (look_steps l) (EachRow (PassedOver l) row.old row.new)
+            Sought l error_steps (EachRow (PassedOver l) row.old row.new)
             (view_of seat.old) (view_of seat.new) }
     {
         let here = *row;
@@ -99,9 +164,9 @@ impl Shared {
             }
             Contents::Nothing => return false,
         };
-        let status = self.status_at(seat, here);
-        *low = low_after(*low, here, status);
-        is_parked(status)
+        let fate = self.fate_of(seat, here);
+        *low = past_over(*low, here, fate);
+        is_error(fate)
     }
 
     /// The first row of a part, from one of its rows on, whose element is looked for. The scan starts at the
@@ -115,7 +180,7 @@ impl Shared {
         ensures remembers { Remembers 0 (view_of seat.new) lows.new }
         ensures lows { RisesAt part lows.old lows.new }
         ensures told { let l = table_limits self.now.words in
-            Finds l (2 + (l.rows - slice_index lows.old part) * look_steps l) from (part * l.rows + l.rows)
+            Finds l (2 + (l.rows - slice_index lows.old part) * error_steps) from (part * l.rows + l.rows)
             (view_of seat.old) (view_of seat.new) result }
     {
         let kind = 0;
@@ -159,10 +224,13 @@ impl Shared {
         ensures remembers { Remembers 0 (view_of seat.new) lows.new }
         ensures lows { RisesAt part lows.old lows.new }
         ensures told { let l = table_limits self.now.words in
-            Finds l (3 + (l.rows - slice_index lows.old part) * look_steps l) from (part * l.rows + l.rows)
+            Finds l (2 + (l.rows - slice_index lows.old part) * listed_steps) from (part * l.rows + l.rows)
             (view_of seat.old) (view_of seat.new) result }
     {
         let start = later(from, first + lows[part as usize] as u32);
+        if start == end {
+            return self.find_from_mark(seat, lows, part, from);
+        }
         if self.is_bare_to(seat, part, start, end) {
             return None;
         }
@@ -179,7 +247,7 @@ impl Shared {
         ensures remembers { Remembers 0 (view_of seat.new) lows.new }
         ensures lows { NoneFalls lows.old lows.new }
         ensures told { let l = table_limits self.now.words in
-            Finds l (scan_steps l (look_steps l) 3 lows.old l.parts) from (part_rows l)
+            Finds l (scan_steps l listed_steps 2 lows.old l.parts) from (part_rows l)
             (view_of seat.old) (view_of seat.new) result }
     {
         let rows = self.places.limits.rows as u32;
@@ -219,7 +287,7 @@ impl Shared {
         ensures remembers { Remembers 0 (view_of seat.new) lows.new }
         ensures lows { NoneFalls lows.old lows.new }
         ensures told { let l = table_limits self.now.words in
-            let n = spare_left l (look_steps l) (slice_index lows.old l.parts) in let P = PassedOver l in
+            let n = spare_left l error_steps (slice_index lows.old l.parts) in let P = PassedOver l in
             MatchOption result
             (Begun l P n from (rows_of l) (view_of seat.old) (view_of seat.new))
             (λ id. (from ≤ id) × (id < rows_of l) × Hits l id (seen_by seat.new)
@@ -231,8 +299,14 @@ impl Shared {
         self.find_spare(seat, lows, end, from)
     }
 
-    /// The first row from this one on whose element is looked for.
-    fn find(&self, seat: &mut Seat, lows: &mut Lows, drawn: &mut u16, from: u32) -> Option<u32>
+    /// The same, of all rows.
+    fn find_walking(
+        &self,
+        seat: &mut Seat,
+        lows: &mut Lows,
+        drawn: &mut u16,
+        from: u32,
+    ) -> Option<u32>
         requires steady { IsSteady self.now.words seat.old }
         requires from { from < rows_of (table_limits self.now.words) }
         requires remembers { Remembers 0 (view_of seat.old) lows.old }
@@ -243,9 +317,10 @@ impl Shared {
         ensures risen { drawn.old ≤ drawn.new }
         ensures lows { NoneFalls lows.old lows.new }
         ensures inside { IfSome result (λ id. id < rows_of (table_limits self.now.words)) }
-        ensures told { let l = table_limits self.now.words in let t = look_steps l in
-            Finds l (marked_steps l t lows.old) from (rows_of l)
-            (view_of seat.old) (view_of seat.new) result }
+        ensures told { let l = table_limits self.now.words in
+            let n = scan_steps l listed_steps 2 lows.old l.parts
+            + spare_left l error_steps (slice_index lows.old l.parts) in
+            Finds l n from (rows_of l) (view_of seat.old) (view_of seat.new) result }
     {
         let parts = self.places.part_rows();
         if from >= parts {
@@ -255,6 +330,38 @@ impl Shared {
             return Some(id);
         }
         self.find_in_blocks(seat, lows, drawn, parts)
+    }
+
+    /// The first row from this one on whose element is looked for: none where looks at units show it, and
+    /// else it walks.
+    fn find(
+        &self,
+        seat: &mut Seat,
+        lows: &mut Lows,
+        drawn: &mut u16,
+        units: &mut UnitsSeen,
+        from: u32,
+    ) -> Option<u32>
+        requires steady { IsSteady self.now.words seat.old }
+        requires from { from < rows_of (table_limits self.now.words) }
+        requires remembers { Remembers 0 (view_of seat.old) lows.old }
+        requires drawn { RemembersDrawn (view_of seat.old) drawn.old }
+        requires units { RemembersUnits (view_of seat.old) units.old.committed }
+        ensures same { IsSameSeat seat.old seat.new }
+        ensures remembers { Remembers 0 (view_of seat.new) lows.new }
+        ensures drawn { RemembersDrawn (view_of seat.new) drawn.new }
+        ensures units { RemembersUnits (view_of seat.new) units.new.committed }
+        ensures risen { drawn.old ≤ drawn.new }
+        ensures lows { NoneFalls lows.old lows.new }
+        ensures inside { IfSome result (λ id. id < rows_of (table_limits self.now.words)) }
+        ensures told { let l = table_limits self.now.words in
+            Finds l (marked_steps l seek_steps lows.old) from (rows_of l)
+            (view_of seat.old) (view_of seat.new) result }
+    {
+        if self.none_parked(seat, units, lows) {
+            return None;
+        }
+        self.find_walking(seat, lows, drawn, from)
     }
 }
 
@@ -280,7 +387,12 @@ impl Manager {
         if from >= self.shared.places.rows() {
             return None;
         }
-        self.shared
-            .find(seat, &mut pass.lows[0], &mut pass.run.drawn, from)
+        self.shared.find(
+            seat,
+            &mut pass.lows[0],
+            &mut pass.run.drawn,
+            &mut pass.units,
+            from,
+        )
     }
 }

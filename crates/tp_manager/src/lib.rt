@@ -15,6 +15,7 @@ mod drafting;
 mod drawing;
 mod ending;
 mod error_queue;
+mod error_units;
 mod family_members;
 mod gaps;
 mod killing;

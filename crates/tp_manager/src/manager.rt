@@ -10,6 +10,7 @@ ghost use Rattle.tp_manager.specs.Calls.{Follows, claims_in};
 ghost use Rattle.tp_manager.specs.Shown.{low_of, turn_of, view_in, IsOf, IsKeptBy};
 ghost use Rattle.tp_manager.specs.declared.manager.MakeFault.TheVariants as faults;
 
+use crate::error_units::UnitsSeen;
 use crate::gaps::Gaps;
 use crate::marking::{Lows, MARKED_PARTS};
 use crate::row_set::{NoRows, RowSet};
@@ -123,6 +124,8 @@ pub struct Pass {
     pub(crate) gaps: [Gaps; MARK_KINDS],
     /// For each stage a part before which the pass knows all finished, as its last claim found it.
     pub(crate) begins: [u16; MARK_KINDS],
+    /// What it has seen of units.
+    pub(crate) units: UnitsSeen,
     /// For each stage the row after the element that it took last in its turn.
     pub(crate) from: [u32; 16],
     /// The rows that a walk has come to and not gone on from: none, between two calls.
@@ -140,7 +143,7 @@ impl Model for Pass {
     ghost view = { λ p. shown (spot p.seat.table p.lows p.run.drawn p.from) p.seat.view };
 
     ghost invariant = { λ p. Rests p.seat p.number p.run p.used p.task
-        × Recalls p.seat.view p.lows p.gaps p.begins };
+        × Recalls p.seat.view p.lows p.gaps p.begins p.units.committed };
 }
 
 impl Keeper {
@@ -212,6 +215,10 @@ impl Keeper {
             lows: [[0; MARKED_PARTS]; MARK_KINDS],
             gaps: [[0; 3 * MARKED_PARTS]; MARK_KINDS],
             begins: [0; MARK_KINDS],
+            units: UnitsSeen {
+                committed: [0; MARKED_PARTS],
+                aborted: false,
+            },
             from: [0; 16],
             walk: NoRows {
                 rows: RowSet::new(),

@@ -1,6 +1,6 @@
 //! The marks: rows that are of no use to any further look of a kind.
 ghost use Rattle.std.specs.Prelude.{◌≡◌, ◌⊎◌, ℕ, ◌+◌, ◌-◌, ◌*◌, ◌<◌, ◌≤◌, slice_index, true, false};
-ghost use Rattle.tp_model.specs.History.{IsSettled, IsUnborn};
+ghost use Rattle.tp_model.specs.History.{IsUnborn};
 ghost use Rattle.tp_model.specs.Steps.{IsServerStage};
 ghost use Rattle.tp_words.specs.declared.words.Head.TheVariants.{Empty};
 ghost use Rattle.tp_words.specs.declared.places.TheConstants.{MARK_KINDS};
@@ -13,7 +13,6 @@ ghost use Rattle.tp_manager.specs.CallSteps.{Acted, IsSteady, Looked};
 ghost use Rattle.tp_manager.specs.Marks.{Remembers, RisesAt, Rose};
 
 use crate::manager::Shared;
-use tp_model::types::Status;
 use tp_rule::Seat;
 use tp_words::Head;
 
@@ -50,28 +49,6 @@ pub(crate) fn past(low: u32, row: u32) -> u32
     ensures exact { low ≡ row → result ≡ low + 1 }
 {
     if low == row { low + 1 } else { low }
-}
-
-/// The first row that isn't known of no use: this one's element has this status.
-#[inline(always)]
-pub(crate) fn low_after(low: u32, row: u32, status: Status) -> u32
-    requires few { row < 65536 }
-    ensures moves { (result ≡ low) ⊎ ((result ≡ low + 1) × (low ≡ row) × IsSettled status) }
-    ensures exact { low ≡ row → IsSettled status → result ≡ low + 1 }
-{
-    if low != row {
-        return low;
-    }
-    match status {
-        Status::Waiting { attempts: _ } => low,
-        Status::Held {
-            unit: _,
-            attempt: _,
-        } => low,
-        Status::Parked { attempts: _ } => low,
-        Status::Consumed { unit: _ } => low + 1,
-        Status::Killed => low + 1,
-    }
 }
 
 impl Shared {

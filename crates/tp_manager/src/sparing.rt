@@ -5,7 +5,7 @@ ghost use Rattle.tp_model.specs.Steps.{part_rows, rows_of, IsServerStage};
 ghost use Rattle.tp_rule.specs.Views.{seen_by, view_of, IsSameSeat};
 ghost use Rattle.tp_rule.specs.Tables.{table_limits};
 ghost use Rattle.tp_manager.specs.CallSteps.{IsSteady};
-ghost use Rattle.tp_manager.specs.Bounds.{look_steps, try_steps};
+ghost use Rattle.tp_manager.specs.Bounds.{error_steps, try_steps};
 ghost use Rattle.tp_manager.specs.Finds.{Hits, PassedOver};
 ghost use Rattle.tp_manager.specs.Leans.{scan_end, IsLeanAt};
 ghost use Rattle.tp_manager.specs.Spares.{Passed, SpareRests};
@@ -105,7 +105,7 @@ impl Shared {
         ensures remembers { Remembers 0 (view_of seat.new) lows.new }
         ensures lows { RisesAt (table_limits self.now.words).parts lows.old lows.new }
         ensures told { let l = table_limits self.now.words in let P = PassedOver l in
-            let n = 2 + (BLOCK_ROWS * l.spare - slice_index lows.old l.parts) * look_steps l in
+            let n = 2 + (BLOCK_ROWS * l.spare - slice_index lows.old l.parts) * error_steps in
             MatchOption result
             (Passed l n P from (rows_of l) (view_of seat.old) (view_of seat.new))
             (λ id. (from ≤ id) × (id < rows_of l) × Hits l id (seen_by seat.new)

@@ -120,6 +120,8 @@ module _ (k : Limits) where
           kept = λ p. ⊎_elim (λ q. abort_ends h c u q open_now) (λ q. let is : Abort c u ≡ e = in_one q in absurd cc) (in_either h (e ∷ []) p);
         };
         closed = λ z j o p not un. ⊎_elim (λ q. r.closed z j o q (λ is. absurd cc) (sym (calm z) ∙ un)) (λ q. let same : u ≡ z = cc in not (ap Some same)) (claim_either h e c z j o p);
+        in_order = λ z low high un. dite (ℕ_discrete z u) (λ is. let last : u + 1 ≡ c * k.units + (used + 1) = omega arith in (ap Some (sym is), ap (λ y. y + 1) is ∙ last))
+            (λ ne. let o = r.in_order z low (omega arith) (sym (calm z) ∙ un) in let q : None ≡ Some z = o.0 in absurd cc);
       }
 
   -- the attempt is at most the limit

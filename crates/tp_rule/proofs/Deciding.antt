@@ -96,6 +96,7 @@ module _ (k : Limits) where
     spare_next = r.spare_next;
     open_own = λ z is. absurd cc;
     closed = λ z j o p not un. dite (ℕ_discrete z u) (λ is. done (subst (λ y. end_of h y ≡ None) is un)) (λ ne. r.closed z j o p (holds_no_other held u z holding ne) un);
+    in_order = λ z low high un. absurd (holds_no_other held u z holding (λ is. done (subst (λ y. end_of h y ≡ None) is un)) (r.in_order z low high un).0);
   }
 
   units_end : (h : List Event) (e : Event) (c used u : ℕ) (spare held : Option ℕ) → Holding held u → ((d z i n : ℕ) → ¬ (Claim d z i n ≡ e)) → ¬ (end_of (h ++ e ∷ []) u ≡ None)
@@ -107,6 +108,7 @@ module _ (k : Limits) where
     open_own = λ z is. absurd cc;
     closed = λ z j o p not un. ⊎_elim (λ q. dite (ℕ_discrete z u) (λ is. done (subst (λ y. end_of (h ++ e ∷ []) y ≡ None) is un))
         (λ ne. r.closed z j o q (holds_no_other held u z holding ne) (decide_undecided z (end_of h z) e (sym (end_of-snoc h e z) ∙ un)))) (λ q. other c z j o q) (claim_either h e c z j o p);
+    in_order = λ z low high un. absurd (holds_no_other held u z holding (λ is. done (subst (λ y. end_of (h ++ e ∷ []) y ≡ None) is un)) (r.in_order z low high (decide_undecided z (end_of h z) e (sym (end_of-snoc h e z) ∙ un))).0);
   }
 
   -- what the words say after an event that decides unit u, where those of each row that is born hold its element

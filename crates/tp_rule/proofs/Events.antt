@@ -43,6 +43,7 @@ units_own k h e c used spare held quiet other never r = record {
     kept = λ p. ⊎_elim o.kept (λ q. never c u (in_one q)) (in_either h (e ∷ []) p);
   };
   closed = λ u i n p not z. ⊎_elim (λ q. r.closed u i n q not (sym (end_of-snoc h e u ∙ quiet u (end_of h u)) ∙ z)) (λ q. other c u i n q) (claim_either h e c u i n p);
+  in_order = λ u low high un. r.in_order u low high (sym (end_of-snoc h e u ∙ quiet u (end_of h u)) ∙ un);
 }
 
 module _ (k : Limits) (t : Turn k) where

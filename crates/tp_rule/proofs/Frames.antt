@@ -87,6 +87,7 @@ module _ (k : Limits) where
       kept = λ p. ⊎_elim o.kept (λ q. ne (sym (ap pass_of (in_one q)))) (in_either h (e ∷ []) p);
     };
     closed = λ u i n p not z. ⊎_elim (λ q. r.closed u i n q not (decide_undecided u (end_of h u) e (sym (end_of-snoc h e u) ∙ z))) (λ q. ne (sym (ap pass_of q))) (claim_either h e c u i n p);
+    in_order = λ u low high un. r.in_order u low high (still_undecided h e u un);
   }
 
   -- the rows from `first` up to `end` have the heads and bodies that they had

@@ -10,6 +10,7 @@ pub mod Owning
 pub mod OwnAreas
 pub mod Ahead
 pub mod Seats
+pub mod InOrder
 pub mod Frames
 pub mod Events
 pub mod Watching

@@ -66,6 +66,7 @@ module _ (k : Limits) where
       spare_next = λ u is. absurd cc;
       open_own = λ u is. absurd cc;
       closed = λ u i n p. absurd cc;
+      in_order = λ u low high un. let down : c * k.units ≤ u = low in let up : u < c * k.units + 0 = high in absurd (omega arith);
     };
     areas = record {
       last = λ first end own. ⊎_elim (λ part. let at = part.2 in omega arith) (λ t. absurd (in_none t.1)) own;

@@ -50,6 +50,7 @@ module _ (k : Limits) where
           spare_next = λ z is. let same : u ≡ z = cc in (sym same ∙ next, room);
           open_own = a.units.open_own;
           closed = a.units.closed;
+          in_order = a.units.in_order;
         };
         areas = record { last = a.areas.last; decided = a.areas.decided; output = a.areas.output; cleared = a.areas.cleared; headed = a.areas.headed };
       } in (looking_after k t p kinds.UnitChoice (with_spare u), w.0, (u, place ∙ ap (λ (l : Limits). unit_place l u) (sym lim), w.1))

@@ -14,7 +14,7 @@ use Rattle.tp_rule.specs.Views.{hand, next_row}
 use Rattle.tp_rule.specs.Steps.{Found, Grew, Knows, Loads, MayBeBorn, unchanged, drafted, with_word, Drafts}
 use Rattle.tp_rule.specs.Steps.{Publishes, Chooses, MakesClaim, MakesCommit, LosesUnit, MakesAbort, MakesKill}
 use Rattle.tp_rule.specs.Steps.{MakesRequeue, Misses, IsLow, RaisesMark, NoneDrawn, Shares, Draws, DrawsNone}
-use Rattle.tp_rule.specs.Steps.{Voids}
+use Rattle.tp_rule.specs.Steps.{AreInOrder, Voids}
 use Rattle.tp_rule.specs.declared.view.Known.TheVariants.{RowHead, PartMark, MarkAbove, BlocksDrawn}
 use Rattle.tp_rule.specs.declared.view.View.{View}
 
@@ -30,6 +30,10 @@ loads_head word first second v r w = Loads v word r w
     × ((i : ℕ) (head : Head) → word ≡ head_place i → r ≡ pack_head head → IsFitHead head
     → Knows w (RowHead i head))
     × ((i : ℕ) → word ≡ head_place i → r ≡ 0 → MayBeBorn v.limits w.seen i)
+
+-- a load of a unit's word, which tells too that each pass takes its units in order
+abbrev pub loads_unit : Telling
+loads_unit word first second v r w = Loads v word r w × AreInOrder v.limits w.seen
 
 abbrev pub stores_word : Telling
 stores_word word number second v r w = (i : ℕ) × (k : ℕ) × (k < BODY_WORDS) × (word ≡ body_place i k)

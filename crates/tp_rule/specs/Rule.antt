@@ -92,6 +92,9 @@ pub record UnitsHold (l : Limits) (h : List Event) (c claimed : ℕ)
   pub open_own : (u : ℕ) → open_unit ≡ Some u → IsOwnOpen h c u
   -- every other unit that the pass has claimed is decided
   pub closed : AreEnded h c open_unit
+  -- and so is each one before those that it hasn't, but the open one, which is the last
+  pub in_order : (u : ℕ) → c * l.units ≤ u → u < c * l.units + claimed → end_of h u ≡ None
+      → (open_unit ≡ Some u) × (u + 1 ≡ c * l.units + claimed)
 
 -- the head of row i names unit u
 abbrev pub NamesUnit : List ℕ → ℕ → ℕ → ℕ → ℕ → Type 0

@@ -13,12 +13,12 @@ use Rattle.tp_model.specs.declared.event.Event.TheVariants.{Enqueue, Claim, Comm
 use Rattle.tp_model.specs.declared.trace.StepKind.{StepKind}
 use Rattle.tp_model.specs.declared.trace.StepKind.TheVariants as kinds
 use Rattle.tp_model.specs.History.{Aborted, Committed, In, IsSettled, IsUnborn, status_of, UnitClaim, UnitEnd}
-use Rattle.tp_model.specs.History.{claim_of}
+use Rattle.tp_model.specs.History.{IsUnused, claim_of}
 use Rattle.tp_model.specs.History.{births, element_of, end_of, events_by, pass_of}
 use Rattle.tp_model.specs.Passes.{AreEnded, Ascend, IsOwnArea, IsOwnOpen, IsRun}
 use Rattle.tp_model.specs.Words.{ClaimWord, claim_word, round_in, word_status}
 use Rattle.tp_model.specs.Steps.{IsBody, IsStage, IsServerStage, IsKillable, IsParked, IsLegal, IsArea}
-use Rattle.tp_model.specs.Steps.{IsBlock, IsPart, block_first, rows_of}
+use Rattle.tp_model.specs.Steps.{IsBlock, IsPart, IsUnitOf, block_first, rows_of}
 use Rattle.tp_words.specs.declared.words.Head.{Head}
 use Rattle.tp_words.specs.declared.words.Head.TheVariants.{Empty, Filled}
 use Rattle.tp_words.specs.Words.{IsFitClaim, head_of}
@@ -152,6 +152,11 @@ pub record Shares (n : ℕ) (v : View) : Type 0 where
 -- a load, which found r at the place `word`
 abbrev pub Loads : View → ℕ → ℕ → View → Type 0
 Loads v word r w = Grew kinds.Load unchanged [] v w × Found v.limits w.seen word r
+
+-- a pass takes its units in order, each when the one before it has ended: so where one is undecided, no later
+-- one was taken
+abbrev pub AreInOrder : Limits → List Event → Type 0
+AreInOrder l h = (c u w : ℕ) → IsUnitOf l c u → IsUnitOf l c w → u < w → end_of h u ≡ None → IsUnused h w
 
 -- draft stores, which see nothing
 

@@ -12,10 +12,11 @@ ghost use Rattle.tp_words.specs.declared.places.TheConstants.{MARK_KINDS};
 ghost use Rattle.tp_words.specs.declared.words.Head.TheVariants.{Empty};
 ghost use Rattle.tp_rule.specs.Rule.{IsDraft};
 ghost use Rattle.tp_rule.specs.Views.{seen_by, view_of, HasPass, IsSameSeat};
-ghost use Rattle.tp_rule.specs.Steps.{IsLow, Loads, Grew, Knows, MayBeBorn, NoneDrawn, Shares, unchanged};
+ghost use Rattle.tp_rule.specs.Steps.{AreInOrder, IsLow, Loads, Grew, Knows, MayBeBorn, NoneDrawn, Shares};
+ghost use Rattle.tp_rule.specs.Steps.{unchanged};
 ghost use Rattle.tp_rule.specs.declared.view.Known.TheVariants.{RowHead, PartMark, BlocksDrawn};
 
-use crate::plays::{Load, LoadDrawn, LoadHead, LoadMark};
+use crate::plays::{Load, LoadDrawn, LoadHead, LoadMark, LoadUnit};
 use crate::seat::Seat;
 use crate::words::Words;
 use tp_words::{FoundClaim, Head, UnitWord};
@@ -104,7 +105,8 @@ impl Words {
         FoundClaim::read(found)
     }
 
-    /// Reads the word of a unit: how it ended, or that it is undecided.
+    /// Reads the word of a unit: how it ended, or that it is undecided. Each pass takes its units in order: so
+    /// where one is undecided, no later one was taken.
     #[inline(always)]
     pub fn load_unit(&self, seat: &mut Seat, unit: u16) -> UnitWord
         requires own { IsSeatOf self.now seat.old }
@@ -113,9 +115,10 @@ impl Words {
         ensures same { IsSameSeat seat.old seat.new }
         ensures grew { Grew kinds.Load unchanged [] (view_of seat.old) (view_of seat.new) }
         ensures end { unit_value result ≡ end_of (seen_by seat.new) unit }
+        ensures order { AreInOrder (table_limits self.now) (seen_by seat.new) }
     {
         let word = self.places.unit(unit);
-        let found = self.load(seat, word);
+        let found = self.table.load::<LoadUnit>(seat, word);
         UnitWord::read(found)
     }
 

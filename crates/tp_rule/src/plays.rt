@@ -3,7 +3,7 @@
 ghost use Rattle.tp_rule.specs.Plays.{Telling, loads, loads_head, stores_word, stores_head, publishes};
 ghost use Rattle.tp_rule.specs.Plays.{chooses, exchanges_claim, exchanges_commit, exchanges_abort};
 ghost use Rattle.tp_rule.specs.Plays.{exchanges_kill, exchanges_requeue, loads_mark, raises, loads_drawn};
-ghost use Rattle.tp_rule.specs.Plays.{draws, voids};
+ghost use Rattle.tp_rule.specs.Plays.{draws, loads_unit, voids};
 ghost use Rattle.tp_rule.specs.Views.{spent};
 ghost use Rattle.tp_rule.specs.Steps.{handed_on, handed_out, kept, parted, joined};
 
@@ -28,6 +28,13 @@ pub(crate) struct LoadHead;
 
 impl Effect for LoadHead {
     ghost told = { loads_head };
+}
+
+/// The load of a unit's word.
+pub(crate) struct LoadUnit;
+
+impl Effect for LoadUnit {
+    ghost told = { loads_unit };
 }
 
 pub(crate) struct DraftWord;

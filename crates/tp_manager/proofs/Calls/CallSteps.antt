@@ -1,14 +1,14 @@
 -- What a step leaves of the view, and what the steps of two parts of a call leave.
-use Rattle.std.proofs.Common.{◌≡◌, ℕ, ◌+◌, ◌<◌, ◌≤◌, Some, true, List, [], ◌∷◌, ◌++◌, length, slice_index, drop, sym, refl, ap, ◌∙◌, subst, arith, append_assoc, length-append}
+use Rattle.std.proofs.Common.{◌≡◌, ℕ, ◌+◌, ◌*◌, ◌<◌, ◌≤◌, Some, true, List, [], ◌∷◌, ◌++◌, length, slice_index, drop, sym, refl, ap, ◌∙◌, subst, arith, append_assoc, length-append}
 use mathlib.Core.List.{IsPrefix}
 use Rattle.tp_model.specs.declared.types.Limits.{Limits}
 use Rattle.tp_model.specs.declared.event.Event.{Event}
 use Rattle.tp_model.specs.declared.trace.StepKind.{StepKind}
 use Rattle.tp_model.specs.declared.trace.TraceEntry.{TraceEntry}
-use Rattle.tp_model.specs.History.{In, here, events_by}
-use Rattle.tp_model.specs.Steps.{IsLegal}
+use Rattle.tp_model.specs.History.{Committed, In, here, events_by}
+use Rattle.tp_model.specs.Steps.{IsLegal, IsUnitOf}
 use Rattle.tp_model.specs.Passes.{AreEnded, HasLook, IsOwnOpen, IsPassView, IsPoint, IsRun, looks, opening_of}
-use Rattle.tp_model.proofs.Bridges.{append_nil, begins_refl, begins_trans}
+use Rattle.tp_model.proofs.Bridges.{append_nil, begins_refl, begins_trans, end_stays}
 use Rattle.tp_rule.specs.Views.{IsOnePass, hand}
 use Rattle.tp_rule.specs.Steps.{Grew, IsSo, noted, unchanged}
 use Rattle.tp_rule.specs.declared.view.Hand.{Hand}
@@ -17,6 +17,7 @@ use Rattle.tp_rule.proofs.Reading.{one_after, grew_begins}
 use Rattle.tp_manager.specs.Calls.{Follows, AtPoint, HasLooked, steps_of, opening}
 use Rattle.tp_manager.specs.Shown.{AllRise, Climbs, NoneFalls, marks_of, Spot, PassShown, shown}
 use Rattle.tp_manager.specs.CallSteps.{Steady, Stepped, Looked, Acted, opening_in, pass_in, with_trace}
+use Rattle.tp_manager.specs.UnitsSeen.{RemembersUnits}
 use Rattle.tp_manager.specs.Marks.{IsBehind, MayRemember, Recalls, Remembers, RemembersGaps, gap_in}
 use Rattle.tp_manager.specs.Scans.{Sought}
 use Rattle.tp_manager.proofs.Claims.Runs.{gap_later}
@@ -203,10 +204,17 @@ gaps_kind c gaps l n ms v w a r p =
     let g : Goes l v w = record { limits = (a.limits, a.steady.pass.1); legal = a.steady.shows.legal; begins = walked_begins l n ms v w a; knows = a.knows } in
     gap_later c l v w (gap_in gaps p) g (r p)
 
+-- and so is a unit that was committed
+pub units_kept : (counts : List ℕ) (l : Limits) (n : ℕ) (ms : List TraceEntry) (v w : View) → Stepped l n ms v w → RemembersUnits v counts → RemembersUnits w counts
+units_kept counts l n ms v w a r c u own low = let same : w.limits ≡ v.limits = a.steady.pass.1 ∙ sym a.limits in
+    let t = r c u (subst (λ (z : Limits). IsUnitOf z c u) same own) (subst (λ (z : Limits). u < c * z.units + slice_index counts c) same low) in
+    (t.0, t.1, end_stays v.seen w.seen u (Committed t.0 t.1) (walked_begins l n ms v w a) t.2)
+
 -- and so of all kinds
-pub remembers : {gaps : List (List ℕ)} {begins : List ℕ} (lows : List (List ℕ)) (l : Limits) (n : ℕ) (ms : List TraceEntry) (v w : View) → Stepped l n ms v w → Recalls v lows gaps begins → Recalls w lows gaps begins
-remembers {gaps} {begins} lows l n ms v w a r = record {
+pub remembers : {gaps : List (List ℕ)} {begins units : List ℕ} (lows : List (List ℕ)) (l : Limits) (n : ℕ) (ms : List TraceEntry) (v w : View) → Stepped l n ms v w → Recalls v lows gaps begins units → Recalls w lows gaps begins units
+remembers {gaps} {begins} {units} lows l n ms v w a r = record {
   marks = λ c. remembers_kind c (marks_of lows c) l n ms v w a (r.marks c);
   gaps = λ c. gaps_kind c _ l n ms v w a (r.gaps c);
   behind = λ c. subst (λ (z : Limits). IsBehind z (marks_of lows c) (slice_index begins c)) (a.limits ∙ sym a.steady.pass.1) (r.behind c);
+  committed = units_kept units l n ms v w a r.committed;
 }

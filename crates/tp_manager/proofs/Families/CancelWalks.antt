@@ -5,7 +5,6 @@ use mathlib.Core.List.{IsPrefix}
 use Rattle.tp_model.specs.declared.types.Element.{Element}
 use Rattle.tp_model.specs.declared.types.Limits.{Limits}
 use Rattle.tp_model.specs.declared.types.Refusal.{Refusal}
-use Rattle.tp_model.specs.declared.types.Refusal.TheVariants as refusals
 use Rattle.tp_model.specs.declared.types.Status.TheVariants as statuses
 use Rattle.tp_model.specs.declared.event.Event.{Event}
 use Rattle.tp_model.specs.declared.event.Event.TheVariants.{Kill}
@@ -32,7 +31,7 @@ use Rattle.tp_manager.specs.Bounds.{each_end_steps, end_steps_at}
 use Rattle.tp_manager.specs.Cancels.{IsDoneAt, IsTarget}
 use Rattle.tp_manager.specs.Endings.{Cancelling, CancelsIn, EndsAt, IsWalkedOut, IsEnded, IsUnworked, gone_steps, killed_in, killed_there}
 use Rattle.tp_manager.specs.Families.{IsOutputFrom, Reached, and_from}
-use Rattle.tp_manager.specs.Kills.{FailsIn, IsPastKill, KillsIn}
+use Rattle.tp_manager.specs.Kills.{FailsIn, KillsIn}
 use Rattle.tp_manager.specs.CallSteps.{Looked, Steady}
 use Rattle.tp_manager.proofs.Families.Cancels.{killed_append, none_killed, swept_begins, swept_few, swept_freed, swept_looked, swept_slain, swept_then, target_later}
 use Rattle.tp_manager.proofs.Accounts.Counts.{count_most}

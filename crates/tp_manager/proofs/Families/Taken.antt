@@ -27,14 +27,14 @@ use Rattle.tp_manager.specs.Lists.{HasReply, IsReply, killed_between}
 use Rattle.tp_manager.specs.Looks.{IsBornAs}
 use Rattle.tp_manager.specs.Releases.{IsPastCollect}
 use Rattle.tp_manager.specs.Requeues.{IsBetween}
-use Rattle.tp_manager.specs.CallSteps.{Looked, Steady}
+use Rattle.tp_manager.specs.CallSteps.{Looked}
 use Rattle.tp_manager.proofs.Accounts.Counts.{count_le, count_most, count_rises}
 use Rattle.tp_manager.proofs.Calls.Gains.{gained_begins, gained_few}
 use Rattle.tp_manager.proofs.Kills.OneKill.{freed_looked, freed_slain}
 use Rattle.tp_manager.proofs.Kills.Releases.{head_stage}
 use Rattle.tp_manager.proofs.Families.KilledMeanwhile.{killed_more, killed_one, not_killed}
 use Rattle.tp_manager.proofs.Families.Trees.{family_grows}
-use Rattle.tp_manager.proofs.Calls.CallSteps.{looked_begins, looked_few, looked_none, looked_then}
+use Rattle.tp_manager.proofs.Calls.CallSteps.{looked_begins, looked_few, looked_then}
 
 -- why a reply wasn't collected: another was quicker
 pub past_killed : (l : Limits) (i : ℕ) (a b : List Event) (e : Refusal) → IsPastCollect l i a b e → IsBetween a b (λ h. status_of l.attempts h i ≡ Killed)

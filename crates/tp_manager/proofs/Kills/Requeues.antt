@@ -17,7 +17,7 @@ use Rattle.tp_model.specs.Steps.{IsLegal, IsParked}
 use Rattle.tp_model.proofs.WordProofs.{rounds_by_words}
 use Rattle.tp_model.proofs.Bridges.{begins_trans, found_later, status_taken}
 use Rattle.tp_model.proofs.Later.{stood}
-use Rattle.tp_rule.specs.Steps.{AllowsRequeue, HasElement, MakesRequeue, with_event}
+use Rattle.tp_rule.specs.Steps.{HasElement, MakesRequeue, with_event}
 use Rattle.tp_rule.specs.Views.{SeatShown, hand, view_of}
 use Rattle.tp_rule.specs.declared.view.Hand.{Hand}
 use Rattle.tp_rule.specs.declared.view.View.{View}

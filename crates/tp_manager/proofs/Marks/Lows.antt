@@ -10,8 +10,9 @@ use Rattle.tp_rule.specs.Steps.{IsLow}
 use Rattle.tp_rule.specs.declared.view.View.{View}
 use Rattle.tp_rule.specs.Rule.{IsInside}
 use Rattle.tp_manager.specs.Shown.{AllRise, NoneFalls, marks_of}
-use Rattle.tp_manager.specs.Bounds.{claim_next_steps_left, claim_steps_left, drawn_steps, listing_steps_left, look_steps, low_sum, marked_steps, rows_left, scan_steps, spare_left, try_steps}
+use Rattle.tp_manager.specs.Bounds.{claim_next_steps_left, claim_steps_left, drawn_steps, error_steps, listed_steps, listing_steps_left, low_sum, marked_steps, seek_steps, rows_left, scan_steps, spare_left, try_steps, unit_looks}
 use Rattle.tp_manager.specs.CallSteps.{IsKnown, Steady}
+use Rattle.tp_manager.specs.UnitsSeen.{RemembersUnits}
 use Rattle.tp_manager.specs.Marks.{IsBehind, MayRemember, Recalls, Remembers, RemembersAll, RemembersGaps, RisesAt}
 use Rattle.tp_manager.proofs.Marks.Raises.{low_any}
 use Rattle.tp_manager.proofs.Marks.Useless.{may_inside}
@@ -74,8 +75,8 @@ module _ (l : Limits) (lows : List ℕ) where
 
   -- a listing, and a claim
   module _ (c : ℕ) (v : View) (at : v.limits ≡ l) (low : IsKnown l v) (r : Remembers c v lows) where
-    pub listing_few : marked_steps l (look_steps l) lows ≤ listing_steps_left l lows
-    listing_few = let inside = lows_inside c v at low r in let t = look_steps l in let all = scan_sum t 3 inside l.parts (omega arith) in
+    pub listing_few : marked_steps l seek_steps lows ≤ listing_steps_left l lows
+    listing_few = let inside = lows_inside c v at low r in let t = seek_steps in let all = scan_sum t 3 inside l.parts (omega arith) in
         let split = left_split t 3 inside (sum_few t 3 inside l.parts (omega arith)) (low_spare c v at low r) in omega arith
 
     pub claim_few : 1 + marked_steps l try_steps lows ≤ claim_steps_left l lows
@@ -92,6 +93,14 @@ spare_rises l t n m le = let few : (BLOCK_ROWS * l.spare - m) * t ≤ (BLOCK_ROW
 -- all rows, where no mark is known
 pub marked_most : (l : Limits) (t : ℕ) (lows : List ℕ) → marked_steps l t lows ≤ l.parts * (3 + l.rows * t) + spare_left l t 0
 marked_most l t lows = let all = scan_most l lows t 3 l.parts in let less = spare_rises l t 0 (slice_index lows l.parts) (omega arith) in omega arith
+
+-- a walk over the rows that are left, and looks at units before it
+scan_both : (l : Limits) (lows : List ℕ) (n : ℕ) → scan_steps l listed_steps 2 lows n + scan_steps l unit_looks 1 lows n ≤ scan_steps l seek_steps 3 lows n
+scan_both l lows zero = omega arith
+scan_both l lows (suc n) = let rest = scan_both l lows n in omega arith
+
+pub units_before : (l : Limits) (lows : List ℕ) → scan_steps l unit_looks 1 lows l.parts + (scan_steps l listed_steps 2 lows l.parts + spare_left l error_steps (slice_index lows l.parts)) ≤ marked_steps l seek_steps lows
+units_before l lows = let both = scan_both l lows l.parts in omega arith
 
 -- by the limits and the marks that a caller sees
 pub listing_shown : (l k : Limits) (lows lows' : List ℕ) (n : ℕ) → l ≡ k → lows ≡ lows' → n ≤ listing_steps_left l lows → n ≤ listing_steps_left k lows'
@@ -124,8 +133,8 @@ rises_in lows row c inside rises d p = dite (ℕ_discrete d c)
 pub behind_rises : (l : Limits) (c n : ℕ) (lows lows' : List ℕ) (v : View) → Steady l v → Remembers c v lows' → NoneFalls lows lows' → IsBehind l lows n → IsBehind l lows' n
 behind_rises l c n lows lows' v s r rises b = (b.0, λ p less. let part = b.0 in let up = rises p in let inside = lows_inside l lows' c v s.pass.1 s.known r p (omega arith) in let is = b.1 p less in omega arith)
 
-pub remembers_in : {gaps : List (List ℕ)} {begins : List ℕ} (l : Limits) (lows : List (List ℕ)) (row : List ℕ) (c : ℕ) (v : View) → c < length lows → Steady l v → NoneFalls (marks_of lows c) row → Remembers c v row → Recalls v lows gaps begins → Recalls v (set lows c row) gaps begins
-remembers_in {gaps} {begins} l lows row c v inside s rises one all = record {
+pub remembers_in : {gaps : List (List ℕ)} {begins units : List ℕ} (l : Limits) (lows : List (List ℕ)) (row : List ℕ) (c : ℕ) (v : View) → c < length lows → Steady l v → NoneFalls (marks_of lows c) row → Remembers c v row → Recalls v lows gaps begins units → Recalls v (set lows c row) gaps begins units
+remembers_in {gaps} {begins} {units} l lows row c v inside s rises one all = record {
   marks = λ d. dite (ℕ_discrete d c)
       (λ same. subst (λ z. Remembers z v (marks_of (set lows c row) z)) (sym same) (subst (Remembers c v) (sym (get_or-set_same lows c row [] inside)) one))
       (λ other. subst (Remembers d v) (sym (get_or-set_other lows c d row [] other)) (all.marks d));
@@ -135,20 +144,26 @@ remembers_in {gaps} {begins} l lows row c v inside s rises one all = record {
       (subst (λ z. IsBehind v.limits z (slice_index begins c)) (sym (get_or-set_same lows c row [] inside))
       (subst (λ (z : Limits). IsBehind z row (slice_index begins c)) (sym s.pass.1) (behind_rises l c (slice_index begins c) (marks_of lows c) row v s one rises (subst (λ (z : Limits). IsBehind z (marks_of lows c) (slice_index begins c)) s.pass.1 (all.behind c))))))
       (λ other. subst (λ z. IsBehind v.limits z (slice_index begins d)) (sym (get_or-set_other lows c d row [] other)) (all.behind d));
+  committed = all.committed;
 }
 
 -- nor do the gaps
-pub recalls_in : {lows : List (List ℕ)} {begins : List ℕ} (gaps : List (List ℕ)) (row : List ℕ) (c : ℕ) (v : View) → c < length gaps → RemembersGaps c v row → Recalls v lows gaps begins → Recalls v lows (set gaps c row) begins
+pub recalls_in : {lows : List (List ℕ)} {begins units : List ℕ} (gaps : List (List ℕ)) (row : List ℕ) (c : ℕ) (v : View) → c < length gaps → RemembersGaps c v row → Recalls v lows gaps begins units → Recalls v lows (set gaps c row) begins units
 recalls_in gaps row c v inside one all = record {
   marks = all.marks;
   gaps = λ d. dite (ℕ_discrete d c)
       (λ same. subst (λ z. RemembersGaps z v (marks_of (set gaps c row) z)) (sym same) (subst (RemembersGaps c v) (sym (get_or-set_same gaps c row [] inside)) one))
       (λ other. subst (RemembersGaps d v) (sym (get_or-set_other gaps c d row [] other)) (all.gaps d));
   behind = all.behind;
+  committed = all.committed;
 }
 
+-- more is remembered of units
+pub units_in : {lows gaps : List (List ℕ)} {begins units : List ℕ} (counts : List ℕ) (v : View) → RemembersUnits v counts → Recalls v lows gaps begins units → Recalls v lows gaps begins counts
+units_in counts v more all = record { marks = all.marks; gaps = all.gaps; behind = all.behind; committed = more }
+
 -- nor do the parts behind which claims of them begin
-pub begins_in : {gaps : List (List ℕ)} (l : Limits) (lows : List (List ℕ)) (row begins : List ℕ) (n c : ℕ) (v : View) → c < length lows → c < length begins → v.limits ≡ l → IsBehind l row n → Recalls v (set lows c row) gaps begins → Recalls v (set lows c row) gaps (slice_set begins c n)
+pub begins_in : {gaps : List (List ℕ)} {units : List ℕ} (l : Limits) (lows : List (List ℕ)) (row begins : List ℕ) (n c : ℕ) (v : View) → c < length lows → c < length begins → v.limits ≡ l → IsBehind l row n → Recalls v (set lows c row) gaps begins units → Recalls v (set lows c row) gaps (slice_set begins c n) units
 begins_in l lows row begins n c v inside within at one all = record {
   marks = all.marks;
   gaps = all.gaps;
@@ -157,6 +172,7 @@ begins_in l lows row begins n c v inside within at one all = record {
       (subst (λ z. IsBehind v.limits z (slice_index (slice_set begins c n) c)) (sym (get_or-set_same lows c row [] inside))
       (subst (IsBehind v.limits row) (sym (get_or-set_same begins c n 0 within)) (subst (λ (z : Limits). IsBehind z row n) (sym at) one))))
       (λ other. subst (IsBehind v.limits (marks_of (set lows c row) d)) (sym (get_or-set_other begins c d n 0 other)) (all.behind d));
+  committed = all.committed;
 }
 
 -- what is remembered of a mark is so in what was seen

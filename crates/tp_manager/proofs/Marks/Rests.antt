@@ -22,7 +22,7 @@ use Rattle.tp_rule.specs.declared.view.Known.TheVariants.{PartMark}
 use Rattle.tp_manager.specs.declared.seeker.Taken.{Taken}
 use Rattle.tp_manager.specs.CallSteps.{Acted, Steady, Stepped, opening_in}
 use Rattle.tp_manager.specs.Marks.{MayRemember, Remembers, RestsAt, Rose, WasOfUse, WasOfUseIn}
-use Rattle.tp_manager.specs.Scans.{Begun, EachRow, PassedBy, Sought, Took}
+use Rattle.tp_manager.specs.Scans.{Begun, PassedBy, Took}
 use Rattle.tp_manager.proofs.Marks.Useless.{Goes, rose_later}
 use Rattle.tp_manager.proofs.Marks.Raises.{use_later}
 use Rattle.tp_manager.proofs.Calls.Points.{opening_kept, opening_later}

@@ -4,7 +4,7 @@ use mathlib.Core.List.{IsPrefix}
 use Rattle.tp_model.specs.declared.types.Limits.{Limits}
 use Rattle.tp_model.specs.declared.event.Event.{Event}
 use Rattle.tp_model.specs.History.{Aborted, IsSettled}
-use Rattle.tp_model.specs.Steps.{IsLegal, IsServerStage}
+use Rattle.tp_model.specs.Steps.{IsLegal}
 use Rattle.tp_model.proofs.Bridges.{end_stays, found_later}
 use Rattle.tp_model.proofs.LawProofs.{settled_stay}
 use Rattle.tp_rule.specs.Rule.{IsInside, IsSettledRow}

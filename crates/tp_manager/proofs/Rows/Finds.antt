@@ -1,5 +1,5 @@
 -- The rows that a listing passed over, and the one that it answers.
-use Rattle.std.proofs.Common.{◌≡◌, ◌≢◌, ◌⊎◌, ℕ, ◌+◌, ◌*◌, ◌<◌, ◌≤◌, Option, Some, None, MatchOption, List, [], ◌∷◌, ◌++◌, sym, ◌∙◌, subst, inl, inr, arith, ⊎_elim, slice_index}
+use Rattle.std.proofs.Common.{◌≡◌, ◌≢◌, ◌⊎◌, ℕ, ◌+◌, ◌*◌, ◌<◌, ◌≤◌, Option, Some, None, MatchOption, List, [], ◌∷◌, ◌++◌, refl, sym, ◌∙◌, subst, inl, inr, arith, ⊎_elim, slice_index}
 use Rattle.std.proofs.lemmas.Bool.Decides.{eqb_tells}
 use mathlib.Core.List.{IsPrefix}
 use mathlib.Core.Logic.{dite}
@@ -27,15 +27,15 @@ use Rattle.tp_words.specs.declared.words.Head.TheVariants.{Filled}
 use Rattle.tp_rule.specs.Rule.{Concerns}
 use Rattle.tp_rule.specs.Steps.{AreFinishedFor}
 use Rattle.tp_rule.specs.declared.view.View.{View}
-use Rattle.tp_manager.specs.declared.row_reads.Birth.{Birth}
 use Rattle.tp_manager.specs.Calls.{AtPoint, IsWaiting, opening}
-use Rattle.tp_manager.specs.Looks.{IsBornAs}
 use Rattle.tp_manager.specs.Shown.{Spot, PassShown, shown}
 use Rattle.tp_manager.specs.CallSteps.{Acted, Looked, Steady, Stepped}
 use Rattle.tp_manager.specs.Marks.{Remembers}
 use Rattle.tp_manager.specs.Scans.{EachRow, Begun, Sought}
 use Rattle.tp_manager.specs.Lists.{AllKilled, NextError, NoneParked}
-use Rattle.tp_manager.specs.Finds.{Finds, Hits, PassedOver}
+use Rattle.tp_manager.specs.Finds.{Finds, HasFate, Hits, PassedOver}
+use Rattle.tp_manager.specs.declared.error_queue.Fate.{Fate}
+use Rattle.tp_manager.specs.declared.error_queue.Fate.TheVariants.{Error, Over, Other}
 use Rattle.tp_manager.proofs.Rows.Seeks.{Widens, begun_sought, sought_behind, sought_more, sought_then}
 use Rattle.tp_manager.proofs.Marks.Raises.{low_kept}
 use Rattle.tp_manager.proofs.Calls.CallSteps.{opening_is, sought_acted, sought_few, walked_none}
@@ -92,12 +92,10 @@ module _ (l : Limits) where
   pub over_unborn : (i : ℕ) (a h : List Event) → IsPrefix a h → IsUnborn h i → PassedOver l i a h
   over_unborn i a h begins un = λ x p. let q = found_later a h begins i x p in let e : None ≡ Some x = sym un ∙ q in absurd cc
 
-  pub over_found : (i : ℕ) (a b : List Event) (s : Status) → IsPrefix a b → s ≡ status_of l.attempts b i → ¬ IsParked s → PassedOver l i a b
-  over_found i a b s begins status not = λ x p. (b, begins, begins_refl b, λ is. not (subst IsParked (sym status) is))
-
--- the element of a row that was found, and is parked
-pub hits_at : (l : Limits) (i : ℕ) (h : List Event) (birth : Birth) (s : Status) → IsBornAs h i birth → s ≡ status_of l.attempts h i → IsParked s → Hits l i h
-hits_at l i h birth s t status is = (t.0, t.1, subst IsParked status is)
+  pub over_fate : (i : ℕ) (a c b : List Event) (f : Fate) → IsPrefix a c → IsPrefix c b → ¬ (f ≡ Error) → HasFate l i c b f → PassedOver l i a b
+  over_fate i a c b Error before after not fate x p = absurd (not refl)
+  over_fate i a c b Over before after not fate x p = (b, begins_trans a c b before after, begins_refl b, λ is. subst IsSettled is.1 fate)
+  over_fate i a c b Other before after not fate x p = (fate.0, begins_trans a c fate.0 before fate.1, fate.2, fate.3)
 
 -- nothing was passed over in a row in which nothing is born
 pub none_over : (l : Limits) (j : ℕ) (h : List Event) → IsUnborn h j → PassedOver l j h h

@@ -1,8 +1,6 @@
 -- Calls that first look for room for rows.
-use Rattle.std.proofs.Common.{◌≡◌, ℕ, ◌+◌, ◌<◌, ◌≤◌, List, [], ◌∷◌, ◌++◌, length, sym, refl, ap, ◌∙◌, subst, inl, inr, ⊎_elim, arith}
+use Rattle.std.proofs.Common.{◌≡◌, ℕ, ◌+◌, ◌<◌, ◌≤◌, List, [], ◌∷◌, ◌++◌, length, sym, refl, ap, ◌∙◌, subst, inr, ⊎_elim, arith}
 use Rattle.tp_model.specs.Drafts.{DraftView}
-use Rattle.tp_model.specs.declared.types.Ended.{Ended}
-use Rattle.tp_model.specs.declared.types.Ended.TheVariants as endeds
 use Rattle.tp_model.specs.declared.types.Limits.{Limits}
 use Rattle.tp_model.specs.declared.types.Outcome.{Outcome}
 use Rattle.tp_model.specs.declared.types.Outcome.TheVariants as outcomes
@@ -13,8 +11,8 @@ use Rattle.tp_rule.specs.Views.{hand}
 use Rattle.tp_rule.specs.declared.view.Hand.{Hand}
 use Rattle.tp_rule.specs.declared.view.View.{View}
 use Rattle.tp_manager.specs.Bounds.{room_steps}
-use Rattle.tp_manager.specs.Calls.{Closes, AnswersAbort, FindsNoBlock, Follows, Settles, Submits, UsesRows}
-use Rattle.tp_manager.specs.Draws.{HasRoom, NoRoom, on_block}
+use Rattle.tp_manager.specs.Calls.{Follows, Settles, UsesRows}
+use Rattle.tp_manager.specs.Draws.{HasRoom, on_block}
 use Rattle.tp_manager.specs.Shown.{PassShown, Spot, shown}
 use Rattle.tp_manager.specs.CallSteps.{Tried}
 use Rattle.tp_manager.specs.Drafts.{Drew}

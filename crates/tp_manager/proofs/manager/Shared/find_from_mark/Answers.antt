@@ -4,7 +4,7 @@ use Rattle.tp_model.specs.Steps.{IsRowOf}
 use Rattle.tp_rule.specs.Tables.{table_limits}
 use Rattle.tp_rule.specs.Views.{seen_by, view_of}
 use Rattle.tp_rule.specs.declared.view.View.{View}
-use Rattle.tp_manager.specs.Bounds.{look_steps}
+use Rattle.tp_manager.specs.Bounds.{error_steps}
 use Rattle.tp_manager.specs.Finds.{Hits, PassedOver}
 use Rattle.tp_manager.specs.CallSteps.{Looked}
 use Rattle.tp_manager.specs.Marks.{Remembers, RisesAt, Rose}
@@ -54,7 +54,7 @@ few c = let l : Limits = table_limits c.args.self.now.words in let n = near c in
     let up = c.mark_at-mark.ensures.lows.1.0 c.args.part in let is = c.mark_at-mark.ensures.lows.0 in omega arith
 
 -- the steps from the mark up to the row
-since : (c : After-is_parked_at) → Looked (table_limits c.args.self.now.words) ((c.loop-row.row - c.later-start.result) * look_steps (table_limits c.args.self.now.words)) (view_of c.mark_at-mark.new.seat) (view_of c.loop-row.seat)
+since : (c : After-is_parked_at) → Looked (table_limits c.args.self.now.words) ((c.loop-row.row - c.later-start.result) * error_steps) (view_of c.mark_at-mark.new.seat) (view_of c.loop-row.seat)
 since c = let l : Limits = table_limits c.args.self.now.words in
     begun_looked l (PassedOver l) (over_widens l) _ _ c.loop-row.row _ _ c.loop-row.invariant.begun c.mark_at-mark.ensures.acted.walk.steady
 
@@ -91,7 +91,7 @@ pub returns-then-is_parked_at-clause-lows : goal.returns-then-is_parked_at-claus
 returns-then-is_parked_at-clause-lows c = rises_at_then c.args.part c.args.lows.now c.mark_at-mark.new.lows c.raise_to.new.lows c.mark_at-mark.ensures.lows.1 (subst (λ lows. RisesAt c.args.part lows c.raise_to.new.lows) c.loop-row.invariant.lows c.raise_to.ensures.lows)
 
 pub returns-then-is_parked_at-clause-told : goal.returns-then-is_parked_at-clause-told
-returns-then-is_parked_at-clause-told c = let l : Limits = table_limits c.args.self.now.words in let at = goal.at.returns-then-is_parked_at-clause-told c in let s = look_steps l in let i = c.loop-row.invariant in
+returns-then-is_parked_at-clause-told c = let l : Limits = table_limits c.args.self.now.words in let at = goal.at.returns-then-is_parked_at-clause-told c in let s = error_steps in let i = c.loop-row.invariant in
     let P = PassedOver l in let d : ℕ = c.loop-row.row - c.later-start.result in let most = c.later-start.ensures.most.0 in let start = i.start in
     let room : d * s + s ≤ (l.rows - slice_index c.args.lows.now c.args.part) * s = rows_more d (l.rows - slice_index c.args.lows.now c.args.part) s (few at.After-is_parked_at) in (
       omega arith,
@@ -117,7 +117,7 @@ loop-row-init c = let l : Limits = table_limits c.args.self.now.words in let at 
 }
 
 pub loop-row-preserved : goal.loop-row-preserved
-loop-row-preserved c = let l : Limits = table_limits c.args.self.now.words in let at = goal.at.loop-row-preserved c in let s = look_steps l in let i = c.loop-row.invariant in let start = i.start in let on = c.is_parked_at.ensures.on.on in
+loop-row-preserved c = let l : Limits = table_limits c.args.self.now.words in let at = goal.at.loop-row-preserved c in let s = error_steps in let i = c.loop-row.invariant in let start = i.start in let on = c.is_parked_at.ensures.on.on in
     let P = PassedOver l in let W = over_widens l in let F = c.later-start.result in let d : ℕ = c.loop-row.row - F in record {
       start = omega arith;
       inside = let e = first at.After-later-start in let w = wide at.After-later-start in let end = part_on l c.loop-row.row c.is_parked_at.new.row c.args.part c.is_parked_at.ensures.on (near at.After-is_parked_at) in omega arith;
@@ -130,7 +130,7 @@ loop-row-preserved c = let l : Limits = table_limits c.args.self.now.words in le
     }
 
 -- the steps from the mark to the end of the part
-all_since : (c : After-loop-row) → Looked (table_limits c.args.self.now.words) ((c.loop-row.row - c.later-start.result) * look_steps (table_limits c.args.self.now.words)) (view_of c.mark_at-mark.new.seat) (view_of c.loop-row.seat)
+all_since : (c : After-loop-row) → Looked (table_limits c.args.self.now.words) ((c.loop-row.row - c.later-start.result) * error_steps) (view_of c.mark_at-mark.new.seat) (view_of c.loop-row.seat)
 all_since c = let l : Limits = table_limits c.args.self.now.words in
     begun_looked l (PassedOver l) (over_widens l) _ _ c.loop-row.row _ _ c.loop-row.invariant.begun c.mark_at-mark.ensures.acted.walk.steady
 
@@ -155,7 +155,7 @@ returns-clause-lows c = rises_at_then c.args.part c.args.lows.now c.mark_at-mark
 
 pub returns-clause-told : goal.returns-clause-told
 returns-clause-told c = let l : Limits = table_limits c.args.self.now.words in let at = goal.at.returns-clause-told c in let i = c.loop-row.invariant in
-    let s = look_steps l in let P = PassedOver l in let d : ℕ = c.loop-row.row - c.later-start.result in
+    let s = error_steps in let P = PassedOver l in let d : ℕ = c.loop-row.row - c.later-start.result in
     let most = c.later-start.ensures.most.0 in let from_on = c.requires.from.1 in let high = i.inside in let low = c.loop-row-test.false in let e = first at.After-later-start in let w = wide at.After-later-start in
     let all : c.loop-row.row ≡ c.args.part * l.rows + l.rows = omega arith in
     let up = c.mark_at-mark.ensures.lows.1.0 c.args.part in let is = c.mark_at-mark.ensures.lows.0 in let start = c.later-start.ensures.most.1 in

@@ -2,7 +2,7 @@ use Rattle.std.proofs.Common.{◌≡◌, ◌*◌, ◌≤◌, ℕ, slice_index}
 use Rattle.tp_model.specs.Steps.{part_rows}
 use Rattle.tp_rule.specs.Tables.{table_limits}
 use Rattle.tp_rule.specs.Views.{IsSameSeat, view_of}
-use Rattle.tp_manager.specs.Bounds.{look_steps, scan_steps}
+use Rattle.tp_manager.specs.Bounds.{listed_steps, scan_steps}
 use Rattle.tp_manager.specs.CallSteps.{Steady}
 use Rattle.tp_manager.specs.Shown.{NoneFalls}
 use Rattle.tp_manager.specs.Marks.{Remembers}
@@ -20,5 +20,5 @@ invariant-loop-part l = record {
   remembers : Remembers 0 (view_of l.seat) l.lows;
   rises : NoneFalls l.initial.lows l.lows;
   rest : (q : ℕ) → l.part ≤ q → slice_index l.lows q ≡ slice_index l.initial.lows q;
-  listed : HasListed (table_limits l.self.words) (scan_steps (table_limits l.self.words) (look_steps (table_limits l.self.words)) 3 l.initial.lows l.part) l.from l.row l.initial.lows (view_of l.initial.seat) (view_of l.seat);
+  listed : HasListed (table_limits l.self.words) (scan_steps (table_limits l.self.words) listed_steps 2 l.initial.lows l.part) l.from l.row l.initial.lows (view_of l.initial.seat) (view_of l.seat);
 }

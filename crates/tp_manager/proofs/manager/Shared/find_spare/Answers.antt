@@ -6,7 +6,7 @@ use Rattle.tp_rule.specs.Tables.{table_limits}
 use Rattle.tp_rule.specs.Views.{seen_by, view_of}
 use Rattle.tp_rule.specs.declared.view.Known.TheVariants.{PartMark}
 use Rattle.tp_rule.specs.declared.view.View.{View}
-use Rattle.tp_manager.specs.Bounds.{look_steps}
+use Rattle.tp_manager.specs.Bounds.{error_steps}
 use Rattle.tp_manager.specs.Finds.{Hits, PassedOver}
 use Rattle.tp_manager.specs.CallSteps.{Looked}
 use Rattle.tp_manager.specs.Marks.{Remembers, RisesAt, Rose}
@@ -52,7 +52,7 @@ from_mark c m n y b = let l : Limits = table_limits c.args.self.now.words in
     sought_from l (PassedOver l) (over_widens l) m c.args.from c.later-start.result n (view_of c.args.seat.now) (view_of c.mark_at-mark.new.seat) y c.mark_at-mark.ensures.acted b (skipped c)
 
 -- the steps from the mark up to the row
-since : (c : After-is_parked_at) → Looked (table_limits c.args.self.now.words) ((c.loop-row.row - c.later-start.result) * look_steps (table_limits c.args.self.now.words)) (view_of c.mark_at-mark.new.seat) (view_of c.loop-row.seat)
+since : (c : After-is_parked_at) → Looked (table_limits c.args.self.now.words) ((c.loop-row.row - c.later-start.result) * error_steps) (view_of c.mark_at-mark.new.seat) (view_of c.loop-row.seat)
 since c = let l : Limits = table_limits c.args.self.now.words in
     begun_looked l (PassedOver l) (over_widens l) _ _ c.loop-row.row _ _ c.loop-row.invariant.begun c.mark_at-mark.ensures.acted.walk.steady
 
@@ -90,7 +90,7 @@ returns-then-is_parked_at-clause-lows c = subst (λ p. RisesAt p c.args.lows.now
     (rises_at_then _ c.args.lows.now c.mark_at-mark.new.lows c.raise_to.new.lows c.mark_at-mark.ensures.lows.1 (subst (λ lows. RisesAt c.args.self.now.places.limits.parts lows c.raise_to.new.lows) c.loop-row.invariant.lows c.raise_to.ensures.lows))
 
 pub returns-then-is_parked_at-clause-told : goal.returns-then-is_parked_at-clause-told
-returns-then-is_parked_at-clause-told c = let l : Limits = table_limits c.args.self.now.words in let at = goal.at.returns-then-is_parked_at-clause-told c in let s = look_steps l in let i = c.loop-row.invariant in
+returns-then-is_parked_at-clause-told c = let l : Limits = table_limits c.args.self.now.words in let at = goal.at.returns-then-is_parked_at-clause-told c in let s = error_steps in let i = c.loop-row.invariant in
     let P = PassedOver l in let d : ℕ = c.loop-row.row - c.later-start.result in let most = c.later-start.ensures.most in let behind = most.1 in let on = most.0 in let start = i.start in
     let low = above at.After-mark_at-mark in let f = front at.After-part_rows in let less = c.loop-row-test.true in let top = c.requires.end.1 in
     let room : d * s + s ≤ (BLOCK_ROWS * l.spare - slice_index c.args.lows.now l.parts) * s = rows_more d (BLOCK_ROWS * l.spare - slice_index c.args.lows.now l.parts) s (omega arith) in (
@@ -119,7 +119,7 @@ loop-row-init c = let l : Limits = table_limits c.args.self.now.words in let at 
 }
 
 pub loop-row-preserved : goal.loop-row-preserved
-loop-row-preserved c = let l : Limits = table_limits c.args.self.now.words in let at = goal.at.loop-row-preserved c in let s = look_steps l in let i = c.loop-row.invariant in let start = i.start in let on = c.is_parked_at.ensures.on.on in
+loop-row-preserved c = let l : Limits = table_limits c.args.self.now.words in let at = goal.at.loop-row-preserved c in let s = error_steps in let i = c.loop-row.invariant in let start = i.start in let on = c.is_parked_at.ensures.on.on in
     let P = PassedOver l in let W = over_widens l in let F = c.later-start.result in let d : ℕ = c.loop-row.row - F in record {
       start = omega arith;
       inside = c.is_parked_at.ensures.on.inside;
@@ -132,7 +132,7 @@ loop-row-preserved c = let l : Limits = table_limits c.args.self.now.words in le
     }
 
 -- the steps from the mark to the end
-all_since : (c : After-loop-row) → Looked (table_limits c.args.self.now.words) ((c.loop-row.row - c.later-start.result) * look_steps (table_limits c.args.self.now.words)) (view_of c.mark_at-mark.new.seat) (view_of c.loop-row.seat)
+all_since : (c : After-loop-row) → Looked (table_limits c.args.self.now.words) ((c.loop-row.row - c.later-start.result) * error_steps) (view_of c.mark_at-mark.new.seat) (view_of c.loop-row.seat)
 all_since c = let l : Limits = table_limits c.args.self.now.words in
     begun_looked l (PassedOver l) (over_widens l) _ _ c.loop-row.row _ _ c.loop-row.invariant.begun c.mark_at-mark.ensures.acted.walk.steady
 
@@ -160,7 +160,7 @@ returns-clause-lows c = subst (λ p. RisesAt p c.args.lows.now c.raise_to-2.new.
 
 pub returns-clause-told : goal.returns-clause-told
 returns-clause-told c = let l : Limits = table_limits c.args.self.now.words in let at = goal.at.returns-clause-told c in let i = c.loop-row.invariant in
-    let s = look_steps l in let P = PassedOver l in let d : ℕ = c.loop-row.row - c.later-start.result in
+    let s = error_steps in let P = PassedOver l in let d : ℕ = c.loop-row.row - c.later-start.result in
     let past = c.loop-row-test.false in let top = i.inside in let start = c.later-start.ensures.most.1 in let low = above at.After-mark_at-mark in let f = front at.After-part_rows in
     let few : d * s ≤ (BLOCK_ROWS * l.spare - slice_index c.args.lows.now l.parts) * s = mul-le-mul_right s (omega arith) in
     sought_passed l P (over_widens l) (2 + (BLOCK_ROWS * l.spare - slice_index c.args.lows.now l.parts) * s) c.args.from c.loop-row.row (rows_of l) (view_of c.args.seat.now) (view_of c.raise_to-2.new.seat)
