@@ -6,9 +6,9 @@ ghost use Rattle.tp_model.specs.declared.types.Status.{Status as status};
 ghost use Rattle.tp_model.specs.Steps.{part_rows, rows_of, IsParked, IsRowOf};
 ghost use Rattle.tp_rule.specs.Views.{seen_by, view_of, IsSameSeat};
 ghost use Rattle.tp_rule.specs.Tables.{table_limits};
-ghost use Rattle.tp_words.specs.Words.{head_of};
-ghost use Rattle.tp_words.specs.declared.words.Head.TheVariants.{Filled};
-ghost use Rattle.tp_words.specs.declared.places.TheConstants.{MARK_KINDS};
+ghost use Rattle.tp_rule.specs.Words.{head_of};
+ghost use Rattle.tp_rule.specs.declared.packing.Head.TheVariants.{Filled};
+ghost use Rattle.tp_rule.specs.declared.places.TheConstants.{MARK_KINDS};
 ghost use Rattle.tp_rule.specs.Rule.{Concerns};
 ghost use Rattle.tp_manager.specs.Shown.{marks_of, IsOf, NoneFalls};
 ghost use Rattle.tp_manager.specs.Bounds.{listing_steps_left, look_steps, marked_steps, next_error_steps};
@@ -27,8 +27,7 @@ use crate::manager::{Manager, Pass, Shared};
 use crate::marking::{Lows, low_after, past, past_other};
 use crate::row_reads::Contents;
 use tp_model::types::{REPLY_STAGE, Status};
-use tp_rule::Seat;
-use tp_words::Head;
+use tp_rule::{Head, Seat};
 
 /// Whether it is the status of a parked element.
 #[inline(always)]

@@ -1,4 +1,4 @@
-use Rattle.tp_words.specs.Places.{UnitWord}
+use Rattle.tp_rule.specs.Places.{UnitWord}
 use Rattle.tp_rule.specs.Rule.{WordIs}
 use Rattle.tp_rule.specs.Views.{seen_by}
 use Rattle.tp_rule.proofs.Seats.{one_has}
