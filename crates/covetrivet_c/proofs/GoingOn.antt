@@ -3,7 +3,7 @@ use Rattle.std.proofs.Common.{◌≡◌, ◌≤◌, ◌∙◌, List, [], length,
 use Rattle.tp_model.specs.declared.types.Limits.{Limits}
 use Rattle.tp_model.specs.declared.types.Refusal.TheVariants as refusals
 use Rattle.tp_plain.specs.OneThread.{start}
-use Rattle.tp_alone.specs.Thread.{thread_of}
+use Rattle.tp_rollover.specs.Thread.{thread_of}
 use Rattle.tp_manager.specs.Shown.{KeeperShown, PassShown}
 use Rattle.tp_rollover.specs.Carries.{AreFresh, Carries, WouldNotFit}
 use Rattle.tp_rollover.specs.declared.moved.Moved.{Moved}

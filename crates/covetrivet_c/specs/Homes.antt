@@ -13,7 +13,7 @@ use Rattle.tp_manager.specs.Accounts.{AreAll, Gathers}
 use Rattle.tp_manager.specs.Bounds.{gather_steps}
 use Rattle.tp_manager.specs.Shown.{KeeperShown, PassShown}
 use Rattle.tp_plain.specs.OneThread.{start}
-use Rattle.tp_alone.specs.Thread.{Stays, thread_of}
+use Rattle.tp_rollover.specs.Thread.{Stays, thread_of}
 use Rattle.tp_rollover.specs.Answers.{Rolls}
 use Rattle.tp_rollover.specs.Carries.{AreFresh, Carries, WouldNotFit}
 use Rattle.tp_rollover.specs.Faults.{LacksPass}

@@ -35,30 +35,39 @@ enum Kind {
     Turn,
 }
 
-/// Goes on once so many have come.
-fn wait(gate: &AtomicU64, count: u64) {
-    gate.fetch_add(1, Ordering::SeqCst);
-    for _i in 0..1_000_000_000u32 {
-        if gate.load(Ordering::SeqCst) >= count {
-            break;
+/// What all threads of a race share.
+#[derive(Drop)]
+struct Race<'r, 'm> {
+    rt: &'r HostRuntime,
+    manager: &'m Manager,
+    kind: Kind,
+    /// Whether each thread has a stage of its own, or all have the first.
+    own: bool,
+    threads: u32,
+    /// How many threads are at the start.
+    here: AtomicU64,
+}
+
+impl Race<'_, '_> {
+    /// Goes on once all threads have come.
+    fn wait(&self) {
+        self.here.fetch_add(1, Ordering::SeqCst);
+        for _i in 0..1_000_000_000u32 {
+            if self.here.load(Ordering::SeqCst) >= u64::from(self.threads) {
+                break;
+            }
         }
     }
 }
 
-fn work(
-    rt: &HostRuntime,
-    gate: &AtomicU64,
-    count: u64,
-    manager: &Manager,
-    pass: &mut Pass,
-    stage: u8,
-    kind: Kind,
-) -> Span
-    requires own { IsOf manager.now pass.old }
+/// The work of the thread of this number, from 1 on.
+fn work(race: &Race, pass: &mut Pass, number: u8) -> Span
+    requires own { IsOf race.now.manager.now pass.old }
     requires free { pass.old.open_unit ≡ None }
 {
-    wait(gate, count);
-    let begin = now(rt);
+    let stage = stage_of(race.own, number);
+    race.wait();
+    let begin = now(race.rt);
     if stage == 0 || stage > 14 {
         return Span {
             begin,
@@ -66,12 +75,12 @@ fn work(
             done: 0,
         };
     }
-    let done = match kind {
-        Kind::Submit => submits(manager, pass, stage, 256),
-        Kind::Bare => bare_turns(manager, pass, stage, 256),
-        Kind::Turn => turns(manager, pass, stage, 256),
+    let done = match race.kind {
+        Kind::Submit => submits(race.manager, pass, stage, 256),
+        Kind::Bare => bare_turns(race.manager, pass, stage, 256),
+        Kind::Turn => turns(race.manager, pass, stage, 256),
     };
-    let end = now(rt);
+    let end = now(race.rt);
     Span { begin, end, done }
 }
 
@@ -84,58 +93,43 @@ fn both(a: Span, b: Span) -> Span {
     }
 }
 
-fn two<R: Threads + Sync>(
-    th: &R,
-    rt: &HostRuntime,
-    gate: &AtomicU64,
-    count: u64,
-    manager: &Manager,
-    one: &mut Pass,
-    other: &mut Pass,
-    stage: u8,
-    second: u8,
-    kind: Kind,
-) -> Span
-    requires own { IsOf manager.now one.old × IsOf manager.now other.old }
+/// The threads of this number and the next one.
+fn two<R: Threads + Sync>(th: &R, race: &Race, one: &mut Pass, other: &mut Pass, number: u8) -> Span
+    requires own { IsOf race.now.manager.now one.old × IsOf race.now.manager.now other.old }
     requires free { (one.old.open_unit ≡ None) × (other.old.open_unit ≡ None) }
 {
+    let next = number.saturating_add(1);
     let (a, b) = join_mut(
         th,
-        &mut || work(rt, gate, count, manager, one, stage, kind),
-        &mut || work(rt, gate, count, manager, other, second, kind),
+        &mut || work(race, one, number),
+        &mut || work(race, other, next),
     );
     both(a, b)
 }
 
 fn four<R: Threads + Sync>(
     th: &R,
-    rt: &HostRuntime,
-    gate: &AtomicU64,
-    manager: &Manager,
+    race: &Race,
     e: &mut Pass,
     f: &mut Pass,
     g: &mut Pass,
     h: &mut Pass,
-    second: u8,
-    third: u8,
-    fourth: u8,
-    kind: Kind,
 ) -> Span
-    requires own { IsOf manager.now e.old × IsOf manager.now f.old × IsOf manager.now g.old
-        × IsOf manager.now h.old }
+    requires own { IsOf race.now.manager.now e.old × IsOf race.now.manager.now f.old
+        × IsOf race.now.manager.now g.old × IsOf race.now.manager.now h.old }
     requires free { (e.old.open_unit ≡ None) × (f.old.open_unit ≡ None) × (g.old.open_unit ≡ None)
         × (h.old.open_unit ≡ None) }
 {
     let mut first = || -> Span
-        requires own { IsOf manager.now e.now × IsOf manager.now f.now }
+        requires own { IsOf race.now.manager.now e.now × IsOf race.now.manager.now f.now }
         requires free { (e.now.open_unit ≡ None) × (f.now.open_unit ≡ None) }
         requires sync { IsSync R.row }
-    { two(th, rt, gate, 4, manager, e, f, 1, second, kind) };
+    { two(th, race, e, f, 1) };
     let mut last = || -> Span
-        requires own { IsOf manager.now g.now × IsOf manager.now h.now }
+        requires own { IsOf race.now.manager.now g.now × IsOf race.now.manager.now h.now }
         requires free { (g.now.open_unit ≡ None) × (h.now.open_unit ≡ None) }
         requires sync { IsSync R.row }
-    { two(th, rt, gate, 4, manager, g, h, third, fourth, kind) };
+    { two(th, race, g, h, 3) };
     let (one, other) = join_mut(th, &mut first, &mut last);
     both(one, other)
 }
@@ -154,10 +148,11 @@ fn name_of(own: bool, kind: Kind) -> &'static str {
     }
 }
 
-fn show(rt: &HostRuntime, own: bool, kind: Kind, threads: u32, span: Span) -> io::Result<()> {
-    println!(rt;
-        "{} {threads} {} {}",
-        name_of(own, kind),
+fn show(race: &Race, span: Span) -> io::Result<()> {
+    println!(race.rt;
+        "{} {} {} {}",
+        name_of(race.own, race.kind),
+        race.threads,
         span.end.wrapping_sub(span.begin),
         span.done
     )
@@ -212,29 +207,21 @@ fn pair(manager: &Manager, keeper: &mut Keeper) -> Option<(Pass, Pass)>
 /// The work of one, two or four threads.
 fn spread<R: Threads + Sync>(
     th: &R,
-    rt: &HostRuntime,
-    manager: &Manager,
+    race: &Race,
     e: &mut Pass,
     f: &mut Pass,
     g: &mut Pass,
     h: &mut Pass,
-    own: bool,
-    kind: Kind,
-    threads: u32,
 ) -> Span
-    requires own { IsOf manager.now e.old × IsOf manager.now f.old × IsOf manager.now g.old
-        × IsOf manager.now h.old }
+    requires own { IsOf race.now.manager.now e.old × IsOf race.now.manager.now f.old
+        × IsOf race.now.manager.now g.old × IsOf race.now.manager.now h.old }
     requires free { (e.old.open_unit ≡ None) × (f.old.open_unit ≡ None) × (g.old.open_unit ≡ None)
         × (h.old.open_unit ≡ None) }
 {
-    let gate = AtomicU64::new(0);
-    let (second, third, fourth) = (stage_of(own, 2), stage_of(own, 3), stage_of(own, 4));
-    match threads {
-        1 => work(rt, &gate, 1, manager, e, 1, kind),
-        2 => two(th, rt, &gate, 2, manager, e, f, 1, second, kind),
-        _ => four(
-            th, rt, &gate, manager, e, f, g, h, second, third, fourth, kind,
-        ),
+    match race.threads {
+        1 => work(race, e, 1),
+        2 => two(th, race, e, f, 1),
+        _ => four(th, race, e, f, g, h),
     }
 }
 
@@ -259,10 +246,16 @@ fn run<R: Threads + Sync>(
     let Some((mut g, mut h)) = pair(&manager, &mut keeper) else {
         return Ok(());
     };
-    let span = spread(
-        th, rt, &manager, &mut e, &mut f, &mut g, &mut h, own, kind, threads,
-    );
-    show(rt, own, kind, threads, span)
+    let race = Race {
+        rt,
+        manager: &manager,
+        kind,
+        own,
+        threads,
+        here: AtomicU64::new(0),
+    };
+    let span = spread(th, &race, &mut e, &mut f, &mut g, &mut h);
+    show(&race, span)
 }
 
 pub fn round<R: Threads + Sync>(th: &R, rt: &HostRuntime, alloc: Global) -> io::Result<()> {

@@ -20,8 +20,8 @@ use Rattle.tp_manager.specs.Shown.{IsOf, KeeperShown, ManagerShown, PassShown}
 use Rattle.tp_desk.specs.declared.aside.Aside.{Aside}
 use Rattle.tp_desk.specs.InHand.{InHand}
 use Rattle.tp_plain.specs.OneThread.{start}
-use Rattle.tp_alone.specs.Thread.{Stays, thread_of}
-use Rattle.tp_alone.proofs.Apart.{number_in}
+use Rattle.tp_rollover.specs.Thread.{Stays, thread_of}
+use Rattle.tp_rollover.proofs.AloneApart.{number_in}
 use Rattle.tp_rollover.specs.Answers.{Rolls}
 use Rattle.tp_rollover.specs.Carries.{Carries}
 use Rattle.tp_rollover.specs.Faults.{AreFree}

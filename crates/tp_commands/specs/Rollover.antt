@@ -5,7 +5,7 @@ use Rattle.tp_manager.specs.Shown.{IsOf, KeeperShown, PassShown}
 use Rattle.tp_model.specs.declared.types.Limits.{Limits}
 use Rattle.tp_model.specs.declared.types.Refusal.TheVariants as refusals
 use Rattle.tp_plain.specs.OneThread.{start}
-use Rattle.tp_alone.specs.Thread.{Stays, thread_of}
+use Rattle.tp_rollover.specs.Thread.{Stays, thread_of}
 use Rattle.tp_rollover.specs.Answers.{Rolls}
 use Rattle.tp_rollover.specs.Carries.{Carries, WouldNotFit}
 use Rattle.tp_rollover.specs.Faults.{AreFree}

@@ -23,7 +23,7 @@ use tp_desk::Order;
 use tp_manager::{Manager, Pass};
 use tp_script::{Head, MAX_SERVERS, Race};
 use tp_server::Server;
-use tp_workers::{ClientJob, KillJob, NoGate, Plan, shift};
+use tp_workers::{ClientJob, KillJob, NoGate, Plan, ShiftMeans, Workers, shift};
 
 /// A race, and what it is run with.
 #[derive(Drop)]
@@ -219,19 +219,25 @@ fn race_front<R: Threads + Sync>(
     let mut kills = kill_jobs(alloc, killers.len(), kill)?;
     let (desks, _others) = passes.split_at_mut(front);
     let (boxes, _rest) = servers.split_at_mut(front);
-    let counts = shift(
-        racing.rt,
-        racing.manager,
-        desks,
-        boxes,
-        clients,
-        jobs.as_mut_slice(),
-        killers,
-        kills.as_mut_slice(),
-        plan_of(plan),
-        &mut [],
-        &NoGate,
-    );
+    let means = ShiftMeans {
+        rt: racing.rt,
+        manager: racing.manager,
+        plan: plan_of(plan),
+        gate: &NoGate,
+    };
+    let desks = Workers {
+        on: desks,
+        by: boxes,
+    };
+    let clients = Workers {
+        on: clients,
+        by: jobs.as_mut_slice(),
+    };
+    let killers = Workers {
+        on: killers,
+        by: kills.as_mut_slice(),
+    };
+    let counts = shift(&means, desks, clients, killers, &mut []);
     Ok(counts.submitted)
 }
 

@@ -3,7 +3,7 @@ ghost use Rattle.std.specs.Prelude.{◌≡◌, ◌+◌, ◌≤◌, All, IfErr, I
 ghost use Rattle.std.specs.Prelude.{length};
 ghost use Rattle.std.specs.Prelude.{take};
 ghost use Rattle.tp_plain.specs.OneThread.{start};
-ghost use Rattle.tp_alone.specs.Thread.{thread_of};
+ghost use Rattle.tp_rollover.specs.Thread.{thread_of};
 ghost use Rattle.tp_report.specs.Answer.{line};
 ghost use Rattle.tp_rollover.specs.Anew.{made_anew};
 ghost use Rattle.tp_rollover.specs.Faults.{AreFree};

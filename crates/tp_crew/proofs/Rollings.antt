@@ -13,7 +13,7 @@ use Rattle.tp_server.specs.Pending.{Pending}
 use Rattle.tp_manager.specs.Accounts.{AreAll, steps_together}
 use Rattle.tp_manager.specs.Bounds.{gather_steps}
 use Rattle.tp_manager.specs.Shown.{IsOf, KeeperShown, ManagerShown, PassShown, view_in}
-use Rattle.tp_alone.specs.Thread.{AreTogether, HasSeen, Stays}
+use Rattle.tp_rollover.specs.Thread.{AreTogether, HasSeen, Stays}
 use Rattle.tp_rollover.specs.Bounds.{AllMake, alive_after, survey_steps}
 use Rattle.tp_rollover.specs.Faults.{AreFree}
 use Rattle.tp_rollover.specs.Managed.{IsManaged}

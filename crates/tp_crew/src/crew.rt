@@ -27,7 +27,7 @@ use tp_manager::{MakeFault, Manager, Pass};
 use tp_model::types::{Account, Limits};
 use tp_rollover::Managed;
 use tp_server::Server;
-use tp_workers::{ClientJob, Drained, Gate, Plan, Shift, drain, shift};
+use tp_workers::{ClientJob, Drained, Gate, Plan, Shift, ShiftMeans, Workers, drain, shift};
 
 /// The limits of a crew's manager. How many passes it has follows from the crew.
 #[derive(Clone, Copy, Debug, PartialEq, Eq)]
@@ -114,16 +114,6 @@ fn drain_desks(
     drain(manager, desks, boxes, order)
 }
 
-/// What a shift is run with: its threads, the manager, what is planned, and what holds workers at their
-/// points.
-#[derive(Drop)]
-struct ShiftMeans<'r, 'm, 'g, R: Threads + Sync, G: Gate> {
-    rt: &'r R,
-    manager: &'m Manager,
-    plan: Plan,
-    gate: &'g G,
-}
-
 /// Has the desks and the clients of a crew with these passes work, each on a thread of its own.
 fn shift_all<R: Threads + Sync, G: Gate>(
     with: &ShiftMeans<R, G>,
@@ -168,19 +158,19 @@ fn shift_all<R: Threads + Sync, G: Gate>(
 {
     let (_own, others) = passes.split_at_mut(1);
     let (desks, clients) = others.split_at_mut(boxes.len());
-    shift(
-        with.rt,
-        with.manager,
-        desks,
-        boxes,
-        clients,
-        jobs,
-        &mut [],
-        &mut [],
-        with.plan,
-        counts,
-        with.gate,
-    )
+    let desks = Workers {
+        on: desks,
+        by: boxes,
+    };
+    let clients = Workers {
+        on: clients,
+        by: jobs,
+    };
+    let killers = Workers {
+        on: &mut [],
+        by: &mut [],
+    };
+    shift(with, desks, clients, killers, counts)
 }
 
 impl Crew {

@@ -13,7 +13,7 @@ use Rattle.tp_plain.specs.Computed.{read_found}
 use Rattle.tp_plain.specs.OneThread.{State}
 use Rattle.tp_reference.specs.PlainClient.{count_read, counts_below}
 use Rattle.tp_reference.proofs.ListingLemmas.{counts_more, counts_none}
-use Rattle.tp_alone.specs.Thread.{thread_of}
+use Rattle.tp_rollover.specs.Thread.{thread_of}
 use Rattle.tp_exact.specs.Finals.{ExactAccount}
 
 module _ (s : State) where

@@ -28,8 +28,8 @@ use Rattle.tp_commands.specs.Restore.{IsUnrestoredFor, IsUnrestoredIn}
 use Rattle.tp_commands.specs.Rollover.{BeginsAgain, IsUnrolled, IsUnrolledFor, RollRefused, renamed, roll_refused_text}
 use Rattle.tp_commands.specs.Scenes.{Scene, own_passes, passes_in}
 use Rattle.tp_reference.specs.declared.plain_desk.PlainDesk.{PlainDesk}
-use Rattle.tp_alone.specs.Thread.{AreTogether, not_given, state_of, thread_of}
-use Rattle.tp_alone.proofs.Idle.{alone_idle}
+use Rattle.tp_rollover.specs.Thread.{AreTogether, not_given, state_of, thread_of}
+use Rattle.tp_rollover.proofs.AloneIdle.{alone_idle}
 use Rattle.tp_session.specs.Roots.{roots_of, roots_text}
 use Rattle.tp_session.specs.Answers.{restored_text, units_text}
 use Rattle.tp_session.specs.Carried.{hand_after, held_in, lost_works, works_after}

@@ -8,14 +8,14 @@ use Rattle.tp_manager.specs.Shown.{KeeperShown, PassShown}
 use Rattle.tp_report.specs.declared.answer.Answer.{Answer}
 use Rattle.tp_report.specs.declared.answer.Answer.TheVariants as answer
 use Rattle.tp_report.specs.Answer.{answer_text, line}
-use Rattle.tp_alone.specs.Laws.{CancelAnswers, KillAnswers, Law, ReadAnswers, ReleaseAnswers, RequeueAnswers, SubmitAnswers}
-use Rattle.tp_alone.specs.Thread.{thread_of}
-use Rattle.tp_alone.proofs.Submits.{alone_submit}
-use Rattle.tp_alone.proofs.Kills.{alone_kill}
-use Rattle.tp_alone.proofs.Cancels.{alone_cancel}
-use Rattle.tp_alone.proofs.Requeues.{alone_requeue}
-use Rattle.tp_alone.proofs.Releases.{alone_release}
-use Rattle.tp_alone.proofs.Looks.{alone_read}
+use Rattle.tp_rollover.specs.AloneLaws.{CancelAnswers, KillAnswers, Law, ReadAnswers, ReleaseAnswers, RequeueAnswers, SubmitAnswers}
+use Rattle.tp_rollover.specs.Thread.{thread_of}
+use Rattle.tp_rollover.proofs.AloneSubmits.{alone_submit}
+use Rattle.tp_rollover.proofs.AloneKills.{alone_kill}
+use Rattle.tp_rollover.proofs.AloneCancels.{alone_cancel}
+use Rattle.tp_rollover.proofs.AloneRequeues.{alone_requeue}
+use Rattle.tp_rollover.proofs.AloneReleases.{alone_release}
+use Rattle.tp_rollover.proofs.AloneLooks.{alone_read}
 use Rattle.tp_commands.specs.Asked.{AnswerLine, Called, TellsCancel, TellsKill, TellsRead, TellsRelease, TellsRequeue, TellsSubmit}
 use Rattle.tp_reference.specs.PlainClient.{cancelled_as, client, killed_as, read_as, released_as, requeued_as, submitted_as, told_as}
 use Rattle.tp_exact.specs.Acts.{Acts}

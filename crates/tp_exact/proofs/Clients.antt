@@ -5,8 +5,8 @@ use Rattle.tp_plain.specs.OneThread.{State}
 use Rattle.tp_report.specs.Answer.{collected_text, counts_text, depths_text, errors_text, family_text, line, list_text, replies_text}
 use Rattle.tp_report.specs.Looks.{depths_of}
 use Rattle.tp_script.specs.declared.script.ClientAct.TheVariants as acts
-use Rattle.tp_alone.specs.Thread.{thread_of}
-use Rattle.tp_alone.proofs.Submits.{both}
+use Rattle.tp_rollover.specs.Thread.{thread_of}
+use Rattle.tp_rollover.proofs.AloneSubmits.{both}
 use Rattle.tp_reference.specs.PlainClient.{counts_of, listed_of, member_in, parked_in, picked_of, replies_of, with_collected}
 use Rattle.tp_exact.specs.Client.{ExactClient}
 use Rattle.tp_exact.proofs.Calls.{cancels, kills, reads, releases, requeues, submits}

@@ -25,9 +25,9 @@ use Rattle.tp_plain.specs.OneThread.{State, extended}
 use Rattle.tp_manager.specs.Bounds.{collect_next_steps}
 use Rattle.tp_manager.specs.Calls.{IsWaiting}
 use Rattle.tp_manager.specs.Shown.{KeeperShown, PassShown}
-use Rattle.tp_alone.specs.Thread.{thread_of}
-use Rattle.tp_alone.proofs.Lists.{reply_is}
-use Rattle.tp_alone.proofs.Members.{alone_collect_next}
+use Rattle.tp_rollover.specs.Thread.{thread_of}
+use Rattle.tp_rollover.proofs.AloneLists.{reply_is}
+use Rattle.tp_rollover.proofs.AloneMembers.{alone_collect_next}
 use Rattle.tp_commands.specs.Asked.{TellsCollected}
 use Rattle.tp_reference.specs.PlainClient.{client, picked, replies_of, reply_shown, with_collected}
 use Rattle.tp_exact.specs.Acts.{Acts}

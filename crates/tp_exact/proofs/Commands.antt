@@ -21,7 +21,7 @@ use Rattle.tp_reference.specs.declared.plain_desk.PlainDesk.{PlainDesk}
 use Rattle.tp_reference.specs.PlainClient.{client, client_step}
 use Rattle.tp_reference.specs.PlainReport as plain
 use Rattle.tp_reference.specs.PlainReport.{ReportState, balance_answer, command_step, with_manager}
-use Rattle.tp_alone.specs.Thread.{AreTogether, Stays, thread_of}
+use Rattle.tp_rollover.specs.Thread.{AreTogether, Stays, thread_of}
 use Rattle.tp_exact.specs.Acts.{Acts}
 use Rattle.tp_exact.specs.Stands.{IsFor, IsServedBy, SceneOnlyLooks, OnlyLooksAt, StandsAsComputed}
 use Rattle.tp_exact.proofs.Clients.{exact_client}

@@ -11,9 +11,9 @@ use Rattle.tp_manager.specs.Bounds.{read_steps}
 use Rattle.tp_manager.specs.Shown.{KeeperShown, PassShown}
 use Rattle.tp_report.specs.declared.answer.Answer.{Answer}
 use Rattle.tp_report.specs.declared.answer.Answer.TheVariants as answer
-use Rattle.tp_alone.specs.Laws.{ReadAnswers}
-use Rattle.tp_alone.specs.Thread.{HasSeen, thread_of}
-use Rattle.tp_alone.proofs.Looks.{alone_read}
+use Rattle.tp_rollover.specs.AloneLaws.{ReadAnswers}
+use Rattle.tp_rollover.specs.Thread.{HasSeen, thread_of}
+use Rattle.tp_rollover.proofs.AloneLooks.{alone_read}
 use Rattle.tp_commands.specs.Asked.{Called, TellsCount, TellsRead, with_read}
 use Rattle.tp_reference.specs.PlainClient.{client, count_read, counts_below}
 use Rattle.tp_reference.proofs.ListingLemmas.{counts_more, counts_none}

@@ -31,9 +31,9 @@ use Rattle.tp_report.specs.declared.answer.ServerAnswer.TheVariants as told
 use Rattle.tp_commands.specs.Acting.{AbortsAt, ClaimsAt, DeskShown, DropsAt, TellsAbort, TellsClaim, TellsDrop, TakesAt, TellsTake}
 use Rattle.tp_reference.specs.declared.plain_desk.PlainDesk.{PlainDesk}
 use Rattle.tp_reference.specs.PlainDesks.{DeskAnswered, abort_step, abort_work, aborted_as, claim_in_order, claim_step, claimed_as, drop_step, after_giving_up, has_open, work_in_hand, nothing_done, with_drop, claim_given, given_as, take_step}
-use Rattle.tp_alone.specs.Thread.{Alone, not_given, state_of, thread_of}
-use Rattle.tp_alone.proofs.Aborts.{alone_abort}
-use Rattle.tp_alone.proofs.Claims.{alone_claim, alone_claim_next}
+use Rattle.tp_rollover.specs.Thread.{Alone, not_given, state_of, thread_of}
+use Rattle.tp_rollover.proofs.AloneAborts.{alone_abort}
+use Rattle.tp_rollover.proofs.AloneClaims.{alone_claim, alone_claim_next}
 use Rattle.tp_exact.specs.Acts.{Acts}
 use Rattle.tp_exact.specs.Stands.{IsForDesk}
 use Rattle.tp_exact.proofs.Parts.{idle}

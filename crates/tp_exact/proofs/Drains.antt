@@ -29,7 +29,7 @@ use Rattle.tp_reference.specs.PlainDesks.{DeskAnswered, claim_in_order, has_open
 use Rattle.tp_reference.specs.PlainReport as plain
 use Rattle.tp_reference.specs.PlainReport.{ReportState, drain_of, most_rounds, round_below, round_of, round_turn, drain_rounds, with_acted, worker}
 use Rattle.tp_reference.proofs.DrainEnds.{drains_end, no_more, none_yet, one_more}
-use Rattle.tp_alone.specs.Thread.{not_given, state_of, thread_of}
+use Rattle.tp_rollover.specs.Thread.{not_given, state_of, thread_of}
 use Rattle.tp_exact.specs.Stands.{IsFor, IsForDesk, IsServedBy, StandsAsComputed}
 use Rattle.tp_exact.proofs.Commands.{zip_at}
 use Rattle.tp_exact.proofs.Desks.{pass_here}

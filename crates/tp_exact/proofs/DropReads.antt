@@ -7,7 +7,7 @@ use Rattle.tp_manager.specs.Shown.{PassShown}
 use Rattle.tp_plain.specs.Computed.{abort_of}
 use Rattle.tp_plain.specs.OneThread.{no_pass}
 use Rattle.tp_plain.specs.declared.pass_state.PassState.{PassState}
-use Rattle.tp_alone.specs.Thread.{state_of}
+use Rattle.tp_rollover.specs.Thread.{state_of}
 use Rattle.tp_rollover.specs.Faults.{AreFree}
 use Rattle.tp_commands.specs.Acting.{PlaceShown}
 use Rattle.tp_report.specs.declared.answer.ServerAnswer.TheVariants as told

@@ -10,8 +10,8 @@ use Rattle.tp_script.specs.declared.head.Head.{Head}
 use Rattle.tp_commands.specs.Acting.{PlaceShown}
 use Rattle.tp_commands.specs.Scenes.{Gathered, OnlyPass, passes_in}
 use Rattle.tp_reference.specs.declared.plain_desk.PlainDesk.{PlainDesk}
-use Rattle.tp_alone.specs.Thread.{AreTogether, Stays, thread_of}
-use Rattle.tp_alone.proofs.Idle.{alone_idle}
+use Rattle.tp_rollover.specs.Thread.{AreTogether, Stays, thread_of}
+use Rattle.tp_rollover.proofs.AloneIdle.{alone_idle}
 use Rattle.tp_session.specs.Dump.{dump_lines, dump_text}
 use Rattle.tp_session.specs.declared.hand.Holding.{Holding}
 use Rattle.tp_session.specs.Live.{FoundAlive, Live, LiveGathers, LiveLooks, TellsDump, lines_of}

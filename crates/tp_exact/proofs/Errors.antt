@@ -15,8 +15,8 @@ use Rattle.tp_plain.specs.OneThread.{State}
 use Rattle.tp_manager.specs.Bounds.{next_error_steps}
 use Rattle.tp_manager.specs.Lists.{NextError}
 use Rattle.tp_manager.specs.Shown.{KeeperShown, PassShown}
-use Rattle.tp_alone.specs.Thread.{thread_of}
-use Rattle.tp_alone.proofs.Lists.{alone_error}
+use Rattle.tp_rollover.specs.Thread.{thread_of}
+use Rattle.tp_rollover.proofs.AloneLists.{alone_error}
 use Rattle.tp_commands.specs.Asked.{Called, TellsErrors}
 use Rattle.tp_reference.specs.PlainClient.{client, parked_in, picked, picked_of}
 use Rattle.tp_exact.specs.Acts.{Acts}

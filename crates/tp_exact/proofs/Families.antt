@@ -17,8 +17,8 @@ use Rattle.tp_plain.specs.Looks.{look_at}
 use Rattle.tp_plain.specs.OneThread.{State}
 use Rattle.tp_manager.specs.Bounds.{family_steps}
 use Rattle.tp_manager.specs.Shown.{KeeperShown, PassShown}
-use Rattle.tp_alone.specs.Thread.{thread_of}
-use Rattle.tp_alone.proofs.Members.{alone_family}
+use Rattle.tp_rollover.specs.Thread.{thread_of}
+use Rattle.tp_rollover.proofs.AloneMembers.{alone_family}
 use Rattle.tp_commands.specs.Asked.{TellsFamily}
 use Rattle.tp_reference.specs.PlainClient.{client, member_in, picked, picked_of}
 use Rattle.tp_exact.specs.Acts.{Acts}

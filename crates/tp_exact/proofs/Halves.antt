@@ -16,9 +16,9 @@ use Rattle.tp_manager.specs.Shown.{KeeperShown, PassShown}
 use Rattle.tp_server.specs.declared.turned.Turned.{Turned}
 use Rattle.tp_server.specs.declared.turned.Turned.TheVariants as turneds
 use Rattle.tp_desk.specs.Turns.{WorksOff}
-use Rattle.tp_alone.specs.Middle.{Between, Goes, as_seen}
-use Rattle.tp_alone.specs.Thread.{HasSeen}
-use Rattle.tp_alone.proofs.Middles.{alone_middle, mids}
+use Rattle.tp_rollover.specs.Middle.{Between, Goes, as_seen}
+use Rattle.tp_rollover.specs.Thread.{HasSeen}
+use Rattle.tp_rollover.proofs.AloneMiddles.{alone_middle, mids}
 use Rattle.tp_exact.specs.Acts.{Acts}
 use Rattle.tp_exact.proofs.Parts.{Went, goes}
 

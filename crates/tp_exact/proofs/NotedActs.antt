@@ -13,9 +13,9 @@ use Rattle.tp_manager.specs.Shown.{KeeperShown, PassShown}
 use Rattle.tp_report.specs.Answer.{answer_text, line}
 use Rattle.tp_report.specs.declared.answer.Answer.{Answer}
 use Rattle.tp_report.specs.declared.answer.Answer.TheVariants as answer
-use Rattle.tp_alone.specs.Laws.{SubmitAnswers}
-use Rattle.tp_alone.specs.Thread.{thread_of}
-use Rattle.tp_alone.proofs.Submits.{alone_submit}
+use Rattle.tp_rollover.specs.AloneLaws.{SubmitAnswers}
+use Rattle.tp_rollover.specs.Thread.{thread_of}
+use Rattle.tp_rollover.proofs.AloneSubmits.{alone_submit}
 use Rattle.tp_commands.specs.Asked.{TellsSubmit}
 use Rattle.tp_commands.specs.Received.{asks_for}
 use Rattle.tp_reference.specs.PlainClient.{client, submitted_as}

@@ -14,7 +14,7 @@ use Rattle.tp_script.specs.declared.notes.NotedAct.{NotedAct}
 use Rattle.tp_script.specs.declared.notes.UnitEnd.{UnitEnd}
 use Rattle.tp_commands.specs.Scenes.{Gathered, Scene, Stand, passes_in}
 use Rattle.tp_reference.specs.PlainClient.{client}
-use Rattle.tp_alone.specs.Thread.{thread_of}
+use Rattle.tp_rollover.specs.Thread.{thread_of}
 use Rattle.tp_session.specs.Lasts.{HandRead, end_at, open_text}
 use Rattle.tp_session.specs.Live.{LastTold, Live, LiveGathers, NotedTold}
 use Rattle.tp_session.specs.Notes.{NotesView}

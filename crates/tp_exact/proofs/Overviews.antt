@@ -21,7 +21,7 @@ use Rattle.tp_commands.specs.Acting.{PlaceShown}
 use Rattle.tp_commands.specs.Scenes.{Scene, passes_in}
 use Rattle.tp_reference.specs.PlainClient.{client}
 use Rattle.tp_reference.specs.declared.plain_desk.PlainDesk.{PlainDesk}
-use Rattle.tp_alone.specs.Thread.{HasSeen, drawn_of, not_given, state_of, thread_of}
+use Rattle.tp_rollover.specs.Thread.{HasSeen, drawn_of, not_given, state_of, thread_of}
 use Rattle.tp_session.specs.Live.{Live, OverviewTold, TellsOverview}
 use Rattle.tp_session.specs.Overviews.{HolderRead, HoldersRead, desk_holding, holder_text, holds_text, in_hands, left_text, left_texts, names_of, pass_names, room_of}
 use Rattle.tp_session.specs.declared.hand.Holding.{Holding}

@@ -9,10 +9,10 @@ use Rattle.tp_model.specs.Passes.{IsPassView}
 use Rattle.tp_model.proofs.Bridges.{append_nil, begins_trans, in_right}
 use Rattle.tp_manager.specs.Calls.{Follows, opening}
 use Rattle.tp_manager.specs.Shown.{KeeperShown, PassShown, view_in}
-use Rattle.tp_alone.specs.Middle.{Between, Goes, as_seen}
-use Rattle.tp_alone.specs.Thread.{Alone, HasSeen, Stays, thread_of}
-use Rattle.tp_alone.proofs.Idle.{alone_idle}
-use Rattle.tp_alone.proofs.Middles.{alone_middle, mids}
+use Rattle.tp_rollover.specs.Middle.{Between, Goes, as_seen}
+use Rattle.tp_rollover.specs.Thread.{Alone, HasSeen, Stays, thread_of}
+use Rattle.tp_rollover.proofs.AloneIdle.{alone_idle}
+use Rattle.tp_rollover.proofs.AloneMiddles.{alone_middle, mids}
 use Rattle.tp_commands.specs.Asked.{Called}
 use Rattle.tp_exact.specs.Acts.{Acts}
 

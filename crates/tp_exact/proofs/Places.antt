@@ -36,7 +36,7 @@ use Rattle.tp_commands.specs.Told.{ServerLine}
 use Rattle.tp_reference.specs.declared.plain_desk.PlainDesk.{PlainDesk}
 use Rattle.tp_reference.specs.PlainDesks.{DeskAnswered, abort_work, aborted_as, claim_in_order, claim_given, claimed_as, commit_work, committed_as, does, does_unless_dropped, given_as, has_open, work_in_hand, nothing_done, prepare_with, prepare_work, settle_with, turn_as}
 use Rattle.tp_reference.specs.PlainReport.{ReportState, command_step, desk_at, with_acted, worker}
-use Rattle.tp_alone.specs.Thread.{AreTogether, Stays, thread_of}
+use Rattle.tp_rollover.specs.Thread.{AreTogether, Stays, thread_of}
 use Rattle.tp_exact.specs.Acts.{Acts}
 use Rattle.tp_exact.specs.Desks.{FollowsRecipe}
 use Rattle.tp_exact.specs.Stands.{IsFor, IsServedBy, SceneOnlyLooks, StandsAsComputed}

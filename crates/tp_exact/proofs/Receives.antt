@@ -19,9 +19,9 @@ use Rattle.tp_manager.specs.Releases.{CollectFails}
 use Rattle.tp_manager.specs.Shown.{KeeperShown, PassShown}
 use Rattle.tp_report.specs.declared.answer.Answer.{Answer}
 use Rattle.tp_report.specs.declared.answer.Answer.TheVariants as answer
-use Rattle.tp_alone.specs.Laws.{CollectAnswers}
-use Rattle.tp_alone.specs.Thread.{HasSeen, thread_of}
-use Rattle.tp_alone.proofs.Releases.{alone_collect}
+use Rattle.tp_rollover.specs.AloneLaws.{CollectAnswers}
+use Rattle.tp_rollover.specs.Thread.{HasSeen, thread_of}
+use Rattle.tp_rollover.proofs.AloneReleases.{alone_collect}
 use Rattle.tp_commands.specs.Asked.{Called, TellsRead}
 use Rattle.tp_commands.specs.Received.{FindsFirst, MissesReply, PassesOver, TellsReceived, reply_in}
 use Rattle.tp_reference.specs.PlainClient.{client, read_as}

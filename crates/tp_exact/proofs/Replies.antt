@@ -16,9 +16,9 @@ use Rattle.tp_plain.specs.OneThread.{State}
 use Rattle.tp_manager.specs.Bounds.{read_steps, reply_steps}
 use Rattle.tp_manager.specs.Lists.{NextReply}
 use Rattle.tp_manager.specs.Shown.{KeeperShown, PassShown}
-use Rattle.tp_alone.specs.Thread.{HasSeen, thread_of}
-use Rattle.tp_alone.proofs.Lists.{alone_reply}
-use Rattle.tp_alone.proofs.Looks.{alone_read}
+use Rattle.tp_rollover.specs.Thread.{HasSeen, thread_of}
+use Rattle.tp_rollover.proofs.AloneLists.{alone_reply}
+use Rattle.tp_rollover.proofs.AloneLooks.{alone_read}
 use Rattle.tp_commands.specs.Asked.{Called, FindsReply, TellsReplies}
 use Rattle.tp_reference.specs.PlainClient.{client, is_reply, picked, picked_of, reply_shown}
 use Rattle.tp_exact.specs.Acts.{Acts}

@@ -9,7 +9,7 @@ use Rattle.tp_rollover.specs.declared.moved.Moved.{Moved}
 use Rattle.tp_rollover.specs.declared.survivors.Survivor.{Survivor}
 use Rattle.std.proofs.lemmas.List.Elements.{All-tail}
 use Rattle.std.specs.Str.{bytes_eq}
-use Rattle.tp_alone.specs.Thread.{not_given, state_of, thread_of}
+use Rattle.tp_rollover.specs.Thread.{not_given, state_of, thread_of}
 use Rattle.tp_reference.specs.PlainDesks.{has_open}
 use Rattle.tp_reference.specs.declared.plain_desk.PlainDesk.{PlainDesk}
 use Rattle.tp_script.specs.LineWords.{is_name}

@@ -8,8 +8,8 @@ use Rattle.tp_manager.specs.Bounds.{gather_steps}
 use Rattle.tp_manager.specs.Shown.{IsOf, KeeperShown, ManagerShown, PassShown}
 use Rattle.tp_commands.specs.Acting.{PlaceShown}
 use Rattle.tp_commands.specs.Scenes.{Gathered, GatheredIn, OnlyPass, Scene, passes_in}
-use Rattle.tp_alone.specs.Thread.{AreTogether, Stays}
-use Rattle.tp_alone.proofs.Gatherings.{gathered_together}
+use Rattle.tp_rollover.specs.Thread.{AreTogether, Stays}
+use Rattle.tp_rollover.proofs.AloneGatherings.{gathered_together}
 use Rattle.tp_exact.specs.Stands.{SceneOnlyLooks, OnlyLooksAt}
 
 pub all_at : {A : Type 0} (P : A → Type 0) (xs : List A) (x : A) → All P xs → In x xs → P x

@@ -8,7 +8,7 @@ use Rattle.tp_manager.specs.Shown.{ManagerShown}
 use Rattle.tp_model.specs.declared.types.Account.{Account}
 use Rattle.tp_model.specs.declared.types.Counts.{Counts}
 use Rattle.std.proofs.lemmas.List.{length-map}
-use Rattle.tp_alone.specs.Thread.{thread_of}
+use Rattle.tp_rollover.specs.Thread.{thread_of}
 use Rattle.tp_report.specs.Answer.{account_text, line}
 use Rattle.tp_report.specs.Written.{AppendsFront}
 use Rattle.tp_report.specs.declared.fault.Exit.{Exit}

@@ -23,7 +23,7 @@ use Rattle.tp_commands.specs.Scenes.{Gathered, Scene, Stand, passes_in}
 use Rattle.tp_reference.specs.declared.plain_desk.PlainDesk.{PlainDesk}
 use Rattle.tp_reference.specs.PlainClient.{client, counts_of}
 use Rattle.tp_reference.specs.PlainReport.{ReportState, command_step, drain_step}
-use Rattle.tp_alone.specs.Thread.{AreTogether, Stays, not_given, state_of, thread_of}
+use Rattle.tp_rollover.specs.Thread.{AreTogether, Stays, not_given, state_of, thread_of}
 use Rattle.tp_session.specs.Answers.{left_line, worker_answer_line}
 use Rattle.tp_session.specs.Live as lives
 use Rattle.tp_session.specs.Hands.{WorkerHand, has_unit}

@@ -18,8 +18,8 @@ use Rattle.tp_rollover.specs.Managed.{IsNewPass}
 use Rattle.tp_rollover.specs.declared.moved.RollFault.{RollFault}
 use Rattle.tp_commands.specs.Scenes.{Scene, passes_in}
 use Rattle.tp_reference.specs.PlainReport.{finals_below}
-use Rattle.tp_alone.specs.Thread.{AreDrawn, AreTogether, IsFresh, drawn_of}
-use Rattle.tp_alone.proofs.Starts.{alone_start}
+use Rattle.tp_rollover.specs.Thread.{AreDrawn, AreTogether, IsFresh, drawn_of}
+use Rattle.tp_rollover.proofs.AloneStarts.{alone_start}
 use Rattle.std.proofs.lemmas.List.{append-nil}
 use Rattle.tp_report.specs.Written.{AppendsFront}
 use Rattle.tp_session.specs.Conversed.{CommandLines, IsCommand, LiveBegins, LiveEnds, Session, SessionPart, finals_of, limits_of}

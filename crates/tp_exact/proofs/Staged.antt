@@ -18,7 +18,7 @@ use Rattle.tp_manager.specs.Bounds.{read_steps}
 use Rattle.tp_manager.specs.Shown.{KeeperShown, PassShown}
 use Rattle.tp_report.specs.declared.answer.TheConstants.{MAX_LISTED}
 use Rattle.tp_report.specs.Looks.{is_at, waiting_in, with_shown}
-use Rattle.tp_alone.specs.Thread.{HasSeen, thread_of}
+use Rattle.tp_rollover.specs.Thread.{HasSeen, thread_of}
 use Rattle.tp_commands.specs.Asked.{ListsWaiting, TellsLook, TellsLooks}
 use Rattle.tp_commands.proofs.StageLemmas.{waits_more, waits_same}
 use Rattle.tp_reference.specs.PlainClient.{client, listed_of, picked, picked_below, picked_of, waiting_from, with_last}

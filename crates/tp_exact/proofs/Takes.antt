@@ -17,11 +17,11 @@ use Rattle.tp_manager.specs.Calls.{Opens, claims_in}
 use Rattle.tp_manager.specs.Shown.{KeeperShown, PassShown}
 use Rattle.tp_desk.specs.Given.{ClaimsGiven, HasOtherStage, HasUnwaitingOf}
 use Rattle.tp_reference.specs.PlainDesks.{claim_given, is_of_other}
-use Rattle.tp_alone.specs.Thread.{Alone, thread_of}
-use Rattle.tp_alone.proofs.Claims.{born, claimed_is}
-use Rattle.tp_alone.proofs.Given.{alone_claim_id}
-use Rattle.tp_alone.proofs.Points.{point_quiet}
-use Rattle.tp_alone.proofs.Threads.{quiet_leaves}
+use Rattle.tp_rollover.specs.Thread.{Alone, thread_of}
+use Rattle.tp_rollover.proofs.AloneClaims.{born, claimed_is}
+use Rattle.tp_rollover.proofs.AloneGiven.{alone_claim_id}
+use Rattle.tp_rollover.proofs.AlonePoints.{point_quiet}
+use Rattle.tp_rollover.proofs.AloneThreads.{quiet_leaves}
 
 module _ (l : Limits) (keeper keeper' : KeeperShown) (olds news : List PassShown) (h h' : List Event) (n c : ℕ) (old new : PassShown) (a : Alone l keeper keeper' olds news h h' n c old new) (turn : new.from ≡ old.from)
     (stage id : ℕ) (server : IsServerStage stage) where

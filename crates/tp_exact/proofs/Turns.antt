@@ -36,10 +36,10 @@ use Rattle.tp_workers.specs.Desks.{TakesTurn}
 use Rattle.tp_commands.specs.Acting.{DeskShown, PreparesAt, TellsCommit, TellsPrepare, TellsTurn, WorksOffAt, place_of_desk}
 use Rattle.tp_reference.specs.declared.plain_desk.PlainDesk.{PlainDesk}
 use Rattle.tp_reference.specs.PlainDesks.{DeskAnswered, claim_in_order, commit_step, commit_work, committed_as, work_in_hand, nothing_done, prepare_step, prepare_with, prepare_work, settle, settle_with, settled_desk, turn_as, turn_by, turn_step}
-use Rattle.tp_alone.specs.Thread.{Alone, HasSeen, thread_of}
-use Rattle.tp_alone.proofs.Aborts.{alone_abort}
-use Rattle.tp_alone.proofs.Claims.{alone_claim, alone_claim_next}
-use Rattle.tp_alone.proofs.Commits.{alone_commit}
+use Rattle.tp_rollover.specs.Thread.{Alone, HasSeen, thread_of}
+use Rattle.tp_rollover.proofs.AloneAborts.{alone_abort}
+use Rattle.tp_rollover.proofs.AloneClaims.{alone_claim, alone_claim_next}
+use Rattle.tp_rollover.proofs.AloneCommits.{alone_commit}
 use Rattle.tp_exact.specs.Acts.{Acts}
 use Rattle.tp_exact.specs.Stands.{IsForDesk}
 use Rattle.tp_exact.proofs.Desks.{Exact, claims_none, hand_so, open_so, same, was_shut}

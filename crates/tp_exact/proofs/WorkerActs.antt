@@ -19,12 +19,12 @@ use Rattle.tp_server.specs.declared.turned.Turned.TheVariants as turneds
 use Rattle.tp_report.specs.declared.answer.ServerAnswer.TheVariants as told
 use Rattle.tp_script.specs.declared.head.WorkerAct.{WorkerAct}
 use Rattle.tp_script.specs.declared.head.WorkerAct.TheVariants as acts
-use Rattle.tp_alone.specs.Laws.{ClaimIdAnswers}
-use Rattle.tp_alone.specs.Thread.{Alone, thread_of}
-use Rattle.tp_alone.proofs.Aborts.{alone_abort}
-use Rattle.tp_alone.proofs.Claims.{alone_claim, alone_claim_next}
-use Rattle.tp_alone.proofs.Commits.{alone_commit}
-use Rattle.tp_alone.proofs.Given.{alone_claim_id}
+use Rattle.tp_rollover.specs.AloneLaws.{ClaimIdAnswers}
+use Rattle.tp_rollover.specs.Thread.{Alone, thread_of}
+use Rattle.tp_rollover.proofs.AloneAborts.{alone_abort}
+use Rattle.tp_rollover.proofs.AloneClaims.{alone_claim, alone_claim_next}
+use Rattle.tp_rollover.proofs.AloneCommits.{alone_commit}
+use Rattle.tp_rollover.proofs.AloneGiven.{alone_claim_id}
 use Rattle.tp_commands.specs.Asked.{Called}
 use Rattle.tp_session.specs.Hands.{AbortsHand, WorkerHand, HearsLost, NextAnswered, WorkerTellsAbort, WorkerTellsClaim, WorkerTellsCommit, WorkerTellsNext, WorkerTellsTake, is_busy}
 use Rattle.tp_session.specs.declared.hand.Holding.{Holding}

@@ -4,7 +4,7 @@ use Rattle.std.specs.List.{AllZip}
 use Rattle.tp_model.specs.declared.types.Limits.{Limits}
 use Rattle.tp_model.specs.declared.event.Event.{Event}
 use Rattle.tp_manager.specs.Shown.{KeeperShown, PassShown}
-use Rattle.tp_alone.specs.Thread.{AreTogether, Stays}
+use Rattle.tp_rollover.specs.Thread.{AreTogether, Stays}
 
 -- all were together, pass c made calls, however many, and all were together again, with nothing done by any
 -- other pass

@@ -6,7 +6,7 @@ use Rattle.tp_manager.specs.Shown.{KeeperShown, PassShown}
 use Rattle.tp_script.specs.declared.script.ClientAct.{ClientAct}
 use Rattle.tp_commands.specs.Asked.{TellsClient}
 use Rattle.tp_reference.specs.PlainClient.{client, client_step}
-use Rattle.tp_alone.specs.Thread.{thread_of}
+use Rattle.tp_rollover.specs.Thread.{thread_of}
 use Rattle.tp_exact.specs.Acts.{Acts}
 
 -- the line of a client's command is the one that is computed of the state before it, and so is the state that

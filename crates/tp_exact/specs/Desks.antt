@@ -12,7 +12,7 @@ use Rattle.tp_script.specs.declared.script.DeskAct.TheVariants as acts
 use Rattle.tp_commands.specs.Acting.{DeskShown, Does}
 use Rattle.tp_reference.specs.declared.plain_desk.PlainDesk.{PlainDesk}
 use Rattle.tp_reference.specs.PlainDesks.{does}
-use Rattle.tp_alone.specs.Thread.{thread_of}
+use Rattle.tp_rollover.specs.Thread.{thread_of}
 use Rattle.tp_exact.specs.Acts.{Acts}
 use Rattle.tp_exact.specs.Stands.{IsForDesk}
 

@@ -9,7 +9,7 @@ use Rattle.tp_session.specs.Conversed.{finals_of}
 use Rattle.tp_reference.specs.declared.plain_desk.PlainDesk.{PlainDesk}
 use Rattle.tp_reference.specs.PlainClient.{counts_of}
 use Rattle.tp_reference.specs.PlainReport.{finals_below}
-use Rattle.tp_alone.specs.Thread.{AreTogether, thread_of}
+use Rattle.tp_rollover.specs.Thread.{AreTogether, thread_of}
 
 -- of registers that the computed desks have, the final lines are the computed ones
 abbrev pub ExactFinals : Type 0

@@ -13,7 +13,7 @@ use Rattle.tp_script.specs.declared.fault.LineFault.{LineFault}
 use Rattle.tp_script.specs.declared.head.Act.{Act}
 use Rattle.tp_script.specs.declared.head.Act.TheVariants as acts
 use Rattle.tp_script.specs.declared.head.WorkerAct.{WorkerAct}
-use Rattle.tp_alone.specs.Thread.{thread_of}
+use Rattle.tp_rollover.specs.Thread.{thread_of}
 use Rattle.tp_session.specs.Conversed.{Conversed, ConversedFront}
 use Rattle.tp_session.specs.Hands.{WorkerHand, WorkerDoes}
 use Rattle.tp_session.specs.Heard.{heard}

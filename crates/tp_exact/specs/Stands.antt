@@ -11,7 +11,7 @@ use Rattle.tp_commands.specs.Acting.{DeskShown, PlaceShown}
 use Rattle.tp_commands.specs.Scenes.{Scene, passes_in}
 use Rattle.tp_reference.specs.declared.plain_desk.PlainDesk.{PlainDesk}
 use Rattle.tp_reference.specs.PlainReport.{ReportState}
-use Rattle.tp_alone.specs.Thread.{AreTogether, Stays, thread_of}
+use Rattle.tp_rollover.specs.Thread.{AreTogether, Stays, thread_of}
 
 -- a computed desk is this one: it has the same registers and the same work in hand, prepared or not
 pub record IsForDesk (x : DeskShown) (d : PlainDesk) : Type 0 where

@@ -7,9 +7,9 @@ use mathlib.Core.List.{IsPrefix}
 use Rattle.tp_model.specs.History.{IsSettled, IsUnborn, element_of, end_of, status_of}
 use Rattle.tp_model.specs.Steps.{IsArea, rows_of, tries}
 use Rattle.tp_model.specs.Words.{ClaimWord, FreeWord, TakenWord, KilledWord, AgainWord}
-use Rattle.tp_words.specs.declared.words.Head.{Head}
-use Rattle.tp_words.specs.declared.words.Head.TheVariants.{Empty, Filled, Void}
-use Rattle.tp_words.specs.Words.{head_of}
+use Rattle.tp_rule.specs.declared.packing.Head.{Head}
+use Rattle.tp_rule.specs.declared.packing.Head.TheVariants.{Empty, Filled, Void}
+use Rattle.tp_rule.specs.Words.{head_of}
 use Rattle.tp_rule.specs.Rule.{IsDraft}
 use Rattle.tp_rule.specs.Steps.{AllowsClaim, HasDead, Knows, MayBeBorn}
 use Rattle.tp_rule.specs.declared.view.Known.TheVariants.{RowHead}

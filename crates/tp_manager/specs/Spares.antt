@@ -8,8 +8,8 @@ use Rattle.tp_rule.specs.Steps.{IsLeftBehind, Knows}
 use Rattle.tp_rule.specs.Views.{hand}
 use Rattle.tp_rule.specs.declared.view.Known.TheVariants.{RowHead}
 use Rattle.tp_rule.specs.declared.view.View.{View}
-use Rattle.tp_words.specs.declared.words.Head.{Head}
-use Rattle.tp_words.specs.declared.words.Head.TheVariants.{Empty}
+use Rattle.tp_rule.specs.declared.packing.Head.{Head}
+use Rattle.tp_rule.specs.declared.packing.Head.TheVariants.{Empty}
 use Rattle.tp_manager.specs.CallSteps.{Looked}
 use Rattle.tp_manager.specs.Marks.{WasOfUseIn}
 use Rattle.tp_manager.specs.Scans.{EachRow}

@@ -3,8 +3,8 @@ ghost use Rattle.std.specs.Prelude.{true, ℕ, ◌≡◌, ◌+◌, ◌-◌, ◌*
 ghost use Rattle.tp_model.specs.declared.types.Element.{Element as element};
 ghost use Rattle.tp_model.specs.Steps.{rows_of, IsServerStage};
 ghost use Rattle.tp_model.specs.Words.{TakenWord};
-ghost use Rattle.tp_words.specs.Words.{claim_value, head_of};
-ghost use Rattle.tp_words.specs.declared.words.Head.TheVariants.{Filled};
+ghost use Rattle.tp_rule.specs.Words.{claim_value, head_of};
+ghost use Rattle.tp_rule.specs.declared.packing.Head.TheVariants.{Filled};
 ghost use Rattle.tp_rule.specs.Views.{seen_by, view_of, IsSameSeat};
 ghost use Rattle.tp_rule.specs.Tables.{table_limits};
 ghost use Rattle.tp_manager.specs.CallSteps.{IsSteady};
@@ -18,8 +18,7 @@ use crate::manager::Shared;
 use crate::row_reads::Birth;
 use crate::scanning::Stand;
 use crate::seeker::Taken;
-use tp_rule::Seat;
-use tp_words::{Claim, FoundClaim, Head};
+use tp_rule::{Claim, FoundClaim, Head, Seat};
 
 /// What the head of a born element says.
 #[inline(always)]

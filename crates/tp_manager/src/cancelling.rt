@@ -26,8 +26,7 @@ use crate::manager::{Manager, Pass, Shared};
 use crate::row_set::RowSet;
 use crate::walking::{MAX_ROWS, is_reply};
 use tp_model::types::{Cancelled, Refusal};
-use tp_rule::Seat;
-use tp_words::UnitWord;
+use tp_rule::{Seat, UnitWord};
 
 /// What a cancel came to at an element.
 #[derive(Clone, Copy)]

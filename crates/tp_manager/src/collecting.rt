@@ -4,7 +4,7 @@ ghost use Rattle.std.specs.Prelude.{◌≡◌, ◌<◌, ℕ, [], MatchResult, No
 ghost use Rattle.tp_model.specs.History.{element_of};
 ghost use Rattle.tp_model.specs.Steps.{rows_of};
 ghost use Rattle.tp_model.specs.Words.{KilledWord};
-ghost use Rattle.tp_words.specs.Words.{claim_value};
+ghost use Rattle.tp_rule.specs.Words.{claim_value};
 ghost use Rattle.tp_rule.specs.Views.{hand_of, seen_by, view_of, IsSameSeat};
 ghost use Rattle.tp_rule.specs.Tables.{table_limits};
 ghost use Rattle.tp_manager.specs.Shown.{IsOf};
@@ -18,8 +18,7 @@ ghost use Rattle.tp_manager.specs.Releases.{Collects, CollectFails, IsPastCollec
 use crate::manager::{Manager, Pass, Shared};
 use crate::row_reads::Birth;
 use tp_model::types::{Element, REPLY_STAGE, Refusal};
-use tp_rule::Seat;
-use tp_words::Claim;
+use tp_rule::{Claim, Seat};
 
 /// Whether the claim is that of a killed element.
 #[inline(always)]

@@ -5,9 +5,9 @@ ghost use Rattle.tp_model.specs.declared.types.Element.{Element as element};
 ghost use Rattle.tp_model.specs.Steps.{part_rows, rows_of, IsRowOf};
 ghost use Rattle.tp_rule.specs.Views.{seen_by, view_of, IsSameSeat};
 ghost use Rattle.tp_rule.specs.Tables.{table_limits};
-ghost use Rattle.tp_words.specs.Words.{head_of};
-ghost use Rattle.tp_words.specs.declared.words.Head.TheVariants.{Filled};
-ghost use Rattle.tp_words.specs.declared.places.TheConstants.{MARK_KINDS};
+ghost use Rattle.tp_rule.specs.Words.{head_of};
+ghost use Rattle.tp_rule.specs.declared.packing.Head.TheVariants.{Filled};
+ghost use Rattle.tp_rule.specs.declared.places.TheConstants.{MARK_KINDS};
 ghost use Rattle.tp_rule.specs.Rule.{Concerns};
 ghost use Rattle.tp_manager.specs.Shown.{marks_of, IsOf, NoneFalls};
 ghost use Rattle.tp_manager.specs.Bounds.{error_steps, listed_steps, listing_steps_left, marked_steps};
@@ -29,8 +29,7 @@ use crate::manager::{Manager, Pass, Shared};
 use crate::marking::{Lows, past, past_other};
 use crate::row_reads::Contents;
 use tp_model::types::REPLY_STAGE;
-use tp_rule::Seat;
-use tp_words::{Claim, Head, UnitWord};
+use tp_rule::{Claim, Head, Seat, UnitWord};
 
 /// How a listing finds an element.
 #[derive(Clone, Copy)]

@@ -13,8 +13,7 @@ ghost use Rattle.tp_manager.specs.UnitsSeen.{NoneAborted, RemembersUnits};
 
 use crate::manager::Shared;
 use crate::marking::{Lows, MARKED_PARTS};
-use tp_rule::Seat;
-use tp_words::UnitWord;
+use tp_rule::{Seat, UnitWord};
 
 /// How many looks at the units of a part a listing makes at most for each row that it may have to walk over,
 /// beside one: a walk leaves as many in the bound (`unit_looks`).

@@ -2,7 +2,7 @@
 ghost use Rattle.std.specs.Prelude.{◌≡◌, ◌-◌, ◌<◌, ◌≤◌, MatchResult, None};
 ghost use Rattle.tp_model.specs.Steps.{rows_of, tries};
 ghost use Rattle.tp_model.specs.Words.{claim_word};
-ghost use Rattle.tp_words.specs.Words.{claim_value, IsFitClaim};
+ghost use Rattle.tp_rule.specs.Words.{claim_value, IsFitClaim};
 ghost use Rattle.tp_rule.specs.Steps.{HasElement};
 ghost use Rattle.tp_rule.specs.Views.{hand_of, seen_by, view_of, IsSameSeat};
 ghost use Rattle.tp_rule.specs.Tables.{table_limits};
@@ -15,8 +15,7 @@ ghost use Rattle.tp_manager.specs.Kills.{takers, IsPastKill, Loosened, KillsIn, 
 
 use crate::manager::{Manager, Pass, Shared};
 use tp_model::types::{Killed, Refusal};
-use tp_rule::Seat;
-use tp_words::{Claim, FoundClaim, UnitWord};
+use tp_rule::{Claim, FoundClaim, Seat, UnitWord};
 
 /// How many units stand in the way of a kill where this claim was found: the one that has taken the element,
 /// or none.

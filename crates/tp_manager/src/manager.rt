@@ -17,8 +17,7 @@ use crate::row_set::{NoRows, RowSet};
 use std::alloc::Global;
 use std::marker::Model;
 use tp_model::types::Limits;
-use tp_rule::{Seat, Words};
-use tp_words::{MARK_KINDS, Places};
+use tp_rule::{MARK_KINDS, Places, Seat, Words};
 
 /// Why a manager could not be made, or a pass not be given out.
 #[derive(Clone, Copy, Debug, PartialEq, Eq)]

@@ -2,8 +2,8 @@
 ghost use Rattle.std.specs.Prelude.{◌≡◌, ◌⊎◌, ℕ, ◌+◌, ◌-◌, ◌*◌, ◌<◌, ◌≤◌, slice_index, true, false};
 ghost use Rattle.tp_model.specs.History.{IsUnborn};
 ghost use Rattle.tp_model.specs.Steps.{IsServerStage};
-ghost use Rattle.tp_words.specs.declared.words.Head.TheVariants.{Empty};
-ghost use Rattle.tp_words.specs.declared.places.TheConstants.{MARK_KINDS};
+ghost use Rattle.tp_rule.specs.declared.packing.Head.TheVariants.{Empty};
+ghost use Rattle.tp_rule.specs.declared.places.TheConstants.{MARK_KINDS};
 ghost use Rattle.tp_rule.specs.Views.{seen_by, view_of, IsSameSeat};
 ghost use Rattle.tp_rule.specs.Rule.{IsInside};
 ghost use Rattle.tp_rule.specs.Steps.{IsLow, Knows, MayBeBorn};
@@ -13,8 +13,7 @@ ghost use Rattle.tp_manager.specs.CallSteps.{Acted, IsSteady, Looked};
 ghost use Rattle.tp_manager.specs.Marks.{Remembers, RisesAt, Rose};
 
 use crate::manager::Shared;
-use tp_rule::Seat;
-use tp_words::Head;
+use tp_rule::{Head, Seat};
 
 /// The parts that have a mark of each kind: those of at most 32 passes, and the spare rows as one more.
 pub(crate) const MARKED_PARTS: usize = 33;

@@ -12,8 +12,7 @@ ghost use Rattle.tp_manager.specs.Releases.{Freeing, IsPastRelease, Releases, Re
 
 use crate::manager::{Manager, Pass, Shared};
 use tp_model::types::{Refusal, Released};
-use tp_rule::Seat;
-use tp_words::{Claim, UnitWord};
+use tp_rule::{Claim, Seat, UnitWord};
 
 impl Shared {
     /// Aborts the unit that holds the element that is born in the row. At most two steps.

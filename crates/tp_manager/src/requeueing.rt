@@ -12,8 +12,7 @@ ghost use Rattle.tp_manager.specs.Requeues.{Renewed, IsPastRequeue, Requeues, Re
 
 use crate::manager::{Manager, Pass, Shared};
 use tp_model::types::{MAX_ROUNDS, Refusal};
-use tp_rule::Seat;
-use tp_words::{Claim, UnitWord};
+use tp_rule::{Claim, Seat, UnitWord};
 
 impl Shared {
     /// Gives the element that is born in the row another round, where it is parked. Which round. At most

@@ -1,17 +1,17 @@
 //! What a pass finds at a row.
 ghost use Rattle.std.specs.Prelude.{◌≡◌, ◌+◌, ◌<◌, ◌≤◌, ℕ, slice_index, Some, IfSome, MatchOption};
 ghost use Rattle.std.specs.Prelude.{true, false};
-ghost use Rattle.tp_words.specs.declared.words.Head.TheVariants.{Empty, Filled};
+ghost use Rattle.tp_rule.specs.declared.packing.Head.TheVariants.{Empty, Filled};
 ghost use Rattle.tp_model.specs.History.{IsUnborn, element_of, status_of};
 ghost use Rattle.tp_model.specs.declared.types.Element.{Element};
 ghost use Rattle.tp_model.specs.Steps.{block_first, part_rows, rows_of, units_of};
 ghost use Rattle.tp_model.specs.Words.{claim_word};
-ghost use Rattle.tp_words.specs.Words.{claim_value, IsFitClaim};
+ghost use Rattle.tp_rule.specs.Words.{claim_value, IsFitClaim};
 ghost use Rattle.tp_rule.specs.Views.{seen_by, view_of, IsSameSeat};
 ghost use Rattle.tp_rule.specs.declared.view.Known.TheVariants.{PartMark};
 ghost use Rattle.tp_rule.specs.Tables.{table_limits};
 ghost use Rattle.tp_rule.specs.Steps.{IsLow, Knows, MayBeBorn};
-ghost use Rattle.tp_words.specs.declared.places.TheConstants.{MARK_KINDS};
+ghost use Rattle.tp_rule.specs.declared.places.TheConstants.{MARK_KINDS};
 ghost use Rattle.tp_manager.specs.CallSteps.{Acted, IsSteady, Looked};
 ghost use Rattle.tp_manager.specs.BetweenCalls.{RemembersDrawn};
 ghost use Rattle.tp_manager.specs.Marks.{Remembers, RisesAt};
@@ -21,8 +21,7 @@ ghost use Rattle.tp_manager.specs.Looks.{Contains, GoesOn, HeadFound, IsBornAs, 
 
 use crate::manager::Shared;
 use tp_model::types::{Body, Element, Status};
-use tp_rule::Seat;
-use tp_words::{Claim, FoundClaim, Head, UnitWord};
+use tp_rule::{Claim, FoundClaim, Head, Seat, UnitWord};
 
 /// What the head of a born element says.
 #[derive(Clone, Copy)]

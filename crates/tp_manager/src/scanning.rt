@@ -3,10 +3,10 @@ ghost use Rattle.std.specs.Prelude.{◌≡◌, ◌≢◌, ◌⊎◌, ℕ, ◌+�
 ghost use Rattle.std.specs.Prelude.{MatchOption, Option, true, false};
 ghost use Rattle.tp_model.specs.declared.types.Element.{Element as element};
 ghost use Rattle.tp_model.specs.Steps.{block_first, part_rows, rows_of, IsServerStage};
-ghost use Rattle.tp_words.specs.Words.{claim_value, head_of, IsFitClaim};
+ghost use Rattle.tp_rule.specs.Words.{claim_value, head_of, IsFitClaim};
 ghost use Rattle.tp_model.specs.Words.{claim_word, TakenWord};
-ghost use Rattle.tp_words.specs.declared.words.Head.TheVariants.{Empty, Filled, Void};
-ghost use Rattle.tp_words.specs.declared.places.TheConstants.{MARK_KINDS};
+ghost use Rattle.tp_rule.specs.declared.packing.Head.TheVariants.{Empty, Filled, Void};
+ghost use Rattle.tp_rule.specs.declared.places.TheConstants.{MARK_KINDS};
 ghost use Rattle.tp_rule.specs.Views.{seen_by, view_of, IsSameSeat};
 ghost use Rattle.tp_rule.specs.Steps.{Knows};
 ghost use Rattle.tp_rule.specs.declared.view.Known.TheVariants.{PartMark};
@@ -29,8 +29,7 @@ use crate::manager::Shared;
 use crate::marking::{Lows, past, past_other};
 use crate::row_reads::Contents;
 use crate::seeker::{Seeker, Taken};
-use tp_rule::Seat;
-use tp_words::{Claim, FoundClaim, Head, UnitWord};
+use tp_rule::{Claim, FoundClaim, Head, Seat, UnitWord};
 
 /// How a claim finds an element.
 #[derive(Clone, Copy)]

@@ -13,7 +13,7 @@ ghost use Rattle.tp_rule.specs.Steps.{HasElement};
 ghost use Rattle.tp_rule.specs.Views.{seen_by, view_of, IsSameSeat};
 ghost use Rattle.tp_rule.specs.Tables.{table_limits};
 ghost use Rattle.tp_manager.specs.Bounds.{root_steps, stride_steps};
-ghost use Rattle.tp_words.specs.Words.{head_of};
+ghost use Rattle.tp_rule.specs.Words.{head_of};
 ghost use Rattle.tp_manager.specs.Families.{IsAsked, IsFound, Followed, Listed};
 ghost use Rattle.tp_manager.specs.RowSets.{IsEmpty};
 ghost use Rattle.tp_manager.specs.CallSteps.{Acted, IsSteady, Looked};
@@ -23,8 +23,7 @@ use crate::manager::Shared;
 use crate::row_set::RowSet;
 use std::marker::Model;
 use tp_model::types::REPLY_STAGE;
-use tp_rule::Seat;
-use tp_words::{Claim, Head, UnitWord};
+use tp_rule::{Claim, Head, Seat, UnitWord};
 
 /// How many rows a manager has at most: no walk comes to more.
 pub(crate) const MAX_ROWS: u32 = 10_240;

@@ -10,10 +10,10 @@ use Rattle.tp_model.specs.Steps.{IsLegal}
 use Rattle.tp_model.proofs.Later.{births_inside}
 use Rattle.tp_manager.specs.Accounts.{AreAll, AreNumberedFrom, Gathers}
 use Rattle.tp_manager.specs.Shown.{IsOf, KeeperShown, ManagerShown, PassShown, numbers}
-use Rattle.tp_alone.specs.Thread.{AreTogether, Stays}
-use Rattle.tp_alone.proofs.Apart.{zip_left}
-use Rattle.tp_alone.proofs.Gatherings.{gathered_together}
-use Rattle.tp_alone.proofs.Idle.{alone_idle}
+use Rattle.tp_rollover.specs.Thread.{AreTogether, Stays}
+use Rattle.tp_rollover.proofs.AloneApart.{zip_left}
+use Rattle.tp_rollover.proofs.AloneGatherings.{gathered_together}
+use Rattle.tp_rollover.proofs.AloneIdle.{alone_idle}
 use Rattle.tp_rollover.specs.Answers.{IsHistoryOf, IsReadyToKill, Rolls}
 use Rattle.tp_rollover.specs.Checks.{CountsOnly}
 use Rattle.tp_rollover.specs.Closing.{AreMovedLiving, Buries}

@@ -7,7 +7,7 @@ use Rattle.tp_plain.specs.declared.pass_state.PassState.{PassState}
 use Rattle.tp_plain.specs.OneThread.{State, no_pass, pass_at}
 use Rattle.tp_manager.specs.Calls.{claims_in}
 use Rattle.tp_manager.specs.Shown.{PassShown}
-use Rattle.tp_alone.specs.Thread.{state_of, thread_of}
+use Rattle.tp_rollover.specs.Thread.{state_of, thread_of}
 use Rattle.tp_rollover.specs.Anew.{drawer, first_from, found_at, has_left, last_below, next_pass, least_units, start_at, units_unclaimed, would_draw}
 use Rattle.tp_rollover.specs.declared.places.Cursor.{Cursor}
 

@@ -7,8 +7,8 @@ use Rattle.tp_manager.specs.Accounts.{AreAll, Gathers, steps_together}
 use Rattle.tp_manager.specs.Bounds.{gather_steps}
 use Rattle.tp_manager.specs.Calls.{Follows, steps_of}
 use Rattle.tp_manager.specs.Shown.{IsKeptBy, IsOf, KeeperShown, ManagerShown, PassShown}
-use Rattle.tp_alone.specs.Laws.{Law}
-use Rattle.tp_alone.specs.Thread.{Alone, Stays}
+use Rattle.tp_rollover.specs.AloneLaws.{Law}
+use Rattle.tp_rollover.specs.Thread.{Alone, Stays}
 use Rattle.tp_rollover.specs.Bounds.{AllMake, PassMakes, gathered}
 use Rattle.tp_rollover.specs.Lone.{Agrees, AreLone, lone}
 use Rattle.tp_rollover.specs.declared.stops.Stop.{Stop}

@@ -10,7 +10,7 @@ use Rattle.tp_model.specs.History.{In, here, there, IsBorn, element_of, rounds, 
 use Rattle.tp_model.specs.Steps.{IsKillable, IsLegal}
 use Rattle.tp_model.proofs.Later.{births_inside}
 use Rattle.tp_manager.specs.Shown.{PassShown}
-use Rattle.tp_alone.specs.Thread.{Stays}
+use Rattle.tp_rollover.specs.Thread.{Stays}
 use Rattle.tp_rollover.specs.Alike.{AllStandUnheld, StandsUnheld}
 use Rattle.tp_rollover.specs.Checks.{IsNamed}
 use Rattle.tp_rollover.specs.Finding.{AreAlive, AreAliveOf, AreDescribed, AreSurvivorsOf, IsDescribed, StandsAlive, StandsLiving}

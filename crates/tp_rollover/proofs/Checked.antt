@@ -11,7 +11,7 @@ use Rattle.tp_model.proofs.Bridges.{begins_trans, born_at, in_left, in_right}
 use Rattle.tp_manager.specs.Calls.{IsLook}
 use Rattle.tp_manager.specs.Requeues.{HasHadRounds}
 use Rattle.tp_manager.specs.Shown.{PassShown}
-use Rattle.tp_alone.specs.Thread.{Stays}
+use Rattle.tp_rollover.specs.Thread.{Stays}
 use Rattle.tp_rollover.specs.Alike.{AllStandUnheld, IsAlike, IsRootAlike, StandsUnheld}
 use Rattle.tp_rollover.specs.Checks.{AreFamilies, AreInTables, HasPut}
 use Rattle.tp_rollover.specs.Finding.{AreAliveBelow, AreDescribed, IsAliveAt, IsDescribed, listed}

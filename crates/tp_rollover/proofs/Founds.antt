@@ -20,7 +20,7 @@ use Rattle.tp_rollover.proofs.Lists.{ascending_more}
 use Rattle.tp_rollover.proofs.Others.{all_named, sum_both}
 use Rattle.tp_rollover.proofs.Tallies.{by_rows, living_one, one_if, over}
 use Rattle.tp_manager.specs.Shown.{PassShown}
-use Rattle.tp_alone.specs.Thread.{Stays}
+use Rattle.tp_rollover.specs.Thread.{Stays}
 use Rattle.tp_rollover.specs.Told.{HoldsAsSeen}
 use Rattle.std.proofs.lemmas.Bool.Decides.{leb_tells}
 use Rattle.tp_rollover.proofs.Checked.{alive_next, alive_none}

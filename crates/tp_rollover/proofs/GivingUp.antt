@@ -18,7 +18,7 @@ use Rattle.tp_plain.specs.OneThread.{State, freed, no_pass, pass_at}
 use Rattle.tp_plain.specs.declared.pass_state.PassState.{PassState}
 use Rattle.tp_manager.specs.Bounds.{abort_steps}
 use Rattle.tp_manager.specs.Shown.{KeeperShown, ManagerShown, PassShown}
-use Rattle.tp_alone.specs.Thread.{AreTogether, not_given, thread_of}
+use Rattle.tp_rollover.specs.Thread.{AreTogether, not_given, thread_of}
 use Rattle.tp_rollover.specs.Bounds.{gathered, give_up_steps}
 use Rattle.tp_rollover.specs.Closing.{AreMovedLiving, Buries, hand_given_up}
 use Rattle.tp_rollover.specs.Lone.{AreLone, lone}

@@ -6,7 +6,7 @@ use Rattle.std.specs.List.{AllZip}
 use Rattle.std.specs.Option.{is_some}
 use Rattle.tp_model.specs.declared.event.Event.{Event}
 use Rattle.tp_manager.specs.Shown.{PassShown}
-use Rattle.tp_alone.specs.Thread.{Stays}
+use Rattle.tp_rollover.specs.Thread.{Stays}
 use Rattle.tp_rollover.specs.Told.{HoldsAsSeen, ToldFirst}
 use Rattle.tp_rollover.proofs.Seen.{stays_refl}
 

@@ -14,13 +14,13 @@ use Rattle.tp_manager.specs.Accounts.{AreAll, Gathers}
 use Rattle.tp_manager.specs.Bounds.{kill_steps}
 use Rattle.tp_manager.specs.Calls.{KillFails}
 use Rattle.tp_manager.specs.Shown.{IsKeptBy, IsOf, KeeperShown, ManagerShown, PassShown, view_in}
-use Rattle.tp_alone.specs.Laws.{KillAnswers}
-use Rattle.tp_alone.specs.Middle.{Between, Goes, as_seen}
-use Rattle.tp_alone.specs.Thread.{Alone, AreTogether, Stays, thread_of}
-use Rattle.tp_alone.proofs.Idle.{alone_idle}
-use Rattle.tp_alone.proofs.Kills.{alone_kill}
-use Rattle.tp_alone.proofs.Middles.{alone_middle, mids}
-use Rattle.tp_alone.proofs.Turns.{first_alone}
+use Rattle.tp_rollover.specs.AloneLaws.{KillAnswers}
+use Rattle.tp_rollover.specs.Middle.{Between, Goes, as_seen}
+use Rattle.tp_rollover.specs.Thread.{Alone, AreTogether, Stays, thread_of}
+use Rattle.tp_rollover.proofs.AloneIdle.{alone_idle}
+use Rattle.tp_rollover.proofs.AloneKills.{alone_kill}
+use Rattle.tp_rollover.proofs.AloneMiddles.{alone_middle, mids}
+use Rattle.tp_rollover.proofs.AloneTurns.{first_alone}
 use Rattle.tp_rollover.specs.Checks.{AscendFrom, IsNamed}
 use Rattle.tp_rollover.specs.Closing.{AreMovedLiving, KillsAllMoved, KillsOne, KillsShort}
 use Rattle.tp_rollover.specs.Finding.{StandsLiving}

@@ -8,8 +8,8 @@ use Rattle.tp_model.specs.declared.event.Event.{Event}
 use Rattle.tp_plain.specs.OneThread.{State, pass_at}
 use Rattle.tp_manager.specs.Accounts.{AreAll, Gathers}
 use Rattle.tp_manager.specs.Shown.{IsOf, KeeperShown, ManagerShown, PassShown}
-use Rattle.tp_alone.specs.Thread.{Stays, thread_of}
-use Rattle.tp_alone.proofs.Idle.{alone_idle}
+use Rattle.tp_rollover.specs.Thread.{Stays, thread_of}
+use Rattle.tp_rollover.proofs.AloneIdle.{alone_idle}
 use Rattle.tp_rollover.specs.Alike.{StandAlike}
 use Rattle.tp_rollover.specs.Anew.{made_anew, made_unheld}
 use Rattle.tp_rollover.specs.Carries.{DiffersAnew, IsMadeAlike}

@@ -8,10 +8,10 @@ use Rattle.tp_manager.specs.Accounts.{AreAll, Gathers}
 use Rattle.tp_manager.specs.Shown.{IsKeptBy, IsOf, KeeperShown, ManagerShown, PassShown}
 use Rattle.tp_model.specs.declared.event.Event.{Event}
 use Rattle.std.proofs.lemmas.Bool.Decides.{leb_tells}
-use Rattle.tp_alone.specs.Thread.{AreTogether, IsFresh, Stays}
-use Rattle.tp_alone.proofs.Apart.{numbered, zip_long, zip_right}
-use Rattle.tp_alone.proofs.Idle.{alone_idle}
-use Rattle.tp_alone.proofs.Starts.{alone_start}
+use Rattle.tp_rollover.specs.Thread.{AreTogether, IsFresh, Stays}
+use Rattle.tp_rollover.proofs.AloneApart.{numbered, zip_long, zip_right}
+use Rattle.tp_rollover.proofs.AloneIdle.{alone_idle}
+use Rattle.tp_rollover.proofs.AloneStarts.{alone_start}
 use Rattle.tp_rollover.specs.Anew.{all_born, all_held, all_replayed, kept_for, made_anew, made_unheld}
 use Rattle.tp_rollover.specs.Carries.{AreFresh}
 use Rattle.tp_rollover.specs.Lone.{AreLone, lone, Agrees}

@@ -7,7 +7,7 @@ use Rattle.tp_model.specs.Steps.{AreLimits}
 use Rattle.tp_manager.specs.Accounts.{AreAll, AreNumberedFrom}
 use Rattle.tp_plain.specs.OneThread.{start}
 use Rattle.tp_manager.specs.Shown.{IsKeptBy, IsOf, KeeperShown, ManagerShown, PassShown}
-use Rattle.tp_alone.specs.Thread.{IsFresh, thread_of}
+use Rattle.tp_rollover.specs.Thread.{IsFresh, thread_of}
 use Rattle.tp_rollover.specs.Anew.{made_anew}
 use Rattle.tp_rollover.specs.Answers.{Rolls}
 use Rattle.tp_rollover.specs.Survivors.{Restores}

@@ -15,12 +15,12 @@ use Rattle.tp_manager.specs.Accounts.{AreAll, Gathers, steps_together}
 use Rattle.tp_manager.specs.Bounds.{gather_steps, submit_steps}
 use Rattle.tp_manager.specs.Calls.{Follows, UsesBlock, UsesRun, steps_of}
 use Rattle.tp_manager.specs.Shown.{IsKeptBy, IsOf, KeeperShown, ManagerShown, PassShown, view_in}
-use Rattle.tp_alone.specs.Middle.{Between, Goes, as_seen}
-use Rattle.tp_alone.specs.Thread.{Alone, AreTogether, Stays, thread_of}
-use Rattle.tp_alone.proofs.Idle.{alone_idle}
-use Rattle.tp_alone.proofs.Middles.{alone_middle, mids}
-use Rattle.tp_alone.proofs.Submits.{alone_submit, no_block_quiet}
-use Rattle.tp_alone.proofs.Turns.{first_alone}
+use Rattle.tp_rollover.specs.Middle.{Between, Goes, as_seen}
+use Rattle.tp_rollover.specs.Thread.{Alone, AreTogether, Stays, thread_of}
+use Rattle.tp_rollover.proofs.AloneIdle.{alone_idle}
+use Rattle.tp_rollover.proofs.AloneMiddles.{alone_middle, mids}
+use Rattle.tp_rollover.proofs.AloneSubmits.{alone_submit, no_block_quiet}
+use Rattle.tp_rollover.proofs.AloneTurns.{first_alone}
 use Rattle.tp_rollover.specs.Anew.{given, submitted}
 use Rattle.tp_rollover.specs.Bounds.{AllMake, PassMakes, gathered}
 use Rattle.tp_rollover.specs.Lone.{Agrees, AreLone, lone}

@@ -6,7 +6,7 @@ use Rattle.tp_model.specs.declared.event.Event.{Event}
 use Rattle.tp_model.proofs.Bridges.{append_nil, begins_refl, begins_trans}
 use Rattle.tp_manager.specs.Calls.{AtPoint, Follows, IsQuiet, opening}
 use Rattle.tp_manager.specs.Shown.{PassShown}
-use Rattle.tp_alone.specs.Thread.{Stays}
+use Rattle.tp_rollover.specs.Thread.{Stays}
 
 nil_start : {A : Type 0} (xs ys : List A) → xs ++ ys ≡ [] → xs ≡ []
 nil_start [] ys e = refl

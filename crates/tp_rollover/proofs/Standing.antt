@@ -15,8 +15,8 @@ use Rattle.tp_plain.specs.OneThread.{State, pass_at}
 use Rattle.tp_plain.specs.declared.pass_state.PassState.{PassState}
 use Rattle.tp_manager.specs.Accounts.{AreNumberedFrom}
 use Rattle.tp_manager.specs.Shown.{PassShown}
-use Rattle.tp_alone.specs.Thread.{Stays, not_given, state_of, thread_of}
-use Rattle.tp_alone.proofs.Apart.{number_in, numbered}
+use Rattle.tp_rollover.specs.Thread.{Stays, not_given, state_of, thread_of}
+use Rattle.tp_rollover.proofs.AloneApart.{number_in, numbered}
 use Rattle.tp_rollover.specs.Alike.{StandUnheld, StandsUnheld}
 use Rattle.tp_rollover.specs.Checks.{AreOnly, IsNamed}
 use Rattle.tp_rollover.specs.Hands.{HasInHand, HasOpen, holder_of}

@@ -22,7 +22,7 @@ use Rattle.tp_plain.proofs.UnitEnds.{held_undecided}
 use Rattle.tp_manager.specs.Accounts.{AreNumberedFrom}
 use Rattle.tp_manager.specs.Calls.{IsLook}
 use Rattle.tp_manager.specs.Shown.{KeeperShown, PassShown}
-use Rattle.tp_alone.specs.Thread.{AreTogether, Stays}
+use Rattle.tp_rollover.specs.Thread.{AreTogether, Stays}
 use Rattle.tp_rollover.specs.Finding.{AreLiving, StandsLiving, StopsFirst, StopsLooking}
 use Rattle.tp_rollover.specs.Hands.{HasOpen, holder_of}
 use Rattle.tp_rollover.specs.Survivors.{AreInHand, AreSurvivors, HasNoAttempt, IsLiving, IsStanding}

@@ -16,7 +16,7 @@ use Rattle.tp_rollover.specs.declared.moved.Moved.{Moved}
 use Rattle.tp_rollover.specs.declared.survivors.Survivor.{Survivor}
 use Rattle.tp_rollover.proofs.Lists.{zip_as_many}
 use Rattle.std.specs.List.{AllZip}
-use Rattle.tp_alone.specs.Thread.{Stays}
+use Rattle.tp_rollover.specs.Thread.{Stays}
 use Rattle.tp_rollover.proofs.Replaying.{all_within, same_replays}
 use Rattle.tp_rollover.proofs.Steps.{no_more, together_make}
 

@@ -4,7 +4,7 @@ use Rattle.tp_model.specs.declared.types.Limits.{Limits}
 use Rattle.tp_model.specs.declared.event.Event.{Event}
 use Rattle.tp_model.specs.History.{In, events_by}
 use Rattle.tp_manager.specs.Shown.{KeeperShown, PassShown}
-use Rattle.tp_alone.specs.Thread.{AreTogether}
+use Rattle.tp_rollover.specs.Thread.{AreTogether}
 use Rattle.tp_rollover.specs.Hands.{AreHolders, HandsGoOn}
 use Rattle.tp_rollover.specs.Rolls.{RollsOver}
 use Rattle.tp_rollover.specs.Survivors.{AreHands, AreInHand, AreSurvivors, StandAgain}

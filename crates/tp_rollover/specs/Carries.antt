@@ -8,7 +8,7 @@ use Rattle.tp_model.specs.Steps.{IsLegal}
 use Rattle.tp_model.specs.Counts.{counts}
 use Rattle.tp_plain.specs.OneThread.{State}
 use Rattle.tp_manager.specs.Shown.{KeeperShown, PassShown}
-use Rattle.tp_alone.specs.Thread.{AreTogether, IsFresh, Stays}
+use Rattle.tp_rollover.specs.Thread.{AreTogether, IsFresh, Stays}
 use Rattle.tp_rollover.specs.Alike.{StandAlike}
 use Rattle.tp_rollover.specs.Anew.{all_held, made_anew, made_unheld}
 use Rattle.tp_rollover.specs.Checks.{CountsOnly}

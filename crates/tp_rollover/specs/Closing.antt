@@ -11,7 +11,7 @@ use Rattle.tp_plain.specs.OneThread.{State, pass_at}
 use Rattle.tp_manager.specs.Bounds.{kill_steps}
 use Rattle.tp_manager.specs.Calls.{Follows}
 use Rattle.tp_manager.specs.Shown.{PassShown}
-use Rattle.tp_alone.specs.Laws.{KillAnswers}
+use Rattle.tp_rollover.specs.AloneLaws.{KillAnswers}
 use Rattle.tp_rollover.specs.Checks.{AscendFrom}
 use Rattle.tp_rollover.specs.Finding.{StandsLiving}
 use Rattle.tp_rollover.specs.Rolls.{IsGivenUp, kills}

@@ -1,3 +1,6 @@
+pub mod Thread
+pub mod AloneLaws
+pub mod Middle
 pub mod Rolls
 pub mod Laws
 pub mod Worked

@@ -3,7 +3,7 @@
 use Rattle.std.specs.Prelude.{◌≡◌, All, List, Option, Some, None, Result, Ok, Err}
 use Rattle.tp_plain.specs.OneThread.{State}
 use Rattle.tp_manager.specs.Shown.{IsKeptBy, IsOf, KeeperShown, ManagerShown, PassShown}
-use Rattle.tp_alone.specs.Thread.{AreTogether, thread_of}
+use Rattle.tp_rollover.specs.Thread.{AreTogether, thread_of}
 use Rattle.tp_rollover.specs.Anew.{Bearing, Placing}
 use Rattle.tp_rollover.specs.declared.births.Family.{Family}
 use Rattle.tp_rollover.specs.declared.places.Cursor.{Cursor}

@@ -7,7 +7,7 @@ use Rattle.tp_model.specs.Steps.{AreLimits}
 use Rattle.tp_manager.specs.Accounts.{AreAll}
 use Rattle.tp_manager.specs.Shown.{IsKeptBy, IsOf, KeeperShown, PassShown, low_of, turn_of, view_in}
 use Rattle.tp_plain.specs.OneThread.{start}
-use Rattle.tp_alone.specs.Thread.{Stays, thread_of}
+use Rattle.tp_rollover.specs.Thread.{Stays, thread_of}
 use Rattle.tp_rollover.specs.Answers.{Rolls}
 use Rattle.tp_rollover.specs.Bounds.{made_by_all}
 use Rattle.tp_rollover.specs.Carries.{Carries, WouldNotFit}

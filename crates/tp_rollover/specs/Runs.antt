@@ -8,7 +8,7 @@ use Rattle.tp_plain.specs.OneThread.{State}
 use Rattle.tp_manager.specs.Bounds.{submit_steps}
 use Rattle.tp_manager.specs.Calls.{Follows}
 use Rattle.tp_manager.specs.Shown.{PassShown}
-use Rattle.tp_alone.specs.Laws.{SubmitAnswers}
+use Rattle.tp_rollover.specs.AloneLaws.{SubmitAnswers}
 use Rattle.tp_rollover.specs.Anew.{Bearing, born_from, family_at, home_of, start_at, submitted}
 use Rattle.tp_rollover.specs.declared.births.Family.{Family}
 use Rattle.tp_rollover.specs.declared.moved.Moved.{Moved}

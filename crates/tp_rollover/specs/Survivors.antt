@@ -10,7 +10,7 @@ use Rattle.tp_model.specs.declared.event.Event.{Event}
 use Rattle.tp_model.specs.History.{In, IsBorn, element_of, rounds, status_of}
 use Rattle.tp_model.specs.Steps.{IsKillable}
 use Rattle.tp_manager.specs.Shown.{KeeperShown, PassShown}
-use Rattle.tp_alone.specs.Thread.{AreTogether}
+use Rattle.tp_rollover.specs.Thread.{AreTogether}
 use Rattle.tp_rollover.specs.Checks.{AreFamilies, AreOnly, MovedAscend}
 use Rattle.tp_rollover.specs.Hands.{AreHolders, HasInHand, HasOpen, holder_of}
 use Rattle.tp_rollover.specs.declared.moved.Moved.{Moved}

@@ -5,7 +5,7 @@ ghost use Rattle.tp_model.specs.Steps.{rows_of};
 ghost use Rattle.tp_rollover.specs.declared.stops.Stop.TheVariants as stops;
 ghost use Rattle.tp_manager.specs.Bounds.{read_steps};
 ghost use Rattle.tp_manager.specs.Shown.{IsOf};
-ghost use Rattle.tp_alone.specs.Thread.{Stays};
+ghost use Rattle.tp_rollover.specs.Thread.{Stays};
 ghost use Rattle.tp_rollover.specs.Bounds.{PassMakes, search_steps};
 ghost use Rattle.tp_rollover.specs.Finding.{AreAliveOf, AreLiving, CountsAlive, IsAliveAt, listed};
 ghost use Rattle.tp_rollover.specs.Survivors.{Ascending};

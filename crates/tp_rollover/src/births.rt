@@ -7,7 +7,7 @@ ghost use Rattle.tp_model.specs.Steps.{IsStage, rows_of};
 ghost use Rattle.tp_plain.specs.OneThread.{pass_at};
 ghost use Rattle.tp_manager.specs.Bounds.{submit_steps};
 ghost use Rattle.tp_manager.specs.Shown.{IsOf};
-ghost use Rattle.tp_alone.specs.Thread.{thread_of};
+ghost use Rattle.tp_rollover.specs.Thread.{thread_of};
 ghost use Rattle.tp_rollover.specs.Anew.{all_born, born_next, carrier_by, drafts_of};
 ghost use Rattle.tp_rollover.specs.Anew.{home_of, named_in};
 ghost use Rattle.tp_rollover.specs.Anew.{next_born, submitted_next};

@@ -2,7 +2,7 @@
 ghost use Rattle.std.specs.Prelude.{◌≡◌, ◌*◌, false, true, length};
 ghost use Rattle.tp_model.specs.Steps.{rows_of};
 ghost use Rattle.tp_manager.specs.Shown.{IsOf};
-ghost use Rattle.tp_alone.specs.Thread.{Stays};
+ghost use Rattle.tp_rollover.specs.Thread.{Stays};
 ghost use Rattle.tp_rollover.specs.Bounds.{PassMakes, compare_steps};
 ghost use Rattle.tp_rollover.specs.Alike.{AllStandUnheld, IsAlike, IsRootAlike, StandsUnheld};
 ghost use Rattle.tp_rollover.specs.Checks.{CountsOnly, MovedAscend};

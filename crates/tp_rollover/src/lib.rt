@@ -1,4 +1,5 @@
-//! What is alive in a manager that is used up goes into a new one, at once or from a description.
+//! What is alive in a manager that is used up goes into a new one, at once or from a description. And the law of
+//! one thread, on which that rests.
 #![tactic(auto)]
 
 mod alive;
@@ -14,6 +15,7 @@ pub mod laws;
 mod looks;
 pub mod managed;
 pub mod moved;
+pub mod one_thread;
 mod passes;
 mod places;
 mod replays;

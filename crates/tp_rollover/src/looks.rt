@@ -7,7 +7,7 @@ ghost use Rattle.tp_manager.specs.Bounds.{read_steps, rounds_steps};
 ghost use Rattle.tp_manager.specs.Calls.{IsLook};
 ghost use Rattle.tp_manager.specs.Requeues.{HasHadRounds};
 ghost use Rattle.tp_manager.specs.Shown.{IsOf};
-ghost use Rattle.tp_alone.specs.Thread.{Stays};
+ghost use Rattle.tp_rollover.specs.Thread.{Stays};
 ghost use Rattle.tp_rollover.specs.Bounds.{PassMakes};
 ghost use Rattle.tp_rollover.specs.Told.{HoldsAsSeen};
 

@@ -6,7 +6,7 @@ ghost use Rattle.tp_manager.specs.Accounts.{AreAll};
 ghost use Rattle.tp_manager.specs.Shown.{IsKeptBy, IsOf};
 ghost use Rattle.tp_manager.specs.declared.manager.MakeFault.TheVariants as faults;
 ghost use Rattle.tp_plain.specs.OneThread.{start};
-ghost use Rattle.tp_alone.specs.Thread.{AreTogether, Stays, thread_of};
+ghost use Rattle.tp_rollover.specs.Thread.{AreTogether, Stays, thread_of};
 ghost use Rattle.tp_rollover.specs.declared.moved.RollFault.TheVariants as refusals;
 ghost use Rattle.tp_rollover.specs.Anew.{made_anew};
 ghost use Rattle.tp_rollover.specs.Answers.{IsHistoryOf, Rolls};

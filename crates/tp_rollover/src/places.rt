@@ -2,7 +2,7 @@
 ghost use Rattle.std.specs.Prelude.{◌≡◌, ◌≢◌, ◌-◌, ◌<◌, ◌≤◌, All, IfErr, IfOk, IfSome, List, None, length};
 ghost use Rattle.tp_model.specs.declared.event.Event.{Event};
 ghost use Rattle.tp_manager.specs.Shown.{IsOf};
-ghost use Rattle.tp_alone.specs.Thread.{thread_of};
+ghost use Rattle.tp_rollover.specs.Thread.{thread_of};
 ghost use Rattle.tp_rollover.specs.Anew.{drawer, first_from, has_left, last_below, next_pass, start_at};
 ghost use Rattle.tp_rollover.specs.Anew.{kept_for, least_units, with_holder, would_draw};
 ghost use Rattle.tp_rollover.specs.Lone.{Agrees};

@@ -5,7 +5,7 @@ ghost use Rattle.std.specs.List.{AllZip};
 ghost use Rattle.tp_manager.specs.Accounts.{AreAll};
 ghost use Rattle.tp_manager.specs.Shown.{IsKeptBy, IsOf};
 ghost use Rattle.tp_plain.specs.OneThread.{start};
-ghost use Rattle.tp_alone.specs.Thread.{AreTogether, Stays};
+ghost use Rattle.tp_rollover.specs.Thread.{AreTogether, Stays};
 ghost use Rattle.tp_rollover.specs.Alike.{StandAlike, StandUnheld};
 ghost use Rattle.tp_rollover.specs.Anew.{made_anew, made_unheld};
 ghost use Rattle.tp_rollover.specs.Finding.{StopsFirst, StopsLooking};

@@ -5,7 +5,7 @@ ghost use Rattle.tp_model.specs.Steps.{AreLimits};
 ghost use Rattle.tp_manager.specs.Accounts.{AreAll};
 ghost use Rattle.tp_manager.specs.Shown.{IsKeptBy, IsOf};
 ghost use Rattle.tp_plain.specs.OneThread.{start};
-ghost use Rattle.tp_alone.specs.Thread.{Stays};
+ghost use Rattle.tp_rollover.specs.Thread.{Stays};
 ghost use Rattle.tp_rollover.specs.Answers.{IsReadyToKill, Rolls};
 ghost use Rattle.tp_rollover.specs.Bounds.{AllMake, alive_after, give_up_steps, most_new_steps};
 ghost use Rattle.tp_rollover.specs.Bounds.{new_steps, old_steps, survey_steps};

@@ -4,7 +4,7 @@ ghost use Rattle.std.specs.List.{AllZip};
 ghost use Rattle.tp_model.specs.Steps.{IsLegal, rows_of};
 ghost use Rattle.tp_manager.specs.Accounts.{AreAll};
 ghost use Rattle.tp_manager.specs.Shown.{IsKeptBy, IsOf};
-ghost use Rattle.tp_alone.specs.Thread.{AreTogether, Stays};
+ghost use Rattle.tp_rollover.specs.Thread.{AreTogether, Stays};
 ghost use Rattle.tp_rollover.specs.Answers.{IsHistoryOf};
 ghost use Rattle.tp_rollover.specs.Bounds.{AllMake, PassMakes, PassesMake, alive_after, describe_steps};
 ghost use Rattle.tp_rollover.specs.Bounds.{search_steps, survey_steps};

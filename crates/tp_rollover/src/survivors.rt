@@ -3,7 +3,7 @@ ghost use Rattle.std.specs.Prelude.{◌≡◌, ◌≢◌, ◌*◌, ◌<◌, ◌�
 ghost use Rattle.std.specs.Prelude.{true, vec_capacity};
 ghost use Rattle.tp_model.specs.Steps.{IsLegal};
 ghost use Rattle.tp_manager.specs.Shown.{IsOf};
-ghost use Rattle.tp_alone.specs.Thread.{Stays};
+ghost use Rattle.tp_rollover.specs.Thread.{Stays};
 ghost use Rattle.tp_rollover.specs.Bounds.{PassMakes, describe_steps};
 ghost use Rattle.tp_rollover.specs.Finding.{AreDescribed, AreLiving, IsDescribed, StandsLiving, StopsLooking};
 ghost use Rattle.tp_rollover.specs.Survivors.{AreUnheld, HasNoAttempt, IsLiving, IsStanding};

@@ -10,9 +10,9 @@ use Rattle.tp_model.specs.Passes.{IsOwnArea}
 use Rattle.tp_model.specs.Steps.{IsArea, block_first, part_rows, rows_of}
 use Rattle.tp_model.proofs.Areas.{area_inside, one_area, own_area}
 use Rattle.tp_model.proofs.Bridges.{births_of}
-use Rattle.tp_words.proofs.PlaceLemmas.{block_area, part_area}
-use Rattle.tp_words.specs.Places.{head_place}
-use Rattle.tp_words.specs.declared.words.Head.TheVariants.{Filled}
+use Rattle.tp_rule.proofs.PlaceLemmas.{block_area, part_area}
+use Rattle.tp_rule.specs.Places.{head_place}
+use Rattle.tp_rule.specs.declared.packing.Head.TheVariants.{Filled}
 use Rattle.tp_rule.specs.Rule.{AtSeat, HandHolds, NamesUnit, Rule, StillSo, drawn_in}
 use Rattle.tp_rule.specs.Steps.{IsAreaBy, Made, MayBeBorn}
 use Rattle.tp_rule.specs.declared.view.Hand.{Hand}

@@ -17,8 +17,8 @@ use Rattle.tp_model.proofs.Bridges.{by_own, claim_either, found_later, in_either
 use Rattle.tp_model.proofs.Later.{abort_ends}
 use Rattle.tp_model.proofs.Lists.{option_or-None}
 use Rattle.tp_model.proofs.WordProofs.{end_of-snoc, status_by_words, unended}
-use Rattle.tp_words.specs.Places.{ClaimWord as ClaimOf, claim_place, place_of, size_of}
-use Rattle.tp_words.specs.Words.{IsFitClaim, pack_claim}
+use Rattle.tp_rule.specs.Places.{ClaimWord as ClaimOf, claim_place, place_of, size_of}
+use Rattle.tp_rule.specs.Words.{IsFitClaim, pack_claim}
 use Rattle.tp_rule.specs.Doors.{Permits}
 use Rattle.tp_rule.specs.Plays.{exchanges_claim}
 use Rattle.tp_rule.specs.Rule.{AreasHold, HandHolds, RowsHold, Rule, UnitsHold, World, drawn_in}

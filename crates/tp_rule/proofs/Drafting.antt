@@ -10,9 +10,9 @@ use Rattle.tp_model.specs.History.{In, IsUnborn, element_of, Committed, end_of}
 use Rattle.tp_model.specs.declared.types.TheConstants.{BODY_WORDS}
 use Rattle.tp_model.specs.Steps.{IsBody, block_first, rows_of}
 use Rattle.tp_model.proofs.Bridges.{begins_refl, in_either, in_one}
-use Rattle.tp_words.specs.Places.{Word, HeadWord, BodyWord, IsThere, head_place, body_place, place_of, size_of}
-use Rattle.tp_words.specs.Words.{head_of, pack_head, IsFitHead}
-use Rattle.tp_words.specs.declared.words.Head.TheVariants.{Filled}
+use Rattle.tp_rule.specs.Places.{Word, HeadWord, BodyWord, IsThere, head_place, body_place, place_of, size_of}
+use Rattle.tp_rule.specs.Words.{head_of, pack_head, IsFitHead}
+use Rattle.tp_rule.specs.declared.packing.Head.TheVariants.{Filled}
 use Rattle.tp_rule.specs.Doors.{Permits}
 use Rattle.tp_rule.specs.Plays.{stores_word, stores_head}
 use Rattle.tp_rule.specs.Rule.{HandHolds, Holds, IsUnwritten, RowsHold, Rule, WordIs, drawn_in}

@@ -1,5 +1,5 @@
 -- The counter of drawn blocks is loaded, and a block is drawn.
-use Rattle.tp_words.specs.declared.words.Head.TheVariants.{Filled}
+use Rattle.tp_rule.specs.declared.packing.Head.TheVariants.{Filled}
 use Rattle.std.proofs.Common.{◌≡◌, ◌≢◌, ℕ, ◌+◌, ◌<◌, ◌≤◌, eqb, cond, List, [], ◌∷◌, ◌++◌, set, get_or, sym, refl, ap, ◌∙◌, subst, inl, inr, ⊎_elim, arith, eq-eqb, ne_eqb, length, ◌⊎◌, Some}
 use mathlib.Core.Logic.{dite}
 use mathlib.Core.Option.{some, some-injective}
@@ -17,7 +17,7 @@ use Rattle.tp_model.specs.Passes.{Ascend, IsRun, IsOwnArea}
 use Rattle.tp_model.specs.Steps.{IsRowOfBlock, block_first, rows_of}
 use Rattle.tp_model.proofs.Areas.{ascend_in, ascend_more, ascend_wider, block_before}
 use Rattle.tp_model.proofs.Bridges.{begins_refl, in_cons, in_either, in_here, in_left, in_none, in_one, in_right}
-use Rattle.tp_words.specs.Places.{DrawnWord, drawn_place, head_place}
+use Rattle.tp_rule.specs.Places.{DrawnWord, drawn_place, head_place}
 use Rattle.tp_rule.specs.Doors.{Permits}
 use Rattle.tp_rule.specs.Plays.{draws, loads_drawn}
 use Rattle.tp_rule.specs.Rule.{AreasHold, HandHolds, IsUnwritten, Owners, RowsHold, Rule, StillSo, World, drawn_in}

@@ -12,9 +12,9 @@ use Rattle.tp_model.specs.Steps.{IsBlockFor, IsLegal, Step}
 use Rattle.tp_model.proofs.Bridges.{append_nil, begins_more, begins_refl, claim_either, claim_kept, in_either, in_one, unused_still}
 use Rattle.tp_model.proofs.Histories.{legal_more}
 use Rattle.tp_model.proofs.WordProofs.{end_of-snoc}
-use Rattle.tp_words.specs.Places.{Word, MarkWord, DrawnWord, IsThere, place_of}
+use Rattle.tp_rule.specs.Places.{Word, MarkWord, DrawnWord, IsThere, place_of}
 use Rattle.tp_rule.specs.Rule.{HandHolds, Rule, WordIs, UnitsHold, World, drawn_in}
-use Rattle.tp_words.specs.declared.words.Head.TheVariants.{Filled}
+use Rattle.tp_rule.specs.declared.packing.Head.TheVariants.{Filled}
 use Rattle.tp_rule.specs.declared.view.Known.{Known}
 use Rattle.tp_rule.specs.declared.view.Known.TheVariants.{RowHead}
 use Rattle.tp_rule.specs.Steps.{IsSo, MayBeBorn, after, noted, unchanged, Found, Grew, Misses}

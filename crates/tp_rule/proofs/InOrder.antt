@@ -7,7 +7,7 @@ use Rattle.tp_model.specs.declared.trace.StepKind.TheVariants as kinds
 use Rattle.tp_model.specs.declared.types.Limits.{Limits}
 use Rattle.tp_model.specs.History.{IsUnused, end_of}
 use Rattle.tp_model.specs.Steps.{IsUnitOf, units_of}
-use Rattle.tp_words.specs.Places.{unit_place}
+use Rattle.tp_rule.specs.Places.{unit_place}
 use Rattle.tp_rule.specs.Doors.{Permits}
 use Rattle.tp_rule.specs.Plays.{loads_unit}
 use Rattle.tp_rule.specs.Rule.{HandHolds, Rule, UnitsHold}

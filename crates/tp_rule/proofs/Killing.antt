@@ -13,8 +13,8 @@ use Rattle.tp_model.specs.Words.{ClaimWord, AgainWord, FreeWord, KilledWord, Tak
 use Rattle.tp_model.proofs.Bridges.{found_later, by_own, in_none, killable_later}
 use Rattle.tp_model.proofs.Lists.{option_or-None}
 use Rattle.tp_model.proofs.WordProofs.{status_by_words}
-use Rattle.tp_words.specs.Places.{claim_place}
-use Rattle.tp_words.specs.Words.{IsFitClaim, pack_claim}
+use Rattle.tp_rule.specs.Places.{claim_place}
+use Rattle.tp_rule.specs.Words.{IsFitClaim, pack_claim}
 use Rattle.tp_rule.specs.Doors.{Permits}
 use Rattle.tp_rule.specs.Plays.{exchanges_kill}
 use Rattle.tp_rule.specs.Rule.{Rule}

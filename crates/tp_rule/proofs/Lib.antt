@@ -1,3 +1,4 @@
+pub mod PlaceLemmas
 pub mod Births
 pub mod Blanks
 pub mod Bodied

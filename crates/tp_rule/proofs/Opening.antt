@@ -15,8 +15,8 @@ use Rattle.tp_rule.specs.Views.{first_view, fresh, fresh_from}
 use Rattle.tp_rule.proofs.Blanks.{blank_there, zeros}
 use Rattle.tp_rule.specs.declared.view.Hand.{Hand}
 use Rattle.tp_rule.specs.declared.view.View.{View}
-use Rattle.tp_words.specs.Places.{Word, HeadWord, BodyWord, ClaimWord, UnitWord, MarkWord, DrawnWord, IsThere, head_place, body_place, claim_place, unit_place, mark_place, drawn_place, place_of, size_of}
-use Rattle.tp_words.specs.declared.words.Head.TheVariants.{Empty, Filled}
+use Rattle.tp_rule.specs.Places.{Word, HeadWord, BodyWord, ClaimWord, UnitWord, MarkWord, DrawnWord, IsThere, head_place, body_place, claim_place, unit_place, mark_place, drawn_place, place_of, size_of}
+use Rattle.tp_rule.specs.declared.packing.Head.TheVariants.{Empty, Filled}
 use Rattle.tp_rule.proofs.Storing.{full_head}
 
 -- the first seat stands for all passes, and no block is drawn

@@ -6,7 +6,7 @@ use Rattle.tp_model.specs.declared.types.Limits.{Limits}
 use Rattle.tp_model.specs.History.{Committed, In, births, end_of}
 use Rattle.tp_model.specs.Passes.{IsOwnArea}
 use Rattle.tp_model.proofs.Bridges.{in_either, in_none, in_one}
-use Rattle.tp_words.specs.Places.{head_place}
+use Rattle.tp_rule.specs.Places.{head_place}
 use Rattle.tp_rule.specs.Rule.{AreasHold, NamesUnit}
 use Rattle.tp_rule.specs.declared.view.Hand.{Hand}
 use Rattle.tp_rule.proofs.Storing.{SameRow}

@@ -13,9 +13,9 @@ use Rattle.tp_model.specs.Steps.{AreLimits, IsBody, Step, rows_of}
 use Rattle.tp_model.proofs.Bridges.{born_at, by_own, in_either, in_none, in_one, new_birth, unborn_still}
 use Rattle.tp_model.proofs.Lists.{option_or-None}
 use Rattle.tp_model.proofs.WordProofs.{end_of-snoc}
-use Rattle.tp_words.specs.Places.{Word, HeadWord, BodyWord, ClaimWord, UnitWord, MarkWord, DrawnWord, IsThere, head_place, body_place, place_of, size_of}
-use Rattle.tp_words.specs.Words.{IsFitHead, head_of, pack_head}
-use Rattle.tp_words.specs.declared.words.Head.TheVariants.{Filled}
+use Rattle.tp_rule.specs.Places.{Word, HeadWord, BodyWord, ClaimWord, UnitWord, MarkWord, DrawnWord, IsThere, head_place, body_place, place_of, size_of}
+use Rattle.tp_rule.specs.Words.{IsFitHead, head_of, pack_head}
+use Rattle.tp_rule.specs.declared.packing.Head.TheVariants.{Filled}
 use Rattle.tp_rule.specs.Doors.{Permits}
 use Rattle.tp_rule.specs.Plays.{publishes}
 use Rattle.tp_rule.specs.Rule.{RowsHold, Rule, WordIs, drawn_in}

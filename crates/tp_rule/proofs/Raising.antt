@@ -10,8 +10,8 @@ use Rattle.tp_model.specs.History.{Aborted, IsSettled, status_of}
 use Rattle.tp_model.proofs.Bridges.{begins_refl, end_stays, found_later, in_cons}
 use Rattle.tp_model.proofs.LawProofs.{settled_stay}
 use Rattle.tp_model.specs.History.{here, there, In}
-use Rattle.tp_words.specs.Places.{IsThere, MarkWord, mark_place}
-use Rattle.tp_words.specs.declared.words.Head.TheVariants.{Filled}
+use Rattle.tp_rule.specs.Places.{IsThere, MarkWord, mark_place}
+use Rattle.tp_rule.specs.declared.packing.Head.TheVariants.{Filled}
 use Rattle.tp_rule.specs.Doors.{Permits}
 use Rattle.tp_rule.specs.Plays.{loads_mark, raises}
 use Rattle.tp_rule.specs.Rule.{HandHolds, IsFinished, IsInside, IsUseless, MarkHolds, Rule, StillSo, World}

@@ -15,9 +15,9 @@ use Rattle.tp_model.specs.History.{In, here, there}
 use Rattle.tp_model.specs.Passes.{IsRun}
 use Rattle.tp_model.specs.Steps.{IsLegal, rows_of}
 use Rattle.tp_model.proofs.Bridges.{append_nil, begins_refl, in_cons, in_none}
-use Rattle.tp_words.specs.Places.{HeadWord, head_place}
-use Rattle.tp_words.specs.declared.words.Head.{Head}
-use Rattle.tp_words.specs.declared.words.Head.TheVariants.{Filled}
+use Rattle.tp_rule.specs.Places.{HeadWord, head_place}
+use Rattle.tp_rule.specs.declared.packing.Head.{Head}
+use Rattle.tp_rule.specs.declared.packing.Head.TheVariants.{Filled}
 use Rattle.tp_rule.specs.Doors.{Permits}
 use Rattle.tp_rule.specs.Plays.{loads, loads_head}
 use Rattle.tp_rule.specs.Rule.{AtSeat, HandHolds, IsApart, Owners, Rule, SeatHolds, StillSo}

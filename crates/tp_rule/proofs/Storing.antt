@@ -6,11 +6,11 @@ use Rattle.tp_model.specs.declared.types.Element.{Element}
 use Rattle.tp_model.specs.declared.types.Limits.{Limits}
 use Rattle.tp_model.specs.declared.types.TheConstants.{BODY_WORDS}
 use Rattle.tp_model.specs.Steps.{IsArea, block_first, rows_of}
-use Rattle.tp_words.specs.Places.{Word, HeadWord, BodyWord, ClaimWord, UnitWord, MarkWord, DrawnWord, IsThere, head_place, body_place, mark_place, place_of, size_of}
-use Rattle.tp_words.specs.Words.{pack_head}
-use Rattle.tp_words.specs.declared.words.Head.{Head}
-use Rattle.tp_words.specs.declared.words.Head.TheVariants.{Empty, Void, Filled}
-use Rattle.tp_words.proofs.PlaceLemmas.{places_differ, places_inside}
+use Rattle.tp_rule.specs.Places.{Word, HeadWord, BodyWord, ClaimWord, UnitWord, MarkWord, DrawnWord, IsThere, head_place, body_place, mark_place, place_of, size_of}
+use Rattle.tp_rule.specs.Words.{pack_head}
+use Rattle.tp_rule.specs.declared.packing.Head.{Head}
+use Rattle.tp_rule.specs.declared.packing.Head.TheVariants.{Empty, Void, Filled}
+use Rattle.tp_rule.proofs.PlaceLemmas.{places_differ, places_inside}
 use Rattle.tp_rule.specs.Rule.{Holds, IsUnwritten, StillSo, drawn_in}
 use Rattle.tp_rule.specs.declared.view.Known.{Known}
 use Rattle.tp_rule.specs.declared.view.Known.TheVariants.{RowHead, PartMark, MarkAbove, BlocksDrawn}

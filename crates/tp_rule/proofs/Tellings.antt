@@ -14,10 +14,10 @@ use Rattle.tp_model.proofs.Bridges.{born_at, born_either, born_or_not, element_o
 use Rattle.tp_model.proofs.LawProofs.{settled_stay}
 use Rattle.tp_model.proofs.Later.{births_inside}
 use Rattle.tp_model.proofs.WordProofs.{claim_word-snoc, end_of-snoc}
-use Rattle.tp_words.specs.Places.{Word, HeadWord, BodyWord, ClaimWord as ClaimOf, UnitWord, MarkWord, DrawnWord, IsThere, head_place, mark_place, place_of}
-use Rattle.tp_words.specs.Words.{IsFitClaim, IsFitHead, IsFitUnit, head_of, pack_claim, pack_head, pack_unit}
-use Rattle.tp_words.specs.declared.words.Head.{Head}
-use Rattle.tp_words.specs.declared.words.Head.TheVariants.{Empty, Void, Filled}
+use Rattle.tp_rule.specs.Places.{Word, HeadWord, BodyWord, ClaimWord as ClaimOf, UnitWord, MarkWord, DrawnWord, IsThere, head_place, mark_place, place_of}
+use Rattle.tp_rule.specs.Words.{IsFitClaim, IsFitHead, IsFitUnit, head_of, pack_claim, pack_head, pack_unit}
+use Rattle.tp_rule.specs.declared.packing.Head.{Head}
+use Rattle.tp_rule.specs.declared.packing.Head.TheVariants.{Empty, Void, Filled}
 use Rattle.tp_rule.specs.Rule.{Concerns, HeadTold, IsAside, IsFinished, IsInside, IsOther, IsUseless, MarkHolds, StillSo, WordIs, World}
 use Rattle.tp_rule.specs.Steps.{AreFinishedFor, Found, IsLow, IsFinishedFor, IsSo}
 use Rattle.tp_rule.specs.declared.view.Known.{Known}

@@ -10,10 +10,10 @@ use Rattle.tp_model.specs.History.{element_of}
 use Rattle.tp_model.specs.Steps.{rows_of}
 use Rattle.tp_model.proofs.Areas.{one_area, own_area}
 use Rattle.tp_model.proofs.Bridges.{begins_refl, found_later, in_cons}
-use Rattle.tp_words.specs.Places.{HeadWord, head_place}
-use Rattle.tp_words.specs.Words.{pack_head}
-use Rattle.tp_words.specs.declared.words.Head.{Head}
-use Rattle.tp_words.specs.declared.words.Head.TheVariants.{Empty, Filled, Void}
+use Rattle.tp_rule.specs.Places.{HeadWord, head_place}
+use Rattle.tp_rule.specs.Words.{pack_head}
+use Rattle.tp_rule.specs.declared.packing.Head.{Head}
+use Rattle.tp_rule.specs.declared.packing.Head.TheVariants.{Empty, Filled, Void}
 use Rattle.tp_rule.specs.Doors.{Permits}
 use Rattle.tp_rule.specs.Plays.{voids}
 use Rattle.tp_rule.specs.Rule.{HandHolds, HeadTold, Rule, StillSo, drawn_in}

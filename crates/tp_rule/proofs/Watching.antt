@@ -5,7 +5,7 @@ use Rattle.tp_model.specs.declared.trace.StepKind.TheVariants as kinds
 use Rattle.tp_model.specs.declared.types.Element.{Element}
 use Rattle.tp_model.specs.declared.types.Limits.{Limits}
 use Rattle.tp_model.proofs.Bridges.{in_none}
-use Rattle.tp_words.specs.Places.{unit_place}
+use Rattle.tp_rule.specs.Places.{unit_place}
 use Rattle.tp_rule.specs.Doors.{Permits}
 use Rattle.tp_rule.specs.Plays.{chooses}
 use Rattle.tp_rule.specs.Rule.{RowsHold}

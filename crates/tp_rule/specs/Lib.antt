@@ -1,3 +1,5 @@
+pub mod Words
+pub mod Places
 pub mod Doors
 pub mod Plays
 pub mod Rule

@@ -5,11 +5,11 @@ use Rattle.std.specs.Prelude.{◌≡◌, ◌≢◌, ℕ, ◌<◌, ◌≤◌, [],
 use Rattle.tp_model.specs.Words.{TakenWord, AgainWord}
 use Rattle.tp_model.specs.declared.types.TheConstants.{BODY_WORDS, REPLY_STAGE}
 use Rattle.tp_model.specs.declared.trace.StepKind.TheVariants as kinds
-use Rattle.tp_words.specs.declared.words.Head.{Head}
-use Rattle.tp_words.specs.declared.words.Head.TheVariants.{Filled}
-use Rattle.tp_words.specs.Words.{IsFitHead, pack_claim, pack_head}
-use Rattle.tp_words.specs.Places.{IsThere, MarkWord, head_place, body_place, claim_place, mark_place}
-use Rattle.tp_words.specs.Places.{drawn_place, unit_place}
+use Rattle.tp_rule.specs.declared.packing.Head.{Head}
+use Rattle.tp_rule.specs.declared.packing.Head.TheVariants.{Filled}
+use Rattle.tp_rule.specs.Words.{IsFitHead, pack_claim, pack_head}
+use Rattle.tp_rule.specs.Places.{IsThere, MarkWord, head_place, body_place, claim_place, mark_place}
+use Rattle.tp_rule.specs.Places.{drawn_place, unit_place}
 use Rattle.tp_rule.specs.Views.{hand, next_row}
 use Rattle.tp_rule.specs.Steps.{Found, Grew, Knows, Loads, MayBeBorn, unchanged, drafted, with_word, Drafts}
 use Rattle.tp_rule.specs.Steps.{Publishes, Chooses, MakesClaim, MakesCommit, LosesUnit, MakesAbort, MakesKill}

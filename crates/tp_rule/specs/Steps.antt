@@ -19,10 +19,10 @@ use Rattle.tp_model.specs.Passes.{AreEnded, Ascend, IsOwnArea, IsOwnOpen, IsRun}
 use Rattle.tp_model.specs.Words.{ClaimWord, claim_word, round_in, word_status}
 use Rattle.tp_model.specs.Steps.{IsBody, IsStage, IsServerStage, IsKillable, IsParked, IsLegal, IsArea}
 use Rattle.tp_model.specs.Steps.{IsBlock, IsPart, IsUnitOf, block_first, rows_of}
-use Rattle.tp_words.specs.declared.words.Head.{Head}
-use Rattle.tp_words.specs.declared.words.Head.TheVariants.{Empty, Filled}
-use Rattle.tp_words.specs.Words.{IsFitClaim, head_of}
-use Rattle.tp_words.specs.Places.{IsThere, Word, place_of}
+use Rattle.tp_rule.specs.declared.packing.Head.{Head}
+use Rattle.tp_rule.specs.declared.packing.Head.TheVariants.{Empty, Filled}
+use Rattle.tp_rule.specs.Words.{IsFitClaim, head_of}
+use Rattle.tp_rule.specs.Places.{IsThere, Word, place_of}
 use Rattle.tp_rule.specs.Rule.{Concerns, IsInside, IsOther, IsSettledRow, WordIs}
 use Rattle.tp_rule.specs.Views.{IsOnePass, blank_body, hand, next_row}
 use Rattle.tp_rule.specs.declared.view.Hand.{Hand}

@@ -7,24 +7,24 @@ ghost use Rattle.tp_model.specs.declared.trace.StepKind.TheVariants as kinds;
 ghost use Rattle.tp_model.specs.History.{first_id};
 ghost use Rattle.tp_model.specs.Steps.{rows_of, units_of};
 ghost use Rattle.tp_model.specs.Words.{round_in};
-ghost use Rattle.tp_words.specs.Words.{claim_value, unit_value, IsFitClaim};
+ghost use Rattle.tp_rule.specs.Words.{claim_value, unit_value, IsFitClaim};
 ghost use Rattle.tp_rule.specs.Rule.{IsInside};
 ghost use Rattle.tp_rule.specs.Views.{hand_of, seen_by, view_of, IsNextUnit, IsSameSeat};
 ghost use Rattle.tp_rule.specs.declared.view.Known.TheVariants.{MarkAbove, PartMark};
-ghost use Rattle.tp_words.specs.declared.places.TheConstants.{MARK_KINDS};
+ghost use Rattle.tp_rule.specs.declared.places.TheConstants.{MARK_KINDS};
 ghost use Rattle.tp_rule.specs.Steps.{RaisesMark, Draws, DrawsNone, IsLeftBehind, Voids, Knows, KnowsUseless};
 ghost use Rattle.tp_rule.specs.Steps.{Chooses, MakesClaim, MakesCommit, MakesAbort, MakesKill, MakesRequeue};
 ghost use Rattle.tp_rule.specs.Steps.{LosesUnit, FindsOther, FindsEnded, AllowsClaim, AllowsKill};
 ghost use Rattle.tp_rule.specs.Steps.{AllowsRequeue, HasCleared, HasElement, HasWork, IsOwnWork, IsClaimed};
 
+use crate::bits::{HEAD_EMPTY, HEAD_VOID, UNIT_ABORTED, UNIT_UNDECIDED};
+use crate::packing::{Claim, FoundClaim, UnitWord};
 use crate::plays::{
     AbortExchange, ClaimExchange, CommitExchange, Draw, KillExchange, Raise, RequeueExchange,
     UnitChoice, Void,
 };
 use crate::seat::Seat;
 use crate::words::Words;
-use tp_words::bits::{HEAD_EMPTY, HEAD_VOID, UNIT_ABORTED, UNIT_UNDECIDED};
-use tp_words::{Claim, FoundClaim, UnitWord};
 
 impl Words {
     ghost use Rattle.tp_model.specs.declared.types.TheConstants.{MAX_OUTPUTS};

@@ -6,20 +6,20 @@ ghost use Rattle.tp_model.specs.declared.trace.StepKind.TheVariants as kinds;
 ghost use Rattle.tp_model.specs.History.{IsUnborn, element_of, end_of};
 ghost use Rattle.tp_model.specs.Words.{claim_word};
 ghost use Rattle.tp_model.specs.Steps.{rows_of, units_of};
-ghost use Rattle.tp_words.specs.Words.{claim_value, unit_value, head_of, IsFitClaim};
-ghost use Rattle.tp_words.specs.Places.{size_of};
-ghost use Rattle.tp_words.specs.declared.places.TheConstants.{MARK_KINDS};
-ghost use Rattle.tp_words.specs.declared.words.Head.TheVariants.{Empty};
+ghost use Rattle.tp_rule.specs.Words.{claim_value, unit_value, head_of, IsFitClaim};
+ghost use Rattle.tp_rule.specs.Places.{size_of};
+ghost use Rattle.tp_rule.specs.declared.places.TheConstants.{MARK_KINDS};
+ghost use Rattle.tp_rule.specs.declared.packing.Head.TheVariants.{Empty};
 ghost use Rattle.tp_rule.specs.Rule.{IsDraft};
 ghost use Rattle.tp_rule.specs.Views.{seen_by, view_of, HasPass, IsSameSeat};
 ghost use Rattle.tp_rule.specs.Steps.{AreInOrder, IsLow, Loads, Grew, Knows, MayBeBorn, NoneDrawn, Shares};
 ghost use Rattle.tp_rule.specs.Steps.{unchanged};
 ghost use Rattle.tp_rule.specs.declared.view.Known.TheVariants.{RowHead, PartMark, BlocksDrawn};
 
+use crate::packing::{FoundClaim, Head, UnitWord};
 use crate::plays::{Load, LoadDrawn, LoadHead, LoadMark, LoadUnit};
 use crate::seat::Seat;
 use crate::words::Words;
-use tp_words::{FoundClaim, Head, UnitWord};
 
 impl Words {
     ghost use Rattle.tp_rule.specs.Tables.{table_limits, IsSeatOf, IsPassOf};

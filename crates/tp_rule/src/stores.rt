@@ -6,11 +6,11 @@ ghost use Rattle.tp_rule.specs.Views.{blank_body, hand_of, view_of, IsNextRow, I
 ghost use Rattle.tp_rule.specs.Steps.{drafted, with_word, Bodied, Drafts, Fills};
 ghost use Rattle.tp_rule.specs.Steps.{HasBodyStored, HasCleared, Publishes};
 
+use crate::packing::Head;
 use crate::plays::{DraftHead, DraftWord, Publish};
 use crate::seat::Seat;
 use crate::words::Words;
 use tp_model::types::Body;
-use tp_words::Head;
 
 impl Words {
     ghost use Rattle.tp_rule.specs.Tables.{table_limits, IsPassOf, IsSeatOf};

@@ -1,10 +1,10 @@
 //! What a seat knows, for contracts alone: no value of these types is made when the program runs.
 
+use crate::packing::Head;
 use std::collections::LinkedList;
 use tp_model::event::Event;
 use tp_model::trace::TraceEntry;
 use tp_model::types::{Element, Limits};
-use tp_words::Head;
 
 /// What a seat knows as one of the passes that it stands for.
 ///

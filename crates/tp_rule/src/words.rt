@@ -1,14 +1,14 @@
 //! The shared words: their making, and how seats are cut in two and joined.
 ghost use Rattle.std.specs.Prelude.{◌≡◌, IfOk};
-ghost use Rattle.tp_words.specs.Places.{size_of};
+ghost use Rattle.tp_rule.specs.Places.{size_of};
 ghost use Rattle.tp_rule.specs.Views.{first_view, no_seat, view_of, HasPass, IsSameSeat};
 ghost use Rattle.tp_rule.specs.Doors.{id_of, key_of};
 ghost use Rattle.tp_rule.specs.Steps.{handed_on, handed_out, kept, parted, joined, SeatsMeet};
 
+use crate::places::Places;
 use crate::plays::{HandOut, Part, Together};
 use crate::seat::{Seat, SharedTable};
 use std::alloc::{AllocError, Global};
-use tp_words::Places;
 
 /// The words that all passes share. Every step is a method that takes `&self` and the seat that makes it, so
 /// the words can lie behind a shared reference while many threads step.

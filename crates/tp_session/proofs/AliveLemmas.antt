@@ -7,7 +7,7 @@ use Rattle.tp_model.specs.declared.types.Limits.{Limits}
 use Rattle.tp_server.specs.Behaviour.{Behaviour}
 use Rattle.tp_server.specs.Pending.{Pending}
 use Rattle.tp_manager.specs.Shown.{IsOf, ManagerShown, PassShown}
-use Rattle.tp_alone.specs.Thread.{AreTogether, Stays}
+use Rattle.tp_rollover.specs.Thread.{AreTogether, Stays}
 use Rattle.tp_rollover.specs.Answers.{IsHistoryOf}
 use Rattle.tp_rollover.specs.Managed.{IsManaged, StaysManaged}
 use Rattle.tp_rollover.specs.Survivors.{AreInHand, AreSurvivors}

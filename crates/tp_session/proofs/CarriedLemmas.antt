@@ -15,7 +15,7 @@ use Rattle.tp_server.specs.Behaviour.{Behaviour}
 use Rattle.tp_server.specs.Pending.{Pending}
 use Rattle.tp_manager.specs.Accounts.{AreNumberedFrom}
 use Rattle.tp_manager.specs.Shown.{KeeperShown, ManagerShown, PassShown}
-use Rattle.tp_alone.proofs.Apart.{number_in}
+use Rattle.tp_rollover.proofs.AloneApart.{number_in}
 use Rattle.tp_rollover.specs.Faults.{AreFree}
 use Rattle.tp_rollover.specs.Hands.{HasOpen, IsNamedHolder}
 use Rattle.tp_rollover.specs.Managed.{GoesOnAnew, IsManaged}

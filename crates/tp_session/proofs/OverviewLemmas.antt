@@ -9,7 +9,7 @@ use Rattle.std.proofs.lemmas.Option.{slice_get-get_or, slice_get-map}
 use Rattle.tp_model.specs.declared.types.Limits.{Limits}
 use Rattle.tp_server.specs.Behaviour.{Behaviour}
 use Rattle.tp_server.specs.Pending.{Pending}
-use Rattle.tp_alone.specs.Thread.{drawn_of}
+use Rattle.tp_rollover.specs.Thread.{drawn_of}
 use Rattle.tp_manager.specs.Shown.{ManagerShown, PassShown}
 use Rattle.tp_commands.specs.Acting.{places_shown, work_in}
 use Rattle.tp_commands.specs.Places.{AllLie, workers}

@@ -15,7 +15,7 @@ use Rattle.tp_server.specs.Pending.{Pending}
 use Rattle.tp_manager.specs.Shown.{KeeperShown, ManagerShown, PassShown}
 use Rattle.tp_server.specs.declared.order.Order.{Order}
 use Rattle.tp_server.specs.declared.order.Order.TheVariants.{InTurn, LeastFirst}
-use Rattle.tp_alone.specs.Thread.{AreTogether}
+use Rattle.tp_rollover.specs.Thread.{AreTogether}
 use Rattle.tp_rollover.specs.Answers.{IsHistoryOf}
 use Rattle.tp_rollover.specs.Managed.{IsManaged, IsUnsurveyed}
 use Rattle.tp_rollover.specs.Survivors.{AreInHand, AreSurvivors}

@@ -8,7 +8,7 @@ use Rattle.tp_model.specs.declared.types.Status.TheVariants as status
 use Rattle.tp_model.specs.declared.types.Work.{Work}
 use Rattle.tp_manager.specs.Shown.{PassShown}
 use Rattle.tp_manager.specs.declared.manager.Room.{Room}
-use Rattle.tp_alone.specs.Thread.{drawn_of}
+use Rattle.tp_rollover.specs.Thread.{drawn_of}
 use Rattle.tp_report.specs.Answer.{line}
 use Rattle.tp_report.specs.declared.answer.Answer.{Answer}
 use Rattle.tp_report.specs.declared.answer.Answer.TheVariants as answer

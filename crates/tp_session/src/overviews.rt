@@ -1,7 +1,7 @@
 //! What is told of all passes at once: what is left to each, and what each has in hand.
 ghost use Rattle.std.specs.Prelude.{◌≡◌, ◌+◌, ◌-◌, ◌<◌, ◌≤◌, ◌++◌, Some, All, IfOk, length, map, slice_get};
 ghost use Rattle.std.specs.Prelude.{codes, decimal, string_bytes, vec_len};
-ghost use Rattle.tp_alone.specs.Thread.{drawn_of};
+ghost use Rattle.tp_rollover.specs.Thread.{drawn_of};
 ghost use Rattle.tp_commands.specs.Acting.{work_in};
 ghost use Rattle.tp_commands.specs.Asked.{FoundLine};
 ghost use Rattle.tp_manager.specs.Shown.{IsOf};

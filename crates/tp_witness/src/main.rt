@@ -21,7 +21,7 @@ mod program_fault;
 use calls::{abort, read, release};
 use diary::Diary;
 use dice::Dice;
-use playing::four;
+use playing::{Player, four};
 use program_fault::ProgramFault;
 use std::env;
 use std::process::ExitCode;
@@ -153,7 +153,15 @@ fn play_with<R: AllocGlobal + Print + Threads + Sync>(
     let Some((fourth, _others)) = others.split_first_mut() else {
         return Err(ProgramFault::NoPass);
     };
-    play_four(rt, manager, first, second, third, fourth, seed, turns)
+    let plan = PlayPlan { seed, turns };
+    play_four(rt, manager, first, second, third, fourth, plan)
+}
+
+/// What the threads' dice begin with, and how many turns each takes.
+#[derive(Clone, Copy)]
+struct PlayPlan {
+    seed: u64,
+    turns: u32,
 }
 
 /// The threads' turns, what is read then, and all that they wrote down.
@@ -164,8 +172,7 @@ fn play_four<R: AllocGlobal + Print + Threads + Sync>(
     second: &mut Pass,
     third: &mut Pass,
     fourth: &mut Pass,
-    seed: u64,
-    turns: u32,
+    plan: PlayPlan,
 ) -> Result<(), ProgramFault>
     requires own { IsOf manager.now first.old × IsOf manager.now second.old
         × IsOf manager.now third.old × IsOf manager.now fourth.old }
@@ -175,22 +182,30 @@ fn play_four<R: AllocGlobal + Print + Threads + Sync>(
         × IsOf manager.now third.new × IsOf manager.now fourth.new }
 {
     let clock = AtomicU64::new(0);
-    let mut first_diary = Diary::new(rt.alloc(), &clock, Dice::new(seed, 1));
-    let mut second_diary = Diary::new(rt.alloc(), &clock, Dice::new(seed, 2));
-    let mut third_diary = Diary::new(rt.alloc(), &clock, Dice::new(seed, 3));
-    let mut fourth_diary = Diary::new(rt.alloc(), &clock, Dice::new(seed, 4));
+    let mut first_diary = Diary::new(rt.alloc(), &clock, Dice::new(plan.seed, 1));
+    let mut second_diary = Diary::new(rt.alloc(), &clock, Dice::new(plan.seed, 2));
+    let mut third_diary = Diary::new(rt.alloc(), &clock, Dice::new(plan.seed, 3));
+    let mut fourth_diary = Diary::new(rt.alloc(), &clock, Dice::new(plan.seed, 4));
     four(
         rt,
         manager,
-        first,
-        second,
-        third,
-        fourth,
-        &mut first_diary,
-        &mut second_diary,
-        &mut third_diary,
-        &mut fourth_diary,
-        turns,
+        Player {
+            pass: &mut *first,
+            diary: &mut first_diary,
+        },
+        Player {
+            pass: &mut *second,
+            diary: &mut second_diary,
+        },
+        Player {
+            pass: &mut *third,
+            diary: &mut third_diary,
+        },
+        Player {
+            pass: &mut *fourth,
+            diary: &mut fourth_diary,
+        },
+        plan.turns,
     )?;
     read_all(manager, first, &mut first_diary)?;
     end(manager, second, &mut second_diary)?;

@@ -19,27 +19,46 @@ const ROWS: u32 = 32;
 /// How far from an id of its own a thread looks for an element of another's.
 const NEAR: u32 = 6;
 
+/// A thread's pass and its diary.
+#[derive(Drop)]
+pub struct Player<'p, 'd, 'c> {
+    pub pass: &'p mut Pass,
+    pub diary: &'d mut Diary<'c>,
+}
+
 /// Four threads, each with a pass and a diary of its own.
 pub fn four<R: Threads + Sync>(
     rt: &R,
     manager: &Manager,
-    first: &mut Pass,
-    second: &mut Pass,
-    third: &mut Pass,
-    fourth: &mut Pass,
-    first_diary: &mut Diary,
-    second_diary: &mut Diary,
-    third_diary: &mut Diary,
-    fourth_diary: &mut Diary,
+    first: Player,
+    second: Player,
+    third: Player,
+    fourth: Player,
     turns: u32,
 ) -> Result<(), ProgramFault>
-    requires own { IsOf manager.now first.old × IsOf manager.now second.old
-        × IsOf manager.now third.old × IsOf manager.now fourth.old }
-    requires free { (first.old.open_unit ≡ None) × (second.old.open_unit ≡ None)
-        × (third.old.open_unit ≡ None) × (fourth.old.open_unit ≡ None) }
-    ensures own { IsOf manager.now first.new × IsOf manager.now second.new
-        × IsOf manager.now third.new × IsOf manager.now fourth.new }
+    requires own { IsOf manager.now first.pass.now × IsOf manager.now second.pass.now
+        × IsOf manager.now third.pass.now × IsOf manager.now fourth.pass.now }
+    requires free { (first.pass.now.open_unit ≡ None) × (second.pass.now.open_unit ≡ None)
+        × (third.pass.now.open_unit ≡ None) × (fourth.pass.now.open_unit ≡ None) }
+    ensures own { IsOf manager.now first.exit.0.now × IsOf manager.now second.exit.0.now
+        × IsOf manager.now third.exit.0.now × IsOf manager.now fourth.exit.0.now }
 {
+    let Player {
+        pass: first,
+        diary: first_diary,
+    } = first;
+    let Player {
+        pass: second,
+        diary: second_diary,
+    } = second;
+    let Player {
+        pass: third,
+        diary: third_diary,
+    } = third;
+    let Player {
+        pass: fourth,
+        diary: fourth_diary,
+    } = fourth;
     let mut one = || -> Result<(), ProgramFault>
         requires { IsSync R.row × IsOf manager.now first.now × IsOf manager.now second.now
             × (first.now.open_unit ≡ None) × (second.now.open_unit ≡ None) }

@@ -10,3 +10,4 @@ pub mod Clients
 pub mod Killers
 pub mod Sums
 pub mod Plans
+pub mod Lent

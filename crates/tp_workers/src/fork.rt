@@ -4,9 +4,19 @@ ghost use Rattle.std.specs.Prelude.{◌≡◌, ◌+◌, ◌<◌, ◌^◌};
 ghost use denote.Param.Send.{IsSync, IsSend};
 ghost use Rattle.std.specs.Prelude.{[], ◌∷◌, length};
 ghost use Rattle.tp_workers.specs.Ran.{Accepts, AreTold, MayRun, RanEach, Runs};
+ghost use Rattle.tp_workers.specs.Lent.{on_left, by_left, told_left};
 
 use crate::tally::Shift;
 use std::thread::{Threads, join_mut};
+
+/// Workers of one kind, numbered from `first` on, and a place for the counts of each, or none.
+#[derive(Drop)]
+pub(crate) struct Part<'o, 'b, 't, T, U> {
+    pub(crate) on: &'o mut [T],
+    pub(crate) by: &'b mut [U],
+    pub(crate) told: &'t mut [Shift],
+    pub(crate) first: u32,
+}
 
 /// Runs each worker on a thread of its own, numbered from `first` on. Where there is a place for each
 /// worker's counts, they are given one by one, and else only their sum.
@@ -35,18 +45,19 @@ pub(crate) fn fork<R: Threads + Sync, T: Send, U: Send, F: Fn(&mut T, &mut U, u3
     let (front, back) = on.split_at_mut(half);
     let (front_by, back_by) = by.split_at_mut(half);
     let (front_told, back_told) = told.split_at_mut(half.min(told.len()));
-    let (a, b) = halves(
-        rt,
-        run,
+    let front = Part {
         first,
-        front,
-        front_by,
-        front_told,
-        number_after(first, half),
-        back,
-        back_by,
-        back_told,
-    );
+        on: front,
+        by: front_by,
+        told: front_told,
+    };
+    let back = Part {
+        first: number_after(first, half),
+        on: back,
+        by: back_by,
+        told: back_told,
+    };
+    let (a, b) = halves(rt, run, front, back);
     a.plus(b)
 }
 
@@ -55,24 +66,32 @@ pub(crate) fn fork<R: Threads + Sync, T: Send, U: Send, F: Fn(&mut T, &mut U, u3
 fn halves<R: Threads + Sync, T: Send, U: Send, F: Fn(&mut T, &mut U, u32) -> Shift + Sync>(
     rt: &R,
     run: &F,
-    low: u32,
-    front: &mut [T],
-    front_by: &mut [U],
-    front_told: &mut [Shift],
-    high: u32,
-    back: &mut [T],
-    back_by: &mut [U],
-    back_told: &mut [Shift],
+    front: Part<T, U>,
+    back: Part<T, U>,
 ) -> (Shift, Shift)
-    requires front_may { MayRun F.Fn run.now front.old front_by.old }
-    requires back_may { MayRun F.Fn run.now back.old back_by.old }
-    ensures front_ran { RanEach (Runs F.Fn run.now) front.old front_by.old result.0 front.new front_by.new }
-    ensures back_ran { RanEach (Runs F.Fn run.now) back.old back_by.old result.1 back.new back_by.new }
-    ensures front_told { AreTold (Runs F.Fn run.now) front.old front_by.old front_told.old result.0
-        front.new front_by.new front_told.new }
-    ensures back_told { AreTold (Runs F.Fn run.now) back.old back_by.old back_told.old result.1
-        back.new back_by.new back_told.new }
+    requires front_may { MayRun F.Fn run.now front.on.now front.by.now }
+    requires back_may { MayRun F.Fn run.now back.on.now back.by.now }
+    ensures front_ran { RanEach (Runs F.Fn run.now) front.entry.on.now front.entry.by.now result.0
+        (on_left front.exit) (by_left front.exit) }
+    ensures back_ran { RanEach (Runs F.Fn run.now) back.entry.on.now back.entry.by.now result.1
+        (on_left back.exit) (by_left back.exit) }
+    ensures front_told { AreTold (Runs F.Fn run.now) front.entry.on.now front.entry.by.now
+        front.entry.told.now result.0 (on_left front.exit) (by_left front.exit) (told_left front.exit) }
+    ensures back_told { AreTold (Runs F.Fn run.now) back.entry.on.now back.entry.by.now back.entry.told.now
+        result.1 (on_left back.exit) (by_left back.exit) (told_left back.exit) }
 {
+    let Part {
+        first: low,
+        on: front,
+        by: front_by,
+        told: front_told,
+    } = front;
+    let Part {
+        first: high,
+        on: back,
+        by: back_by,
+        told: back_told,
+    } = back;
     let mut one = || -> Shift
         requires { IsSync R.row × IsSync F.row × IsSend T.row × IsSend U.row
             × MayRun F.Fn run.now front.now front_by.now }
@@ -123,42 +142,46 @@ fn fork_two<
     B: Send,
     F: Fn(&mut T, &mut A, u32) -> Shift + Sync,
     H: Fn(&mut U, &mut B, u32) -> Shift + Sync,
->(
-    rt: &R,
-    run_x: &F,
-    run_y: &H,
-    low: u32,
-    high: u32,
-    xs: &mut [T],
-    xs_by: &mut [A],
-    ys: &mut [U],
-    ys_by: &mut [B],
-) -> (Shift, Shift)
-    requires xs_may { MayRun F.Fn run_x.now xs.old xs_by.old }
-    requires ys_may { MayRun H.Fn run_y.now ys.old ys_by.old }
-    ensures xs_ran { RanEach (Runs F.Fn run_x.now) xs.old xs_by.old result.0 xs.new xs_by.new }
-    ensures ys_ran { RanEach (Runs H.Fn run_y.now) ys.old ys_by.old result.1 ys.new ys_by.new }
+>(rt: &R, run_x: &F, run_y: &H, xs: Part<T, A>, ys: Part<U, B>) -> (Shift, Shift)
+    requires xs_may { MayRun F.Fn run_x.now xs.on.now xs.by.now }
+    requires ys_may { MayRun H.Fn run_y.now ys.on.now ys.by.now }
+    ensures xs_ran { RanEach (Runs F.Fn run_x.now) xs.entry.on.now xs.entry.by.now result.0
+        (on_left xs.exit) (by_left xs.exit) }
+    ensures ys_ran { RanEach (Runs H.Fn run_y.now) ys.entry.on.now ys.entry.by.now result.1
+        (on_left ys.exit) (by_left ys.exit) }
 {
+    let Part {
+        on: xs,
+        by: xs_by,
+        told: xs_told,
+        first: low,
+    } = xs;
+    let Part {
+        on: ys,
+        by: ys_by,
+        told: ys_told,
+        first: high,
+    } = ys;
     if xs.is_empty() {
-        let a = fork(rt, run_x, low, xs, xs_by, &mut []);
-        let b = fork(rt, run_y, high, ys, ys_by, &mut []);
+        let a = fork(rt, run_x, low, xs, xs_by, xs_told);
+        let b = fork(rt, run_y, high, ys, ys_by, ys_told);
         return (a, b);
     }
     let mut one = || -> Shift
         requires { MayRun F.Fn run_x.now xs.now xs_by.now }
         ensures { RanEach (Runs F.Fn run_x.entry.now) xs.entry.now xs_by.entry.now result xs.exit.now
             xs_by.exit.now }
-    { fork(rt, run_x, low, xs, xs_by, &mut []) };
+    { fork(rt, run_x, low, xs, xs_by, xs_told) };
     let mut other = || -> Shift
         requires { MayRun H.Fn run_y.now ys.now ys_by.now }
         ensures { RanEach (Runs H.Fn run_y.entry.now) ys.entry.now ys_by.entry.now result ys.exit.now
             ys_by.exit.now }
-    { fork(rt, run_y, high, ys, ys_by, &mut []) };
+    { fork(rt, run_y, high, ys, ys_by, ys_told) };
     join_mut(rt, &mut one, &mut other)
 }
 
-/// Runs the workers of three kinds, numbered from `first`, `second` and `third` on. Those of the first
-/// kind are given as by `fork`. Where there are no others, they are given no thread.
+/// Runs the workers of three kinds. Those of the first kind are given as by `fork`. Where there are no
+/// others, they are given no thread.
 pub(crate) fn fork_three<
     R: Threads + Sync,
     T: Send,
@@ -175,30 +198,56 @@ pub(crate) fn fork_three<
     run_x: &F,
     run_y: &H,
     run_z: &K,
-    first: u32,
-    second: u32,
-    third: u32,
-    xs: &mut [T],
-    xs_by: &mut [A],
-    xs_told: &mut [Shift],
-    ys: &mut [U],
-    ys_by: &mut [B],
-    zs: &mut [V],
-    zs_by: &mut [C],
+    xs: Part<T, A>,
+    ys: Part<U, B>,
+    zs: Part<V, C>,
 ) -> (Shift, (Shift, Shift))
-    requires xs_may { MayRun F.Fn run_x.now xs.old xs_by.old }
-    requires ys_may { MayRun H.Fn run_y.now ys.old ys_by.old }
-    requires zs_may { MayRun K.Fn run_z.now zs.old zs_by.old }
-    ensures xs_ran { RanEach (Runs F.Fn run_x.now) xs.old xs_by.old result.0 xs.new xs_by.new }
-    ensures ys_ran { RanEach (Runs H.Fn run_y.now) ys.old ys_by.old result.1.0 ys.new ys_by.new }
-    ensures zs_ran { RanEach (Runs K.Fn run_z.now) zs.old zs_by.old result.1.1 zs.new zs_by.new }
-    ensures xs_told { AreTold (Runs F.Fn run_x.now) xs.old xs_by.old xs_told.old result.0 xs.new xs_by.new
-        xs_told.new }
+    requires xs_may { MayRun F.Fn run_x.now xs.on.now xs.by.now }
+    requires ys_may { MayRun H.Fn run_y.now ys.on.now ys.by.now }
+    requires zs_may { MayRun K.Fn run_z.now zs.on.now zs.by.now }
+    ensures xs_ran { RanEach (Runs F.Fn run_x.now) xs.entry.on.now xs.entry.by.now result.0
+        (on_left xs.exit) (by_left xs.exit) }
+    ensures ys_ran { RanEach (Runs H.Fn run_y.now) ys.entry.on.now ys.entry.by.now result.1.0
+        (on_left ys.exit) (by_left ys.exit) }
+    ensures zs_ran { RanEach (Runs K.Fn run_z.now) zs.entry.on.now zs.entry.by.now result.1.1
+        (on_left zs.exit) (by_left zs.exit) }
+    ensures xs_told { AreTold (Runs F.Fn run_x.now) xs.entry.on.now xs.entry.by.now xs.entry.told.now
+        result.0 (on_left xs.exit) (by_left xs.exit) (told_left xs.exit) }
 {
+    let Part {
+        on: xs,
+        by: xs_by,
+        told: xs_told,
+        first,
+    } = xs;
+    let Part {
+        on: ys,
+        by: ys_by,
+        told: ys_told,
+        first: second,
+    } = ys;
+    let Part {
+        on: zs,
+        by: zs_by,
+        told: zs_told,
+        first: third,
+    } = zs;
     if ys.is_empty() {
         if zs.is_empty() {
             let alone = fork(rt, run_x, first, xs, xs_by, xs_told);
-            let others = fork_two(rt, run_y, run_z, second, third, ys, ys_by, zs, zs_by);
+            let ys = Part {
+                on: ys,
+                by: ys_by,
+                told: ys_told,
+                first: second,
+            };
+            let zs = Part {
+                on: zs,
+                by: zs_by,
+                told: zs_told,
+                first: third,
+            };
+            let others = fork_two(rt, run_y, run_z, ys, zs);
             return (alone, others);
         }
     }
@@ -215,7 +264,21 @@ pub(crate) fn fork_three<
             ys_by.exit.now
             × RanEach (Runs K.Fn run_z.entry.now) zs.entry.now zs_by.entry.now result.1 zs.exit.now
             zs_by.exit.now }
-    { fork_two(rt, run_y, run_z, second, third, ys, ys_by, zs, zs_by) };
+    {
+        let ys = Part {
+            on: ys,
+            by: ys_by,
+            told: ys_told,
+            first: second,
+        };
+        let zs = Part {
+            on: zs,
+            by: zs_by,
+            told: zs_told,
+            first: third,
+        };
+        fork_two(rt, run_y, run_z, ys, zs)
+    };
     join_mut(rt, &mut one, &mut other)
 }
 

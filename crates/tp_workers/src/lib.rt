@@ -22,4 +22,4 @@ pub use plan::Plan;
 pub use program_fault::ProgramFault;
 pub use rounds::{Drained, drain};
 pub use tally::Shift;
-pub use work::shift;
+pub use work::{ShiftMeans, Workers, shift};

@@ -11,8 +11,7 @@ ghost use Rattle.tp_rule.specs.Tables.{table_limits, IsSeatOf, IsPassOf};
 
 use std::process::Abort;
 use tp_model::types::{Body, Limits};
-use tp_rule::{Seat, Words};
-use tp_words::{Claim, FoundClaim, Head, Places, UnitWord};
+use tp_rule::{Claim, FoundClaim, Head, Places, Seat, UnitWord, Words};
 
 /// Words for three passes of four rows and two units each, with two attempts, and the keeper's seat.
 fn small<R: Abort + AllocGlobal>(rt: &R) -> (Words, Seat)

@@ -1,7 +1,7 @@
 //! Which values given numbers are as words, and that others are none. That a value packs to the number that
 //! it is read from is proved, and not tried here.
 
-use tp_words::{Claim, Head, UnitWord};
+use tp_rule::{Claim, Head, UnitWord};
 
 fn filled(stage: u8, root: u16, by: Option<u16>) -> Option<Head> {
     Some(Head::Filled { stage, root, by })

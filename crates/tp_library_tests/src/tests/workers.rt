@@ -18,7 +18,7 @@ use std::thread;
 use std::thread::Threads;
 use tp_manager::{Manager, Pass};
 use tp_server::{Act, Server};
-use tp_workers::{ClientJob, Gate, Plan, Shift, shift};
+use tp_workers::{ClientJob, Gate, Plan, Shift, ShiftMeans, Workers, shift};
 
 /// A client of stage 1, which submits this many bodies with the key 0, this amount, and their places after
 /// it.
@@ -69,19 +69,25 @@ fn turns<R: Threads + Sync, G: Gate>(
     requires clear { All (λ server. pending server ≡ None) servers.old }
     ensures kept { length servers.new ≡ length servers.old }
 {
-    shift(
+    let means = ShiftMeans {
         rt,
         manager,
-        desks,
-        servers,
-        &mut [],
-        &mut [],
-        &mut [],
-        &mut [],
-        Plan::least_first(turns),
-        each,
+        plan: Plan::least_first(turns),
         gate,
-    )
+    };
+    let desks = Workers {
+        on: desks,
+        by: servers,
+    };
+    let clients = Workers {
+        on: &mut [],
+        by: &mut [],
+    };
+    let killers = Workers {
+        on: &mut [],
+        by: &mut [],
+    };
+    shift(&means, desks, clients, killers, each)
 }
 
 /// Looks at most 1,000,000 times until the word has come to a number, and then notes a failure. Each look

@@ -14,8 +14,8 @@ use Rattle.tp_model.specs.Steps.{IsLegal, IsStage}
 use Rattle.tp_model.proofs.Bridges.{append_nil, element_of-id, find_in}
 use Rattle.tp_model.proofs.RowTallies.{row_empty, row_full}
 use Rattle.tp_model.proofs.Stages.{account_last, born_staged}
-use Rattle.tp_words.specs.Words.{head_of}
-use Rattle.tp_words.specs.declared.words.Head.TheVariants.{Filled}
+use Rattle.tp_rule.specs.Words.{head_of}
+use Rattle.tp_rule.specs.declared.packing.Head.TheVariants.{Filled}
 use Rattle.tp_manager.specs.Looks.{IsBornAs}
 use Rattle.tp_manager.specs.Together.{IsWithin, account_below, no_counts, with_one}
 use Rattle.tp_manager.specs.declared.row_reads.Birth.{Birth}

@@ -18,9 +18,9 @@ use Rattle.tp_model.proofs.Later.{births_inside}
 use Rattle.tp_model.specs.Words.{AgainWord, ClaimWord, FreeWord, TakenWord, claim_word, claim_word_after, kill_word, round_in}
 use Rattle.tp_model.proofs.Bridges.{begins_refl, begins_trans, found_later}
 use Rattle.tp_model.proofs.Lists.{if_same}
-use Rattle.tp_words.specs.declared.words.Head.{Head}
-use Rattle.tp_words.specs.declared.words.Head.TheVariants.{Empty}
-use Rattle.tp_words.specs.Words.{head_of}
+use Rattle.tp_rule.specs.declared.packing.Head.{Head}
+use Rattle.tp_rule.specs.declared.packing.Head.TheVariants.{Empty}
+use Rattle.tp_rule.specs.Words.{head_of}
 use Rattle.tp_rule.specs.Steps.{Knows}
 use Rattle.tp_rule.specs.Views.{hand}
 use Rattle.tp_rule.specs.declared.view.Known.TheVariants.{RowHead}

@@ -14,8 +14,8 @@ use Rattle.tp_model.specs.Steps.{IsLegal, Step}
 use Rattle.tp_model.proofs.Histories.{legal_at, legal_start}
 use Rattle.tp_model.proofs.Bridges.{begins_trans, found_later, status_taken}
 use Rattle.tp_model.proofs.Later.{claim_stands, stood}
-use Rattle.tp_words.specs.Words.{head_of}
-use Rattle.tp_words.specs.declared.words.Head.TheVariants.{Filled}
+use Rattle.tp_rule.specs.Words.{head_of}
+use Rattle.tp_rule.specs.declared.packing.Head.TheVariants.{Filled}
 use Rattle.tp_rule.specs.Steps.{AllowsKill, HasElement, MakesAbort}
 use Rattle.tp_rule.specs.Views.{SeatShown, hand, view_of}
 use Rattle.tp_rule.specs.declared.view.View.{View}

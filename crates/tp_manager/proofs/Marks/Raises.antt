@@ -26,11 +26,11 @@ use Rattle.tp_manager.specs.CallSteps.{Looked, Steady, Stepped, with_trace}
 use Rattle.tp_manager.specs.BetweenCalls.{RemembersDone}
 use Rattle.tp_manager.specs.Marks.{MayRemember, Remembers, Rose, WasOfUse, WasUnsettled}
 use Rattle.tp_manager.specs.Scans.{PassedBy, Took, EachRow}
-use Rattle.tp_words.specs.declared.words.Head.{Head}
-use Rattle.tp_words.specs.declared.words.Head.TheVariants.{Empty, Void, Filled}
+use Rattle.tp_rule.specs.declared.packing.Head.{Head}
+use Rattle.tp_rule.specs.declared.packing.Head.TheVariants.{Empty, Void, Filled}
 use Rattle.tp_model.specs.Passes.{opening_of}
 use Rattle.tp_manager.proofs.Calls.Points.{has_more, opening_kept}
-use Rattle.tp_words.specs.Words.{head_of}
+use Rattle.tp_rule.specs.Words.{head_of}
 use Rattle.tp_model.specs.declared.trace.TraceEntry.{TraceEntry}
 use Rattle.tp_manager.proofs.Rows.Looks.{none_unit}
 use Rattle.tp_manager.proofs.Calls.CallSteps.{remembers_kind, walked_begins, walked_then}

@@ -21,9 +21,9 @@ use Rattle.tp_model.proofs.WordProofs.{claim_word-snoc}
 use Rattle.tp_model.proofs.Replies.{reply_stands}
 use Rattle.tp_model.proofs.Bridges.{begins_refl, begins_trans, found_later}
 use Rattle.tp_model.proofs.Later.{births_inside}
-use Rattle.tp_words.specs.Words.{head_of}
-use Rattle.tp_words.specs.declared.words.Head.{Head}
-use Rattle.tp_words.specs.declared.words.Head.TheVariants.{Filled}
+use Rattle.tp_rule.specs.Words.{head_of}
+use Rattle.tp_rule.specs.declared.packing.Head.{Head}
+use Rattle.tp_rule.specs.declared.packing.Head.TheVariants.{Filled}
 use Rattle.tp_rule.specs.Rule.{Concerns}
 use Rattle.tp_rule.specs.Steps.{AreFinishedFor}
 use Rattle.tp_rule.specs.declared.view.View.{View}

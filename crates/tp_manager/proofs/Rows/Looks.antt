@@ -15,11 +15,11 @@ use Rattle.tp_model.proofs.Areas.{one_area}
 use Rattle.tp_model.proofs.Bodies.{found_whole, four_words}
 use Rattle.tp_model.proofs.Bridges.{born_or_not, born_at, found_later}
 use Rattle.tp_model.proofs.Later.{committed_born, status_found, status_aborted}
-use Rattle.tp_words.specs.declared.words.Head.{Head}
-use Rattle.tp_words.specs.declared.words.Head.TheVariants.{Empty, Filled}
-use Rattle.tp_words.specs.declared.words.Claim.{Claim}
-use Rattle.tp_words.specs.declared.words.Claim.TheVariants as claims
-use Rattle.tp_words.specs.Words.{claim_value, head_of}
+use Rattle.tp_rule.specs.declared.packing.Head.{Head}
+use Rattle.tp_rule.specs.declared.packing.Head.TheVariants.{Empty, Filled}
+use Rattle.tp_rule.specs.declared.packing.Claim.{Claim}
+use Rattle.tp_rule.specs.declared.packing.Claim.TheVariants as claims
+use Rattle.tp_rule.specs.Words.{claim_value, head_of}
 use Rattle.tp_rule.specs.Steps.{Grew, IsAreaBy, MayBeBorn}
 use Rattle.tp_rule.specs.declared.view.Hand.{Hand}
 use Rattle.tp_rule.specs.declared.view.Known.TheVariants.{RowHead}

@@ -6,9 +6,9 @@ ghost use Rattle.tp_manager.specs.Shown.{IsKeptBy, IsOf};
 use super::plays::{Call, play};
 use std::alloc::Global;
 use std::process::Abort;
-use tp_manager::{Keeper, Manager, Pass};
+use tp_manager::Keeper;
 use tp_model::types::Limits;
-use tp_rollover::{Moved, RollFault, roll_over};
+use tp_rollover::{Managed, Moved, RollFault, roll_over};
 
 /// One manager of a scene: its limits, and the calls of its passes before the rollover and after it.
 #[derive(Clone, Copy)]
@@ -18,15 +18,22 @@ pub(super) struct Side<'a> {
     pub after: &'a [(usize, Call)],
 }
 
-/// A manager with these limits, its keeper, and its first two passes.
-fn kept<R: Abort + AllocGlobal>(rt: &R, limits: Limits) -> (Manager, Keeper, [Pass; 2])
-    ensures keeper { IsKeptBy result.0 result.1 }
-    ensures own { All (IsOf result.0) result.2 }
+/// A manager with these limits, its keeper, and this many of its passes.
+fn kept<R: Abort + AllocGlobal>(rt: &R, limits: Limits, given: u32) -> Managed
+    ensures keeper { IsKeptBy result.manager result.keeper }
+    ensures own { All (IsOf result.manager) result.passes.items }
 {
     let (manager, mut keeper) = Keeper::new(rt.alloc(), limits).expect(rt, "no manager");
-    let first = keeper.pass(&manager).expect(rt, "no pass");
-    let second = keeper.pass(&manager).expect(rt, "no pass");
-    (manager, keeper, [first, second])
+    let mut passes = Vec::new(rt.alloc());
+    for _i in 0..given {
+        let pass = keeper.pass(&manager).expect(rt, "no pass");
+        passes.push(pass).expect(rt, "no memory");
+    }
+    Managed {
+        manager,
+        keeper,
+        passes,
+    }
 }
 
 /// Whether what was found is what was wanted.
@@ -40,26 +47,30 @@ fn is_answer(found: Result<Vec<Moved>, RollFault>, wanted: Result<&[Moved], Roll
 /// Whether a rollover answers this, if the passes are all of their keepers.
 fn answers(
     alloc: Global,
-    old: &Manager,
-    old_keeper: &mut Keeper,
-    old_passes: &mut [Pass],
-    new: &Manager,
-    new_keeper: &mut Keeper,
-    new_passes: &mut [Pass],
+    old: &mut Managed,
+    new: &mut Managed,
     answer: Result<&[Moved], RollFault>,
 ) -> bool
-    requires kept { IsKeptBy old.now old_keeper.old × IsKeptBy new.now new_keeper.old }
-    requires own { All (IsOf old.now) old_passes.old × All (IsOf new.now) new_passes.old }
-    ensures own { All (IsOf old.now) old_passes.new × All (IsOf new.now) new_passes.new }
+    requires kept { IsKeptBy old.old.manager old.old.keeper × IsKeptBy new.old.manager new.old.keeper }
+    requires old { All (IsOf old.old.manager) old.old.passes.items }
+    requires new { All (IsOf new.old.manager) new.old.passes.items }
+    ensures old { All (IsOf old.new.manager) old.new.passes.items }
+    ensures new { All (IsOf new.new.manager) new.new.passes.items }
 {
-    if !old_keeper.has_all(old_passes) {
+    if !old.keeper.has_all(&old.passes) {
         return false;
     }
-    if !new_keeper.has_all(new_passes) {
+    if !new.keeper.has_all(&new.passes) {
         return false;
     }
     let found = roll_over(
-        alloc, old, old_keeper, old_passes, new, new_keeper, new_passes,
+        alloc,
+        &old.manager,
+        &mut old.keeper,
+        &mut old.passes,
+        &new.manager,
+        &mut new.keeper,
+        &mut new.passes,
     );
     is_answer(found, answer)
 }
@@ -67,36 +78,20 @@ fn answers(
 /// Plays a scene over these managers.
 fn between<R: Abort + AllocGlobal>(
     rt: &R,
-    old: &Manager,
-    old_keeper: &mut Keeper,
-    old_passes: &mut [Pass],
-    new: &Manager,
-    new_keeper: &mut Keeper,
-    new_passes: &mut [Pass],
+    old: &mut Managed,
+    new: &mut Managed,
     sides: &[Side<'_>; 2],
     answer: Result<&[Moved], RollFault>,
 )
-    requires kept { IsKeptBy old.now old_keeper.old × IsKeptBy new.now new_keeper.old }
-    requires own { All (IsOf old.now) old_passes.old }
-    requires new_own { All (IsOf new.now) new_passes.old }
+    requires kept { IsKeptBy old.old.manager old.old.keeper × IsKeptBy new.old.manager new.old.keeper }
+    requires old { All (IsOf old.old.manager) old.old.passes.items }
+    requires new { All (IsOf new.old.manager) new.old.passes.items }
 {
-    play(rt, old, old_passes, sides[0].before);
-    play(rt, new, new_passes, sides[1].before);
-    assert!(rt;
-        answers(
-            rt.alloc(),
-            old,
-            old_keeper,
-            old_passes,
-            new,
-            new_keeper,
-            new_passes,
-            answer
-        ),
-        "the rollover"
-    );
-    play(rt, old, old_passes, sides[0].after);
-    play(rt, new, new_passes, sides[1].after);
+    play(rt, &old.manager, &mut old.passes, sides[0].before);
+    play(rt, &new.manager, &mut new.passes, sides[1].before);
+    assert!(rt; answers(rt.alloc(), old, new, answer), "the rollover");
+    play(rt, &old.manager, &mut old.passes, sides[0].after);
+    play(rt, &new.manager, &mut new.passes, sides[1].after);
 }
 
 /// Plays a scene between an old manager and a new one, between which the rollover answers this.
@@ -105,40 +100,15 @@ pub(super) fn rolls<R: Abort + AllocGlobal>(
     sides: &[Side<'_>; 2],
     answer: Result<&[Moved], RollFault>,
 ) {
-    let (old, mut old_keeper, mut passes) = kept(rt, sides[0].limits);
-    let (new, mut new_keeper, mut new_passes) = kept(rt, sides[1].limits);
-    between(
-        rt,
-        &old,
-        &mut old_keeper,
-        &mut passes,
-        &new,
-        &mut new_keeper,
-        &mut new_passes,
-        sides,
-        answer,
-    );
-    drop(new_passes);
-    drop(passes);
-    drop(new_keeper);
-    drop(old_keeper);
-    drop(new);
-    drop(old);
+    let mut old = kept(rt, sides[0].limits, 2);
+    let mut new = kept(rt, sides[1].limits, 2);
+    between(rt, &mut old, &mut new, sides, answer);
 }
 
 /// Whether a rollover between managers with these limits, neither of which gave out a pass, is refused for
 /// that.
 pub(super) fn needs_passes<R: Abort + AllocGlobal>(rt: &R, limits: Limits) -> bool {
-    let (old, mut old_keeper) = Keeper::new(rt.alloc(), limits).expect(rt, "no manager");
-    let (new, mut new_keeper) = Keeper::new(rt.alloc(), limits).expect(rt, "no manager");
-    answers(
-        rt.alloc(),
-        &old,
-        &mut old_keeper,
-        &mut [],
-        &new,
-        &mut new_keeper,
-        &mut [],
-        Err(RollFault::NoPass),
-    )
+    let mut old = kept(rt, limits, 0);
+    let mut new = kept(rt, limits, 0);
+    answers(rt.alloc(), &mut old, &mut new, Err(RollFault::NoPass))
 }

@@ -45,7 +45,7 @@ returns-clause-own g c =
     let ss = c.args.servers.now in
     let os = c.args.places.now in
     let IsOurs = IsOf c.args.racing.now.manager.now in
-    All-append IsOurs c.shift-counts.new.desk_passes _ (All-weaker (IsFreePass c.args.racing.now.manager.now) IsOurs (λ p is. is.own) c.shift-counts.new.desk_passes c.shift-counts.ensures.desks_free)
+    All-append IsOurs c.shift-counts.new.desks.0 _ (All-weaker (IsFreePass c.args.racing.now.manager.now) IsOurs (λ p is. is.own) c.shift-counts.new.desks.0 c.shift-counts.ensures.desks_free)
     (rw c.split_at_mut-desks.ensures.back (All-drop IsOurs n ps c.requires.own))
 
 pub returns-clause-lie : goal.returns-clause-lie
@@ -58,11 +58,11 @@ returns-clause-lie g c =
     let before : AllLie (λ b. (goal.Server-dyn g (b.vtable, b.value)).behaviour b.value) (λ b. (goal.Server-dyn g (b.vtable, b.value)).registers b.value) (λ b. (goal.Server-dyn g (b.vtable, b.value)).pending b.value) c.split_at_mut-desks.result.0.now c.split_at_mut-boxes.result.0.now (take n os) = rw (c.split_at_mut-desks.ensures.front, c.split_at_mut-boxes.ensures.front) (lie_front (λ b. (goal.Server-dyn g (b.vtable, b.value)).behaviour b.value) (λ b. (goal.Server-dyn g (b.vtable, b.value)).registers b.value) (λ b. (goal.Server-dyn g (b.vtable, b.value)).pending b.value) n ps ss os c.requires.lie) in
     let after : AllLie (λ b. (goal.Server-dyn g (b.vtable, b.value)).behaviour b.value) (λ b. (goal.Server-dyn g (b.vtable, b.value)).registers b.value) (λ b. (goal.Server-dyn g (b.vtable, b.value)).pending b.value) c.split_at_mut-desks.result.1.now c.split_at_mut-boxes.result.1.now (drop n os) = rw (c.split_at_mut-desks.ensures.back, c.split_at_mut-boxes.ensures.back) (lie_back (λ b. (goal.Server-dyn g (b.vtable, b.value)).behaviour b.value) (λ b. (goal.Server-dyn g (b.vtable, b.value)).registers b.value) (λ b. (goal.Server-dyn g (b.vtable, b.value)).pending b.value) n ps ss os c.requires.lie) in
     let ran = rw c.plan_of.ensures.plan at c.shift-counts.ensures.desks in
-    let worked : AllLie (λ b. (goal.Server-dyn g (b.vtable, b.value)).behaviour b.value) (λ b. (goal.Server-dyn g (b.vtable, b.value)).registers b.value) (λ b. (goal.Server-dyn g (b.vtable, b.value)).pending b.value) c.shift-counts.new.desk_passes c.shift-counts.new.servers (take n os) =
-    lie_worked (λ b. (goal.Server-dyn g (b.vtable, b.value)).behaviour b.value) (λ b. (goal.Server-dyn g (b.vtable, b.value)).registers b.value) (λ b. (goal.Server-dyn g (b.vtable, b.value)).pending b.value) m (DeskRan (λ b. (goal.Server-dyn g (b.vtable, b.value)).behaviour b.value) (λ b. (goal.Server-dyn g (b.vtable, b.value)).registers b.value) (λ b. (goal.Server-dyn g (b.vtable, b.value)).pending b.value) m (least_first c.args.racing.now.plan.turns)) (λ x s y r. record { leaves = r.leaves; behaviour_is = r.behaviour_is; ready = r.ready }) c.split_at_mut-desks.result.0.now c.split_at_mut-boxes.result.0.now (take n os) _ c.shift-counts.new.desk_passes c.shift-counts.new.servers
+    let worked : AllLie (λ b. (goal.Server-dyn g (b.vtable, b.value)).behaviour b.value) (λ b. (goal.Server-dyn g (b.vtable, b.value)).registers b.value) (λ b. (goal.Server-dyn g (b.vtable, b.value)).pending b.value) c.shift-counts.new.desks.0 c.shift-counts.new.desks.1.0 (take n os) =
+    lie_worked (λ b. (goal.Server-dyn g (b.vtable, b.value)).behaviour b.value) (λ b. (goal.Server-dyn g (b.vtable, b.value)).registers b.value) (λ b. (goal.Server-dyn g (b.vtable, b.value)).pending b.value) m (DeskRan (λ b. (goal.Server-dyn g (b.vtable, b.value)).behaviour b.value) (λ b. (goal.Server-dyn g (b.vtable, b.value)).registers b.value) (λ b. (goal.Server-dyn g (b.vtable, b.value)).pending b.value) m (least_first c.args.racing.now.plan.turns)) (λ x s y r. record { leaves = r.leaves; behaviour_is = r.behaviour_is; ready = r.ready }) c.split_at_mut-desks.result.0.now c.split_at_mut-boxes.result.0.now (take n os) _ c.shift-counts.new.desks.0 c.shift-counts.new.desks.1.0
     before (all_free _ c.requires.free) ran.on_kept ran.by_kept ran.ran in
-    subst (AllLie (λ b. (goal.Server-dyn g (b.vtable, b.value)).behaviour b.value) (λ b. (goal.Server-dyn g (b.vtable, b.value)).registers b.value) (λ b. (goal.Server-dyn g (b.vtable, b.value)).pending b.value) (c.shift-counts.new.desk_passes ++ c.split_at_mut-desks.result.1.now) (c.shift-counts.new.servers ++ c.split_at_mut-boxes.result.1.now)) (take-append-drop n os)
-    (lie_append (λ b. (goal.Server-dyn g (b.vtable, b.value)).behaviour b.value) (λ b. (goal.Server-dyn g (b.vtable, b.value)).registers b.value) (λ b. (goal.Server-dyn g (b.vtable, b.value)).pending b.value) c.shift-counts.new.desk_passes c.shift-counts.new.servers (take n os) c.split_at_mut-desks.result.1.now c.split_at_mut-boxes.result.1.now (drop n os) worked after)
+    subst (AllLie (λ b. (goal.Server-dyn g (b.vtable, b.value)).behaviour b.value) (λ b. (goal.Server-dyn g (b.vtable, b.value)).registers b.value) (λ b. (goal.Server-dyn g (b.vtable, b.value)).pending b.value) (c.shift-counts.new.desks.0 ++ c.split_at_mut-desks.result.1.now) (c.shift-counts.new.desks.1.0 ++ c.split_at_mut-boxes.result.1.now)) (take-append-drop n os)
+    (lie_append (λ b. (goal.Server-dyn g (b.vtable, b.value)).behaviour b.value) (λ b. (goal.Server-dyn g (b.vtable, b.value)).registers b.value) (λ b. (goal.Server-dyn g (b.vtable, b.value)).pending b.value) c.shift-counts.new.desks.0 c.shift-counts.new.desks.1.0 (take n os) c.split_at_mut-desks.result.1.now c.split_at_mut-boxes.result.1.now (drop n os) worked after)
 
 pub returns-clause-raced : goal.returns-clause-raced
 returns-clause-raced g c =
@@ -74,16 +74,16 @@ returns-clause-raced g c =
     let before : AllLie (λ b. (goal.Server-dyn g (b.vtable, b.value)).behaviour b.value) (λ b. (goal.Server-dyn g (b.vtable, b.value)).registers b.value) (λ b. (goal.Server-dyn g (b.vtable, b.value)).pending b.value) c.split_at_mut-desks.result.0.now c.split_at_mut-boxes.result.0.now (take n os) = rw (c.split_at_mut-desks.ensures.front, c.split_at_mut-boxes.ensures.front) (lie_front (λ b. (goal.Server-dyn g (b.vtable, b.value)).behaviour b.value) (λ b. (goal.Server-dyn g (b.vtable, b.value)).registers b.value) (λ b. (goal.Server-dyn g (b.vtable, b.value)).pending b.value) n ps ss os c.requires.lie) in
     let after : AllLie (λ b. (goal.Server-dyn g (b.vtable, b.value)).behaviour b.value) (λ b. (goal.Server-dyn g (b.vtable, b.value)).registers b.value) (λ b. (goal.Server-dyn g (b.vtable, b.value)).pending b.value) c.split_at_mut-desks.result.1.now c.split_at_mut-boxes.result.1.now (drop n os) = rw (c.split_at_mut-desks.ensures.back, c.split_at_mut-boxes.ensures.back) (lie_back (λ b. (goal.Server-dyn g (b.vtable, b.value)).behaviour b.value) (λ b. (goal.Server-dyn g (b.vtable, b.value)).registers b.value) (λ b. (goal.Server-dyn g (b.vtable, b.value)).pending b.value) n ps ss os c.requires.lie) in
     let ran = rw c.plan_of.ensures.plan at c.shift-counts.ensures.desks in
-    let worked : AllLie (λ b. (goal.Server-dyn g (b.vtable, b.value)).behaviour b.value) (λ b. (goal.Server-dyn g (b.vtable, b.value)).registers b.value) (λ b. (goal.Server-dyn g (b.vtable, b.value)).pending b.value) c.shift-counts.new.desk_passes c.shift-counts.new.servers (take n os) =
-    lie_worked (λ b. (goal.Server-dyn g (b.vtable, b.value)).behaviour b.value) (λ b. (goal.Server-dyn g (b.vtable, b.value)).registers b.value) (λ b. (goal.Server-dyn g (b.vtable, b.value)).pending b.value) m (DeskRan (λ b. (goal.Server-dyn g (b.vtable, b.value)).behaviour b.value) (λ b. (goal.Server-dyn g (b.vtable, b.value)).registers b.value) (λ b. (goal.Server-dyn g (b.vtable, b.value)).pending b.value) m (least_first c.args.racing.now.plan.turns)) (λ x s y r. record { leaves = r.leaves; behaviour_is = r.behaviour_is; ready = r.ready }) c.split_at_mut-desks.result.0.now c.split_at_mut-boxes.result.0.now (take n os) _ c.shift-counts.new.desk_passes c.shift-counts.new.servers
+    let worked : AllLie (λ b. (goal.Server-dyn g (b.vtable, b.value)).behaviour b.value) (λ b. (goal.Server-dyn g (b.vtable, b.value)).registers b.value) (λ b. (goal.Server-dyn g (b.vtable, b.value)).pending b.value) c.shift-counts.new.desks.0 c.shift-counts.new.desks.1.0 (take n os) =
+    lie_worked (λ b. (goal.Server-dyn g (b.vtable, b.value)).behaviour b.value) (λ b. (goal.Server-dyn g (b.vtable, b.value)).registers b.value) (λ b. (goal.Server-dyn g (b.vtable, b.value)).pending b.value) m (DeskRan (λ b. (goal.Server-dyn g (b.vtable, b.value)).behaviour b.value) (λ b. (goal.Server-dyn g (b.vtable, b.value)).registers b.value) (λ b. (goal.Server-dyn g (b.vtable, b.value)).pending b.value) m (least_first c.args.racing.now.plan.turns)) (λ x s y r. record { leaves = r.leaves; behaviour_is = r.behaviour_is; ready = r.ready }) c.split_at_mut-desks.result.0.now c.split_at_mut-boxes.result.0.now (take n os) _ c.shift-counts.new.desks.0 c.shift-counts.new.desks.1.0
     before (all_free _ c.requires.free) ran.on_kept ran.by_kept ran.ran in
     let took : AllTakePart (TookTurns m.limits c.args.racing.now.plan.turns) _ _ =
-    parts_front (λ b. (goal.Server-dyn g (b.vtable, b.value)).behaviour b.value) (λ b. (goal.Server-dyn g (b.vtable, b.value)).registers b.value) (λ b. (goal.Server-dyn g (b.vtable, b.value)).pending b.value) (DeskRan (λ b. (goal.Server-dyn g (b.vtable, b.value)).behaviour b.value) (λ b. (goal.Server-dyn g (b.vtable, b.value)).registers b.value) (λ b. (goal.Server-dyn g (b.vtable, b.value)).pending b.value) c.args.racing.now.manager.now (least_first c.args.racing.now.plan.turns)) (TookTurns c.args.racing.now.manager.now.limits c.args.racing.now.plan.turns) (λ x s y r. (s, r.turns_taken)) n ps ss os c.split_at_mut-desks.result.0.now c.split_at_mut-desks.result.1.now c.split_at_mut-boxes.result.0.now c.split_at_mut-boxes.result.1.now _ c.shift-counts.new.desk_passes c.shift-counts.new.servers
+    parts_front (λ b. (goal.Server-dyn g (b.vtable, b.value)).behaviour b.value) (λ b. (goal.Server-dyn g (b.vtable, b.value)).registers b.value) (λ b. (goal.Server-dyn g (b.vtable, b.value)).pending b.value) (DeskRan (λ b. (goal.Server-dyn g (b.vtable, b.value)).behaviour b.value) (λ b. (goal.Server-dyn g (b.vtable, b.value)).registers b.value) (λ b. (goal.Server-dyn g (b.vtable, b.value)).pending b.value) c.args.racing.now.manager.now (least_first c.args.racing.now.plan.turns)) (TookTurns c.args.racing.now.manager.now.limits c.args.racing.now.plan.turns) (λ x s y r. (s, r.turns_taken)) n ps ss os c.split_at_mut-desks.result.0.now c.split_at_mut-desks.result.1.now c.split_at_mut-boxes.result.0.now c.split_at_mut-boxes.result.1.now _ c.shift-counts.new.desks.0 c.shift-counts.new.desks.1.0
     c.split_at_mut-desks.ensures.value c.split_at_mut-boxes.ensures.value before after worked c.requires.free (passed_behind os n (length os) (omega arith) c.requires.passed) ran.on_kept ran.by_kept ran.ran in
     let clients = c.split_at_mut-clients.ensures in
     record {
       desks = took;
-      ran = races_ran m c.args.racing.now.head.now.settings.rows c.shift-counts.result.submitted c.args.racing.now.plan c.args.racers.now c.split_at_mut-clients.result.0.now c.split_at_mut-clients.result.1.now c.shift-counts.new.client_passes c.shift-counts.new.killer_passes
+      ran = races_ran m c.args.racing.now.head.now.settings.rows c.shift-counts.result.submitted c.args.racing.now.plan c.args.racers.now c.split_at_mut-clients.result.0.now c.split_at_mut-clients.result.1.now c.shift-counts.new.clients.0 c.shift-counts.new.killers.0
           _ _ _
           (clients.front ∙ ap (λ n. take n c.args.racers.now) c.from.ensures) (clients.back ∙ ap (λ n. drop n c.args.racers.now) c.from.ensures) (c.shift-counts.ensures.clients_kept ∙ (clients.front_len ∙ c.from.ensures))
           (c.as_mut_slice.ensures.value ∙ c.in_ok-jobs.ensures.all)
@@ -91,17 +91,17 @@ returns-clause-raced g c =
           (record {
             client_counts = _;
             killer_counts = _;
-            clients_ran = subst (λ js. RanEach (ClientRan m) c.split_at_mut-clients.result.0.now c.as_mut_slice.result.now (client_part c.shift-counts.result) c.shift-counts.new.client_passes js) c.shift-counts.ensures.clients_same c.shift-counts.ensures.clients;
-            killers_ran = subst (λ js. RanEach (KillerRan m) c.split_at_mut-clients.result.1.now c.as_mut_slice-2.result.now (killer_part c.shift-counts.result) c.shift-counts.new.killer_passes js) c.shift-counts.ensures.killers_same c.shift-counts.ensures.killers;
+            clients_ran = subst (λ js. RanEach (ClientRan m) c.split_at_mut-clients.result.0.now c.as_mut_slice.result.now (client_part c.shift-counts.result) c.shift-counts.new.clients.0 js) c.shift-counts.ensures.clients_same c.shift-counts.ensures.clients;
+            killers_ran = subst (λ js. RanEach (KillerRan m) c.split_at_mut-clients.result.1.now c.as_mut_slice-2.result.now (killer_part c.shift-counts.result) c.shift-counts.new.killers.0 js) c.shift-counts.ensures.killers_same c.shift-counts.ensures.killers;
             accepted = refl;
           });
     }
 
 pub returns-clause-racers : goal.returns-clause-racers
 returns-clause-racers g c = record {
-  free = All-append (IsFreePass c.args.racing.now.manager.now) c.shift-counts.new.client_passes c.shift-counts.new.killer_passes c.shift-counts.ensures.clients_free c.shift-counts.ensures.killers_free;
+  free = All-append (IsFreePass c.args.racing.now.manager.now) c.shift-counts.new.clients.0 c.shift-counts.new.killers.0 c.shift-counts.ensures.clients_free c.shift-counts.ensures.killers_free;
   numbered =
-      map-append (λ (p : PassShown). p.number) c.shift-counts.new.client_passes c.shift-counts.new.killer_passes
+      map-append (λ (p : PassShown). p.number) c.shift-counts.new.clients.0 c.shift-counts.new.killers.0
       ∙ ((λ i. c.shift-counts.ensures.clients_numbered i ++ c.shift-counts.ensures.killers_numbered i)
       ∙ (sym (map-append (λ (p : PassShown). p.number) c.split_at_mut-clients.result.0.now c.split_at_mut-clients.result.1.now) ∙ ap numbers (sym c.split_at_mut-clients.ensures.value)));
 }

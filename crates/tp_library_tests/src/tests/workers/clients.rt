@@ -13,7 +13,7 @@ use std::thread::Threads;
 use tp_manager::{Keeper, Manager, Pass};
 use tp_model::types::Limits;
 use tp_server::{Act, AmountFrom};
-use tp_workers::{ClientJob, KillJob, NoGate, Plan, Shift, shift, work_off};
+use tp_workers::{ClientJob, KillJob, NoGate, Plan, Shift, ShiftMeans, Workers, shift, work_off};
 
 /// A shift of clients alone.
 fn submits<R: Threads + Sync>(
@@ -29,19 +29,25 @@ fn submits<R: Threads + Sync>(
     ensures free { All (IsFreePass manager.now) clients.new }
     ensures kept { length clients.new ≡ length clients.old }
 {
-    shift(
+    let means = ShiftMeans {
         rt,
         manager,
-        &mut [],
-        &mut [],
-        clients,
-        jobs,
-        &mut [],
-        &mut [],
-        Plan::least_first(0),
-        &mut [],
-        &NoGate,
-    )
+        plan: Plan::least_first(0),
+        gate: &NoGate,
+    };
+    let desks = Workers {
+        on: &mut [],
+        by: &mut [],
+    };
+    let clients = Workers {
+        on: clients,
+        by: jobs,
+    };
+    let killers = Workers {
+        on: &mut [],
+        by: &mut [],
+    };
+    shift(&means, desks, clients, killers, &mut [])
 }
 
 /// What clients count of which so many calls were accepted, and so many found no row.
@@ -60,19 +66,25 @@ fn kills_four<R: Threads + Sync>(rt: &R, manager: &Manager, killers: &mut [Pass]
     ensures one { length killers.new ≡ 1 }
     ensures free { All (IsFreePass manager.now) killers.new }
 {
-    shift(
+    let means = ShiftMeans {
         rt,
         manager,
-        &mut [],
-        &mut [],
-        &mut [],
-        &mut [],
-        killers,
-        &mut [KillJob { first: 0, end: 4 }],
-        Plan::least_first(0),
-        &mut [],
-        &NoGate,
-    )
+        plan: Plan::least_first(0),
+        gate: &NoGate,
+    };
+    let desks = Workers {
+        on: &mut [],
+        by: &mut [],
+    };
+    let clients = Workers {
+        on: &mut [],
+        by: &mut [],
+    };
+    let killers = Workers {
+        on: killers,
+        by: &mut [KillJob { first: 0, end: 4 }],
+    };
+    shift(&means, desks, clients, killers, &mut [])
 }
 
 #[test]

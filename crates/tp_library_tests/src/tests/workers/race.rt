@@ -11,7 +11,7 @@ use tp_desk::Order;
 use tp_manager::{Keeper, Manager, Pass};
 use tp_model::types::{Account, Limits};
 use tp_server::Server;
-use tp_workers::{Drained, KillJob, NoGate, Plan, Shift, drain, shift};
+use tp_workers::{Drained, KillJob, NoGate, Plan, Shift, ShiftMeans, Workers, drain, shift};
 
 /// The closing account, if these are all passes of the keeper.
 fn accounted(manager: &Manager, keeper: &mut Keeper, passes: &mut [Pass]) -> Option<Account>
@@ -41,19 +41,25 @@ fn raced<R: Threads + Sync + Abort + AllocGlobal>(
 {
     let (clients, others) = passes.split_at_mut(2);
     let (desks, killers) = others.split_at_mut(2);
-    let counts = shift(
+    let means = ShiftMeans {
         rt,
         manager,
-        desks,
-        servers,
-        clients,
-        &mut [client(rt, 1, 50), client(rt, 1, 50)],
-        killers,
-        &mut [KillJob { first: 0, end: 128 }],
-        Plan::least_first(100),
-        &mut [],
-        &NoGate,
-    );
+        plan: Plan::least_first(100),
+        gate: &NoGate,
+    };
+    let serving = Workers {
+        on: &mut *desks,
+        by: &mut *servers,
+    };
+    let submitting = Workers {
+        on: clients,
+        by: &mut [client(rt, 1, 50), client(rt, 1, 50)],
+    };
+    let killing = Workers {
+        on: killers,
+        by: &mut [KillJob { first: 0, end: 128 }],
+    };
+    let counts = shift(&means, serving, submitting, killing, &mut []);
     let drained = drain(manager, desks, servers, Order::LeastFirst);
     let account = accounted(manager, keeper, passes);
     (counts, drained, account)

@@ -10,7 +10,7 @@ use std::thread::Threads;
 use tp_manager::{Manager, Pass};
 use tp_model::types::Limits;
 use tp_server::Server;
-use tp_workers::{Gate, KillJob, Plan, Point, shift};
+use tp_workers::{Gate, KillJob, Plan, Point, ShiftMeans, Workers, shift};
 
 /// Holds each worker at its start until all have come there. Each has one turn or call.
 #[derive(Drop)]
@@ -50,19 +50,25 @@ fn start_together<R: Threads + Sync + Abort + AllocGlobal>(
         came: AtomicU64::new(0),
         failed: AtomicU64::new(0),
     };
-    let counts = shift(
+    let means = ShiftMeans {
         rt,
         manager,
-        desks,
-        servers,
-        clients,
-        &mut [client(rt, 1, 1), client(rt, 1, 1)],
-        killers,
-        &mut [KillJob { first: 0, end: 1 }, KillJob { first: 1, end: 2 }],
-        Plan::least_first(1),
-        &mut [],
-        &gate,
-    );
+        plan: Plan::least_first(1),
+        gate: &gate,
+    };
+    let desks = Workers {
+        on: desks,
+        by: servers,
+    };
+    let clients = Workers {
+        on: clients,
+        by: &mut [client(rt, 1, 1), client(rt, 1, 1)],
+    };
+    let killers = Workers {
+        on: killers,
+        by: &mut [KillJob { first: 0, end: 1 }, KillJob { first: 1, end: 2 }],
+    };
+    let counts = shift(&means, desks, clients, killers, &mut []);
     assert!(rt; gate.failed.load(Ordering::SeqCst) == 0);
     assert_eq!(rt; counts.submitted, 2);
 }

@@ -1,5 +1,5 @@
 use Rattle.tp_manager.specs.Shown.{IsOf}
-use Rattle.tp_alone.specs.Thread.{Stays}
+use Rattle.tp_rollover.specs.Thread.{Stays}
 use Rattle.tp_rollover.specs.Told.{HoldsAsSeen}
 use Rattle.std.proofs.Common.{◌≡◌, ◌*◌, ◌≤◌, length, vec_capacity}
 use Rattle.tp_manager.specs.Bounds.{read_steps}

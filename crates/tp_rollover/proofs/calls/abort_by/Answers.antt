@@ -1,7 +1,7 @@
 use Rattle.std.proofs.Common.{IsSome, ap, subst, sym, Some}
 use Rattle.tp_plain.specs.Computed.{abort_of}
 use Rattle.tp_manager.specs.Calls.{AnswersAbort}
-use Rattle.tp_alone.proofs.Aborts.{alone_abort}
+use Rattle.tp_rollover.proofs.AloneAborts.{alone_abort}
 use Rattle.tp_rollover.proofs.Calling.{computed, lone_again, made, may_gather}
 use Rattle.tp_rollover.proofs.GivingUp.{hand_is}
 use Rattle.tp_rollover.proofs.calls.abort_by.Goals as goal

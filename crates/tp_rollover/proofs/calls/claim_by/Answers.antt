@@ -1,7 +1,7 @@
 use Rattle.std.proofs.Common.{◌∙◌, ap, arith, sym, Err, Ok}
 use Rattle.tp_plain.specs.Computed.{claim_id_of}
-use Rattle.tp_alone.specs.Laws.{ClaimIdAnswers}
-use Rattle.tp_alone.proofs.Given.{alone_claim_id}
+use Rattle.tp_rollover.specs.AloneLaws.{ClaimIdAnswers}
+use Rattle.tp_rollover.proofs.AloneGiven.{alone_claim_id}
 use Rattle.tp_rollover.specs.Anew.{given}
 use Rattle.tp_rollover.specs.Lone.{lone}
 use Rattle.tp_rollover.proofs.Calling.{agrees_none, computed, lone_again, made, may_gather}

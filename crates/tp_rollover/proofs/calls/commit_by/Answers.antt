@@ -2,7 +2,7 @@ use Rattle.std.proofs.Common.{IsSome, ap, subst, sym}
 use Rattle.tp_model.specs.declared.types.Outcome.TheVariants as outcomes
 use Rattle.tp_plain.specs.Computed.{commit_of}
 use Rattle.tp_manager.specs.Calls.{Settles}
-use Rattle.tp_alone.proofs.Commits.{alone_commit}
+use Rattle.tp_rollover.proofs.AloneCommits.{alone_commit}
 use Rattle.tp_rollover.specs.Anew.{first_given}
 use Rattle.tp_rollover.specs.Lone.{lone}
 use Rattle.tp_rollover.proofs.Calling.{computed, lone_again, made, may_gather}

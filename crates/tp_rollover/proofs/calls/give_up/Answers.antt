@@ -1,7 +1,7 @@
 use Rattle.std.proofs.Common.{◌<◌, ◌∙◌, ap, arith, length, subst, sym}
 use Rattle.tp_plain.specs.Computed.{abort_of}
 use Rattle.tp_manager.specs.Calls.{AnswersAbort}
-use Rattle.tp_alone.proofs.Aborts.{alone_abort}
+use Rattle.tp_rollover.proofs.AloneAborts.{alone_abort}
 use Rattle.tp_rollover.specs.Bounds.{AllMake}
 use Rattle.tp_rollover.proofs.Calling.{computed, lone_again, made}
 use Rattle.tp_rollover.proofs.GivingUp.{gives_open, steps_open}

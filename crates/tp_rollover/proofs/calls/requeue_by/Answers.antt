@@ -1,7 +1,7 @@
 use Rattle.std.proofs.Common.{ap, sym, Err, Ok, Some, option_and_then}
 use Rattle.tp_plain.specs.Computed.{requeue_of}
-use Rattle.tp_alone.specs.Laws.{RequeueAnswers}
-use Rattle.tp_alone.proofs.Requeues.{alone_requeue}
+use Rattle.tp_rollover.specs.AloneLaws.{RequeueAnswers}
+use Rattle.tp_rollover.proofs.AloneRequeues.{alone_requeue}
 use Rattle.tp_rollover.specs.Anew.{given}
 use Rattle.tp_rollover.proofs.Calling.{agrees_none, computed, lone_again, made, may_gather}
 use Rattle.tp_rollover.proofs.calls.requeue_by.Goals as goal

@@ -1,7 +1,7 @@
 use Rattle.std.proofs.Common.{ap, sym, Err, Ok}
 use Rattle.tp_plain.specs.Computed.{submit_of}
-use Rattle.tp_alone.specs.Laws.{SubmitAnswers}
-use Rattle.tp_alone.proofs.Submits.{alone_submit}
+use Rattle.tp_rollover.specs.AloneLaws.{SubmitAnswers}
+use Rattle.tp_rollover.proofs.AloneSubmits.{alone_submit}
 use Rattle.tp_rollover.specs.Anew.{given}
 use Rattle.tp_rollover.specs.Lone.{lone}
 use Rattle.tp_rollover.proofs.Calling.{agrees_none, computed, lone_again, made, may_gather}

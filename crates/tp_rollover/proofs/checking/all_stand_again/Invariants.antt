@@ -1,6 +1,6 @@
 use Rattle.std.proofs.Common.{◌*◌, take}
 use Rattle.tp_manager.specs.Shown.{IsOf}
-use Rattle.tp_alone.specs.Thread.{Stays}
+use Rattle.tp_rollover.specs.Thread.{Stays}
 use Rattle.tp_rollover.specs.Alike.{AllStandUnheld}
 use Rattle.tp_rollover.specs.Bounds.{PassMakes, compare_steps}
 use Rattle.tp_rollover.specs.Told.{HoldsAsSeen}

@@ -1,5 +1,5 @@
 use Rattle.std.proofs.Common.{◌<◌, ◌≤◌, length, ap, sym, ◌∙◌, subst}
-use Rattle.tp_alone.specs.Thread.{thread_of}
+use Rattle.tp_rollover.specs.Thread.{thread_of}
 use Rattle.tp_rollover.specs.Anew.{drawer, least_units, units_unclaimed}
 use Rattle.tp_rollover.proofs.BirthsPlaces.{drawer_on, drawer_past, drawer_used, left_units}
 use Rattle.tp_rollover.proofs.places.drawing.Goals as goal

@@ -1,5 +1,5 @@
 use Rattle.std.proofs.Common.{◌≡◌, false, length, sym, ◌∙◌, ⊎_elim}
-use Rattle.tp_alone.specs.Thread.{thread_of}
+use Rattle.tp_rollover.specs.Thread.{thread_of}
 use Rattle.tp_rollover.specs.Anew.{has_left}
 use Rattle.tp_rollover.proofs.BirthsPlaces.{few_rows, few_units, first_end, first_hit, first_miss, has_both}
 use Rattle.tp_rollover.proofs.places.first_with.Goals as goal

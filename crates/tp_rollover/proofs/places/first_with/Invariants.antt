@@ -1,6 +1,6 @@
 use Rattle.std.proofs.Common.{◌≡◌, ◌-◌, List, length}
 use Rattle.tp_model.specs.declared.event.Event.{Event}
-use Rattle.tp_alone.specs.Thread.{thread_of}
+use Rattle.tp_rollover.specs.Thread.{thread_of}
 use Rattle.tp_rollover.specs.Anew.{first_from, has_left}
 use Rattle.tp_rollover.proofs.places.first_with.Given as goal
 

@@ -1,5 +1,5 @@
 use Rattle.std.proofs.Common.{◌≡◌, zero, ◌+◌, ◌-◌, ◌<◌, false, length, ap, sym, ◌∙◌, ⊎_elim, arith}
-use Rattle.tp_alone.specs.Thread.{thread_of}
+use Rattle.tp_rollover.specs.Thread.{thread_of}
 use Rattle.tp_rollover.specs.Anew.{last_below, would_draw}
 use Rattle.tp_rollover.proofs.BirthsPlaces.{draws_here, draws_not, enough_rows, last_hit, last_miss}
 use Rattle.tp_rollover.proofs.places.last_drawing.Goals as goal

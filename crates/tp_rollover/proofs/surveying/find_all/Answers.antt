@@ -3,7 +3,7 @@ use Rattle.std.specs.List.{AllZip}
 use Rattle.tp_model.specs.declared.types.Account.{Account}
 use Rattle.tp_model.specs.Steps.{IsLegal}
 use Rattle.tp_manager.specs.Bounds.{account_steps, gather_steps}
-use Rattle.tp_alone.specs.Thread.{AreTogether, Stays}
+use Rattle.tp_rollover.specs.Thread.{AreTogether, Stays}
 use Rattle.tp_rollover.specs.Answers.{IsHistoryOf}
 use Rattle.tp_rollover.specs.Finding.{CountsAlive}
 use Rattle.tp_rollover.specs.Bounds.{AllMake, alive_after, survey_steps}

@@ -1,6 +1,6 @@
 use Rattle.std.proofs.Common.{◌≡◌, ◌*◌, ◌≤◌, length, take, vec_capacity}
 use Rattle.tp_manager.specs.Shown.{IsOf}
-use Rattle.tp_alone.specs.Thread.{Stays}
+use Rattle.tp_rollover.specs.Thread.{Stays}
 use Rattle.tp_rollover.specs.Bounds.{PassMakes, describe_steps}
 use Rattle.tp_rollover.specs.Finding.{AreDescribed}
 use Rattle.tp_rollover.specs.Told.{HoldsAsSeen}

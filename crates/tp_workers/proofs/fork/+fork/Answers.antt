@@ -34,13 +34,13 @@ pub fork-returns : goal.fork-returns
 fork-returns g t c =
     let R = Runs g.F.Fn c.args.run.now in
     let same : length c.split_at_mut-front.result.0.now ≡ length c.split_at_mut-front_by.result.0.now = c.split_at_mut-front.ensures.front_len ∙ sym c.split_at_mut-front_by.ensures.front_len in
-    let on_new = c.halves.new.front ++ c.halves.new.back in
-    let by_new = c.halves.new.front_by ++ c.halves.new.back_by in
+    let on_new = c.halves.new.front.0 ++ c.halves.new.back.0 in
+    let by_new = c.halves.new.front.1.0 ++ c.halves.new.back.1.0 in
     let joined = each_append R _ _ _ _ _ _ _ _ _ _ same c.halves.ensures.front_ran c.halves.ensures.back_ran in
     let counted = subst (λ s. RanEach R (c.split_at_mut-front.result.0.now ++ c.split_at_mut-front.result.1.now) (c.split_at_mut-front_by.result.0.now ++ c.split_at_mut-front_by.result.1.now) s on_new by_new) (sym c.plus.ensures) joined in
     let known = subst (λ xs. RanEach R xs (c.split_at_mut-front_by.result.0.now ++ c.split_at_mut-front_by.result.1.now) c.plus.result on_new by_new) (sym c.split_at_mut-front.ensures.value) counted in
     let places = c.args.told.now in
-    let told_new = c.halves.new.front_told ++ c.halves.new.back_told in
+    let told_new = c.halves.new.front.1.1.0 ++ c.halves.new.back.1.1.0 in
     let front_told = c.split_at_mut-front_told.result.0.now in
     let back_told = c.split_at_mut-front_told.result.1.now in
     let split : length (front_told ++ back_told) ≡ length (c.split_at_mut-front.result.0.now ++ c.split_at_mut-front.result.1.now)

@@ -11,4 +11,4 @@ abbrev pub decreases-fork : goal.decreases-fork
 decreases-fork g l = 3 * length l.on.now
 
 abbrev pub decreases-halves : goal.decreases-halves
-decreases-halves g l = 3 * max (length l.front.now) (length l.back.now) + 2
+decreases-halves g l = 3 * max (length l.front.on.now) (length l.back.on.now) + 2

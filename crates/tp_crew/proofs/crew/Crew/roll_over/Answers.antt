@@ -1,7 +1,7 @@
 use Rattle.std.proofs.Common.{◌≡◌, ◌∙◌, length, refl, subst, sym}
 use Rattle.std.specs.List.{AllZip}
 use Rattle.std.proofs.lemmas.List.{with_items_is}
-use Rattle.tp_alone.specs.Thread.{Stays}
+use Rattle.tp_rollover.specs.Thread.{Stays}
 use Rattle.tp_rollover.proofs.Assembly.{gathered, stay_trans}
 use Rattle.tp_crew.specs.Rolling.{RefusedSteps}
 use Rattle.tp_crew.proofs.CrewLemmas.{stayed_steady}

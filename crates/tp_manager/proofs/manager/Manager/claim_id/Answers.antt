@@ -1,8 +1,8 @@
 use Rattle.std.proofs.Common.{◌≡◌, ◌+◌, ◌*◌, ◌<◌, ◌≤◌, ℕ, sym, ◌∙◌, ap, refl, arith, subst}
 use Rattle.tp_model.specs.declared.types.Element.{Element}
 use Rattle.tp_model.specs.declared.types.Limits.{Limits}
-use Rattle.tp_words.specs.Words.{head_of}
-use Rattle.tp_words.specs.declared.words.Head.TheVariants.{Filled}
+use Rattle.tp_rule.specs.Words.{head_of}
+use Rattle.tp_rule.specs.declared.packing.Head.TheVariants.{Filled}
 use Rattle.tp_manager.specs.declared.row_reads.Birth.{Birth}
 use Rattle.tp_model.specs.declared.types.Refusal.TheVariants as refusals
 use Rattle.tp_model.specs.History.{IsUnborn, there}

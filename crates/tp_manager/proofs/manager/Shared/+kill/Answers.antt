@@ -5,8 +5,8 @@ use Rattle.tp_model.specs.declared.event.Event.{Event}
 use Rattle.tp_model.specs.Steps.{AreLimits, IsLegal}
 use Rattle.tp_model.specs.Words.{claim_word}
 use Rattle.tp_model.proofs.Bridges.{found_later}
-use Rattle.tp_words.specs.declared.words.Claim.{Claim}
-use Rattle.tp_words.specs.Words.{claim_value}
+use Rattle.tp_rule.specs.declared.packing.Claim.{Claim}
+use Rattle.tp_rule.specs.Words.{claim_value}
 use Rattle.tp_rule.specs.Tables.{table_limits}
 use Rattle.tp_rule.specs.Views.{seen_by, view_of}
 use Rattle.tp_manager.specs.Bounds.{slay_from}

@@ -1,5 +1,5 @@
 use Rattle.std.proofs.Common.{◌+◌, ◌*◌}
-use Rattle.tp_words.specs.Words.{claim_value}
+use Rattle.tp_rule.specs.Words.{claim_value}
 use Rattle.tp_manager.specs.Bounds.{slay_from}
 use Rattle.tp_manager.proofs.manager.Shared.+kill.Given as goal
 

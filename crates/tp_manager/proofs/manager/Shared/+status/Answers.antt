@@ -4,7 +4,7 @@ use Rattle.tp_model.specs.declared.trace.StepKind.TheVariants as kinds
 use Rattle.tp_model.specs.Words.{TakenWord, claim_word}
 use Rattle.tp_model.proofs.Bridges.{status_again, status_free, status_killed}
 use Rattle.tp_model.proofs.Later.{unit_inside}
-use Rattle.tp_words.specs.Words.{claim_value, unit_value}
+use Rattle.tp_rule.specs.Words.{claim_value, unit_value}
 use Rattle.tp_rule.specs.Tables.{table_limits}
 use Rattle.tp_rule.specs.Views.{seen_by, view_of}
 use Rattle.tp_rule.proofs.Reading.{grew_begins}

@@ -4,7 +4,7 @@ use Rattle.tp_model.specs.declared.types.Element.{Element}
 use Rattle.tp_model.specs.declared.types.Limits.{Limits}
 use Rattle.tp_model.specs.History.{element_of}
 use Rattle.tp_model.proofs.Bridges.{begins_refl, begins_trans, found_later, status_killed}
-use Rattle.tp_words.specs.Words.{claim_value}
+use Rattle.tp_rule.specs.Words.{claim_value}
 use Rattle.tp_rule.specs.Tables.{table_limits}
 use Rattle.tp_rule.specs.Views.{seen_by, view_of}
 use Rattle.tp_rule.proofs.Reading.{grew_begins}

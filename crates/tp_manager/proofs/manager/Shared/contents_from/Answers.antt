@@ -2,12 +2,12 @@ use Rattle.std.proofs.Common.{◌≡◌, subst, sym, ◌∙◌, ap, arith, refl,
 use Rattle.tp_model.specs.declared.types.Element.{Element}
 use Rattle.tp_model.specs.declared.trace.StepKind.TheVariants as kinds
 use Rattle.tp_model.specs.History.{Committed, element_of, end_of}
-use Rattle.tp_words.specs.Words.{head_of, unit_value}
+use Rattle.tp_rule.specs.Words.{head_of, unit_value}
 use Rattle.tp_rule.specs.Tables.{table_limits}
 use Rattle.tp_rule.specs.Views.{seen_by, view_of}
 use Rattle.tp_rule.specs.Steps.{Knows, MayBeBorn}
 use Rattle.tp_rule.specs.declared.view.Known.TheVariants.{RowHead}
-use Rattle.tp_words.specs.declared.words.Head.TheVariants.{Filled}
+use Rattle.tp_rule.specs.declared.packing.Head.TheVariants.{Filled}
 use Rattle.tp_manager.specs.CallSteps.{Acted}
 use Rattle.tp_manager.proofs.Calls.CallSteps.{acted_by, looked, looked_none, looked_few}
 use Rattle.tp_manager.proofs.Rows.Looks.{head_now, none_outside, none_unit, there_unit, unended_outside}

@@ -1,5 +1,5 @@
 use Rattle.std.proofs.Common.{◌≡◌, sym, subst, arith, rules}
-use Rattle.tp_words.specs.declared.words.Head.TheVariants.{Empty}
+use Rattle.tp_rule.specs.declared.packing.Head.TheVariants.{Empty}
 use Rattle.tp_model.specs.declared.types.Limits.{Limits}
 use Rattle.tp_model.specs.Steps.{IsArea}
 use Rattle.tp_rule.specs.Tables.{table_limits}

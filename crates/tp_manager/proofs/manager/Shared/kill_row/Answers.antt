@@ -4,7 +4,7 @@ use Rattle.tp_model.specs.declared.types.Limits.{Limits}
 use Rattle.tp_model.specs.Steps.{tries}
 use Rattle.tp_model.specs.Words.{ClaimWord, FreeWord, TakenWord, KilledWord, AgainWord}
 use Rattle.tp_model.proofs.Bridges.{found_later}
-use Rattle.tp_words.specs.Words.{claim_value}
+use Rattle.tp_rule.specs.Words.{claim_value}
 use Rattle.tp_rule.specs.Tables.{table_limits}
 use Rattle.tp_rule.specs.Views.{seen_by, view_of}
 use Rattle.tp_rule.proofs.Reading.{grew_begins}

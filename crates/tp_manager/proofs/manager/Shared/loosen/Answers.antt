@@ -5,9 +5,9 @@ use Rattle.tp_model.specs.declared.trace.StepKind.TheVariants as kinds
 use Rattle.tp_model.specs.Words.{TakenWord, claim_word}
 use Rattle.tp_model.proofs.Bridges.{status_killed}
 use Rattle.tp_model.proofs.Later.{claim_taken, unit_inside}
-use Rattle.tp_words.specs.declared.words.Claim.{Claim}
-use Rattle.tp_words.specs.declared.words.Claim.TheVariants as claims
-use Rattle.tp_words.specs.Words.{claim_value, unit_value}
+use Rattle.tp_rule.specs.declared.packing.Claim.{Claim}
+use Rattle.tp_rule.specs.declared.packing.Claim.TheVariants as claims
+use Rattle.tp_rule.specs.Words.{claim_value, unit_value}
 use Rattle.tp_rule.specs.Steps.{AllowsKill}
 use Rattle.tp_rule.specs.Tables.{table_limits}
 use Rattle.tp_rule.specs.Views.{hand, seen_by, view_of}

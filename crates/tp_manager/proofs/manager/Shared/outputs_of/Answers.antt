@@ -5,7 +5,7 @@ use Rattle.tp_model.specs.History.{Committed, end_of}
 use Rattle.tp_model.proofs.Bridges.{end_stays, taking_later}
 use Rattle.tp_model.proofs.Descents.{consumed_later}
 use Rattle.tp_model.proofs.Later.{claim_taken, unit_inside}
-use Rattle.tp_words.specs.Words.{unit_value}
+use Rattle.tp_rule.specs.Words.{unit_value}
 use Rattle.tp_rule.specs.Tables.{table_limits}
 use Rattle.tp_rule.specs.Views.{seen_by, view_of}
 use Rattle.tp_manager.specs.CallSteps.{Looked}

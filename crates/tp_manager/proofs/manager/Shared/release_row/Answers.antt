@@ -4,7 +4,7 @@ use Rattle.tp_model.specs.declared.types.Limits.{Limits}
 use Rattle.tp_model.specs.Words.{TakenWord, claim_word}
 use Rattle.tp_model.proofs.Bridges.{begins_refl, begins_trans, found_later, status_again, status_free, status_killed}
 use Rattle.tp_model.proofs.Later.{claim_taken, unit_inside}
-use Rattle.tp_words.specs.Words.{claim_value, unit_value}
+use Rattle.tp_rule.specs.Words.{claim_value, unit_value}
 use Rattle.tp_rule.specs.Steps.{HasElement}
 use Rattle.tp_rule.specs.Tables.{table_limits}
 use Rattle.tp_rule.specs.Views.{seen_by, view_of}

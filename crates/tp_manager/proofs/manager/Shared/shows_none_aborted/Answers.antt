@@ -6,7 +6,7 @@ use Rattle.tp_model.specs.declared.types.Limits.{Limits}
 use Rattle.tp_model.specs.declared.trace.StepKind.TheVariants as kinds
 use Rattle.tp_model.specs.History.{end_of}
 use Rattle.tp_model.specs.Steps.{IsUnitOf}
-use Rattle.tp_words.specs.Words.{unit_value}
+use Rattle.tp_rule.specs.Words.{unit_value}
 use Rattle.tp_rule.specs.Tables.{table_limits}
 use Rattle.tp_rule.specs.Views.{seen_by, view_of}
 use Rattle.tp_manager.specs.CallSteps.{Acted}

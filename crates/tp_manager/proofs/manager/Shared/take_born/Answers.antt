@@ -5,8 +5,8 @@ use Rattle.tp_model.specs.declared.trace.StepKind.TheVariants as kinds
 use Rattle.tp_model.specs.History.{status_of}
 use Rattle.tp_model.specs.Steps.{IsServerStage}
 use Rattle.tp_model.proofs.Bridges.{begins_refl, found_later}
-use Rattle.tp_words.specs.Words.{head_of}
-use Rattle.tp_words.specs.declared.words.Head.TheVariants.{Filled}
+use Rattle.tp_rule.specs.Words.{head_of}
+use Rattle.tp_rule.specs.declared.packing.Head.TheVariants.{Filled}
 use Rattle.tp_rule.specs.Tables.{table_limits}
 use Rattle.tp_rule.specs.Views.{seen_by, view_of}
 use Rattle.tp_rule.specs.declared.view.View.{View}

@@ -1,5 +1,5 @@
 use Rattle.std.proofs.Common.{length}
-use Rattle.tp_alone.specs.Thread.{thread_of}
+use Rattle.tp_rollover.specs.Thread.{thread_of}
 use Rattle.tp_rollover.proofs.BirthsPlaces.{next_drawn, next_first, next_full}
 use Rattle.tp_rollover.proofs.places.Cursor.next.Goals as goal
 

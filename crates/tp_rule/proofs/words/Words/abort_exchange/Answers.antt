@@ -1,8 +1,8 @@
 use Rattle.std.proofs.Common.{◌≡◌, ◌≢◌, rules, sym, ◌∙◌, ap, subst, Some}
 use Rattle.tp_model.specs.declared.trace.StepKind.TheVariants as kinds
 use Rattle.tp_rule.specs.Steps.{LosesUnit}
-use Rattle.tp_words.specs.Places.{UnitWord}
-use Rattle.tp_words.specs.Words.{pack_unit}
+use Rattle.tp_rule.specs.Places.{UnitWord}
+use Rattle.tp_rule.specs.Words.{pack_unit}
 use Rattle.tp_rule.specs.Rule.{WordIs}
 use Rattle.tp_rule.specs.Views.{seen_by, view_of}
 use Rattle.tp_rule.proofs.Deciding.{aborts_go}

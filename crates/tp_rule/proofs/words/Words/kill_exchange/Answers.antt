@@ -1,8 +1,8 @@
 use Rattle.std.proofs.Common.{rules, ◌≡◌, ◌∙◌, sym, ap, subst}
 use Rattle.tp_model.specs.declared.types.Limits.{Limits}
 use Rattle.tp_model.specs.declared.trace.StepKind.TheVariants as kinds
-use Rattle.tp_words.specs.Places.{ClaimWord}
-use Rattle.tp_words.specs.Words.{IsFitClaim, claim_value, pack_claim}
+use Rattle.tp_rule.specs.Places.{ClaimWord}
+use Rattle.tp_rule.specs.Words.{IsFitClaim, claim_value, pack_claim}
 use Rattle.tp_rule.specs.Doors.{key_of}
 use Rattle.tp_rule.specs.Rule.{WordIs}
 use Rattle.tp_rule.specs.Views.{seen_by, view_of}

@@ -1,6 +1,6 @@
 use Rattle.std.proofs.Common.{sym, subst}
-use Rattle.tp_words.specs.Places.{ClaimWord}
-use Rattle.tp_words.specs.Words.{IsFitClaim}
+use Rattle.tp_rule.specs.Places.{ClaimWord}
+use Rattle.tp_rule.specs.Words.{IsFitClaim}
 use Rattle.tp_rule.specs.Rule.{WordIs}
 use Rattle.tp_rule.specs.Views.{seen_by}
 use Rattle.tp_rule.proofs.Seats.{one_has}

@@ -2,8 +2,8 @@ use Rattle.std.proofs.Common.{◌≡◌, ◌<◌, rules, sym, ◌∙◌, ap, sub
 use Rattle.tp_model.specs.Steps.{rows_of}
 use Rattle.tp_rule.specs.Doors.{Permits, key_of}
 use Rattle.tp_rule.specs.Plays.{loads_head}
-use Rattle.tp_words.specs.Places.{HeadWord}
-use Rattle.tp_words.specs.Words.{pack_head}
+use Rattle.tp_rule.specs.Places.{HeadWord}
+use Rattle.tp_rule.specs.Words.{pack_head}
 use Rattle.tp_rule.specs.Steps.{MayBeBorn}
 use Rattle.tp_rule.specs.Rule.{HeadTold, IsDraft}
 use Rattle.tp_rule.specs.Views.{seen_by}

@@ -1,6 +1,6 @@
 use Rattle.std.proofs.Common.{◌≡◌, ℕ, ◌≤◌, rules, sym, ◌∙◌, ap, subst, arith}
 use Rattle.tp_model.specs.declared.types.Limits.{Limits}
-use Rattle.tp_words.specs.Places.{IsThere, MarkWord, mark_place}
+use Rattle.tp_rule.specs.Places.{IsThere, MarkWord, mark_place}
 use Rattle.tp_rule.specs.Doors.{Permits, key_of}
 use Rattle.tp_rule.specs.Plays.{loads_mark}
 use Rattle.tp_rule.specs.Steps.{IsLow, Knows}

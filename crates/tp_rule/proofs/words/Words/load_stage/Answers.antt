@@ -2,8 +2,8 @@ use Rattle.std.proofs.Common.{◌<◌, rules, sym, ◌∙◌, ap, subst}
 use Rattle.tp_model.specs.Steps.{rows_of}
 use Rattle.tp_rule.specs.Doors.{Permits, key_of}
 use Rattle.tp_rule.specs.Plays.{loads_head}
-use Rattle.tp_words.specs.Places.{HeadWord}
-use Rattle.tp_words.specs.Words.{IsFitHead, pack_head}
+use Rattle.tp_rule.specs.Places.{HeadWord}
+use Rattle.tp_rule.specs.Words.{IsFitHead, pack_head}
 use Rattle.tp_rule.specs.Rule.{HeadTold}
 use Rattle.tp_rule.specs.Views.{seen_by}
 use Rattle.tp_rule.proofs.Seats.{looks_head, one_has}

@@ -1,6 +1,6 @@
 use Rattle.std.proofs.Common.{◌≡◌, rules, sym, ◌∙◌, ap, subst}
 use Rattle.tp_model.specs.declared.types.Limits.{Limits}
-use Rattle.tp_words.specs.Places.{UnitWord, unit_place}
+use Rattle.tp_rule.specs.Places.{UnitWord, unit_place}
 use Rattle.tp_rule.specs.Doors.{Permits, key_of}
 use Rattle.tp_rule.specs.Plays.{loads_unit}
 use Rattle.tp_rule.specs.Rule.{WordIs}

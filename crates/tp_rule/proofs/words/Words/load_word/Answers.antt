@@ -1,4 +1,4 @@
-use Rattle.tp_words.specs.Places.{BodyWord}
+use Rattle.tp_rule.specs.Places.{BodyWord}
 use Rattle.tp_rule.proofs.Seats.{one_has}
 use Rattle.tp_rule.proofs.Reading.{told}
 use Rattle.tp_rule.proofs.words.Words.load_word.Goals as goal

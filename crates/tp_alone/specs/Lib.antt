@@ -1,3 +1,0 @@
-pub mod Thread
-pub mod Laws
-pub mod Middle
