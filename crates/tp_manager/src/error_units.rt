@@ -64,7 +64,18 @@ impl Shared {
         }
     }
 
+    /// Whether the pass knows the rows of all parts but the last one finished: then a walk has little to do.
+    fn is_walked(&self, lows: &Lows) -> bool {
+        for part in 1..self.places.limits.parts {
+            if lows[part as usize - 1] != self.places.limits.rows {
+                return false;
+            }
+        }
+        true
+    }
+
     /// Whether at most so many looks show that none of the part is aborted.
+    #[inline(always)]
     fn none_aborted(&self, seat: &mut Seat, units: &mut UnitsSeen, part: u16, most: u16) -> bool
         requires steady { IsSteady self.now.words seat.old }
         requires part { part < (table_limits self.now.words).parts }
@@ -100,7 +111,7 @@ impl Shared {
             Sought l (scan_steps l unit_looks 1 lows.now l.parts) (EachRow (PassedOver l) 0 (rows_of l))
             (view_of seat.old) (view_of seat.new) }
     {
-        if units.aborted {
+        if units.aborted || self.is_walked(lows) {
             return false;
         }
         let rows = self.places.limits.rows;
