@@ -153,7 +153,7 @@ listed_steps = error_steps + 1
 
 -- before all that it looks at the words of the part's units, once and so often for each row
 abbrev pub unit_looks : ℕ
-unit_looks = 5
+unit_looks = 1
 
 -- all of this, which is counted with a spare row too
 abbrev pub seek_steps : ℕ
@@ -324,7 +324,7 @@ pub record RoundBounds (l : Limits) : Type 0 where
   pub claim_left : (lows : List ℕ)
       → claim_steps_left l lows ≤ rows_left l lows * 9 + 3 * l.parts + 1 + 3 * drawn_steps l.spare
   pub listing_left : (lows : List ℕ)
-      → listing_steps_left l lows ≤ rows_left l lows * 11 + 3 * l.parts + 3 * drawn_steps l.spare
+      → listing_steps_left l lows ≤ rows_left l lows * 7 + 3 * l.parts + 3 * drawn_steps l.spare
   pub commit : (k : ℕ) → commit_steps l k ≤ 6 * k + 3 + l.spare
   pub abort : abort_steps ≤ 2
   pub kill : kill_steps l ≤ 4 * changes l.attempts + 8
@@ -335,7 +335,7 @@ pub record RoundBounds (l : Limits) : Type 0 where
   pub read : read_steps l ≤ 2 * changes l.attempts + 10
   pub reply : (n : ℕ) → family_reply_steps n ≤ 2 * n + 1
   pub family : (n : ℕ) → family_look_steps l n ≤ 2 * n + 2 * changes l.attempts + 11
-  pub next_error : next_error_steps l ≤ rows_of l * 11 + 3 * l.parts + 3 * drawn_steps l.spare
+  pub next_error : next_error_steps l ≤ rows_of l * 7 + 3 * l.parts + 3 * drawn_steps l.spare
   pub meet : meet_steps ≤ 3
   pub gather : (n : ℕ) → 1 ≤ n → n ≤ l.parts → gather_steps l n + 1 ≡ 5 * n + 2 * l.parts
   pub account : AreLimits l → (n : ℕ) → n ≤ l.parts

@@ -15,10 +15,6 @@ use crate::manager::Shared;
 use crate::marking::{Lows, MARKED_PARTS};
 use tp_rule::{Seat, UnitWord};
 
-/// How many looks at the units of a part a listing makes at most for each row that it may have to walk over,
-/// beside one: a walk leaves as many in the bound (`unit_looks`).
-const UNIT_LOOKS: u16 = 5;
-
 /// What a pass remembers of units.
 #[derive(Clone, Copy)]
 pub(crate) struct UnitsSeen {
@@ -98,7 +94,8 @@ impl Shared {
     }
 
     /// Whether looks at units show that nothing was parked when the first of them was made. In each part one,
-    /// and a few more for each row that a walk would come to, as far as the pass knows.
+    /// and one more for each row that a walk would come to, as far as the pass knows: where more units were
+    /// committed since the last listing, a walk finds as many rows finished, and raises the marks over them.
     pub(crate) fn none_parked(&self, seat: &mut Seat, units: &mut UnitsSeen, lows: &Lows) -> bool
         requires steady { IsSteady self.now.words seat.old }
         requires remembers { RemembersUnits (view_of seat.old) units.old.committed }
@@ -117,7 +114,7 @@ impl Shared {
         let rows = self.places.limits.rows;
         for part in 0..self.places.limits.parts {
             let left = rows - lows[part as usize];
-            if !self.none_aborted(seat, units, part, 1 + UNIT_LOOKS * left) {
+            if !self.none_aborted(seat, units, part, 1 + left) {
                 return false;
             }
         }

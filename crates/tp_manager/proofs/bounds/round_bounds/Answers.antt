@@ -7,10 +7,10 @@ use Rattle.tp_manager.proofs.Accounts.RoundAccounts.{account_round, cancel_round
 use Rattle.tp_manager.proofs.bounds.round_bounds.Goals as goal
 
 -- a listing that begins at no mark
-listing_round : (l : Limits) → listing_steps l ≤ rows_of l * 11 + 3 * l.parts + 3 * drawn_steps l.spare
-listing_round l = let all : l.parts * find_steps l + (3 * drawn_steps l.spare + BLOCK_ROWS * l.spare * seek_steps) ≤ rows_of l * 11 + 3 * l.parts + 3 * drawn_steps l.spare = search rules in
+listing_round : (l : Limits) → listing_steps l ≤ rows_of l * 7 + 3 * l.parts + 3 * drawn_steps l.spare
+listing_round l = let all : l.parts * find_steps l + (3 * drawn_steps l.spare + BLOCK_ROWS * l.spare * seek_steps) ≤ rows_of l * 7 + 3 * l.parts + 3 * drawn_steps l.spare = search rules in
     let none : BLOCK_ROWS * l.spare ≡ BLOCK_ROWS * l.spare - 0 = omega arith in
-    subst (λ n. l.parts * find_steps l + (3 * drawn_steps l.spare + n * seek_steps) ≤ rows_of l * 11 + 3 * l.parts + 3 * drawn_steps l.spare) none all
+    subst (λ n. l.parts * find_steps l + (3 * drawn_steps l.spare + n * seek_steps) ≤ rows_of l * 7 + 3 * l.parts + 3 * drawn_steps l.spare) none all
 
 pub returns : goal.returns
 returns c = record {

@@ -33,12 +33,12 @@ loop-part-init c = record {
 pub returns-then-not-none_aborted-clause-looked : goal.returns-then-not-none_aborted-clause-looked
 returns-then-not-none_aborted-clause-looked c = let l : Limits = table_limits c.args.self.now.words in let at = (goal.at.returns-then-not-none_aborted-clause-looked c).After-none_aborted in let n = c.loop-part.part in let lows = c.args.lows.now in
     let wide = rows at in let p = parts at in let less = c.loop-part-test.true in let next = scan_next l lows unit_looks 1 n in let all = scan_rises l lows unit_looks 1 (n + 1) l.parts (omega arith) in
-    looked_few l (scan_steps l unit_looks 1 lows n + (1 + 5 * (c.args.self.now.places.limits.rows - slice_index lows n))) (scan_steps l unit_looks 1 lows l.parts) _ _ (omega arith)
-    (looked_then l (scan_steps l unit_looks 1 lows n) (1 + 5 * (c.args.self.now.places.limits.rows - slice_index lows n)) _ _ _ (since at) c.none_aborted.ensures.looked)
+    looked_few l (scan_steps l unit_looks 1 lows n + (1 + (c.args.self.now.places.limits.rows - slice_index lows n))) (scan_steps l unit_looks 1 lows l.parts) _ _ (omega arith)
+    (looked_then l (scan_steps l unit_looks 1 lows n) (1 + (c.args.self.now.places.limits.rows - slice_index lows n)) _ _ _ (since at) c.none_aborted.ensures.looked)
 
 pub loop-part-preserved : goal.loop-part-preserved
 loop-part-preserved c = let l : Limits = table_limits c.args.self.now.words in let at = (goal.at.loop-part-preserved c).After-none_aborted in let n = c.loop-part.part in let lows = c.args.lows.now in
-    let wide = rows at in let next = scan_next l lows unit_looks 1 n in let k : ℕ = 1 + 5 * (c.args.self.now.places.limits.rows - slice_index lows n) in record {
+    let wide = rows at in let next = scan_next l lows unit_looks 1 n in let k : ℕ = 1 + (c.args.self.now.places.limits.rows - slice_index lows n) in record {
       same = search rules;
       remembers = c.none_aborted.ensures.remembers;
       begun = begun_few l (NoneAborted l) (well_widens l) (scan_steps l unit_looks 1 lows n + k) 0 (scan_steps l unit_looks 1 lows (n + 1)) (n + 1) _ _ (omega arith)
