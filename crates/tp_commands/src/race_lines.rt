@@ -79,7 +79,8 @@ pub(crate) fn race_in<R: Threads + Sync>(
     ensures numbered { numbers passes.new ≡ numbers passes.old }
     ensures tells { IfOk result (λ text. (old : Scene) × (new : Scene)
         × IsScene behaviour registers pending passes.old servers.old places.old old
-        × Raced racing.now.manager.now (head_view racing.now.head.now) racing.now.plan racing.now.behind old (string_bytes text) new
+        × Raced racing.now.manager.now (head_view racing.now.head.now) racing.now.plan racing.now.behind
+        old (string_bytes text) new
         × IsScene behaviour registers pending passes.new servers.new places.new new) }
 {
     let Some((client, others)) = passes.split_first_mut() else {

@@ -19,8 +19,8 @@ pub fn exact_client()
     ensures { ExactClient }
 {}
 
-/// A command or a drain, performed between two gatherings: its line, and what it leaves. In a drain all passes
-/// gather after each turn.
+/// A command or a drain, performed between two gatherings: its line, and what it leaves. In a drain all
+/// passes gather after each turn.
 pub fn exact_command()
     ensures command { ExactCommand }
     ensures drain { ExactDrain }

@@ -12,7 +12,7 @@ use tp_script::Refused;
 use tp_server::Turned;
 
 /// What a command on a server came to. Elements are given by their ids.
-#[derive(Clone, Copy, Debug, PartialEq, Eq)]
+#[derive(Clone, Copy)]
 pub enum ServerAnswer {
     /// A turn, or the part of it that was asked for, came to this.
     Turned(Turned),

@@ -7,7 +7,8 @@ ghost use Rattle.tp_report.specs.Answer.{refusal_text, maker_text, status_text, 
 ghost use Rattle.tp_report.specs.Answer.{element_text, look_text, reply_text, replies_text, collected_text};
 ghost use Rattle.tp_report.specs.Answer.{state_text, member_text, family_text, errors_text, counts_text};
 ghost use Rattle.tp_report.specs.Answer.{account_text, balance_text, final_text, answer_text};
-ghost use Rattle.tp_report.specs.Answer.{depth_text, depths_text, ids_text, list_text, renamed_text, reply_text, rolled_text};
+ghost use Rattle.tp_report.specs.Answer.{depth_text, depths_text, ids_text, list_text, renamed_text};
+ghost use Rattle.tp_report.specs.Answer.{reply_text, rolled_text};
 
 use crate::answer::{Answer, Renamed, ServerAnswer};
 use crate::depth::Depth;

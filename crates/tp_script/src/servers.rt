@@ -9,7 +9,8 @@ ghost use Rattle.tp_script.specs.Reading.{Gives, GivesHead, shape_view};
 ghost use Rattle.tp_script.specs.Script.{head_view, server_view};
 ghost use Rattle.tp_script.specs.ServerLines.{free_name, has_client, new_name, server_at, shape_at};
 ghost use Rattle.tp_script.specs.ServerLines.{recipe_at, registers_for};
-ghost use Rattle.tp_script.specs.ServerLines.{server_line, server_said, with_server, with_start, begin_at, start_line};
+ghost use Rattle.tp_script.specs.ServerLines.{server_line, server_said, with_server, with_start, begin_at};
+ghost use Rattle.tp_script.specs.ServerLines.{start_line};
 ghost use Rattle.tp_script.specs.declared.script.TheConstants.{MAX_SERVERS};
 
 use crate::fault::{LineError, LineFault};
