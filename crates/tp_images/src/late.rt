@@ -1,12 +1,13 @@
 //! Pictures that come late: two passes of a manager, and desks that are used one call at a time.
 ghost use Rattle.std.specs.Prelude.{◌≡◌, None};
+ghost use Rattle.tp_workers.specs.Free.{IsFreePass};
 
 use crate::day::{Boxed, LIMITS};
 use crate::delivery::deliver;
 use crate::own_calls::resize;
 use crate::servers::{Notifier, Resizer};
 use tp_desk::Desk;
-use tp_manager::Keeper;
+use tp_manager::{Keeper, Manager, Pass};
 use tp_model::types::{Claimed, Outcome};
 use tp_server::OwnServer;
 use tp_workers::ProgramFault;
@@ -17,12 +18,11 @@ pub fn work<R: AllocGlobal + Print>(rt: &R) -> Result<(), ProgramFault> {
     let (manager, mut keeper) = Keeper::new(rt.alloc(), LIMITS.with_parts(2))?;
     let mut front = keeper.pass(&manager)?;
     let mut worker = keeper.pass(&manager)?;
-    let mut notifier: Boxed = Box::new(rt.alloc(), OwnServer::new(Notifier, [0, 0]))?;
     let mut resizer: Boxed = Box::new(rt.alloc(), OwnServer::new(Resizer, [50_000]))?;
     manager.submit(&mut front, 2, [0, 8_000, 75, 5])?;
     manager.submit(&mut front, 3, [0, 77, 71, 6])?;
     let resized = resize(&manager, &mut worker, 8);
-    let told = deliver(&manager, &mut worker, &mut notifier, 8);
+    let told = tell(rt, &manager, &mut worker)?;
     println!(rt; "late: {resized} resized, {told} notices")?;
 
     let root = manager.submit(&mut front, 2, [1, 4_000, 74, 4])?;
@@ -39,4 +39,13 @@ pub fn work<R: AllocGlobal + Print>(rt: &R) -> Result<(), ProgramFault> {
     }
     desk.end();
     Ok(())
+}
+
+/// Tells what was resized, by a notifier of its own. Returns how many notices that were.
+fn tell<R: AllocGlobal>(rt: &R, manager: &Manager, worker: &mut Pass) -> Result<u32, ProgramFault>
+    requires free { IsFreePass manager.now worker.old }
+    ensures free { IsFreePass manager.now worker.new }
+{
+    let mut notifier: Boxed = Box::new(rt.alloc(), OwnServer::new(Notifier, [0, 0]))?;
+    Ok(deliver(manager, worker, &mut notifier, 8))
 }

@@ -26,8 +26,12 @@ fn kept<R: Abort + AllocGlobal>(rt: &R, limits: Limits, given: u32) -> Managed
     let (manager, mut keeper) = Keeper::new(rt.alloc(), limits).expect(rt, "no manager");
     let mut passes = Vec::new(rt.alloc());
     for _i in 0..given {
-        let pass = keeper.pass(&manager).expect(rt, "no pass");
-        passes.push(pass).expect(rt, "no memory");
+        let Ok(pass) = keeper.pass(&manager) else {
+            panic!(rt; "no pass");
+        };
+        let Ok(()) = passes.push(pass) else {
+            panic!(rt; "no memory");
+        };
     }
     Managed {
         manager,
