@@ -22,12 +22,15 @@ fn mark_rises(rt: HostRuntime) {
         (SERVER, Commits(0, BODY, NOTHING)),
         (SERVER, Claims(1, work(10, 1, request(2, 1, BODY)))),
         (SERVER, Low(1, 2)),
-        // The client hasn't looked at that mark. A listing raises the one that is about all stages.
+        // The client hasn't looked at that mark. Units show that nothing is parked: a listing comes to no row.
+        (CLIENT, NextError(0, None)),
         (CLIENT, Low(0, 0)),
+        // Where one is aborted it walks, and raises the mark that is about all stages.
+        (SERVER, Aborts),
         (CLIENT, NextError(0, None)),
         (CLIENT, Low(0, 2)),
         (CLIENT, Low(1, 0)),
-        (CLIENT, Claims(1, Claimed::Idle)),
+        (CLIENT, Claims(1, work(0, 2, request(2, 1, BODY)))),
         (CLIENT, Low(1, 2)),
     ];
     plays(&rt, limits, &calls);
