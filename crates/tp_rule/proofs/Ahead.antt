@@ -18,7 +18,7 @@ use Rattle.tp_rule.specs.Steps.{IsAreaBy, Made, MayBeBorn}
 use Rattle.tp_rule.specs.declared.view.Hand.{Hand}
 use Rattle.tp_rule.specs.declared.view.Known.TheVariants.{RowHead}
 use Rattle.tp_rule.proofs.Owning.{S, in_own, made_by, stepped}
-use Rattle.tp_rule.proofs.Storing.{full_head}
+use Rattle.tp_rule.proofs.Storing.{has_full}
 use Rattle.tp_rule.proofs.Tellings.{none_behind}
 
 -- each row is in an area
@@ -77,7 +77,7 @@ module _ (k : Limits) (s : S) (r : Rule k s) where
 
   module _ (i stage root u : ℕ) (named : NamesUnit s.words i stage root u) where
     full : get_or s.words (head_place i) 0 ≢ 0
-    full nothing = full_head (Filled stage root (Some u)) (λ e. cc) (sym named.1 ∙ nothing)
+    full = has_full s.words i (Filled stage root (Some u)) (λ e. cc) named.1
 
     -- a pass has the area of the row
     its_pass : (first end : ℕ) → IsArea k first end → first ≤ i → i < end → (a : Hand) × Hold a × IsOwnArea k a.number a.blocks first end

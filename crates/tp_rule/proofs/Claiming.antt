@@ -21,7 +21,7 @@ use Rattle.tp_rule.specs.Places.{ClaimWord as ClaimOf, claim_place, place_of, si
 use Rattle.tp_rule.specs.Words.{IsFitClaim, pack_claim}
 use Rattle.tp_rule.specs.Doors.{Permits}
 use Rattle.tp_rule.specs.Plays.{exchanges_claim}
-use Rattle.tp_rule.specs.Rule.{AreasHold, HandHolds, RowsHold, Rule, UnitsHold, World, drawn_in}
+use Rattle.tp_rule.specs.Rule.{AreasHold, HandHolds, HasTail, RowsHold, Rule, UnitsHold, World, drawn_in}
 use Rattle.tp_rule.specs.Steps.{after, unchanged, with_claim, Grew, AllowsClaim, HasWork, claimed}
 use Rattle.tp_rule.specs.Views.{IsOnePass, hand}
 use Rattle.tp_rule.specs.declared.view.Hand.{Hand}
@@ -33,7 +33,7 @@ use Rattle.tp_rule.proofs.Frames.{Stays, Turn, hand_holds, rows_frame, seat_hold
 use Rattle.tp_rule.proofs.Owning.{own_inside}
 use Rattle.tp_model.proofs.Areas.{ascend_wider}
 use Rattle.tp_rule.proofs.Parts.{fair_units, IsOf, in_all}
-use Rattle.tp_rule.proofs.Storing.{drawn_rises, may_claim, row_left}
+use Rattle.tp_rule.proofs.Storing.{drawn_rises, may_claim, row_left, tail_same}
 use Rattle.tp_rule.proofs.Tellings.{claim_now, told_later}
 use Rattle.tp_rule.proofs.Units.{decide}
 
@@ -66,6 +66,10 @@ module _ (k : Limits) where
   rows_still h ws e row x first end first_draft next left body ds at none_born inside r = rows_frame k h (h ++ e ∷ []) ws (set ws (claim_place row) x) first end first_draft next left body ds
       (λ i low high. row_left k ws (ClaimOf row) x at i (omega arith) (λ q. cc))
       (λ i low high un. unborn_still h e i un (λ z n id. in_none (subst (λ l. In z l) none_born n))) r
+
+  -- those right before its next one
+  pub tail_still : (ws : List ℕ) (row x first end next rest tail stage : ℕ) → row < rows_of k → end ≤ rows_of k → next + rest ≡ end → HasTail ws first next tail stage → HasTail (set ws (claim_place row) x) first next tail stage
+  tail_still ws row x first end next rest tail stage at inside top old = tail_same ws (set ws (claim_place row) x) first end next rest tail stage top (λ i low high. (row_left k ws (ClaimOf row) x at i (omega arith) (λ q. cc)).0) old
 
   -- and its blocks
   pub blocks_still : (ws : List ℕ) (row x : ℕ) (bs : List ℕ) → row < rows_of k → length ws ≡ size_of k → Ascend 0 (drawn_in k ws) bs → Ascend 0 (drawn_in k (set ws (claim_place row) x)) bs
@@ -169,6 +173,7 @@ module _ (k : Limits) where
         end = mine.end;
         area = mine.area;
         rows = rows_still h s.words e row new mine.first mine.end a.first_draft a.next a.left a.next_body a.drafts room refl (own_inside k a.number a.blocks mine.first mine.end mine.area) mine.rows;
+        tail = tail_still s.words row new mine.first mine.end a.next a.left a.tail a.tail_stage room (own_inside k a.number a.blocks mine.first mine.end mine.area) mine.rows.ends mine.tail;
         units = units_claim h s.words a.number row n a.claimed u r.world is_next left units;
         areas = areas_still h s.words e row new a (with_claim u e a) room refl (claim_quiet a.number u row n) (λ first end own. own) refl (refl, refl) (λ i z low high is. let q : None ≡ Some z = sym held ∙ is in absurd cc) refl mine.areas;
       } in (

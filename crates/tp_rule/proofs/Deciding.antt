@@ -20,7 +20,7 @@ use Rattle.tp_rule.specs.Places.{Word, HeadWord, BodyWord, ClaimWord, UnitWord, 
 use Rattle.tp_rule.specs.Words.{IsFitHead, IsFitUnit, head_of, pack_by, pack_head, pack_unit}
 use Rattle.tp_rule.specs.Doors.{Permits}
 use Rattle.tp_rule.specs.Plays.{exchanges_commit, exchanges_abort}
-use Rattle.tp_rule.specs.Rule.{AreasHold, HaveIdsFrom, HandHolds, Holds, RowsHold, Rule, WordIs, UnitsHold, drawn_in}
+use Rattle.tp_rule.specs.Rule.{AreasHold, HasHead, HasTail, HaveIdsFrom, HandHolds, Holds, RowsHold, Rule, WordIs, UnitsHold, drawn_in}
 use Rattle.tp_model.specs.Passes.{Ascend, IsOwnArea}
 use Rattle.tp_rule.specs.declared.view.Known.TheVariants.{RowHead}
 use Rattle.tp_rule.specs.Steps.{IsOut, after, unchanged, with_end, with_lost, IsOwnWork, IsClaimed, commit_event, Grew, LosesUnit, HasCleared}
@@ -33,7 +33,7 @@ use Rattle.tp_rule.proofs.OwnAreas.{SameHeads, areas_event, areas_on}
 use Rattle.tp_rule.proofs.Owning.{own_inside}
 use Rattle.tp_model.proofs.Areas.{ascend_wider}
 use Rattle.tp_rule.proofs.Parts.{fair_rows, fair_units, in_run}
-use Rattle.tp_rule.proofs.Storing.{drawn_rises, full_head, may_unit, row_left}
+use Rattle.tp_rule.proofs.Storing.{drawn_rises, has_full, may_unit, row_left, tail_same}
 use Rattle.tp_rule.proofs.Tellings.{body_later, born_fit, claim_later, head_later, unit_later, unit_now}
 use Rattle.tp_rule.proofs.Units.{decide}
 use Rattle.tp_rule.proofs.Watching.{rows_lost}
@@ -114,7 +114,7 @@ module _ (k : Limits) where
   -- what the words say after an event that decides unit u, where those of each row that is born hold its element
   decided_told : (h : List Event) (ws : List ℕ) (e : Event) (u : ℕ) → ((i : ℕ) → claim_word_after i (claim_word h i) e ≡ claim_word h i) → ((z : ℕ) → z ≢ u → decide z (end_of h z) e ≡ end_of h z)
       → ((y : Element) → In y (births e) → Holds ws y × IsFitHead (head_of y)) → (w : Word) → IsThere k w → w ≢ UnitWord u → WordIs h w (get_or ws (place_of k w) 0) → WordIs (h ++ e ∷ []) w (get_or ws (place_of k w) 0)
-  decided_told h ws e u quiet else_is full (HeadWord i) at other old = head_later h e i (get_or ws (head_place i) 0) (λ y q id. let f = full y q in (subst (λ z. get_or ws (head_place z) 0 ≡ pack_head (head_of y)) id f.0.0, f.1)) old
+  decided_told h ws e u quiet else_is full (HeadWord i) at other old = head_later h e i (get_or ws (head_place i) 0) (λ y q id. let f = full y q in (subst (λ z. HasHead ws z (head_of y)) id f.0.0, f.1)) old
   decided_told h ws e u quiet else_is full (BodyWord i j) at other old = body_later h e i (get_or ws (body_place i j) 0) (λ y. slice_index y.body j)
       (λ y q id. let holds = (full y q).0 in let below = at.1 in let whole = holds.2 in subst (λ z. get_or ws (body_place z j) 0 ≡ slice_index y.body j) id (holds.1 j (omega arith))) old
   decided_told h ws e u quiet else_is full (ClaimWord i) at other old = claim_later h e i (get_or ws (claim_place i) 0) (quiet i) old
@@ -202,6 +202,10 @@ module _ (k : Limits) where
   first_fits end first next left [] fair count top inside r = omega arith
   first_fits end first next left (y ∷ ys) fair count top inside r = let id : y.id ≡ first = r.0 in let few = fair_rows k fair in omega arith
 
+  -- the rows right before the next one after a store to a unit's word
+  tail_end : (ws : List ℕ) (u x first end next rest tail stage : ℕ) → u < units_of k → end ≤ rows_of k → next + rest ≡ end → HasTail ws first next tail stage → HasTail (set ws (unit_place k u) x) first next tail stage
+  tail_end ws u x first end next rest tail stage at inside top old = tail_same ws (set ws (unit_place k u) x) first end next rest tail stage top (λ i low high. (row_left k ws (UnitWord u) x at i (omega arith) (λ q. cc)).0) old
+
   -- the blocks of the pass after a store to a unit's word
   blocks_end : (ws : List ℕ) (u x : ℕ) (bs : List ℕ) → u < units_of k → length ws ≡ size_of k → Ascend 0 (drawn_in k ws) bs → Ascend 0 (drawn_in k (set ws (unit_place k u) x)) bs
   blocks_end ws u x bs at wide up = ascend_wider 0 (drawn_in k ws) (drawn_in k (set ws (unit_place k u) x)) bs (drawn_rises k ws (UnitWord u) x at wide (may_unit k ws u x)) up
@@ -215,6 +219,7 @@ module _ (k : Limits) where
     first = r.first;
     end = r.end;
     area = r.area;
+    tail = r.tail;
     rows = rows_lost k h ws r.first r.end a.first_draft a.next a.left a.next_body a.drafts r.rows;
     units = units_decided h a.number a.claimed u a.spare_unit a.open_unit (inr held) (λ z. let q : (Some Aborted) ≡ None = sym gone ∙ z in absurd cc) r.units;
     areas = areas_event k h h ws ws a (with_lost a) (λ z from count is. is) (λ first end own. own) refl (refl, refl) (λ first end i own low high. refl) (λ z un. un)
@@ -262,13 +267,14 @@ module _ (k : Limits) where
         end = mine.end;
         area = mine.area;
         rows = rows_end h s.words e u new mine.first mine.end a.first_draft a.next a.left a.next_body ds room inside (λ y q. q) rows;
+        tail = tail_end s.words u new mine.first mine.end a.next a.left a.tail a.tail_stage room inside rows.ends mine.tail;
         units = units_end h e a.number a.claimed u a.spare_unit a.open_unit (inr held) (λ d z i n q. cc) (λ z. let q : Some (Committed first count) ≡ None = sym (end_of-snoc h e u ∙ now) ∙ z in absurd cc) mine.units;
         areas = areas_end h s.words e u new a room (inr held) (λ z. let q : Some (Committed first count) ≡ None = sym (end_of-snoc h e u ∙ now) ∙ z in absurd cc)
             (λ i from n low high is. let q : Some (Committed first count) ≡ Some (Committed from n) = sym (end_of-snoc h e u ∙ now) ∙ is in let same_first : first ≡ from = cc in let same_count : count ≡ n = cc in
             let begin = first_draft_of ds a.first_draft rows.run (omega arith) in (omega arith, omega arith))
             (λ c z outs same. cc)
             (λ from to i y own low high q past. let b = in_run a.first_draft ds y rows.run q in let below = b.1 in
-            ⊎_elim (λ some. some) (λ t. let c = cleared i t.0 t.1 in let still = seat.known (RowHead i c.0) c.2 in λ none. full_head c.0 c.1 (sym (still.2 c.1) ∙ none))
+            ⊎_elim (λ some. some) (λ t. let c = cleared i t.0 t.1 in let still = seat.known (RowHead i c.0) c.2 in λ none. has_full s.words i c.0 c.1 (still.2 c.1) none)
             (mine.areas.cleared from to i own (λ is. let e2 = is in omega arith) low high)) mine.areas;
       } in (
         after kinds.CommitExchange (with_end e) (h ++ e ∷ []) v.known v,
@@ -297,6 +303,7 @@ module _ (k : Limits) where
         end = mine.end;
         area = mine.area;
         rows = rows_end h s.words e u 2 mine.first mine.end a.first_draft a.next a.left a.next_body a.drafts room (own_inside k a.number a.blocks mine.first mine.end mine.area) (λ y q. absurd (in_none q)) mine.rows;
+        tail = tail_end s.words u 2 mine.first mine.end a.next a.left a.tail a.tail_stage room (own_inside k a.number a.blocks mine.first mine.end mine.area) mine.rows.ends mine.tail;
         units = units_end h e a.number a.claimed u a.spare_unit a.open_unit holding (λ d z i n q. cc) (λ z. let q : (Some Aborted) ≡ None = sym (end_of-snoc h e u ∙ now) ∙ z in absurd cc) mine.units;
         areas = areas_end h s.words e u 2 a room holding (λ z. let q : (Some Aborted) ≡ None = sym (end_of-snoc h e u ∙ now) ∙ z in absurd cc)
             (λ i from n low high is. let q : Some Aborted ≡ Some (Committed from n) = sym (end_of-snoc h e u ∙ now) ∙ is in absurd cc) (λ c z outs same. absurd cc) (λ from to i y own low high q past. absurd (in_none q)) mine.areas;

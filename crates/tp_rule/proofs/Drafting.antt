@@ -11,7 +11,7 @@ use Rattle.tp_model.specs.declared.types.TheConstants.{BODY_WORDS}
 use Rattle.tp_model.specs.Steps.{IsBody, block_first, rows_of}
 use Rattle.tp_model.proofs.Bridges.{begins_refl, in_either, in_one}
 use Rattle.tp_rule.specs.Places.{Word, HeadWord, BodyWord, IsThere, head_place, body_place, place_of, size_of}
-use Rattle.tp_rule.specs.Words.{head_of, pack_head, IsFitHead}
+use Rattle.tp_rule.specs.Words.{head_bits, head_of, pack_head, run_bits, IsFitHead}
 use Rattle.tp_rule.specs.declared.packing.Head.TheVariants.{Filled}
 use Rattle.tp_rule.specs.Doors.{Permits}
 use Rattle.tp_rule.specs.Plays.{stores_word, stores_head}
@@ -26,8 +26,8 @@ use Rattle.tp_rule.proofs.Frames.{IsMine, Stays, Turn, draws_still, hand_holds, 
 use Rattle.tp_rule.proofs.Owning.{own_drawn, own_inside}
 use Rattle.tp_rule.proofs.Parts.{in_run, run_snoc}
 use Rattle.tp_model.proofs.Areas.{ascend_wider, one_area, own_area}
-use Rattle.tp_rule.proofs.Storing.{MayHead, MayStore, body_row, drawn_left, drawn_rises, full_head, holds_same, left, row_left, still_left, stored}
-use Rattle.tp_rule.proofs.Tellings.{world_stored, head_told}
+use Rattle.tp_rule.proofs.Storing.{MayHead, MayStore, RunsBefore, body_row, drawn_left, drawn_rises, full_head, holds_same, left, row_left, still_left, stored, tail_same}
+use Rattle.tp_rule.proofs.Tellings.{bits_alone, head_told, run_alone, world_stored}
 
 -- a word of a body is no head, and is one of its body alone
 no_head : (i j n : ℕ) → BodyWord i j ≢ HeadWord n
@@ -80,10 +80,10 @@ module _ (k : Limits) where
     }
 
     -- the row that is drawn has its body and its head
-    pub row_full : (body : List ℕ) (ds : List Element) (e : Element) → w ≡ HeadWord row → e.id ≡ row → body ≡ e.body → IsBody body → x ≡ pack_head (head_of e) → 0 < rest → length ws ≡ size_of k
+    pub row_full : (body : List ℕ) (ds : List Element) (e : Element) → w ≡ HeadWord row → e.id ≡ row → body ≡ e.body → IsBody body → head_bits x ≡ pack_head (head_of e) → 0 < rest → length ws ≡ size_of k
         → RowsHold h ws first end first_draft row rest body ds → Holds stored_words e
     row_full body ds e is id same whole head room wide r = let count = r.counted in let bottom = r.begins in let top = r.ends in let own : row < rows_of k = omega arith in let e_whole : IsBody e.body = subst IsBody same whole in (
-      ap (λ z. get_or stored_words (head_place z) 0) id ∙ (ap (λ z. get_or stored_words (place_of k z) 0) (sym is) ∙ (stored k ws w x at wide ∙ head)),
+      ap head_bits (ap (λ z. get_or stored_words (head_place z) 0) id ∙ (ap (λ z. get_or stored_words (place_of k z) 0) (sym is) ∙ stored k ws w x at wide)) ∙ head,
       λ j less. ap (λ z. get_or stored_words (body_place z j) 0) id ∙ (left k ws w x at (BodyWord row j) (own, omega arith) (λ e. no_head row j row (sym (sym is ∙ sym e)))
           ∙ (r.body_there room j (subst (λ z. j < length z) (sym same) less) ∙ ap (λ z. get_or z j 0) same)),
       e_whole,
@@ -100,14 +100,14 @@ module _ (k : Limits) where
         (λ e. some (sym (stored k ws w x at wide) ∙ (ap (λ z. get_or stored_words (place_of k z) 0) is ∙ (ap (λ z. get_or stored_words (head_place z) 0) (sym e) ∙ none))))
         (λ ne. full i low (omega arith) (sym (head_left i (λ e. let q : HeadWord row ≡ HeadWord i = sym is ∙ e in ne cc) (omega arith)) ∙ none))
 
-    draft_stored : (body : List ℕ) (ds : List Element) (e : Element) → w ≡ HeadWord row → e.id ≡ row → body ≡ e.body → IsBody body → x ≡ pack_head (head_of e) → 0 < rest → length ws ≡ size_of k
+    draft_stored : (body : List ℕ) (ds : List Element) (e : Element) → w ≡ HeadWord row → e.id ≡ row → body ≡ e.body → IsBody body → head_bits x ≡ pack_head (head_of e) → 0 < rest → length ws ≡ size_of k
         → RowsHold h ws first end first_draft row rest body ds → RowsHold h stored_words first end first_draft (row + 1) (rest - 1) blank_body (ds ++ e ∷ [])
     draft_stored body ds e is id same whole head room wide r = let count = r.counted in let bottom = r.begins in let top = r.ends in record {
       counted = omega (arith, length-append ds (e ∷ []));
       begins = bottom;
       ends = omega arith;
       unborn = λ i l m. r.unborn i l (omega arith);
-      full = full_before top is (λ z. full_head (head_of e) (λ q. cc) (sym head ∙ z)) room wide r.full;
+      full = full_before top is (λ z. full_head (head_of e) (λ q. cc) (sym head ∙ ap head_bits z)) room wide r.full;
       empty = λ i l m. empty_behind top is i l (omega arith) r.empty;
       unwritten = λ i l m. unwritten_behind (ap body_row is) top r.unwritten i (omega arith) (omega arith);
       body_whole = refl;
@@ -132,35 +132,39 @@ module _ (k : Limits) where
     pub next_empty : get_or t.state.words (head_place next) 0 ≡ 0
     next_empty = (hand_holds k t).rows.empty next (omega arith) (omega arith)
 
+    next_drawn : next < block_first k (drawn_in k t.state.words)
+    next_drawn = let r = hand_holds k t in let high = next_own.1 in let top = own_drawn k (me k t).number (drawn_in k t.state.words) (me k t).blocks r.first r.end r.blocks r.area in omega arith
+
     -- its head may be stored
-    next_head : (x : ℕ) → MayHead k t.state.words x next
-    next_head x = let r = hand_holds k t in let low = next_own.0 in let high = next_own.1 in record {
+    next_head : (x : ℕ) → RunsBefore t.state.words x next → MayHead k t.state.words x next
+    next_head x before = let r = hand_holds k t in let low = next_own.0 in let high = next_own.1 in record {
       empty = next_empty;
+      run = before;
       full = λ _ first end j area from to low' less. (let same = one_area k first end r.first r.end next area (own_area k (me k t).number (me k t).blocks r.first r.end r.area) from to low high in
           r.rows.full j (subst (λ z. z ≤ j) same.0 low') less);
-      drawn = let top = own_drawn k (me k t).number (drawn_in k t.state.words) (me k t).blocks r.first r.end r.blocks r.area in omega arith;
+      drawn = next_drawn;
     }
 
     row_is_next : (w : Word) (i : ℕ) → body_row w ≡ Some next → body_row w ≡ Some i → next ≡ i
     row_is_next w i is at = let q : Some next ≡ Some i = sym is ∙ at in cc
 
     -- and so may each word of it
-    pub next_may : (w : Word) (x : ℕ) → body_row w ≡ Some next → MayStore k t.state.words w x
-    next_may w x is = record {
-      head = λ i e. subst (MayHead k t.state.words x) (row_is_next w i is (ap body_row e)) (next_head x);
+    pub next_may : (w : Word) (x : ℕ) → body_row w ≡ Some next → ((i : ℕ) → w ≡ HeadWord i → RunsBefore t.state.words x next) → MayStore k t.state.words w x
+    next_may w x is before = record {
+      head = λ i e. subst (MayHead k t.state.words x) (row_is_next w i is (ap body_row e)) (next_head x (before i e));
       mark = λ s p e. let q : None ≡ Some next = sym (ap body_row e) ∙ is in absurd cc;
       count = λ e. let q : None ≡ Some next = sym (ap body_row e) ∙ is in absurd cc;
-      word = λ i j e. subst (λ z. z < block_first k (drawn_in k t.state.words)) (row_is_next w i is (ap body_row e)) (next_head x).drawn;
+      word = λ i j e. subst (λ z. z < block_first k (drawn_in k t.state.words)) (row_is_next w i is (ap body_row e)) next_drawn;
     }
 
     pub next_tells : (w : Word) → body_row w ≡ Some next → (i : ℕ) → body_row w ≡ Some i → IsMine k t i
     next_tells w is i at = subst (IsMine k t) (row_is_next w i is at) next_own
 
     -- a store to a word of the row that the pass draws next, of which the history says nothing
-    stores : (w : Word) (x : ℕ) → IsThere k w → body_row w ≡ Some next → WordIs t.rule.history w x → (f : Hand → Hand) → Stays k t f
+    stores : (w : Word) (x : ℕ) → IsThere k w → body_row w ≡ Some next → ((i : ℕ) → w ≡ HeadWord i → RunsBefore t.state.words x next) → WordIs t.rule.history w x → (f : Hand → Hand) → Stays k t f
         → HandHolds k t.rule.history (set t.state.words (place_of k w) x) (f (me k t))
         → Rule k record { words = set t.state.words (place_of k w) x; homes = t.state.homes; views = set t.state.views t.id (drafted f t.view) }
-    stores w x at is told f stays mine = let h = t.rule.history in let ws = t.state.words in let may = next_may w x is in moved k t record {
+    stores w x at is before told f stays mine = let h = t.rule.history in let ws = t.state.words in let may = next_may w x is before in moved k t record {
       kind = kinds.DraftStore;
       f = f;
       seen = t.view.seen;
@@ -192,15 +196,17 @@ module _ (k : Limits) where
   words_go v p x m one room less place s r id at = let t : Turn k = record { state = s; rule = r; id = id; view = v; at = at; one = one } in let a : Hand = hand v in let b = hand_holds k t in let w : Word = BodyWord (next t room) m in (
     drafted (with_word m x) v,
     subst (λ q. Rule k record { words = set s.words q x; homes = s.homes; views = set s.views id (drafted (with_word m x) v) }) (sym place)
-        (stores t room w x (next_there t room, less) refl (unborn_told r.history (next t room) x (λ e. slice_index e.body m) (next_unborn t room)) (with_word m x) (λ z. (refl, refl)) record {
+        (stores t room w x (next_there t room, less) refl (λ i e. absurd cc) (unborn_told r.history (next t room) x (λ e. slice_index e.body m) (next_unborn t room)) (with_word m x) (λ z. (refl, refl)) record {
           given = b.given;
           mine = b.mine;
-          blocks = ascend_wider 0 (drawn_in k s.words) (drawn_in k (set s.words (place_of k w) x)) a.blocks (drawn_rises k s.words w x (next_there t room, less) r.world.wide (next_may t room w x refl)) b.blocks;
+          blocks = ascend_wider 0 (drawn_in k s.words) (drawn_in k (set s.words (place_of k w) x)) a.blocks (drawn_rises k s.words w x (next_there t room, less) r.world.wide (next_may t room w x refl (λ i e. absurd cc))) b.blocks;
           spares = b.spares;
           first = b.first;
           end = b.end;
           area = b.area;
           rows = word_stored r.history s.words b.first b.end a.first_draft a.next a.left w x (next_there t room, less) (own_inside k a.number a.blocks b.first b.end b.area) m a.next_body a.drafts refl room r.world.wide b.rows;
+          tail = tail_same s.words (set s.words (place_of k w) x) b.first b.end a.next a.left a.tail a.tail_stage b.rows.ends
+              (λ i low high. let top = own_inside k a.number a.blocks b.first b.end b.area in left k s.words w x (next_there t room, less) (HeadWord i) (omega arith) (λ e. no_head (next t room) m i (sym e))) b.tail;
           units = b.units;
           areas = areas_event k r.history r.history s.words (set s.words (place_of k w) x) a (with_word m x a) (λ u from count is. is) (λ first end own. own) refl (refl, refl)
               (λ first end i own low high. let top = own_inside k a.number a.blocks first end own in left k s.words w x (next_there t room, less) (HeadWord i) (omega arith) (λ e. no_head (next t room) m i (sym e)))
@@ -213,24 +219,28 @@ module _ (k : Limits) where
       → x ≡ pack_head (Filled stage root (Some u)) → 1 ≤ stage → stage ≤ 15 → root < 65536 → u < 65535 → (hand v).open_unit ≡ Some u
       → Permits k v p (λ _. x) (λ _ w. stores_head p x 0 v x w)
   heads v p x stage root u ready room place is pos top low small held s r id at = let t : Turn k = record { state = s; rule = r; id = id; view = v; at = at; one = ready.0 } in let a : Hand = hand v in let b = hand_holds k t in let e : Element = next_element v stage root (Some u) in
-      let here : e.id ≡ next t room = refl in let w : Word = HeadWord (next t room) in let fits : IsFitHead (Filled stage root (Some u)) = (pos, top, omega arith, omega arith) in (
+      let here : e.id ≡ next t room = refl in let w : Word = HeadWord (next t room) in let fits : IsFitHead (Filled stage root (Some u)) = (pos, top, omega arith, omega arith) in
+      let bits : head_bits x ≡ pack_head (Filled stage root (Some u)) = ap head_bits is ∙ bits_alone (Filled stage root (Some u)) fits in let alone : run_bits x ≡ 0 = ap run_bits is ∙ run_alone (Filled stage root (Some u)) fits in
+      let before : RunsBefore s.words x (next t room) = λ st named j low up. absurd (omega arith) in (
         drafted (with_draft e) v,
         subst (λ q. Rule k record { words = set s.words q x; homes = s.homes; views = set s.views id (drafted (with_draft e) v) }) (sym place)
-            (stores t room w x (next_there t room) refl record {
+            (stores t room w x (next_there t room) refl (λ _ _. before) record {
               head = Filled stage root (Some u);
-              packed = is;
+              packed = bits;
               fit = fits;
+              bare = λ e. absurd cc;
               born = λ y p. let q : None ≡ Some y = sym (next_unborn t room) ∙ p in absurd cc;
               draft = λ _ none. absurd cc;
             } (with_draft e) (λ z. (refl, refl)) record {
               given = b.given;
               mine = b.mine;
-              blocks = ascend_wider 0 (drawn_in k s.words) (drawn_in k (set s.words (place_of k w) x)) a.blocks (drawn_rises k s.words w x (next_there t room) r.world.wide (next_may t room w x refl)) b.blocks;
+              blocks = ascend_wider 0 (drawn_in k s.words) (drawn_in k (set s.words (place_of k w) x)) a.blocks (drawn_rises k s.words w x (next_there t room) r.world.wide (next_may t room w x refl (λ _ _. before))) b.blocks;
               spares = b.spares;
               first = b.first;
               end = b.end;
               area = b.area;
-              rows = draft_stored r.history s.words b.first b.end a.first_draft a.next a.left w x (next_there t room) (own_inside k a.number a.blocks b.first b.end b.area) a.next_body a.drafts e refl here refl ready.1 is room r.world.wide b.rows;
+              rows = draft_stored r.history s.words b.first b.end a.first_draft a.next a.left w x (next_there t room) (own_inside k a.number a.blocks b.first b.end b.area) a.next_body a.drafts e refl here refl ready.1 bits room r.world.wide b.rows;
+              tail = λ j low up. let less : j < a.next + 1 = low in let more : a.next + 1 ≤ j + 0 = up in absurd (omega arith);
               units = b.units;
               areas = areas_on k r.history r.history s.words (set s.words (place_of k w) x) a (with_draft e a) (record {
                 own = λ first end own. own;
@@ -239,7 +249,7 @@ module _ (k : Limits) where
                 heads = λ first end i own low high. let last = own_inside k a.number a.blocks first end own in dite (ℕ_discrete (next t room) i)
                     (λ same. let now : get_or (set s.words (place_of k w) x) (head_place i) 0 ≡ x = subst (λ z. get_or (set s.words (place_of k w) x) (head_place z) 0 ≡ x) same (stored k s.words w x (next_there t room) r.world.wide) in inr (
                       λ zero. full_head (Filled stage root (Some u)) (λ q. cc) (sym is ∙ (sym now ∙ zero)),
-                      λ st rt z named. let q : Filled st rt (Some z) ≡ Filled stage root (Some u) = head_told (Filled st rt (Some z)) (Filled stage root (Some u)) named.0 fits (sym named.1 ∙ (now ∙ is)) in let one : z ≡ u = cc in
+                      λ st rt z named. let q : Filled st rt (Some z) ≡ Filled stage root (Some u) = head_told (Filled st rt (Some z)) (Filled stage root (Some u)) named.0 fits (sym named.1 ∙ (ap head_bits now ∙ bits)) in let one : z ≡ u = cc in
                           (let count = b.rows.counted in omega arith, omega arith, held ∙ ap Some (sym one), λ from count is2. (b.units.open_own u held).uncommitted from count (subst (λ q. end_of r.history q ≡ Some (Committed from count)) one is2)),
                     ))
                     (λ other. inl (left k s.words w x (next_there t room) (HeadWord i) (omega arith) (λ e. other (let q : HeadWord i ≡ HeadWord (next t room) = e in cc))));

@@ -33,7 +33,8 @@ use Rattle.tp_rule.proofs.Owning.{S, own_drawn, own_in, own_inside, undrawn_for,
 use Rattle.tp_rule.proofs.Ahead.{its_row}
 use Rattle.tp_rule.proofs.Reading.{one_after}
 use Rattle.tp_rule.proofs.Seats.{in_map, in_map_to, looks_knowing}
-use Rattle.tp_rule.proofs.Storing.{MayStore, drawn_rises, full_head, row_left, still_left, stored}
+use Rattle.tp_rule.specs.Words.{head_bits}
+use Rattle.tp_rule.proofs.Storing.{MayStore, drawn_rises, has_full, row_left, still_left, stored}
 use Rattle.tp_rule.proofs.Tellings.{empty_unborn, world_stored}
 
 module _ (k : Limits) where
@@ -169,20 +170,20 @@ module _ (k : Limits) where
     areas_after = let hold = hand_holds k t in let is = first_is in record {
       last = λ from to own. let top = own_drawn k (hand t.view).number (b + 1) ((hand t.view).blocks ++ b ∷ []) from to up own in omega arith;
       decided = λ from to i stage root u own low high named un. let inside = own_inside k (hand t.view).number ((hand t.view).blocks ++ b ∷ []) from to own in ⊎_elim
-          (λ old. let d = hold.areas.decided from to i stage root u old low high (named.0, sym (heads_same i (omega arith)) ∙ named.1) un in
+          (λ old. let d = hold.areas.decided from to i stage root u old low high (named.0, ap head_bits (sym (heads_same i (omega arith))) ∙ named.1) un in
           let count : (hand t.view).first_draft + 0 ≡ (hand t.view).next = subst (λ ds. (hand t.view).first_draft + length ds ≡ (hand t.view).next) none hold.rows.counted in let less = d.0 in let more = d.1 in absurd (omega arith))
-          (λ new. let from_is = new.0 in let to_is = new.1 in absurd (full_head (Filled stage root (Some u)) (λ q. cc) (sym named.1 ∙ (bare i (omega arith) (omega arith)).1)))
+          (λ new. let from_is = new.0 in let to_is = new.1 in absurd (has_full words_after i (Filled stage root (Some u)) (λ q. cc) named.1 (bare i (omega arith) (omega arith)).1))
           (old_or_new from to own);
       output = λ from to i stage root u begin count own low high named is2. let inside = own_inside k (hand t.view).number ((hand t.view).blocks ++ b ∷ []) from to own in ⊎_elim
-          (λ old. hold.areas.output from to i stage root u begin count old low high (named.0, sym (heads_same i (omega arith)) ∙ named.1) is2)
-          (λ new. let from_is = new.0 in let to_is = new.1 in absurd (full_head (Filled stage root (Some u)) (λ q. cc) (sym named.1 ∙ (bare i (omega arith) (omega arith)).1)))
+          (λ old. hold.areas.output from to i stage root u begin count old low high (named.0, ap head_bits (sym (heads_same i (omega arith))) ∙ named.1) is2)
+          (λ new. let from_is = new.0 in let to_is = new.1 in absurd (has_full words_after i (Filled stage root (Some u)) (λ q. cc) named.1 (bare i (omega arith) (omega arith)).1))
           (old_or_new from to own);
       cleared = λ from to i own away low high. let inside = own_inside k (hand t.view).number ((hand t.view).blocks ++ b ∷ []) from to own in ⊎_elim
           (λ old. dite (ℕ_discrete to ((hand t.view).next + (hand t.view).left))
           (λ run. let ends = hold.rows.ends in let same_first = one_end from to hold.first hold.end old hold.area (omega arith) in dite (dec_le (hand t.view).next i)
           (λ past. inr (omega arith, omega arith)) (λ before. inl (λ none. hold.rows.full i (omega arith) (omega arith) (sym (heads_same i (omega arith)) ∙ none))))
           (λ other. ⊎_elim (λ some. inl (λ none. some (sym (heads_same i (omega arith)) ∙ none)))
-          (λ p. let c = known_clear i p.0 p.1 in let still = (seat_holds k t).known (RowHead i c.0) c.2 in inl (λ none. full_head c.0 c.1 (sym (still.2 c.1) ∙ (sym (heads_same i (omega arith)) ∙ none))))
+          (λ p. let c = known_clear i p.0 p.1 in let still = (seat_holds k t).known (RowHead i c.0) c.2 in inl (λ none. has_full t.state.words i c.0 c.1 (still.2 c.1) (sym (heads_same i (omega arith)) ∙ none)))
           (hold.areas.cleared from to i old other low high)))
           (λ new. absurd (away new.1))
           (old_or_new from to own);
@@ -214,6 +215,7 @@ module _ (k : Limits) where
       end = first + BLOCK_ROWS;
       area = inr (b, in_right (hand t.view).blocks here, (room, first_is, ap (λ n. n + BLOCK_ROWS) first_is));
       rows = fresh_rows t.rule.history words_after first (hand t.view).drafts none bare;
+      tail = λ j low up. let less : j < first = low in let more : first ≤ j + 0 = up in absurd (omega arith);
       units = mine.units;
       areas = areas_after;
     }

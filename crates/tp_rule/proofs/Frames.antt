@@ -22,7 +22,7 @@ use Rattle.tp_model.specs.declared.types.Limits.{Limits}
 use Rattle.tp_model.specs.Passes.{IsOwnArea}
 use Rattle.tp_rule.proofs.OwnAreas.{AreSame, areas_kept}
 use Rattle.tp_rule.proofs.Parts.{in_run, one_part}
-use Rattle.tp_rule.proofs.Storing.{SameRow, holds_same}
+use Rattle.tp_rule.proofs.Storing.{SameRow, holds_same, tail_same}
 use Rattle.tp_rule.proofs.Units.{decide}
 use Rattle.tp_rule.specs.declared.view.Hand.{Hand}
 use Rattle.tp_rule.specs.declared.view.Known.{Known}
@@ -123,6 +123,7 @@ module _ (k : Limits) where
     area = r.area;
     rows = rows_frame h (h ++ e ∷ []) ws ws' r.first r.end a.first_draft a.next a.left a.next_body a.drafts (λ i low high. agree r.first r.end i r.area low high)
         (λ i low high un. unborn_still h e i un (λ x q is. apart x q (subst (λ z. r.first ≤ z) (sym is) low) (subst (λ z. z < r.end) (sym is) high))) r.rows;
+    tail = tail_same ws ws' r.first r.end a.next a.left a.tail a.tail_stage r.rows.ends (λ i low high. (agree r.first r.end i r.area low high).0) r.tail;
     units = units_frame h e a.number a.claimed a.spare_unit a.open_unit r.given ne st r.units;
     areas = areas_kept k h (h ++ e ∷ []) ws ws' a (still_undecided h e) (λ i u from count is. committed_before h e u from count is (λ d outs same low high held. let o = r.units.open_own u held in absurd (not_by_other h e a.number u o.item o.attempt st ne o.claimed d outs same))) agree r.areas;
   }
@@ -138,6 +139,7 @@ module _ (k : Limits) where
     end = r.end;
     area = r.area;
     rows = rows_frame h h ws ws' r.first r.end a.first_draft a.next a.left a.next_body a.drafts (λ i low high. agree r.first r.end i r.area low high) (λ i low high u. u) r.rows;
+    tail = tail_same ws ws' r.first r.end a.next a.left a.tail a.tail_stage r.rows.ends (λ i low high. (agree r.first r.end i r.area low high).0) r.tail;
     units = r.units;
     areas = areas_kept k h h ws ws' a (λ u un. un) (λ i u from count is. inl is) agree r.areas;
   }

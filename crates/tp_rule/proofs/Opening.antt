@@ -17,7 +17,8 @@ use Rattle.tp_rule.specs.declared.view.Hand.{Hand}
 use Rattle.tp_rule.specs.declared.view.View.{View}
 use Rattle.tp_rule.specs.Places.{Word, HeadWord, BodyWord, ClaimWord, UnitWord, MarkWord, DrawnWord, IsThere, head_place, body_place, claim_place, unit_place, mark_place, drawn_place, place_of, size_of}
 use Rattle.tp_rule.specs.declared.packing.Head.TheVariants.{Empty, Filled}
-use Rattle.tp_rule.proofs.Storing.{full_head}
+use Rattle.tp_rule.specs.Words.{head_bits}
+use Rattle.tp_rule.proofs.Storing.{has_full}
 
 -- the first seat stands for all passes, and no block is drawn
 abbrev first_owners : Owners
@@ -60,6 +61,7 @@ module _ (k : Limits) where
       run = tt;
       written = λ x p. absurd (in_none p);
     };
+    tail = λ j low up. let less : j < c * k.rows = low in let more : c * k.rows ≤ j + 0 = up in absurd (omega arith);
     units = record {
       used_below = omega arith;
       unused = λ u l m. refl;
@@ -70,8 +72,8 @@ module _ (k : Limits) where
     };
     areas = record {
       last = λ first end own. ⊎_elim (λ part. let at = part.2 in omega arith) (λ t. absurd (in_none t.1)) own;
-      decided = λ first end i stage root u own low high named un. absurd (full_head (Filled stage root (Some u)) (λ q. cc) (sym named.1 ∙ zeros (size_of k) (head_place i)));
-      output = λ first end i stage root u from count own low high named. absurd (full_head (Filled stage root (Some u)) (λ q. cc) (sym named.1 ∙ zeros (size_of k) (head_place i)));
+      decided = λ first end i stage root u own low high named un. absurd (has_full (replicate (size_of k) 0) i (Filled stage root (Some u)) (λ q. cc) named.1 (zeros (size_of k) (head_place i)));
+      output = λ first end i stage root u from count own low high named. absurd (has_full (replicate (size_of k) 0) i (Filled stage root (Some u)) (λ q. cc) named.1 (zeros (size_of k) (head_place i)));
       cleared = λ first end i own away low high. ⊎_elim (λ part. let at = part.2 in absurd (away (omega arith))) (λ t. absurd (in_none t.1)) own;
       headed = λ first end i e x own low high p. absurd (in_none p);
     };
@@ -88,6 +90,7 @@ module _ (k : Limits) where
       drawn = let none = zeros (size_of k) (drawn_place k) in omega arith;
       bare = λ i low high. zeros (size_of k) (head_place i);
       unwritten = λ i low high j few. zeros (size_of k) (body_place i j);
+      runs = λ i stage there s. absurd (has_full (replicate (size_of k) 0) i (Filled stage s.0 s.1) (λ q. cc) s.3 (zeros (size_of k) (head_place i)));
       behind = λ first end i j area low later high zero. inl (zeros (size_of k) (head_place j));
       marks = λ s p l. subst (MarkHolds k s [] (replicate (size_of k) 0) p) (sym (zeros (size_of k) (mark_place k s p))) record { inside = (λ _. omega arith, λ _. omega arith); below = λ i low high. let up : i < p * k.rows + 0 = high in let down : p * k.rows ≤ i = low in absurd (omega arith) };
     };
@@ -97,7 +100,7 @@ module _ (k : Limits) where
   }
     where
       zero_told : (w : Word) → IsThere k w → WordIs [] w (get_or (replicate (size_of k) 0) (place_of k w) 0)
-      zero_told (HeadWord i) l = record { head = Empty; packed = zeros (size_of k) (head_place i); fit = tt; born = λ x p. absurd cc; draft = λ un. tt }
+      zero_told (HeadWord i) l = record { head = Empty; packed = ap head_bits (zeros (size_of k) (head_place i)); fit = tt; bare = λ _. zeros (size_of k) (head_place i); born = λ x p. absurd cc; draft = λ un. tt }
       zero_told (BodyWord i j) l = λ x p. absurd cc
       zero_told (ClaimWord i) l = (zeros (size_of k) (claim_place i), tt)
       zero_told (UnitWord u) l = (zeros (size_of k) (unit_place k u), tt)

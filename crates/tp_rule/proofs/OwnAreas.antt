@@ -1,5 +1,5 @@
 -- What a step leaves of the heads in a pass's areas.
-use Rattle.std.proofs.Common.{◌≡◌, ◌⊎◌, ◌≢◌, ℕ, ◌<◌, ◌≤◌, ◌+◌, List, [], ◌∷◌, ◌++◌, get_or, sym, refl, ◌∙◌, subst, inl, inr, ⊎_elim, arith, Some, None}
+use Rattle.std.proofs.Common.{◌≡◌, ◌⊎◌, ◌≢◌, ℕ, ◌<◌, ◌≤◌, ◌+◌, List, [], ◌∷◌, ◌++◌, get_or, sym, refl, ap, ◌∙◌, subst, inl, inr, ⊎_elim, arith, Some, None}
 use Rattle.tp_model.specs.declared.event.Event.{Event}
 use Rattle.tp_model.specs.declared.types.Element.{Element}
 use Rattle.tp_model.specs.declared.types.Limits.{Limits}
@@ -7,6 +7,7 @@ use Rattle.tp_model.specs.History.{Committed, In, births, end_of}
 use Rattle.tp_model.specs.Passes.{IsOwnArea}
 use Rattle.tp_model.proofs.Bridges.{in_either, in_none, in_one}
 use Rattle.tp_rule.specs.Places.{head_place}
+use Rattle.tp_rule.specs.Words.{head_bits}
 use Rattle.tp_rule.specs.Rule.{AreasHold, NamesUnit}
 use Rattle.tp_rule.specs.declared.view.Hand.{Hand}
 use Rattle.tp_rule.proofs.Storing.{SameRow}
@@ -40,10 +41,10 @@ module _ (k : Limits) where
   areas_on h h' ws ws' a b g r = record {
     last = λ first end own. let high = r.last first end (g.own first end own) in let top = g.top in omega arith;
     decided = λ first end i stage root u own low high named un. ⊎_elim
-        (λ same. let d = r.decided first end i stage root u (g.own first end own) low high (named.0, sym same ∙ named.1) (g.undecided u un) in g.drafts i u d.0 d.1 d.2 un)
+        (λ same. let d = r.decided first end i stage root u (g.own first end own) low high (named.0, ap head_bits (sym same) ∙ named.1) (g.undecided u un) in g.drafts i u d.0 d.1 d.2 un)
         (λ new. let t = new.1 stage root u named in (t.0, t.1, t.2)) (g.heads first end i own low high);
     output = λ first end i stage root u from count own low high named is. ⊎_elim
-        (λ same. let old : NamesUnit ws i stage root u = (named.0, sym same ∙ named.1) in let mine = g.own first end own in ⊎_elim
+        (λ same. let old : NamesUnit ws i stage root u = (named.0, ap head_bits (sym same) ∙ named.1) in let mine = g.own first end own in ⊎_elim
         (λ was. r.output first end i stage root u from count mine low high old was)
         (λ now. let d = r.decided first end i stage root u mine low high old now.1 in now.0 d.0 d.1 d.2) (g.committed i u from count is))
         (λ new. absurd ((new.1 stage root u named).3 from count is)) (g.heads first end i own low high);

@@ -1,5 +1,5 @@
 -- Publish keeps the rule.
-use Rattle.std.proofs.Common.{◌≡◌, ◌≢◌, ℕ, ◌+◌, ◌-◌, ◌<◌, ◌≤◌, List, [], ◌∷◌, ◌++◌, length, set, get_or, slice_index, sym, refl, ap, ◌∙◌, subst, inl, inr, ⊎_elim, arith, Option, Some, None}
+use Rattle.std.proofs.Common.{◌≡◌, ◌≢◌, ℕ, ◌+◌, ◌*◌, ◌-◌, ◌<◌, ◌≤◌, List, [], ◌∷◌, ◌++◌, length, set, get_or, slice_index, sym, refl, ap, ◌∙◌, subst, inl, inr, ⊎_elim, arith, Option, Some, None}
 use mathlib.Core.Logic.{dite}
 use native.Mathlib.Decide.{ℕ_discrete}
 use Rattle.tp_model.specs.declared.event.Event.{Event}
@@ -11,15 +11,16 @@ use Rattle.tp_model.specs.History.{In, UnitEnd, IsUnborn, births, end_of}
 use Rattle.tp_model.specs.declared.types.TheConstants.{BODY_WORDS}
 use Rattle.tp_model.specs.Steps.{AreLimits, IsBody, Step, rows_of}
 use Rattle.tp_model.proofs.Bridges.{born_at, by_own, in_either, in_none, in_one, new_birth, unborn_still}
-use Rattle.tp_model.proofs.Lists.{option_or-None}
+use Rattle.tp_model.proofs.Lists.{if_other, if_same, option_or-None}
 use Rattle.tp_model.proofs.WordProofs.{end_of-snoc}
 use Rattle.tp_rule.specs.Places.{Word, HeadWord, BodyWord, ClaimWord, UnitWord, MarkWord, DrawnWord, IsThere, head_place, body_place, place_of, size_of}
-use Rattle.tp_rule.specs.Words.{IsFitHead, head_of, pack_head}
+use Rattle.tp_rule.specs.declared.bits.TheConstants.{HEAD_RUN}
+use Rattle.tp_rule.specs.Words.{IsFitHead, head_bits, head_of, pack_head, run_bits}
 use Rattle.tp_rule.specs.declared.packing.Head.TheVariants.{Filled}
 use Rattle.tp_rule.specs.Doors.{Permits}
 use Rattle.tp_rule.specs.Plays.{publishes}
-use Rattle.tp_rule.specs.Rule.{RowsHold, Rule, WordIs, drawn_in}
-use Rattle.tp_rule.specs.Steps.{with_birth, next_element, birth, HasBodyStored, HasCleared}
+use Rattle.tp_rule.specs.Rule.{HasStage, HasTail, RowsHold, Rule, WordIs, drawn_in}
+use Rattle.tp_rule.specs.Steps.{with_birth, next_element, birth, run_before, HasBodyStored, HasCleared}
 use Rattle.tp_rule.specs.declared.view.Known.TheVariants.{RowHead}
 use Rattle.tp_rule.specs.Views.{blank_body, hand, next_row}
 use Rattle.tp_rule.specs.declared.view.Hand.{Hand}
@@ -32,8 +33,8 @@ use Rattle.tp_rule.proofs.OwnAreas.{areas_on}
 use Rattle.tp_rule.proofs.Owning.{own_inside}
 use Rattle.tp_model.proofs.Areas.{ascend_wider}
 use Rattle.tp_rule.proofs.Parts.{fair_rows}
-use Rattle.tp_rule.proofs.Storing.{drawn_rises, full_head, row_left, stored}
-use Rattle.tp_rule.proofs.Tellings.{body_later, claim_later, head_later, head_told, unit_later}
+use Rattle.tp_rule.proofs.Storing.{RunsBefore, drawn_rises, full_head, has_full, row_left, stage_left, stored}
+use Rattle.tp_rule.proofs.Tellings.{bits_with, body_later, claim_later, head_later, head_told, run_with, unit_later}
 use Rattle.tp_rule.proofs.Units.{decide}
 
 enqueue_quiet : (c : ℕ) (y : Element) (u : ℕ) (w : Option UnitEnd) → decide u w (Enqueue c y) ≡ w
@@ -48,6 +49,12 @@ birth_told h c y (ClaimWord i) n other body old = claim_later h (Enqueue c y) i 
 birth_told h c y (MarkWord s p) n other body old = tt
 birth_told h c y DrawnWord n other body old = tt
 birth_told h c y (UnitWord u) n other body old = unit_later h (Enqueue c y) u n (enqueue_quiet c y u _) old
+
+-- the rows right before the next one that the pass published in a stage
+run_holds : (ws : List ℕ) (first stage : ℕ) (a : Hand) → HasTail ws first a.next a.tail a.tail_stage → (j : ℕ) → j < a.next → a.next ≤ j + run_before stage a → (first ≤ j) × HasStage ws stage j
+run_holds ws first stage a tail j low up = dite (ℕ_discrete stage a.tail_stage)
+    (λ same. let is : run_before stage a ≡ a.tail = if_same stage a.tail_stage a.tail 0 same in let t = tail j low (omega arith) in (t.0, subst (λ z. HasStage ws z j) (sym same) t.1))
+    (λ other. let is : run_before stage a ≡ 0 = if_other stage a.tail_stage a.tail 0 other in absurd (omega arith))
 
 module _ (k : Limits) (fair : AreLimits k) where
   rows_publish : (h : List Event) (ws : List ℕ) (c first end first_draft row left x : ℕ) (body : List ℕ) (y : Element) (at : IsThere k (HeadWord row)) → end ≤ rows_of k → y.id ≡ row → 0 < left → x ≢ 0 → length ws ≡ size_of k
@@ -67,7 +74,7 @@ module _ (k : Limits) (fair : AreLimits k) where
   }
 
   pub births_go : (v : View) (p x stage : ℕ) → HasBodyStored v → (hand v).drafts ≡ [] → 0 < (hand v).left → p ≡ head_place (hand v).next
-      → x ≡ pack_head (Filled stage (next_row v) None) → 1 ≤ stage → stage ≤ 14 → HasCleared v
+      → x ≡ pack_head (Filled stage (next_row v) None) + HEAD_RUN * run_before stage (hand v) → 1 ≤ stage → stage ≤ 14 → HasCleared v
       → Permits k v p (λ _. x) (λ _ w. publishes p x 0 v x w)
   births_go v p x stage ready none_yet room place is pos top cleared s r id at = let t : Turn k = record { state = s; rule = r; id = id; view = v; at = at; one = ready.0 } in let t0 : Turn k = t in let a : Hand = hand v in let y : Element = next_element v stage (next_row v) None in let e : Event = birth v stage in let h = r.history in
       let mine = hand_holds k t in let row : ℕ = next k t room in let w : Word = HeadWord row in
@@ -76,6 +83,10 @@ module _ (k : Limits) (fair : AreLimits k) where
       let rows : RowsHold h s.words mine.first mine.end a.first_draft a.next a.left a.next_body [] = subst (λ l. RowsHold h s.words mine.first mine.end a.first_draft a.next a.left a.next_body l) none_yet mine.rows in
       let st : Step k h e = record { row = mine_may k t row (next_own k t room); unborn = subst (λ z. IsUnborn h z) (sym here) (next_unborn k t room); stage = (pos, omega arith); body = ready.1; root = refl; by = refl } in
       let whole : IsBody y.body = ready.1 in let fits : IsFitHead (head_of y) = (pos, omega arith, omega arith, omega arith) in
+      let bits : head_bits x ≡ pack_head (head_of y) = ap head_bits is ∙ bits_with (head_of y) (run_before stage a) fits in let long : run_bits x ≡ run_before stage a = ap run_bits is ∙ run_with (head_of y) (run_before stage a) fits in
+      let before : RunsBefore s.words x row = λ st named j low up. (let same : Filled st named.0 named.1 ≡ head_of y = head_told (Filled st named.0 named.1) (head_of y) named.2 fits (sym named.3 ∙ bits) in let one : stage ≡ st = cc in
+          subst (λ z. HasStage s.words z j) one (run_holds s.words mine.first stage a mine.tail j low (omega arith)).1) in
+      let may = next_may k t room w x refl (λ _ _. before) in
       let body : (j : ℕ) → j < BODY_WORDS → get_or s.words (body_place row j) 0 ≡ slice_index y.body j = λ j less. mine.rows.body_there room j (omega arith) in
       let now = new_birth h a.number y st.unborn in let births_own : (z : Element) → In z (births e) → IsMine k t z.id = λ z q. subst (λ (n : Element). IsMine k t n.id) (sym (in_one q)) (next_own k t room) in
       let act : Act k t = record {
@@ -83,21 +94,22 @@ module _ (k : Limits) (fair : AreLimits k) where
         word = w;
         number = x;
         kind = kinds.Publish;
-        f = with_birth e;
+        f = with_birth stage e;
         stays = λ z. (refl, refl);
         own = refl;
         step = st;
         there = next_there k t room;
         told = record {
           head = head_of y;
-          packed = is;
+          packed = bits;
           fit = fits;
+          bare = λ q. absurd cc;
           born = λ z q. let b = born_at (h ++ e ∷ []) row y now here in let same : y ≡ z = cc in ap head_of same;
           draft = λ un. let b = born_at (h ++ e ∷ []) row y now here in absurd cc;
         };
         rest = λ z there other. birth_told h a.number y z (get_or s.words (place_of k z) 0) (λ q. other (q ∙ ap HeadWord here))
             (λ j q. ap (λ b. get_or s.words (place_of k b) 0) (q ∙ ap (λ i. BodyWord i j) here) ∙ body j (subst (IsThere k) q there).1) (r.world.tells z there);
-        may = next_may k t room w x refl;
+        may = may;
         unmarked = λ s z q. cc;
         uncounted = λ q. cc;
         tells_own = next_tells k t room w refl;
@@ -105,21 +117,24 @@ module _ (k : Limits) (fair : AreLimits k) where
         mine = record {
           given = mine.given;
           mine = ap (λ l. l ++ e ∷ []) mine.mine ∙ sym (by_own a.number h e refl);
-          blocks = ascend_wider 0 (drawn_in k s.words) (drawn_in k (set s.words (place_of k w) x)) a.blocks (drawn_rises k s.words w x all r.world.wide (next_may k t room w x refl)) mine.blocks;
+          blocks = ascend_wider 0 (drawn_in k s.words) (drawn_in k (set s.words (place_of k w) x)) a.blocks (drawn_rises k s.words w x all r.world.wide may) mine.blocks;
           spares = spares_more k t e births_own;
           first = mine.first;
           end = mine.end;
           area = mine.area;
-          rows = rows_publish h s.words a.number mine.first mine.end a.first_draft a.next a.left x a.next_body y all (own_inside k a.number a.blocks mine.first mine.end mine.area) here room (λ z. full_head (head_of y) (λ q. cc) (sym is ∙ z)) r.world.wide rows;
+          rows = rows_publish h s.words a.number mine.first mine.end a.first_draft a.next a.left x a.next_body y all (own_inside k a.number a.blocks mine.first mine.end mine.area) here room (λ z. full_head (head_of y) (λ q. cc) (sym bits ∙ ap head_bits z)) r.world.wide rows;
+          tail = λ j low up. let less : j < a.next + 1 = low in let more : a.next + 1 ≤ j + (run_before stage a + 1) = up in dite (ℕ_discrete j row)
+              (λ same. (let at = (next_own k t room).0 in omega arith, subst (λ z. HasStage (set s.words (place_of k w) x) stage z) (sym same) (next_row v, None, fits, ap head_bits (stored k s.words w x all r.world.wide) ∙ bits)))
+              (λ apart. let old = run_holds s.words mine.first stage a mine.tail j (omega arith) (omega arith) in (old.0, stage_left k s.words w x all r.world.wide may stage j (omega arith) old.1));
           units = units_own k h e a.number a.claimed a.spare_unit a.open_unit (enqueue_quiet a.number y) (λ d u i n z. cc) (λ d u z. cc) mine.units;
-          areas = areas_on k h (h ++ e ∷ []) s.words (set s.words (place_of k w) x) a (with_birth e a) (record {
+          areas = areas_on k h (h ++ e ∷ []) s.words (set s.words (place_of k w) x) a (with_birth stage e a) (record {
             own = λ first end own. own;
             top = (let full = room in omega arith);
             passed = (refl, refl);
             heads = λ first end i own low high. let top = own_inside k a.number a.blocks first end own in dite (ℕ_discrete row i)
                 (λ same. let now : get_or (set s.words (place_of k w) x) (head_place i) 0 ≡ x = subst (λ z. get_or (set s.words (place_of k w) x) (head_place z) 0 ≡ x) same (stored k s.words w x all r.world.wide) in inr (
-                  λ zero. full_head (head_of y) (λ q. cc) (sym is ∙ (sym now ∙ zero)),
-                  λ st rt u named. let q : Filled st rt (Some u) ≡ head_of y = head_told (Filled st rt (Some u)) (head_of y) named.0 fits (sym named.1 ∙ (now ∙ is)) in absurd cc,
+                  λ zero. full_head (head_of y) (λ q. cc) (sym bits ∙ ap head_bits (sym now ∙ zero)),
+                  λ st rt u named. let q : Filled st rt (Some u) ≡ head_of y = head_told (Filled st rt (Some u)) (head_of y) named.0 fits (sym named.1 ∙ (ap head_bits now ∙ bits)) in absurd cc,
                 ))
                 (λ other. inl (row_left k s.words w x all i (omega arith) (λ q. other (let r : Some row ≡ Some i = q in cc))).0);
             undecided = still_undecided h e;
@@ -129,7 +144,7 @@ module _ (k : Limits) (fair : AreLimits k) where
                 (λ q. let made_y = subst (λ (g : Event). In z (births g)) (in_one q) made in let at_row : z.id ≡ row = ap (λ (g : Element). g.id) (in_one made_y) in
                 let top = own_inside k a.number a.blocks first end own in let same_head = (row_left k s.words w x all i (omega arith) (λ b. let r : Some row ≡ Some i = b in let same : row ≡ i = cc in omega arith)).0 in
                 inr (λ none. ⊎_elim (λ some. some (sym same_head ∙ none))
-                (λ t. let c = cleared i t.0 t.1 in let still = (seat_holds k t0).known (RowHead i c.0) c.2 in full_head c.0 c.1 (sym (still.2 c.1) ∙ (sym same_head ∙ none)))
+                (λ t. let c = cleared i t.0 t.1 in let still = (seat_holds k t0).known (RowHead i c.0) c.2 in has_full s.words i c.0 c.1 (still.2 c.1) (sym same_head ∙ none))
                 (mine.areas.cleared first end i own (λ same. (let full = room in omega arith)) low high))) (in_either a.mine (e ∷ []) p);
           }) mine.areas;
         };

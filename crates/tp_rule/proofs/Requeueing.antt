@@ -22,7 +22,7 @@ use Rattle.tp_rule.specs.Steps.{after, unchanged, with_event, AllowsRequeue, Has
 use Rattle.tp_rule.specs.Views.{IsOnePass, hand}
 use Rattle.tp_rule.specs.declared.view.Hand.{Hand}
 use Rattle.tp_rule.specs.declared.view.View.{View}
-use Rattle.tp_rule.proofs.Claiming.{areas_still, blocks_still, claim_event, claim_there, rows_still}
+use Rattle.tp_rule.proofs.Claiming.{areas_still, blocks_still, claim_event, claim_there, rows_still, tail_still}
 use Rattle.tp_rule.proofs.Events.{looking_after, missed, units_own}
 use Rattle.tp_rule.proofs.Frames.{Turn, hand_holds, seat_holds, spares_more}
 use Rattle.tp_rule.proofs.Owning.{own_inside}
@@ -55,6 +55,7 @@ module _ (k : Limits) where
         end = mine.end;
         area = mine.area;
         rows = rows_still k h s.words e row new mine.first mine.end a.first_draft a.next a.left a.next_body a.drafts room refl (own_inside k a.number a.blocks mine.first mine.end mine.area) mine.rows;
+        tail = tail_still k s.words row new mine.first mine.end a.next a.left a.tail a.tail_stage room (own_inside k a.number a.blocks mine.first mine.end mine.area) mine.rows.ends mine.tail;
         units = units_own k h e a.number a.claimed a.spare_unit a.open_unit (requeue_quiet a.number row m) (λ d u i n z. cc) (λ d u z. cc) mine.units;
         areas = areas_still k h s.words e row new a (with_event e a) room refl (requeue_quiet a.number row m) (λ first end own. own) refl (refl, refl) (λ i u low high is. (low, high, is)) refl mine.areas;
       } in (

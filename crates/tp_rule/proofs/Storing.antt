@@ -1,5 +1,5 @@
 -- What a store to one word leaves of the others.
-use Rattle.std.proofs.Common.{◌≡◌, ◌≢◌, ◌⊎◌, inl, inr, ⊎_elim, ℕ, ◌<◌, ◌≤◌, List, length, set, get_or, sym, refl, ap, ◌∙◌, subst, arith, get_or-set_other, get_or-set_same, Option, Some, None}
+use Rattle.std.proofs.Common.{◌≡◌, ◌≢◌, ◌⊎◌, inl, inr, ⊎_elim, ℕ, ◌+◌, ◌<◌, ◌≤◌, List, length, set, get_or, sym, refl, ap, ◌∙◌, subst, arith, get_or-set_other, get_or-set_same, Option, Some, None}
 use mathlib.Core.Logic.{dite}
 use native.Mathlib.Decide.{ℕ_discrete}
 use Rattle.tp_model.specs.declared.types.Element.{Element}
@@ -7,13 +7,13 @@ use Rattle.tp_model.specs.declared.types.Limits.{Limits}
 use Rattle.tp_model.specs.declared.types.TheConstants.{BODY_WORDS}
 use Rattle.tp_model.specs.Steps.{IsArea, block_first, rows_of}
 use Rattle.tp_rule.specs.Places.{Word, HeadWord, BodyWord, ClaimWord, UnitWord, MarkWord, DrawnWord, IsThere, head_place, body_place, mark_place, place_of, size_of}
-use Rattle.tp_rule.specs.Words.{pack_head}
+use Rattle.tp_rule.specs.Words.{IsFitHead, head_bits, pack_head, run_bits}
 use Rattle.tp_rule.specs.declared.packing.Head.{Head}
 use Rattle.tp_rule.specs.declared.packing.Head.TheVariants.{Empty, Void, Filled}
 use Rattle.tp_rule.proofs.PlaceLemmas.{places_differ, places_inside}
-use Rattle.tp_rule.specs.Rule.{Holds, IsUnwritten, StillSo, drawn_in}
+use Rattle.tp_rule.specs.Rule.{HasHead, HasStage, HasTail, HaveStage, Holds, IsUnwritten, StillSo, drawn_in}
 use Rattle.tp_rule.specs.declared.view.Known.{Known}
-use Rattle.tp_rule.specs.declared.view.Known.TheVariants.{RowHead, PartMark, MarkAbove, BlocksDrawn}
+use Rattle.tp_rule.specs.declared.view.Known.TheVariants.{RowHead, RowRun, PartMark, MarkAbove, BlocksDrawn}
 
 -- the row whose element the word is about, beside its claim
 abbrev pub body_row : Word → Option ℕ
@@ -29,7 +29,7 @@ abbrev pub SameRow : List ℕ → List ℕ → ℕ → Type 0
 SameRow ws ws' i = (get_or ws' (head_place i) 0 ≡ get_or ws (head_place i) 0) × ((j : ℕ) → j < BODY_WORDS → get_or ws' (body_place i j) 0 ≡ get_or ws (body_place i j) 0)
 
 pub holds_same : (ws ws' : List ℕ) (x : Element) → SameRow ws ws' x.id → Holds ws x → Holds ws' x
-holds_same ws ws' x s h = let whole = h.2 in (s.0 ∙ h.0, λ j less. s.1 j (omega arith) ∙ h.1 j less, whole)
+holds_same ws ws' x s h = let whole = h.2 in (ap head_bits s.0 ∙ h.0, λ j less. s.1 j (omega arith) ∙ h.1 j less, whole)
 
 -- a head that isn't empty isn't packed as 0
 pub full_head : (head : Head) → head ≢ Empty → pack_head head ≡ 0 → ⊥
@@ -37,12 +37,33 @@ full_head Empty some e = some refl
 full_head Void some e = omega arith
 full_head (Filled stage root by) some e = omega arith
 
+-- nor is one that is there
+pub has_full : (ws : List ℕ) (i : ℕ) (head : Head) → head ≢ Empty → HasHead ws i head → get_or ws (head_place i) 0 ≢ 0
+has_full ws i head some is zero = full_head head some (sym is ∙ ap head_bits zero)
+
+-- a head of a stage stays so, where it does if it isn't empty
+pub stage_kept : (ws ws' : List ℕ) (stage i : ℕ) → (get_or ws (head_place i) 0 ≢ 0 → get_or ws' (head_place i) 0 ≡ get_or ws (head_place i) 0) → HasStage ws stage i → HasStage ws' stage i
+stage_kept ws ws' stage i kept s = (s.0, s.1, s.2, ap head_bits (kept (has_full ws i (Filled stage s.0 s.1) (λ q. cc) s.3)) ∙ s.3)
+
+-- and so do those right before a pass's next row
+pub tail_same : (ws ws' : List ℕ) (first end next rest tail stage : ℕ) → next + rest ≡ end → ((i : ℕ) → first ≤ i → i < end → get_or ws' (head_place i) 0 ≡ get_or ws (head_place i) 0) → HasTail ws first next tail stage → HasTail ws' first next tail stage
+tail_same ws ws' first end next rest tail stage top same old j low up = let t = old j low up in (t.0, stage_kept ws ws' stage j (λ _. same j t.0 (omega arith)) t.1)
+
+-- the number x is a head of this stage
+abbrev pub IsStageWord : ℕ → ℕ → Type 0
+IsStageWord stage x = (root : ℕ) × (by : Option ℕ) × IsFitHead (Filled stage root by) × (head_bits x ≡ pack_head (Filled stage root by))
+
+-- the rows of its run before row i have heads of the same
+abbrev pub RunsBefore : List ℕ → ℕ → ℕ → Type 0
+RunsBefore ws x i = (stage : ℕ) → IsStageWord stage x → (j : ℕ) → j < i → i ≤ j + run_bits x → HasStage ws stage j
+
 -- the head x of row i may be stored: none is there, those before it in its area aren't empty or it is void, and its row is
 -- in no block that isn't drawn
 pub record MayHead (l : Limits) (ws : List ℕ) (x i : ℕ) : Type 0 where
   pub empty : get_or ws (head_place i) 0 ≡ 0
   pub full : x ≢ pack_head Void → (first end j : ℕ) → IsArea l first end → first ≤ i → i < end → first ≤ j → j < i → get_or ws (head_place j) 0 ≢ 0
   pub drawn : i < block_first l (drawn_in l ws)
+  pub run : RunsBefore ws x i
 
 -- the head of row i is empty or void
 abbrev pub IsBare : List ℕ → ℕ → Type 0
@@ -93,6 +114,20 @@ module _ (l : Limits) where
     heads_kept empty i there some = same_or_other (HeadWord i) w there at (λ e. absurd (some (empty i (sym e)))) (λ other. left (HeadWord i) there other)
 
     module _ (wide : length ws ≡ size_of l) (may : MayStore l ws w x) where
+      -- a head of a stage stays so
+      pub stage_left : (stage i : ℕ) → i < rows_of l → HasStage ws stage i → HasStage (set ws (place_of l w) x) stage i
+      stage_left stage i there s = stage_kept ws (set ws (place_of l w) x) stage i (heads_kept (λ j e. (may.head j e).empty) i there) s
+
+      -- and so do those of each head's run
+      pub runs_after : ((i stage : ℕ) → i < rows_of l → HasStage ws stage i → HaveStage ws stage i (run_bits (get_or ws (head_place i) 0)))
+          → (i stage : ℕ) → i < rows_of l → HasStage (set ws (place_of l w) x) stage i → HaveStage (set ws (place_of l w) x) stage i (run_bits (get_or (set ws (place_of l w) x) (head_place i) 0))
+      runs_after old i stage there s j low up = same_or_other (HeadWord i) w there at
+          (λ e. let now : get_or (set ws (place_of l w) x) (head_place i) 0 ≡ x = ap (λ z. get_or (set ws (place_of l w) x) (place_of l z) 0) e ∙ stored wide in dite (ℕ_discrete j i)
+          (λ same. subst (HasStage (set ws (place_of l w) x) stage) (sym same) s)
+          (λ apart. stage_left stage j (omega arith) ((may.head i (sym e)).run stage (s.0, s.1, s.2, ap head_bits (sym now) ∙ s.3) j (omega arith) (subst (λ z. i ≤ j + run_bits z) now up))))
+          (λ other. let same = left (HeadWord i) there other in
+          stage_left stage j (omega arith) (old i stage there (s.0, s.1, s.2, ap head_bits (sym same) ∙ s.3) j low (subst (λ z. i ≤ j + run_bits z) same up)))
+
       -- the counter of drawn blocks doesn't fall, nor rise above the number of blocks
       pub drawn_rises : drawn_in l ws ≤ drawn_in l (set ws (place_of l w) x)
       drawn_rises = same_or_other DrawnWord w tt at
@@ -106,7 +141,8 @@ module _ (l : Limits) where
 
       -- what was found in words that stay or rise is still so
       pub still_left : (known : Known) → StillSo l ws known → StillSo l (set ws (place_of l w) x) known
-      still_left (RowHead i head) t = (t.0, t.1, λ some. heads_kept (λ j e. (may.head j e).empty) i t.0 (λ zero. full_head head some (sym (t.2 some) ∙ zero)) ∙ t.2 some)
+      still_left (RowHead i head) t = (t.0, t.1, λ some. ap head_bits (heads_kept (λ j e. (may.head j e).empty) i t.0 (has_full ws i head some (t.2 some))) ∙ t.2 some)
+      still_left (RowRun i stage run) t = let there = t.0 in (there, λ j low up. stage_left stage j (omega arith) (t.1 j low up))
       still_left (PartMark s p n) t = let low : n ≤ get_or ws (mark_place l s p) 0 = t.1 in (
         t.0,
         same_or_other (MarkWord s p) w t.0 at

@@ -15,15 +15,16 @@ use Rattle.tp_model.proofs.LawProofs.{settled_stay}
 use Rattle.tp_model.proofs.Later.{births_inside}
 use Rattle.tp_model.proofs.WordProofs.{claim_word-snoc, end_of-snoc}
 use Rattle.tp_rule.specs.Places.{Word, HeadWord, BodyWord, ClaimWord as ClaimOf, UnitWord, MarkWord, DrawnWord, IsThere, head_place, mark_place, place_of}
-use Rattle.tp_rule.specs.Words.{IsFitClaim, IsFitHead, IsFitUnit, head_of, pack_claim, pack_head, pack_unit}
+use Rattle.tp_rule.specs.declared.bits.TheConstants.{HEAD_RUN}
+use Rattle.tp_rule.specs.Words.{IsFitClaim, IsFitHead, IsFitUnit, head_bits, head_of, pack_claim, pack_head, pack_unit, run_bits}
 use Rattle.tp_rule.specs.declared.packing.Head.{Head}
 use Rattle.tp_rule.specs.declared.packing.Head.TheVariants.{Empty, Void, Filled}
-use Rattle.tp_rule.specs.Rule.{Concerns, HeadTold, IsAside, IsFinished, IsInside, IsOther, IsUseless, MarkHolds, StillSo, WordIs, World}
+use Rattle.tp_rule.specs.Rule.{Concerns, HasHead, HasStage, HeadTold, IsAside, IsFinished, IsInside, IsOther, IsUseless, MarkHolds, StillSo, WordIs, World}
 use Rattle.tp_rule.specs.Steps.{AreFinishedFor, Found, IsLow, IsFinishedFor, IsSo}
 use Rattle.tp_rule.specs.declared.view.Known.{Known}
-use Rattle.tp_rule.specs.declared.view.Known.TheVariants.{RowHead, PartMark, MarkAbove, BlocksDrawn}
+use Rattle.tp_rule.specs.declared.view.Known.TheVariants.{RowHead, RowRun, PartMark, MarkAbove, BlocksDrawn}
 use Rattle.tp_rule.proofs.Births.{MadeBy, by_unit}
-use Rattle.tp_rule.proofs.Storing.{MayStore, bare_after, behind_after, drawn_inside, full_head, heads_kept, left, same_or_other, stored, unwritten_after}
+use Rattle.tp_rule.proofs.Storing.{MayStore, bare_after, behind_after, drawn_inside, full_head, has_full, heads_kept, left, runs_after, same_or_other, stored, unwritten_after}
 use Rattle.tp_rule.proofs.Units.{decide}
 
 -- a head's word holds the head
@@ -42,6 +43,42 @@ head_told (Filled s r None) (Filled t q (Some v)) f g e = let a : s ≤ 15 = f.1
 head_told (Filled s r (Some u)) (Filled t q None) f g e = let a : s ≤ 15 = f.1 in let b : t ≤ 15 = g.1 in let c : r ≤ 65535 = f.2 in let d : q ≤ 65535 = g.2 in absurd (omega arith)
 head_told (Filled s r (Some u)) (Filled t q (Some v)) f g e = let a : s ≤ 15 = f.1 in let b : t ≤ 15 = g.1 in let c : r ≤ 65535 = f.2 in let d : q ≤ 65535 = g.2 in
     let x : s ≡ t = omega arith in let y : r ≡ q = omega arith in let z : u ≡ v = omega arith in (λ i. Filled (x i) (y i) (Some (z i)))
+
+-- a head is below the run
+pub head_small : (head : Head) → IsFitHead head → pack_head head < HEAD_RUN
+head_small Empty f = omega arith
+head_small Void f = omega arith
+head_small (Filled s r None) f = let a : s ≤ 15 = f.1 in let b : r ≤ 65535 = f.2 in omega arith
+head_small (Filled s r (Some u)) f = let a : s ≤ 15 = f.1 in let b : r ≤ 65535 = f.2 in let c : u + 1 ≤ 65535 = f.3 in omega arith
+
+-- so it can be told from that, and the other way round
+bits_beside : (p m : ℕ) → p < HEAD_RUN → head_bits (p + HEAD_RUN * m) ≡ p
+bits_beside p m small = omega arith
+
+run_beside : (p m : ℕ) → p < HEAD_RUN → run_bits (p + HEAD_RUN * m) ≡ m
+run_beside p m small = omega arith
+
+alone_bits : (p : ℕ) → p < HEAD_RUN → head_bits p ≡ p
+alone_bits p small = omega arith
+
+alone_run : (p : ℕ) → p < HEAD_RUN → run_bits p ≡ 0
+alone_run p small = omega arith
+
+pub bits_with : (head : Head) (m : ℕ) → IsFitHead head → head_bits (pack_head head + HEAD_RUN * m) ≡ pack_head head
+bits_with head m fit = bits_beside (pack_head head) m (head_small head fit)
+
+pub run_with : (head : Head) (m : ℕ) → IsFitHead head → run_bits (pack_head head + HEAD_RUN * m) ≡ m
+run_with head m fit = run_beside (pack_head head) m (head_small head fit)
+
+pub bits_alone : (head : Head) → IsFitHead head → head_bits (pack_head head) ≡ pack_head head
+bits_alone head fit = alone_bits (pack_head head) (head_small head fit)
+
+pub run_alone : (head : Head) → IsFitHead head → run_bits (pack_head head) ≡ 0
+run_alone head fit = alone_run (pack_head head) (head_small head fit)
+
+-- the stage of an element with this head
+head_stage : (stage root : ℕ) (by : Option ℕ) (x : Element) → Filled stage root by ≡ head_of x → x.stage ≡ stage
+head_stage stage root by x e = cc
 
 -- what is below a number of rows is one, too
 pub inside_below : (k : Limits) (p n m : ℕ) → n ≤ m → IsInside k p m → IsInside k p n
@@ -75,7 +112,7 @@ module _ (k : Limits) (h : List Event) (ws : List ℕ) (world : World k h ws) wh
       apart : (u : ℕ) (m : MadeBy k h i u) → end_of h u ≡ Some Aborted → ⊥
       apart u m gone = let q : Some (Committed m.from m.count) ≡ Some Aborted = sym m.committed ∙ gone in absurd cc
 
-      not_born : (stage root u : ℕ) → IsFitHead (Filled stage root (Some u)) → get_or ws (head_place i) 0 ≡ pack_head (Filled stage root (Some u)) → end_of h u ≡ Some Aborted → ⊥
+      not_born : (stage root u : ℕ) → IsFitHead (Filled stage root (Some u)) → HasHead ws i (Filled stage root (Some u)) → end_of h u ≡ Some Aborted → ⊥
       not_born stage root u fit is gone = let t = world.tells (HeadWord i) there in
           let same : Filled stage root (Some u) ≡ head_of x = head_told (Filled stage root (Some u)) t.head fit t.fit (sym is ∙ t.packed) ∙ t.born x p in
           apart u (by_unit k h world.legal i x u p (named stage root u x same)) gone
@@ -97,13 +134,13 @@ module _ (k : Limits) (h : List Event) (ws : List ℕ) (world : World k h ws) wh
   -- nothing is born in a row without a head
   pub empty_unborn : (i : ℕ) → i < rows_of k → get_or ws (head_place i) 0 ≡ 0 → IsUnborn h i
   empty_unborn i there zero = ⊎_elim
-      (λ t. let told = world.tells (HeadWord i) there in absurd (full_head (head_of t.0) (λ q. cc) (ap pack_head (sym (told.born t.0 (born_at h i t.0 t.1 t.2))) ∙ (sym told.packed ∙ zero))))
+      (λ t. let told = world.tells (HeadWord i) there in absurd (full_head (head_of t.0) (λ q. cc) (ap pack_head (sym (told.born t.0 (born_at h i t.0 t.1 t.2))) ∙ (sym told.packed ∙ ap head_bits zero))))
       (λ none. none) (born_or_not h i)
 
   -- nor in a void row
   void_unborn : (i : ℕ) → i < rows_of k → get_or ws (head_place i) 0 ≡ pack_head Void → IsUnborn h i
   void_unborn i there void = ⊎_elim
-      (λ t. let told = world.tells (HeadWord i) there in let head : told.head ≡ Void = head_told told.head Void told.fit tt (sym told.packed ∙ void) in
+      (λ t. let told = world.tells (HeadWord i) there in let head : told.head ≡ Void = head_told told.head Void told.fit tt (sym told.packed ∙ ap head_bits void) in
       let e : Void ≡ head_of t.0 = sym head ∙ told.born t.0 (born_at h i t.0 t.1 t.2) in absurd cc)
       (λ none. none) (born_or_not h i)
 
@@ -118,6 +155,8 @@ module _ (k : Limits) (h : List Event) (ws : List ℕ) (world : World k h ws) wh
   -- what a seat knows of words that stay is so
   pub so_now : (x : Known) → StillSo k ws x → IsSo k h x
   so_now (RowHead i head) still = λ some x p. recall i head x still some p
+  so_now (RowRun i stage run) still = λ j low up x p. let there = still.0 in let s = still.1 j low up in let told = world.tells (HeadWord j) (omega arith) in
+      head_stage stage s.0 s.1 x (head_told (Filled stage s.0 s.1) told.head s.2 told.fit (sym s.3 ∙ told.packed) ∙ told.born x p)
   so_now (PartMark s p n) still = low_below s p n still
   so_now (MarkAbove s p n) still = let low : n < get_or ws (mark_place k s p) 0 = still.1 in inside_below k p (n + 1) (get_or ws (mark_place k s p) 0) (omega arith) (world.marks s p still.0).inside
   so_now (BlocksDrawn n) still = let top = world.drawn in omega arith
@@ -132,24 +171,25 @@ other_full s (Filled stage root by) o e = absurd cc
 pub finished_later : (k : Limits) (h h' : List Event) (ws ws' : List ℕ) (i : ℕ) → IsPrefix h h' → IsLegal k h' → (get_or ws (head_place i) 0 ≢ 0 → get_or ws' (head_place i) 0 ≡ get_or ws (head_place i) 0) → IsFinished k h ws i → IsFinished k h' ws' i
 finished_later k h h' ws ws' i begins legal kept f = ⊎_elim
     (λ s. inl (s.0, found_later h h' begins i s.0 s.1, subst IsSettled (sym (settled_stay k h h' i legal begins s.2)) s.2))
-    (λ d. inr (d.0, d.1, d.2, (d.3.0, kept (λ zero. let e : pack_head (Filled d.0 d.1 (Some d.2)) ≡ 0 = sym d.3.1 ∙ zero in absurd (omega arith)) ∙ d.3.1), end_stays h h' d.2 Aborted begins d.4)) f
+    (λ d. inr (d.0, d.1, d.2, (d.3.0, ap head_bits (kept (has_full ws i (Filled d.0 d.1 (Some d.2)) (λ q. cc) d.3.1)) ∙ d.3.1), end_stays h h' d.2 Aborted begins d.4)) f
 
 -- and a row of no use to kind s stays so
 pub useless_later : (k : Limits) (s : ℕ) (h h' : List Event) (ws ws' : List ℕ) (i : ℕ) → IsPrefix h h' → IsLegal k h' → (get_or ws (head_place i) 0 ≢ 0 → get_or ws' (head_place i) 0 ≡ get_or ws (head_place i) 0) → IsUseless k s h ws i → IsUseless k s h' ws' i
 useless_later k s h h' ws ws' i begins legal kept u = ⊎_elim
     (λ f. inl (finished_later k h h' ws ws' i begins legal kept f))
-    (λ a. inr (a.0, a.1, kept (λ zero. full_head a.0 (other_full s a.0 a.3) (sym a.2 ∙ zero)) ∙ a.2, a.3)) u
+    (λ a. inr (a.0, a.1, ap head_bits (kept (has_full ws i a.0 (other_full s a.0 a.3) a.2)) ∙ a.2, a.3)) u
 
 module _ (h : List Event) (e : Event) where
   -- an element that is born in row i is so already, or is born now
   pub row_either : (i : ℕ) (x : Element) {P : Type 0} → element_of (h ++ e ∷ []) i ≡ Some x → (element_of h i ≡ Some x → P) → (In x (births e) → x.id ≡ i → P) → P
   row_either i x p old new = let id = element_of-id (h ++ e ∷ []) i x p in ⊎_elim (λ b. old (born_at h i x b id)) (λ q. new q id) (born_either x h e (is_born (h ++ e ∷ []) i x p))
 
-  pub head_later : (i n : ℕ) → ((x : Element) → In x (births e) → x.id ≡ i → (n ≡ pack_head (head_of x)) × IsFitHead (head_of x)) → HeadTold h i n → HeadTold (h ++ e ∷ []) i n
+  pub head_later : (i n : ℕ) → ((x : Element) → In x (births e) → x.id ≡ i → (head_bits n ≡ pack_head (head_of x)) × IsFitHead (head_of x)) → HeadTold h i n → HeadTold (h ++ e ∷ []) i n
   head_later i n new old = record {
     head = old.head;
     packed = old.packed;
     fit = old.fit;
+    bare = old.bare;
     born = λ x p. row_either i x p (old.born x) (λ q id. let t = new x q id in head_told old.head (head_of x) old.fit t.1 (sym old.packed ∙ t.0));
     draft = λ un. old.draft (unborn_before h e i un);
   }
@@ -196,5 +236,6 @@ world_stored k h h' ws w x world legal begins at now rest may mark = record {
   drawn = drawn_inside k ws w x at world.wide may world.drawn;
   bare = bare_after k ws w x at world.wide may world.bare;
   unwritten = unwritten_after k ws w x at world.wide may world.unwritten;
+  runs = runs_after k ws w x at world.wide may world.runs;
   behind = λ first end i j area low later high. behind_after k ws w x at world.wide may first end i j area (area_inside k first end area) low later high (world.behind first end i j area low later high);
 }

@@ -11,7 +11,7 @@ use Rattle.tp_model.specs.Steps.{rows_of}
 use Rattle.tp_model.proofs.Areas.{one_area, own_area}
 use Rattle.tp_model.proofs.Bridges.{begins_refl, found_later, in_cons}
 use Rattle.tp_rule.specs.Places.{HeadWord, head_place}
-use Rattle.tp_rule.specs.Words.{pack_head}
+use Rattle.tp_rule.specs.Words.{head_bits, pack_head}
 use Rattle.tp_rule.specs.declared.packing.Head.{Head}
 use Rattle.tp_rule.specs.declared.packing.Head.TheVariants.{Empty, Filled, Void}
 use Rattle.tp_rule.specs.Doors.{Permits}
@@ -28,7 +28,7 @@ use Rattle.tp_rule.proofs.OwnAreas.{areas_on}
 use Rattle.tp_model.proofs.Areas.{ascend_wider}
 use Rattle.tp_model.specs.Passes.{IsOwnArea}
 use Rattle.tp_rule.proofs.Owning.{IsDrawer, own_apart, own_drawn, own_inside}
-use Rattle.tp_rule.proofs.Storing.{MayStore, SameRow, drawn_left, drawn_rises, full_head, row_left, still_left, stored}
+use Rattle.tp_rule.proofs.Storing.{MayStore, SameRow, drawn_left, drawn_rises, full_head, row_left, still_left, stored, tail_same}
 use Rattle.tp_rule.proofs.Tellings.{empty_unborn, head_told, world_stored}
 
 module _ (k : Limits) (t : Turn k) (i : ℕ) (away : IsLeftBehind k (hand t.view) i) where
@@ -55,6 +55,7 @@ module _ (k : Limits) (t : Turn k) (i : ℕ) (away : IsLeftBehind k (hand t.view
       head = λ j e. let same : i ≡ j = cc in record {
         empty = subst (λ z. get_or t.state.words (head_place z) 0 ≡ 0) same empty;
         full = λ not. absurd (not refl);
+        run = λ stage s j low up. let q : Filled stage s.0 s.1 ≡ Void = head_told (Filled stage s.0 s.1) Void s.2 tt (sym s.3) in absurd cc;
         drawn = let hold = hand_holds k t in let top = own_drawn k me.number (drawn_in k t.state.words) me.blocks away.0 away.1 hold.blocks away.2 in let high = away.4 in omega arith;
       };
       mark = λ s p e. absurd cc;
@@ -67,6 +68,7 @@ module _ (k : Limits) (t : Turn k) (i : ℕ) (away : IsLeftBehind k (hand t.view
       head = Void;
       packed = refl;
       fit = tt;
+      bare = λ e. absurd cc;
       born = λ x p. let q : None ≡ Some x = sym (empty_unborn k t.rule.history t.state.words t.rule.world i inside empty) ∙ p in absurd cc;
       draft = λ un. tt;
     }
@@ -97,6 +99,8 @@ module _ (k : Limits) (t : Turn k) (i : ℕ) (away : IsLeftBehind k (hand t.view
       area = hold.area;
       rows = rows_frame k h h t.state.words ws hold.first hold.end me.first_draft me.next me.left me.next_body me.drafts
           (λ j low high. other_row j (omega arith) (λ same. not_mine hold (omega arith) (omega arith))) (λ j low high un. un) hold.rows;
+      tail = tail_same t.state.words ws hold.first hold.end me.next me.left me.tail me.tail_stage hold.rows.ends
+          (λ j low high. (other_row j (omega arith) (λ same. not_mine hold (omega arith) (omega arith))).0) hold.tail;
       units = hold.units;
       areas = areas_on k h h t.state.words ws me me (record {
         own = λ first end own. own;
@@ -105,7 +109,7 @@ module _ (k : Limits) (t : Turn k) (i : ℕ) (away : IsLeftBehind k (hand t.view
         heads = λ first end j own low high. let last = own_inside k me.number me.blocks first end own in dite (ℕ_discrete i j)
             (λ same. let now : get_or ws (head_place j) 0 ≡ pack_head Void = subst (λ z. get_or ws (head_place z) 0 ≡ pack_head Void) same (stored k t.state.words (HeadWord i) (pack_head Void) inside t.rule.world.wide) in inr (
               λ zero. full_head Void (λ q. cc) (sym now ∙ zero),
-              λ stage root u named. let q : Filled stage root (Some u) ≡ Void = head_told (Filled stage root (Some u)) Void named.0 tt (sym named.1 ∙ now) in absurd cc,
+              λ stage root u named. let q : Filled stage root (Some u) ≡ Void = head_told (Filled stage root (Some u)) Void named.0 tt (sym named.1 ∙ ap head_bits now) in absurd cc,
             ))
             (λ other. inl (other_row j (omega arith) other).0);
         undecided = λ u un. un;
@@ -130,7 +134,7 @@ module _ (k : Limits) (t : Turn k) (i : ℕ) (away : IsLeftBehind k (hand t.view
       mine = mine_void;
       others = λ b ne draws hold. quiet b hold (not_others b ne draws);
       known = RowHead i Void ∷ t.view.known;
-      knows = λ z q. ⊎_elim (λ e. subst (StillSo k ws) (sym e) (inside, tt, λ some. stored k t.state.words (HeadWord i) (pack_head Void) inside t.rule.world.wide)) (λ o. still z (seat.known z o)) (in_cons q);
+      knows = λ z q. ⊎_elim (λ e. subst (StillSo k ws) (sym e) (inside, tt, λ some. ap head_bits (stored k t.state.words (HeadWord i) (pack_head Void) inside t.rule.world.wide))) (λ o. still z (seat.known z o)) (in_cons q);
       still = still;
       same = λ c. refl;
       draws = mine_drawn k t;
@@ -180,7 +184,7 @@ voids_go k l v word i keyed one lim gone place s r id at = let away : IsLeftBehi
             let q : None ≡ Some y = sym un ∙ found_later v.seen r.history seat.seen i y (subst (λ z. element_of v.seen z ≡ Some y) (sym same) p) in absurd cc,
       ),
     ))
-    (λ miss. let told = r.world.tells (HeadWord i) (inside k t i away) in let some : told.head ≢ Empty = λ e. miss (is ∙ (told.packed ∙ ap pack_head e)) in (
+    (λ miss. let told = r.world.tells (HeadWord i) (inside k t i away) in let some : told.head ≢ Empty = λ e. miss (is ∙ told.bare e) in (
       after kinds.Void unchanged v.seen (RowHead i told.head ∷ v.known) v,
       subst (λ (z : List ℕ). Rule k record { words = z; homes = s.homes; views = set s.views id (after kinds.Void unchanged v.seen (RowHead i told.head ∷ v.known) v) })
           (sym (ap (λ z. set s.words word z) (ap (λ b. either b (pack_head Void) x) (ne_eqb x 0 miss)) ∙ set-get_or s.words word 0)) (headed k t i away told.head (inside k t i away, told.fit, λ _. told.packed)),

@@ -44,6 +44,7 @@ module _ (k : Limits) where
         end = a.end;
         area = a.area;
         rows = a.rows;
+        tail = a.tail;
         units = record {
           used_below = a.units.used_below;
           unused = a.units.unused;

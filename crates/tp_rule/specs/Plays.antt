@@ -1,21 +1,22 @@
 -- What the steps say, of the numbers that the table's steps take and give: a place, one or two numbers, and
 -- the number that was found at the place. In each definition v is the view before the step, and w the view
 -- after it.
-use Rattle.std.specs.Prelude.{◌≡◌, ◌≢◌, ℕ, ◌<◌, ◌≤◌, [], Some, None}
+use Rattle.std.specs.Prelude.{◌≡◌, ◌≢◌, ℕ, ◌+◌, ◌*◌, ◌<◌, ◌≤◌, [], Option, Some, None}
 use Rattle.tp_model.specs.Words.{TakenWord, AgainWord}
 use Rattle.tp_model.specs.declared.types.TheConstants.{BODY_WORDS, REPLY_STAGE}
 use Rattle.tp_model.specs.declared.trace.StepKind.TheVariants as kinds
 use Rattle.tp_rule.specs.declared.packing.Head.{Head}
 use Rattle.tp_rule.specs.declared.packing.Head.TheVariants.{Filled}
-use Rattle.tp_rule.specs.Words.{IsFitHead, pack_claim, pack_head}
+use Rattle.tp_rule.specs.declared.bits.TheConstants.{HEAD_RUN}
+use Rattle.tp_rule.specs.Words.{IsFitHead, head_bits, pack_claim, pack_head, run_bits}
 use Rattle.tp_rule.specs.Places.{IsThere, MarkWord, head_place, body_place, claim_place, mark_place}
 use Rattle.tp_rule.specs.Places.{drawn_place, unit_place}
 use Rattle.tp_rule.specs.Views.{hand, next_row}
 use Rattle.tp_rule.specs.Steps.{Found, Grew, Knows, Loads, MayBeBorn, unchanged, drafted, with_word, Drafts}
 use Rattle.tp_rule.specs.Steps.{Publishes, Chooses, MakesClaim, MakesCommit, LosesUnit, MakesAbort, MakesKill}
 use Rattle.tp_rule.specs.Steps.{MakesRequeue, Misses, IsLow, RaisesMark, NoneDrawn, Shares, Draws, DrawsNone}
-use Rattle.tp_rule.specs.Steps.{AreInOrder, Voids}
-use Rattle.tp_rule.specs.declared.view.Known.TheVariants.{RowHead, PartMark, MarkAbove, BlocksDrawn}
+use Rattle.tp_rule.specs.Steps.{AreInOrder, Voids, run_before}
+use Rattle.tp_rule.specs.declared.view.Known.TheVariants.{RowHead, RowRun, PartMark, MarkAbove, BlocksDrawn}
 use Rattle.tp_rule.specs.declared.view.View.{View}
 
 abbrev pub Telling : Type 1
@@ -24,11 +25,13 @@ Telling = ℕ → ℕ → ℕ → View → ℕ → View → Type 0
 abbrev pub loads : Telling
 loads word first second v r w = Loads v word r w
 
--- a load of a head, which the seat remembers; where it is empty, an element may be born in its row yet
+-- a load of a head, which the seat remembers, with its run; where it is empty, an element may be born in its row yet
 abbrev pub loads_head : Telling
 loads_head word first second v r w = Loads v word r w
-    × ((i : ℕ) (head : Head) → word ≡ head_place i → r ≡ pack_head head → IsFitHead head
+    × ((i : ℕ) (head : Head) → word ≡ head_place i → head_bits r ≡ pack_head head → IsFitHead head
     → Knows w (RowHead i head))
+    × ((i stage root : ℕ) (by : Option ℕ) → word ≡ head_place i → head_bits r ≡ pack_head (Filled stage root by)
+    → IsFitHead (Filled stage root by) → Knows w (RowRun i stage (run_bits r)))
     × ((i : ℕ) → word ≡ head_place i → r ≡ 0 → MayBeBorn v.limits w.seen i)
 
 -- a load of a unit's word, which tells too that each pass takes its units in order
@@ -46,7 +49,8 @@ stores_head word packed second v r w =
 
 abbrev pub publishes : Telling
 publishes word packed second v r w = (stage : ℕ) × (stage ≤ REPLY_STAGE)
-    × (packed ≡ pack_head (Filled stage (next_row v) None)) × Publishes v stage w
+    × (packed ≡ pack_head (Filled stage (next_row v) None) + HEAD_RUN * run_before stage (hand v))
+    × Publishes v stage w
 
 abbrev pub chooses : Telling
 chooses word first second v r w = (u : ℕ) × (word ≡ unit_place v.limits u) × Chooses v u w

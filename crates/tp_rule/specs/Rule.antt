@@ -17,11 +17,12 @@ use Rattle.tp_model.specs.declared.types.Limits.{Limits}
 use Rattle.tp_model.specs.declared.types.TheConstants.{BLOCK_ROWS, BODY_WORDS, REPLY_STAGE}
 use Rattle.tp_rule.specs.declared.view.Hand.{Hand}
 use Rattle.tp_rule.specs.declared.view.Known.{Known}
-use Rattle.tp_rule.specs.declared.view.Known.TheVariants.{RowHead, PartMark, MarkAbove, BlocksDrawn}
+use Rattle.tp_rule.specs.declared.view.Known.TheVariants.{RowHead, RowRun, PartMark, MarkAbove, BlocksDrawn}
 use Rattle.tp_rule.specs.declared.view.View.{View}
 use Rattle.tp_rule.specs.Places.{Word, HeadWord, BodyWord, ClaimWord, UnitWord, MarkWord, DrawnWord, IsThere}
 use Rattle.tp_rule.specs.Places.{head_place, body_place, mark_place, drawn_place, place_of, size_of}
-use Rattle.tp_rule.specs.Words.{IsFitHead, IsFitClaim, IsFitUnit, head_of, pack_claim, pack_head, pack_unit}
+use Rattle.tp_rule.specs.Words.{IsFitHead, IsFitClaim, IsFitUnit, head_bits, head_of, pack_claim, pack_head}
+use Rattle.tp_rule.specs.Words.{pack_unit, run_bits}
 use Rattle.tp_rule.specs.declared.packing.Head.{Head}
 use Rattle.tp_rule.specs.declared.packing.Head.TheVariants.{Empty, Void, Filled}
 
@@ -33,10 +34,26 @@ HoldsBody ws i body = (k : ℕ) → k < length body → slice_index ws (body_pla
 abbrev pub IsUnwritten : List ℕ → ℕ → Type 0
 IsUnwritten ws i = (k : ℕ) → k < BODY_WORDS → slice_index ws (body_place i k) ≡ 0
 
+-- the head of row i is this one
+abbrev pub HasHead : List ℕ → ℕ → Head → Type 0
+HasHead ws i head = head_bits (slice_index ws (head_place i)) ≡ pack_head head
+
+-- it is of this stage
+abbrev pub HasStage : List ℕ → ℕ → ℕ → Type 0
+HasStage ws stage i = (root : ℕ) × (by : Option ℕ) × IsFitHead (Filled stage root by)
+    × HasHead ws i (Filled stage root by)
+
+-- and so are those of so many rows right before it
+abbrev pub HaveStage : List ℕ → ℕ → ℕ → ℕ → Type 0
+HaveStage ws stage i run = (j : ℕ) → j ≤ i → i ≤ j + run → HasStage ws stage j
+
+-- so many rows right before the next one, of those from `first` on, have heads of this stage
+abbrev pub HasTail : List ℕ → ℕ → ℕ → ℕ → ℕ → Type 0
+HasTail ws first next tail stage = (j : ℕ) → j < next → next ≤ j + tail → (first ≤ j) × HasStage ws stage j
+
 -- the head of row x.id and the words of its body hold the element x, whose body is whole
 abbrev pub Holds : List ℕ → Element → Type 0
-Holds ws x = (slice_index ws (head_place x.id) ≡ pack_head (head_of x)) × HoldsBody ws x.id x.body
-    × IsBody x.body
+Holds ws x = HasHead ws x.id (head_of x) × HoldsBody ws x.id x.body × IsBody x.body
 
 -- these elements have the ids i, i + 1, ..
 abbrev pub HaveIdsFrom : ℕ → List Element → Type 0
@@ -98,8 +115,7 @@ pub record UnitsHold (l : Limits) (h : List Event) (c claimed : ℕ)
 
 -- the head of row i names unit u
 abbrev pub NamesUnit : List ℕ → ℕ → ℕ → ℕ → ℕ → Type 0
-NamesUnit ws i stage root u = IsFitHead (Filled stage root (Some u))
-    × (slice_index ws (head_place i) ≡ pack_head (Filled stage root (Some u)))
+NamesUnit ws i stage root u = IsFitHead (Filled stage root (Some u)) × HasHead ws i (Filled stage root (Some u))
 
 -- what is so of all areas of a pass: of its part, and of each block that it has drawn
 pub record AreasHold (l : Limits) (h : List Event) (ws : List ℕ) (a : Hand) : Type 0 where
@@ -138,6 +154,8 @@ pub record HandHolds (l : Limits) (h : List Event) (ws : List ℕ) (a : Hand) : 
   pub area : IsOwnArea l a.number a.blocks first end
   -- its rows are as it remembers them
   pub rows : RowsHold h ws first end a.first_draft a.next a.left a.next_body a.drafts
+  -- and so are those right before the next one
+  pub tail : HasTail ws first a.next a.tail a.tail_stage
   -- its units are as it remembers them
   pub units : UnitsHold l h a.number a.claimed a.spare_unit a.open_unit
   -- and the heads in all its areas are in order
@@ -150,8 +168,8 @@ IsApart (a ∷ hands) = ((b : Hand) → In b hands → ¬ (b.number ≡ a.number
 
 -- what was found in a word that stays is still so or has only risen
 abbrev pub StillSo : Limits → List ℕ → Known → Type 0
-StillSo l ws (RowHead i head) = (i < rows_of l) × IsFitHead head
-    × (head ≢ Empty → slice_index ws (head_place i) ≡ pack_head head)
+StillSo l ws (RowHead i head) = (i < rows_of l) × IsFitHead head × (head ≢ Empty → HasHead ws i head)
+StillSo l ws (RowRun i stage run) = (i < rows_of l) × HaveStage ws stage i run
 StillSo l ws (PartMark s p n) = IsThere l (MarkWord s p) × (n ≤ slice_index ws (mark_place l s p))
 StillSo l ws (MarkAbove s p n) = IsThere l (MarkWord s p) × (n < slice_index ws (mark_place l s p))
 StillSo l ws (BlocksDrawn n) = n ≤ drawn_in l ws
@@ -184,9 +202,11 @@ pub record SeatHolds (l : Limits) (h : List Event) (ws : List ℕ) (owner : Owne
 -- what the head of row i says, where the number n is there
 pub record HeadTold (h : List Event) (i n : ℕ) : Type 0 where
   pub head : Head
-  -- the number is the packing of a value that a head can hold
-  pub packed : n ≡ pack_head head
+  -- the number's head is the packing of a value that a head can hold
+  pub packed : head_bits n ≡ pack_head head
   pub fit : IsFitHead head
+  -- and it has no run where the head is empty
+  pub bare : head ≡ Empty → n ≡ 0
   -- where an element is born in the row, it is that element's head
   pub born : (x : Element) → element_of h i ≡ Some x → head ≡ head_of x
   -- where none is born, it is empty or void, or names a unit
@@ -233,8 +253,7 @@ IsOther s (Filled stage root by) = ¬ Concerns s stage
 
 -- row i has such a head: it stays, whether its element is born or not
 abbrev pub IsAside : List ℕ → ℕ → ℕ → Type 0
-IsAside ws s i = (head : Head) × IsFitHead head × (slice_index ws (head_place i) ≡ pack_head head)
-    × IsOther s head
+IsAside ws s i = (head : Head) × IsFitHead head × HasHead ws i head × IsOther s head
 
 -- row i is of no use to a look that begins at marks of kind s
 abbrev pub IsUseless : Limits → ℕ → List Event → List ℕ → ℕ → Type 0
@@ -270,6 +289,9 @@ pub record World (l : Limits) (h : List Event) (ws : List ℕ) : Type 0 where
   pub behind : (first end i j : ℕ) → IsArea l first end → first ≤ i → i ≤ j → j < end
       → slice_index ws (head_place i) ≡ 0
       → (slice_index ws (head_place j) ≡ 0) ⊎ (slice_index ws (head_place j) ≡ pack_head Void)
+  -- the rows of each head's run have heads of its stage
+  pub runs : (i stage : ℕ) → i < rows_of l → HasStage ws stage i
+      → HaveStage ws stage i (run_bits (slice_index ws (head_place i)))
 
 -- some seat has a pass of which P is so
 abbrev pub AtSeat : (Hand → Type 0) → List View → Type 0

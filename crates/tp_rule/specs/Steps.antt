@@ -27,7 +27,7 @@ use Rattle.tp_rule.specs.Rule.{Concerns, IsInside, IsOther, IsSettledRow, WordIs
 use Rattle.tp_rule.specs.Views.{IsOnePass, blank_body, hand, next_row}
 use Rattle.tp_rule.specs.declared.view.Hand.{Hand}
 use Rattle.tp_rule.specs.declared.view.Known.{Known}
-use Rattle.tp_rule.specs.declared.view.Known.TheVariants.{RowHead, PartMark, MarkAbove, BlocksDrawn}
+use Rattle.tp_rule.specs.declared.view.Known.TheVariants.{RowHead, RowRun, PartMark, MarkAbove, BlocksDrawn}
 use Rattle.tp_rule.specs.declared.view.View.{View}
 
 -- the pass with one more entry in its trace
@@ -64,10 +64,12 @@ abbrev pub IsLow : Limits → ℕ → List Event → ℕ → ℕ → Type 0
 IsLow l s h p n = IsInside l p n × AreFinishedFor l s h p n
 
 -- what a seat that knows x knows of the history h: a head that isn't empty is that of the element that is
--- born in the row, no row below a mark has an element of its stages that isn't consumed or killed, a mark
+-- born in the row, what is born in a row of a run is of its stage, no row below a mark has an element of its stages that isn't consumed or killed, a mark
 -- that is above a number is in its part, and no more blocks are drawn than there are
 abbrev pub IsSo : Limits → List Event → Known → Type 0
 IsSo l h (RowHead i head) = head ≢ Empty → (x : Element) → element_of h i ≡ Some x → head ≡ head_of x
+IsSo l h (RowRun i stage run) = (j : ℕ) → j ≤ i → i ≤ j + run → (x : Element) → element_of h j ≡ Some x
+    → x.stage ≡ stage
 IsSo l h (PartMark s p n) = IsLow l s h p n
 IsSo l h (MarkAbove s p n) = IsInside l p (n + 1)
 IsSo l h (BlocksDrawn n) = n ≤ l.spare
@@ -220,6 +222,7 @@ abbrev pub with_draft : Element → Hand → Hand
 with_draft x a = record a {
   next = a.next + 1;
   left = a.left - 1;
+  tail = 0;
   next_body = blank_body;
   drafts = a.drafts
       ++ x ∷ [];
@@ -239,19 +242,25 @@ Drafts v stage root u w = w ≡ drafted (with_draft (next_element v stage root (
 abbrev pub birth : View → ℕ → Event
 birth v stage = Enqueue (hand v).number (next_element v stage (next_row v) None)
 
--- the next row is born
-abbrev pub with_birth : Event → Hand → Hand
-with_birth e a = record a {
+-- how many rows right before the next one were published in this stage
+abbrev pub run_before : ℕ → Hand → ℕ
+run_before stage a = if stage == a.tail_stage then a.tail else 0
+
+-- the next row is born, in this stage
+abbrev pub with_birth : ℕ → Event → Hand → Hand
+with_birth stage e a = record a {
   mine = a.mine ++ e ∷ [];
   first_draft = a.next + 1;
   next = a.next + 1;
   left = a.left - 1;
+  tail = run_before stage a + 1;
+  tail_stage = stage;
   next_body = blank_body;
   drafts = [];
 }
 
 abbrev pub Publishes : View → ℕ → View → Type 0
-Publishes v stage w = Grew kinds.Publish (with_birth (birth v stage)) (birth v stage ∷ []) v w
+Publishes v stage w = Grew kinds.Publish (with_birth stage (birth v stage)) (birth v stage ∷ []) v w
 
 -- unit choice
 
@@ -386,8 +395,16 @@ KnowsFinished v i = IsSettledRow v.limits v.seen i ⊎ HasDead v i
 
 -- the seat has found in row i a head of no use to marks of kind s: a void one, or one of a stage that they
 -- aren't about
+abbrev pub FoundAside : View → ℕ → ℕ → Type 0
+FoundAside v s i = (head : Head) × Knows v (RowHead i head) × IsOther s head
+
+-- or row i is in a run of such a stage
+abbrev pub RunAside : View → ℕ → ℕ → Type 0
+RunAside v s i = (k : ℕ) × (stage : ℕ) × (run : ℕ) × Knows v (RowRun k stage run) × (i ≤ k) × (k ≤ i + run)
+    × ¬ Concerns s stage
+
 abbrev pub HasAside : View → ℕ → ℕ → Type 0
-HasAside v s i = (head : Head) × Knows v (RowHead i head) × IsOther s head
+HasAside v s i = FoundAside v s i ⊎ RunAside v s i
 
 -- the seat knows that row i is of no use to kind s
 abbrev pub KnowsUseless : View → ℕ → ℕ → Type 0
@@ -410,6 +427,7 @@ with_block b first a = record a {
   left = BLOCK_ROWS;
   passed_from = a.next;
   passed_to = a.next + a.left;
+  tail = 0;
   next_body = blank_body;
   blocks = a.blocks ++ b ∷ [];
 }

@@ -5,7 +5,7 @@ use Rattle.tp_model.specs.History.{UnitEnd, Committed, Aborted}
 use Rattle.tp_model.specs.Words.{ClaimWord, FreeWord, TakenWord, KilledWord, AgainWord}
 use Rattle.tp_model.specs.declared.types.TheConstants.{MAX_ATTEMPTS, MAX_OUTPUTS, MAX_ROUNDS, REPLY_STAGE}
 use Rattle.tp_rule.specs.declared.bits.TheConstants.{HEAD_EMPTY, HEAD_VOID, HEAD_PRESENT, HEAD_STAGE}
-use Rattle.tp_rule.specs.declared.bits.TheConstants.{HEAD_ROOT, HEAD_BY, CLAIM_FREE, CLAIM_TAKEN}
+use Rattle.tp_rule.specs.declared.bits.TheConstants.{HEAD_ROOT, HEAD_BY, HEAD_RUN, CLAIM_FREE, CLAIM_TAKEN}
 use Rattle.tp_rule.specs.declared.bits.TheConstants.{CLAIM_KILLED, CLAIM_AGAIN, CLAIM_ATTEMPT, CLAIM_UNIT}
 use Rattle.tp_rule.specs.declared.bits.TheConstants.{CLAIM_ROUND, UNIT_UNDECIDED, UNIT_COMMITTED}
 use Rattle.tp_rule.specs.declared.bits.TheConstants.{UNIT_ABORTED, UNIT_COUNT, UNIT_FIRST, MAX_UNIT, MAX_ID}
@@ -38,11 +38,18 @@ abbrev pub pack_by : Option ℕ → ℕ
 pack_by None = 0
 pack_by (Some u) = u + 1
 
--- the head word
+-- the head word, without its run
 abbrev pub pack_head : Head → ℕ
 pack_head Empty = HEAD_EMPTY
 pack_head Void = HEAD_VOID
 pack_head (Filled stage root by) = HEAD_PRESENT + HEAD_STAGE * stage + HEAD_ROOT * root + HEAD_BY * pack_by by
+
+-- the head in a head word, and the run: how many rows right before it have heads of its stage
+abbrev pub head_bits : ℕ → ℕ
+head_bits word = word % HEAD_RUN
+
+abbrev pub run_bits : ℕ → ℕ
+run_bits word = word / HEAD_RUN
 
 -- the claim word
 abbrev pub pack_claim : ClaimWord → ℕ

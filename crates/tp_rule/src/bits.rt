@@ -22,6 +22,9 @@ pub const HEAD_ROOT: u64 = 1 << 5;
 /// Head, bits 21 to 36: 0 where a client made it, else the number of the unit that did, plus 1.
 pub const HEAD_BY: u64 = 1 << 21;
 
+/// Head, bits 37 to 52: how many rows right before it have heads of its stage, as far as its pass tells.
+pub const HEAD_RUN: u64 = 1 << 37;
+
 /// The claim of an element that was never taken or killed, and of a row without an element.
 pub const CLAIM_FREE: u64 = 0;
 

@@ -1,5 +1,5 @@
 //! Loads. Each shows the seat the history so far.
-ghost use Rattle.std.specs.Prelude.{ℕ, ◌≡◌, ◌<◌, ◌≤◌, [], Some, slice_index};
+ghost use Rattle.std.specs.Prelude.{ℕ, ◌≡◌, ◌<◌, ◌≤◌, [], Option, Some, slice_index};
 ghost use Rattle.tp_model.specs.declared.types.TheConstants.{BODY_WORDS};
 ghost use Rattle.tp_model.specs.declared.types.Element.{Element};
 ghost use Rattle.tp_model.specs.declared.trace.StepKind.TheVariants as kinds;
@@ -9,14 +9,15 @@ ghost use Rattle.tp_model.specs.Steps.{rows_of, units_of};
 ghost use Rattle.tp_rule.specs.Words.{claim_value, unit_value, head_of, IsFitClaim};
 ghost use Rattle.tp_rule.specs.Places.{size_of};
 ghost use Rattle.tp_rule.specs.declared.places.TheConstants.{MARK_KINDS};
-ghost use Rattle.tp_rule.specs.declared.packing.Head.TheVariants.{Empty};
+ghost use Rattle.tp_rule.specs.declared.packing.Head.TheVariants.{Empty, Filled};
 ghost use Rattle.tp_rule.specs.Rule.{IsDraft};
 ghost use Rattle.tp_rule.specs.Views.{seen_by, view_of, HasPass, IsSameSeat};
 ghost use Rattle.tp_rule.specs.Steps.{AreInOrder, IsLow, Loads, Grew, Knows, MayBeBorn, NoneDrawn, Shares};
 ghost use Rattle.tp_rule.specs.Steps.{unchanged};
-ghost use Rattle.tp_rule.specs.declared.view.Known.TheVariants.{RowHead, PartMark, BlocksDrawn};
+ghost use Rattle.tp_rule.specs.declared.view.Known.TheVariants.{RowHead, RowRun, PartMark, BlocksDrawn};
 
-use crate::packing::{FoundClaim, Head, UnitWord};
+use crate::bits::HEAD_RUN;
+use crate::packing::{FoundClaim, FoundHead, Head, UnitWord};
 use crate::plays::{Load, LoadDrawn, LoadHead, LoadMark, LoadUnit};
 use crate::seat::Seat;
 use crate::words::Words;
@@ -55,7 +56,31 @@ impl Words {
     {
         let word = self.places.head(row);
         let found = self.table.load::<LoadHead>(seat, word);
-        Head::read(found)
+        Head::read(found % HEAD_RUN)
+    }
+
+    /// The same, and the run of the head where the row has one: so many rows right before it have heads of its
+    /// stage, and the seat remembers that too.
+    #[inline(always)]
+    pub fn load_run(&self, seat: &mut Seat, row: u32) -> FoundHead
+        requires own { IsSeatOf self.now seat.old }
+        requires one { IsPassOf self.now seat.old }
+        requires row { row < rows_of (table_limits self.now) }
+        ensures same { IsSameSeat seat.old seat.new }
+        ensures grew { Grew kinds.Load unchanged [] (view_of seat.old) (view_of seat.new) }
+        ensures born { (e : Element) → element_of (seen_by seat.new) row ≡ Some e → result.tells ≡ head_of e }
+        ensures draft { IsUnborn (seen_by seat.new) row → IsDraft result.tells }
+        ensures knows { Knows (view_of seat.new) (RowHead row result.tells) }
+        ensures none { result.tells ≡ Empty → MayBeBorn (table_limits self.now) (seen_by seat.new) row }
+        ensures run { (stage root : ℕ) (by : Option ℕ) → result.tells ≡ Filled stage root by
+            → Knows (view_of seat.new) (RowRun row stage result.run) }
+    {
+        let word = self.places.head(row);
+        let found = self.table.load::<LoadHead>(seat, word);
+        FoundHead {
+            tells: Head::read(found % HEAD_RUN),
+            run: (found / HEAD_RUN) as u32,
+        }
     }
 
     /// Reads the stage in the head of a row: that of its element, where one is born.
@@ -70,7 +95,7 @@ impl Words {
     {
         let word = self.places.head(row);
         let found = self.table.load::<LoadHead>(seat, word);
-        Head::stage(found)
+        Head::stage(found % HEAD_RUN)
     }
 
     /// Reads a word of the body of a row: that of its element, where one is born.

@@ -3,7 +3,7 @@
 //! `Head`, `Claim` and `UnitWord` can each hold more than the words can; `pack` asks for a value that a word
 //! can hold, and `unpack` answers such values alone. `unpack` undoes `pack`, and `pack` undoes `unpack`.
 //! `read` is the same for a number of which it is proved that it is such a word. A `FoundClaim` is a claim
-//! beside the word that it is in.
+//! beside the word that it is in. The run of a head word, its bits from 37 on, is apart from all this.
 ghost use Rattle.std.specs.Prelude.{◌≡◌, ◌↔◌, ℕ, IfSome, IsSome, Option, Some};
 ghost use Rattle.std.specs.Option.{option_map};
 ghost use Rattle.tp_model.specs.History.{UnitEnd};
@@ -58,6 +58,15 @@ pub struct FoundClaim {
     /// What the word says.
     pub tells: Claim,
     pub ghost same: { word ≡ pack_claim (claim_value tells) },
+}
+
+/// A head as it was found.
+#[derive(Clone, Copy, Debug, PartialEq, Eq)]
+pub struct FoundHead {
+    /// What the word says of the row.
+    pub tells: Head,
+    /// The run: where the row has an element or a draft, so many rows right before it have heads of its stage.
+    pub run: u32,
 }
 
 /// What the word of a unit says.

@@ -32,6 +32,11 @@ pub struct Hand {
     pub passed_to: u32,
     /// The spare blocks that the pass has drawn, in ascending order.
     pub blocks: LinkedList<u16>,
+    /// The rows of the run right before the next one that were published as elements of `tail_stage`: so many
+    /// of them.
+    pub tail: u16,
+    /// Of which stage these are.
+    pub tail_stage: u8,
     /// The words that are in the body of the next row: 0 where none is stored yet.
     pub next_body: LinkedList<u64>,
     /// The outputs that are written for the open unit, and are born when it commits.
@@ -50,6 +55,8 @@ pub struct Hand {
 pub enum Known {
     /// The head of a row: once it isn't empty, it stays as it is.
     RowHead(u32, Head),
+    /// The head of a row is of this stage, and so are those of so many rows right before it.
+    RowRun(u32, u8, u16),
     /// The mark of a kind of a part, or of the spare rows: it never falls.
     PartMark(u8, u16, u16),
     /// The mark of a kind of a part, or of the spare rows, is above this number.

@@ -3,7 +3,7 @@ use Rattle.tp_model.specs.Steps.{rows_of}
 use Rattle.tp_rule.specs.Doors.{Permits, key_of}
 use Rattle.tp_rule.specs.Plays.{loads_head}
 use Rattle.tp_rule.specs.Places.{HeadWord}
-use Rattle.tp_rule.specs.Words.{pack_head}
+use Rattle.tp_rule.specs.Words.{head_bits, pack_head}
 use Rattle.tp_rule.specs.Steps.{MayBeBorn}
 use Rattle.tp_rule.specs.Rule.{HeadTold, IsDraft}
 use Rattle.tp_rule.specs.Views.{seen_by}
@@ -30,5 +30,5 @@ pub returns-clause-draft : goal.returns-clause-draft
 returns-clause-draft c = let t = says (goal.at.returns-clause-draft c).After-load-found in λ un. subst IsDraft (sym (c.read.ensures.of_pack t.head t.fit t.packed)) (t.draft un)
 
 pub returns-clause-none : goal.returns-clause-none
-returns-clause-none c = λ is. let zero : c.load-found.result ≡ 0 = c.read.ensures.to_pack.1 ∙ ap pack_head is in
-    subst (λ l. MayBeBorn l (seen_by c.load-found.new.seat) c.args.row) c.requires.one.1 (c.load-found.ensures.told.2 c.args.row c.head-word.ensures.place zero)
+returns-clause-none c = λ is. let t = says (goal.at.returns-clause-none c).After-load-found in let zero : c.load-found.result ≡ 0 = t.bare (sym (c.read.ensures.of_pack t.head t.fit t.packed) ∙ is) in
+    subst (λ l. MayBeBorn l (seen_by c.load-found.new.seat) c.args.row) c.requires.one.1 (c.load-found.ensures.told.3 c.args.row c.head-word.ensures.place zero)
