@@ -73,17 +73,17 @@ module _ (k : Limits) (fair : AreLimits k) where
     written = λ z q. absurd (in_none q);
   }
 
-  pub births_go : (v : View) (p x stage : ℕ) → HasBodyStored v → (hand v).drafts ≡ [] → 0 < (hand v).left → p ≡ head_place (hand v).next
-      → x ≡ pack_head (Filled stage (next_row v) None) + HEAD_RUN * run_before stage (hand v) → 1 ≤ stage → stage ≤ 14 → HasCleared v
+  pub births_go : (v : View) (p x stage run : ℕ) → HasBodyStored v → (hand v).drafts ≡ [] → 0 < (hand v).left → p ≡ head_place (hand v).next
+      → x ≡ pack_head (Filled stage (next_row v) None) + HEAD_RUN * run → run < 65536 → run ≤ run_before stage (hand v) → 1 ≤ stage → stage ≤ 14 → HasCleared v
       → Permits k v p (λ _. x) (λ _ w. publishes p x 0 v x w)
-  births_go v p x stage ready none_yet room place is pos top cleared s r id at = let t : Turn k = record { state = s; rule = r; id = id; view = v; at = at; one = ready.0 } in let t0 : Turn k = t in let a : Hand = hand v in let y : Element = next_element v stage (next_row v) None in let e : Event = birth v stage in let h = r.history in
+  births_go v p x stage run ready none_yet room place is few_run short pos top cleared s r id at = let t : Turn k = record { state = s; rule = r; id = id; view = v; at = at; one = ready.0 } in let t0 : Turn k = t in let a : Hand = hand v in let y : Element = next_element v stage (next_row v) None in let e : Event = birth v stage in let h = r.history in
       let mine = hand_holds k t in let row : ℕ = next k t room in let w : Word = HeadWord row in
       let here : y.id ≡ row = refl in
       let all : row < rows_of k = next_there k t room in let few : rows_of k ≤ 10240 = fair_rows k fair in
       let rows : RowsHold h s.words mine.first mine.end a.first_draft a.next a.left a.next_body [] = subst (λ l. RowsHold h s.words mine.first mine.end a.first_draft a.next a.left a.next_body l) none_yet mine.rows in
       let st : Step k h e = record { row = mine_may k t row (next_own k t room); unborn = subst (λ z. IsUnborn h z) (sym here) (next_unborn k t room); stage = (pos, omega arith); body = ready.1; root = refl; by = refl } in
       let whole : IsBody y.body = ready.1 in let fits : IsFitHead (head_of y) = (pos, omega arith, omega arith, omega arith) in
-      let bits : head_bits x ≡ pack_head (head_of y) = ap head_bits is ∙ bits_with (head_of y) (run_before stage a) fits in let long : run_bits x ≡ run_before stage a = ap run_bits is ∙ run_with (head_of y) (run_before stage a) fits in
+      let bits : head_bits x ≡ pack_head (head_of y) = ap head_bits is ∙ bits_with (head_of y) run fits in let long : run_bits x ≡ run = ap run_bits is ∙ run_with (head_of y) run fits in
       let before : RunsBefore s.words x row = λ st named j low up. (let same : Filled st named.0 named.1 ≡ head_of y = head_told (Filled st named.0 named.1) (head_of y) named.2 fits (sym named.3 ∙ bits) in let one : stage ≡ st = cc in
           subst (λ z. HasStage s.words z j) one (run_holds s.words mine.first stage a mine.tail j low (omega arith)).1) in
       let may = next_may k t room w x refl (λ _ _. before) in
@@ -94,7 +94,7 @@ module _ (k : Limits) (fair : AreLimits k) where
         word = w;
         number = x;
         kind = kinds.Publish;
-        f = with_birth stage e;
+        f = with_birth stage run e;
         stays = λ z. (refl, refl);
         own = refl;
         step = st;
@@ -123,11 +123,11 @@ module _ (k : Limits) (fair : AreLimits k) where
           end = mine.end;
           area = mine.area;
           rows = rows_publish h s.words a.number mine.first mine.end a.first_draft a.next a.left x a.next_body y all (own_inside k a.number a.blocks mine.first mine.end mine.area) here room (λ z. full_head (head_of y) (λ q. cc) (sym bits ∙ ap head_bits z)) r.world.wide rows;
-          tail = λ j low up. let less : j < a.next + 1 = low in let more : a.next + 1 ≤ j + (run_before stage a + 1) = up in dite (ℕ_discrete j row)
+          tail = λ j low up. let less : j < a.next + 1 = low in let more : a.next + 1 ≤ j + (run + 1) = up in dite (ℕ_discrete j row)
               (λ same. (let at = (next_own k t room).0 in omega arith, subst (λ z. HasStage (set s.words (place_of k w) x) stage z) (sym same) (next_row v, None, fits, ap head_bits (stored k s.words w x all r.world.wide) ∙ bits)))
               (λ apart. let old = run_holds s.words mine.first stage a mine.tail j (omega arith) (omega arith) in (old.0, stage_left k s.words w x all r.world.wide may stage j (omega arith) old.1));
           units = units_own k h e a.number a.claimed a.spare_unit a.open_unit (enqueue_quiet a.number y) (λ d u i n z. cc) (λ d u z. cc) mine.units;
-          areas = areas_on k h (h ++ e ∷ []) s.words (set s.words (place_of k w) x) a (with_birth stage e a) (record {
+          areas = areas_on k h (h ++ e ∷ []) s.words (set s.words (place_of k w) x) a (with_birth stage run e a) (record {
             own = λ first end own. own;
             top = (let full = room in omega arith);
             passed = (refl, refl);
@@ -151,5 +151,5 @@ module _ (k : Limits) (fair : AreLimits k) where
       } in let done = acted k t act in (
         view_after k t act,
         subst (λ q. Rule k record { words = set s.words q x; homes = s.homes; views = set s.views id (view_after k t act) }) (sym place) done.0,
-        (stage, omega arith, is, done.1),
+        (stage, run, omega arith, few_run, is, done.1),
       )

@@ -15,7 +15,7 @@ use Rattle.tp_rule.specs.Views.{hand, next_row}
 use Rattle.tp_rule.specs.Steps.{Found, Grew, Knows, Loads, MayBeBorn, unchanged, drafted, with_word, Drafts}
 use Rattle.tp_rule.specs.Steps.{Publishes, Chooses, MakesClaim, MakesCommit, LosesUnit, MakesAbort, MakesKill}
 use Rattle.tp_rule.specs.Steps.{MakesRequeue, Misses, IsLow, RaisesMark, NoneDrawn, Shares, Draws, DrawsNone}
-use Rattle.tp_rule.specs.Steps.{AreInOrder, Voids, run_before}
+use Rattle.tp_rule.specs.Steps.{AreInOrder, Voids}
 use Rattle.tp_rule.specs.declared.view.Known.TheVariants.{RowHead, RowRun, PartMark, MarkAbove, BlocksDrawn}
 use Rattle.tp_rule.specs.declared.view.View.{View}
 
@@ -48,9 +48,8 @@ stores_head word packed second v r w =
     × (packed ≡ pack_head (Filled stage root (Some u))) × Drafts v stage root u w
 
 abbrev pub publishes : Telling
-publishes word packed second v r w = (stage : ℕ) × (stage ≤ REPLY_STAGE)
-    × (packed ≡ pack_head (Filled stage (next_row v) None) + HEAD_RUN * run_before stage (hand v))
-    × Publishes v stage w
+publishes word packed second v r w = (stage : ℕ) × (run : ℕ) × (stage ≤ REPLY_STAGE) × (run < 65536)
+    × (packed ≡ pack_head (Filled stage (next_row v) None) + HEAD_RUN * run) × Publishes v stage run w
 
 abbrev pub chooses : Telling
 chooses word first second v r w = (u : ℕ) × (word ≡ unit_place v.limits u) × Chooses v u w

@@ -246,21 +246,21 @@ birth v stage = Enqueue (hand v).number (next_element v stage (next_row v) None)
 abbrev pub run_before : ℕ → Hand → ℕ
 run_before stage a = if stage == a.tail_stage then a.tail else 0
 
--- the next row is born, in this stage
-abbrev pub with_birth : ℕ → Event → Hand → Hand
-with_birth stage e a = record a {
+-- the next row is born, in this stage, and tells of so many rows before it
+abbrev pub with_birth : ℕ → ℕ → Event → Hand → Hand
+with_birth stage run e a = record a {
   mine = a.mine ++ e ∷ [];
   first_draft = a.next + 1;
   next = a.next + 1;
   left = a.left - 1;
-  tail = run_before stage a + 1;
+  tail = run + 1;
   tail_stage = stage;
   next_body = blank_body;
   drafts = [];
 }
 
-abbrev pub Publishes : View → ℕ → View → Type 0
-Publishes v stage w = Grew kinds.Publish (with_birth stage (birth v stage)) (birth v stage ∷ []) v w
+abbrev pub Publishes : View → ℕ → ℕ → View → Type 0
+Publishes v stage run w = Grew kinds.Publish (with_birth stage run (birth v stage)) (birth v stage ∷ []) v w
 
 -- unit choice
 

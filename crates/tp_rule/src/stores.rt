@@ -1,5 +1,5 @@
 //! Stores to a pass's own rows: draft stores, which nobody sees, and publish.
-ghost use Rattle.std.specs.Prelude.{◌≡◌, ◌<◌, [], Some};
+ghost use Rattle.std.specs.Prelude.{◌≡◌, ◌<◌, ◌≤◌, [], Some};
 ghost use Rattle.tp_model.specs.declared.types.TheConstants.{BODY_WORDS};
 ghost use Rattle.tp_model.specs.Steps.{IsBody, IsServerStage, IsStage};
 ghost use Rattle.tp_rule.specs.Views.{blank_body, hand_of, view_of, IsNextRow, IsOnePass, IsSameSeat};
@@ -88,7 +88,7 @@ impl Words {
 
     /// Stores the head of the row that the pass draws next, whose body is stored. It names no unit, so the
     /// store is the birth of a client's element, and the history has its event: it is its own root. `run` is
-    /// how many rows right before it the pass has published in this stage.
+    /// how many rows right before it the pass has published in this stage, or fewer.
     pub fn publish(&self, seat: &mut Seat, row: u32, stage: u8, run: u16)
         requires own { IsSeatOf self.now seat.old }
         requires one { IsPassOf self.now seat.old }
@@ -97,9 +97,9 @@ impl Words {
         requires next { IsNextRow (table_limits self.now) (view_of seat.old) row }
         requires cleared { HasCleared (view_of seat.old) }
         requires fits { IsServerStage stage }
-        requires run { run ≡ run_before stage (hand_of seat.old) }
+        requires run { run ≤ run_before stage (hand_of seat.old) }
         ensures same { IsSameSeat seat.old seat.new }
-        ensures grew { Publishes (view_of seat.old) stage (view_of seat.new) }
+        ensures grew { Publishes (view_of seat.old) stage run (view_of seat.new) }
     {
         let word = self.places.head(row);
         let head = Head::Filled {
