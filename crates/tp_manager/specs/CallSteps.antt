@@ -73,9 +73,13 @@ pub record Looked (l : Limits) (n : ℕ) (v w : View) : Type 0 where
 abbrev pub SamePassed : Hand → Hand → Type 0
 SamePassed a b = (b.passed_from ≡ a.passed_from) × (b.passed_to ≡ a.passed_to)
 
+-- it has published as many of the rows right before its next one in one stage
+abbrev pub SameTail : Hand → Hand → Type 0
+SameTail a b = (b.tail ≡ a.tail) × (b.tail_stage ≡ a.tail_stage)
+
 -- the pass has used none of the rows that are left to it
 abbrev pub SameRun : Hand → Hand → Type 0
-SameRun a b = (b.next ≡ a.next) × (b.left ≡ a.left) × (b.blocks ≡ a.blocks) × SamePassed a b
+SameRun a b = (b.next ≡ a.next) × (b.left ≡ a.left) × (b.blocks ≡ a.blocks) × SamePassed a b × SameTail a b
 
 -- the pass has used k of them
 abbrev pub UsedRows : ℕ → Hand → Hand → Type 0

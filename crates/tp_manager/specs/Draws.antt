@@ -13,7 +13,7 @@ use Rattle.tp_manager.specs.Drafts.{Drew}
 -- in at most n steps a spare block is drawn, and it is the run
 abbrev pub Drawn : Limits → ℕ → View → View → Run → Type 0
 Drawn l n v w run = (b : ℕ) × Drew l n b v w × (run.next ≡ block_first l b) × (run.left ≡ BLOCK_ROWS)
-    × (run.drawn ≡ b + 1)
+    × (run.drawn ≡ b + 1) × (run.tail ≡ 0)
 
 -- the pass has drawn spare block b, and it is its run
 abbrev pub on_block : ℕ → PassShown → PassShown → PassShown

@@ -42,6 +42,8 @@ impl Shared {
                     *run = Run {
                         next: self.places.block_first(run.drawn) as u16,
                         left: BLOCK_ROWS,
+                        tail: 0,
+                        tail_stage: 0,
                         drawn: run.drawn + 1,
                         done: run.done,
                     };

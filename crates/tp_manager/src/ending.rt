@@ -31,10 +31,12 @@ impl Manager {
         match shared.words.abort_exchange(seat, task.unit) {
             Ok(()) => {
                 pass.task = None;
+                pass.run.tail = 0;
                 Ended::Aborted
             }
             Err(_) => {
                 pass.task = None;
+                pass.run.tail = 0;
                 Ended::AlreadyAborted
             }
         }
@@ -64,6 +66,7 @@ impl Manager {
         let first = if count == 0 { 0 } else { next };
         pass.run.next = next + count;
         pass.run.left -= count;
+        pass.run.tail = 0;
         if shared
             .words
             .commit_exchange(seat, task.unit, first, count as u8)

@@ -87,12 +87,15 @@ pub(crate) struct Task {
     pub row: u32,
 }
 
-/// The rows that are left to a pass: this many, from the row `next` on. And how many spare blocks were drawn,
-/// as the pass last loaded or set it, and the row of the element that it has consumed last.
+/// The rows that are left to a pass: this many, from the row `next` on. Of those right before it at least
+/// `tail` were published in stage `tail_stage`. And how many spare blocks were drawn, as the pass last loaded
+/// or set it, and the row of the element that it has consumed last.
 #[derive(Clone, Copy)]
 pub(crate) struct Run {
     pub next: u16,
     pub left: u16,
+    pub tail: u16,
+    pub tail_stage: u8,
     pub drawn: u16,
     pub done: Option<u32>,
 }
@@ -206,6 +209,8 @@ impl Keeper {
             run: Run {
                 next: number * rows,
                 left: rows,
+                tail: 0,
+                tail_stage: 0,
                 drawn: 0,
                 done: None,
             },

@@ -24,7 +24,14 @@ impl Manager {
         let seat = &mut pass.seat;
         let row = pass.run.next as u32;
         self.shared.words.store_draft_body(seat, row, body);
-        self.shared.words.publish(seat, row, stage);
+        let run = if pass.run.tail_stage == stage {
+            pass.run.tail
+        } else {
+            0
+        };
+        self.shared.words.publish(seat, row, stage, run);
+        pass.run.tail = run.saturating_add(1);
+        pass.run.tail_stage = stage;
         pass.run.next += 1;
         pass.run.left -= 1;
         row

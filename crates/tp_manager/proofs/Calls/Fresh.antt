@@ -126,11 +126,12 @@ module _ (seat : SeatShown) (l : Limits) (given : ℕ) (k : Keeps seat l given) 
     fresh_known : IsKnown (view_of next).limits (view_of next)
     fresh_known x q = subst (λ (z : Limits × List Event). IsSo z.0 z.1 x) (λ i. (sym fresh_limits i, sym fresh_seen i)) (k.known x (subst (λ (v : View). Knows v x) is q))
 
-    pub fresh_rests : Rests next given (record { next = given * l.rows; left = l.rows; drawn = 0; done = None }) 0 None
+    pub fresh_rests : Rests next given (record { next = given * l.rows; left = l.rows; tail = 0; tail_stage = 0; drawn = 0; done = None }) 0 None
     fresh_rests = let h = fresh_hand in record {
       steady = record { pass = (out ∙ ap (λ (a : Hand). a ∷ []) (sym out_hand), refl); shows = fresh_shows; known = fresh_known };
       number_is = ap (λ (a : Hand). a.number) h;
       run_is = (ap (λ (a : Hand). a.next) h, ap (λ (a : Hand). a.left) h);
+      tail = omega arith;
       drawn = (omega arith, λ some. absurd (omega arith));
       done = λ i is. absurd cc;
       used_is = ap (λ (a : Hand). a.claimed) h;

@@ -1,5 +1,6 @@
 -- What a pass has gained over some of a call's steps.
 use Rattle.std.proofs.Common.{◌≡◌, ℕ, ◌+◌, ◌≤◌, List, [], ◌++◌, sym, ap, ◌∙◌, append_assoc, arith, subst, None}
+use Rattle.std.specs.Prelude.{◌==◌, if◌then◌else◌}
 use mathlib.Core.List.{IsPrefix}
 use Rattle.tp_model.specs.declared.types.Limits.{Limits}
 use Rattle.tp_model.specs.declared.event.Event.{Event}
@@ -19,7 +20,7 @@ module _ (l : Limits) where
   gained_looked n v w a = record {
     marks = a.marks;
     walk = a.walk;
-    run = (ap (λ (z : Hand). z.next) a.kept, ap (λ (z : Hand). z.left) a.kept, ap (λ (z : Hand). z.blocks) a.kept, (ap (λ (z : Hand). z.passed_from) a.kept, ap (λ (z : Hand). z.passed_to) a.kept));
+    run = (ap (λ (z : Hand). z.next) a.kept, ap (λ (z : Hand). z.left) a.kept, ap (λ (z : Hand). z.blocks) a.kept, (ap (λ (z : Hand). z.passed_from) a.kept, ap (λ (z : Hand). z.passed_to) a.kept), (ap (λ (z : Hand). z.tail) a.kept, ap (λ (z : Hand). z.tail_stage) a.kept));
     claimed = ap (λ (z : Hand). z.claimed) a.kept;
     mine = ap (λ (z : Hand). z.mine) a.kept ∙ sym (append_nil (hand v).mine);
     drafts = λ e. ap (λ (z : Hand). z.drafts) a.kept ∙ e;
@@ -31,7 +32,7 @@ module _ (l : Limits) where
   gained_then n m es fs v w y a b = record {
     marks = a.marks ++ b.marks;
     walk = walked_then l n m a.marks b.marks v w y a.walk b.walk;
-    run = (b.run.0 ∙ a.run.0, b.run.1 ∙ a.run.1, b.run.2 ∙ a.run.2, (b.run.3.0 ∙ a.run.3.0, b.run.3.1 ∙ a.run.3.1));
+    run = (b.run.0 ∙ a.run.0, b.run.1 ∙ a.run.1, b.run.2 ∙ a.run.2, (b.run.3.0 ∙ a.run.3.0, b.run.3.1 ∙ a.run.3.1), (b.run.4.0 ∙ a.run.4.0, b.run.4.1 ∙ a.run.4.1));
     claimed = b.claimed ∙ a.claimed;
     mine = b.mine ∙ (ap (λ z. z ++ fs) a.mine ∙ append_assoc (hand v).mine es fs);
     drafts = λ e. b.drafts (a.drafts e);
@@ -60,6 +61,7 @@ module _ (l : Limits) (seat next : SeatShown) (number : ℕ) (run : Run) (used :
     steady = steady_at l (view_of next).limits (view_of next) lim a.walk.steady;
     number_is = a.walk.number ∙ r.number_is;
     run_is = (a.run.0 ∙ r.run_is.0, a.run.1 ∙ r.run_is.1);
+    tail = subst (λ (z : ℕ × ℕ). run.tail ≤ (if run.tail_stage == z.1 then z.0 else 0)) (λ i. (sym a.run.4.0 i, sym a.run.4.1 i)) r.tail;
     drawn = drawn_later (view_of seat) (view_of next) run.drawn (sym (same ∙ lim)) a.walk.knows r.drawn;
     done = done_walked l n a.marks (view_of seat) (view_of next) run.done same a.walk r.done;
     used_is = a.claimed ∙ r.used_is;

@@ -56,7 +56,7 @@ module _ (l : Limits) where
           gained = record {
             marks = record { kind = kinds.AbortExchange; seen = w.seen } ∷ [];
             walk = walk;
-            run = (ap (λ (z : Hand). z.next) x, ap (λ (z : Hand). z.left) x, ap (λ (z : Hand). z.blocks) x, (ap (λ (z : Hand). z.passed_from) x, ap (λ (z : Hand). z.passed_to) x));
+            run = (ap (λ (z : Hand). z.next) x, ap (λ (z : Hand). z.left) x, ap (λ (z : Hand). z.blocks) x, (ap (λ (z : Hand). z.passed_from) x, ap (λ (z : Hand). z.passed_to) x), (ap (λ (z : Hand). z.tail) x, ap (λ (z : Hand). z.tail_stage) x));
             claimed = ap (λ (a : Hand). a.claimed) x;
             mine = ap (λ (a : Hand). a.mine) x;
             drafts = λ q. ap (λ (a : Hand). a.drafts) x;
@@ -121,7 +121,7 @@ module _ (l : Limits) where
       let kill : Gained l 1 (e ∷ []) w y = record {
         marks = record { kind = kinds.KillExchange; seen = y.seen } ∷ [];
         walk = walk;
-        run = (ap (λ (z : Hand). z.next) x, ap (λ (z : Hand). z.left) x, ap (λ (z : Hand). z.blocks) x, (ap (λ (z : Hand). z.passed_from) x, ap (λ (z : Hand). z.passed_to) x));
+        run = (ap (λ (z : Hand). z.next) x, ap (λ (z : Hand). z.left) x, ap (λ (z : Hand). z.blocks) x, (ap (λ (z : Hand). z.passed_from) x, ap (λ (z : Hand). z.passed_to) x), (ap (λ (z : Hand). z.tail) x, ap (λ (z : Hand). z.tail_stage) x));
         claimed = ap (λ (z : Hand). z.claimed) x;
         mine = ap (λ (z : Hand). z.mine) x;
         drafts = λ q. ap (λ (z : Hand). z.drafts) x ∙ q;

@@ -34,7 +34,7 @@ module _ (l : Limits) where
 
   -- so it knows what is of no use
   pub useless_later : (c : ℕ) (v w : View) (i : ℕ) → Goes l v w → KnowsUseless v c i → KnowsUseless w c i
-  useless_later c v w i g u = ⊎_elim (λ d. inl (done_later v w i g d)) (λ a. inr (a.0, g.knows _ a.1, a.2)) u
+  useless_later c v w i g u = ⊎_elim (λ d. inl (done_later v w i g d)) (λ a. inr (⊎_elim (λ f. inl (f.0, g.knows _ f.1, f.2)) (λ t. inr (t.0, t.1, t.2, g.knows _ t.3, t.4, t.5, t.6)) a)) u
 
   pub rose_later : (c : ℕ) (v w : View) (a b : ℕ) → Goes l v w → Rose c v a b → Rose c w a b
   rose_later c v w a b g r = (r.0, λ i low high. useless_later c v w i g (r.1 i low high))

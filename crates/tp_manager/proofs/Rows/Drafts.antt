@@ -74,10 +74,10 @@ module _ (l : Limits) where
   }
 
   pub shut_hit : (kind : StepKind) (e : Event) (v w : View) → looks kind ≡ true → (s : Steady l v) → Grew kind (with_end e) (e ∷ []) v w → Shut l 1 0 (e ∷ []) v w
-  shut_hit kind e v w d s g = shut_by kind (with_end e) (e ∷ []) v w d s g (grew_steady l kind (with_end e) (e ∷ []) v w s g refl) refl refl (refl, refl, refl, (refl, refl)) refl refl refl refl refl
+  shut_hit kind e v w d s g = shut_by kind (with_end e) (e ∷ []) v w d s g (grew_steady l kind (with_end e) (e ∷ []) v w s g refl) refl refl (refl, refl, refl, (refl, refl), (refl, refl)) refl refl refl refl refl
 
   pub shut_miss : (kind : StepKind) (v w : View) → looks kind ≡ true → (s : Steady l v) → Grew kind with_lost [] v w → Shut l 1 0 [] v w
-  shut_miss kind v w d s g = shut_by kind with_lost [] v w d s g (grew_steady l kind with_lost [] v w s g refl) refl refl (refl, refl, refl, (refl, refl)) refl (sym (append_nil (hand v).mine)) refl refl refl
+  shut_miss kind v w d s g = shut_by kind with_lost [] v w d s g (grew_steady l kind with_lost [] v w s g refl) refl refl (refl, refl, refl, (refl, refl), (refl, refl)) refl (sym (append_nil (hand v).mine)) refl refl refl
 
 pub other_abort : (c u : ℕ) (h : List Event) → end_of h u ≡ Some Aborted → ¬ (In (Abort c u) h) → EndedByOther c u h
 other_abort c u h lost not = let t = aborted_by h u lost in (t.0, t.1, λ same. not (subst (λ z. In (Abort z u) h) same t.1))
@@ -95,11 +95,12 @@ abort_ended u c h before is = some (end_of h u) (abort_ends h c u (subst (λ (z 
     some (Some x) not = (x, refl)
 
 -- a pass whose unit is closed
-pub shut_rests : (l : Limits) (n k : ℕ) (es : List Event) (seat next : SeatShown) (number : ℕ) (run : Run) (used : ℕ) (run' : Run) (task : Option Task) → (view_of seat).limits ≡ l → Shut l n k es (view_of seat) (view_of next) → claims_in es ≡ 0 → run'.next ≡ run.next + k → run'.left + k ≡ run.left → run'.drawn ≡ run.drawn → RemembersDone (view_of next) run'.done → Rests seat number run used task → Rests next number run' used None
-shut_rests l n k es seat next number run used run' task same t none more less still done r = let w : View = view_of next in let lim : l ≡ w.limits = sym t.walk.steady.pass.1 in record {
+pub shut_rests : (l : Limits) (n k : ℕ) (es : List Event) (seat next : SeatShown) (number : ℕ) (run : Run) (used : ℕ) (run' : Run) (task : Option Task) → (view_of seat).limits ≡ l → Shut l n k es (view_of seat) (view_of next) → claims_in es ≡ 0 → run'.next ≡ run.next + k → run'.left + k ≡ run.left → run'.tail ≡ 0 → run'.drawn ≡ run.drawn → RemembersDone (view_of next) run'.done → Rests seat number run used task → Rests next number run' used None
+shut_rests l n k es seat next number run used run' task same t none more less forgot still done r = let w : View = view_of next in let lim : l ≡ w.limits = sym t.walk.steady.pass.1 in record {
   steady = steady_at l w.limits w lim t.walk.steady;
   number_is = t.walk.number ∙ r.number_is;
   run_is = let a = t.run.0 in let b = t.run.1 in let c = r.run_is.0 in let d = r.run_is.1 in (omega arith, omega arith);
+  tail = omega arith;
   drawn = subst (λ z. RemembersDrawn w z) (sym still) (drawn_later (view_of seat) w run.drawn (sym (same ∙ lim)) t.walk.knows r.drawn);
   done = done;
   used_is = t.claimed ∙ r.used_is;

@@ -13,8 +13,9 @@ use Rattle.tp_model.specs.Passes.{IsRun}
 use Rattle.tp_model.specs.Steps.{IsLegal, Step}
 use Rattle.tp_model.proofs.Histories.{legal_at}
 use Rattle.tp_model.proofs.Bridges.{new_birth}
+use Rattle.tp_model.proofs.Lists.{if_same}
 use Rattle.tp_rule.specs.Views.{SeatShown, hand, next_row, view_of}
-use Rattle.tp_rule.specs.Steps.{Bodied, Drafts, Publishes, birth, bodied, drafted, next_element, noted, stored, unchanged, with_birth, with_body, with_draft, HasCleared}
+use Rattle.tp_rule.specs.Steps.{Bodied, Drafts, Publishes, birth, bodied, drafted, next_element, noted, stored, run_before, unchanged, with_birth, with_body, with_draft, HasCleared}
 use Rattle.tp_rule.proofs.Bodied.{bodied_seen}
 use Rattle.tp_rule.specs.declared.view.Hand.{Hand}
 use Rattle.tp_rule.specs.declared.view.View.{View}
@@ -132,21 +133,21 @@ module _ (l : Limits) (body : List ℕ) (stage root u : ℕ) (v a w : View) (s :
   }
 
 -- a submit as a whole
-module _ (l : Limits) (body : List ℕ) (stage : ℕ) (v a w : View) (s : Steady l v) (whole : Bodied body v a) (g : Publishes a stage w) (room : 0 < (hand v).left) where
+module _ (l : Limits) (body : List ℕ) (stage told : ℕ) (v a w : View) (s : Steady l v) (whole : Bodied body v a) (g : Publishes a stage told w) (room : 0 < (hand v).left) where
   abbrev E : Event
   E = birth a stage
 
-  pub made_hand : hand w ≡ noted kinds.Publish w.seen (with_birth E (hand a))
-  made_hand = grew_hand l kinds.Publish (with_birth E) (E ∷ []) a w (body_steady l body v a s whole) g
+  pub made_hand : hand w ≡ noted kinds.Publish w.seen (with_birth stage told E (hand a))
+  made_hand = grew_hand l kinds.Publish (with_birth stage told E) (E ∷ []) a w (body_steady l body v a s whole) g
 
   before_steady : Steady l a
   before_steady = body_steady l body v a s whole
 
   pub made_steady : Steady l w
-  made_steady = grew_steady l kinds.Publish (with_birth E) (E ∷ []) a w before_steady g refl
+  made_steady = grew_steady l kinds.Publish (with_birth stage told E) (E ∷ []) a w before_steady g refl
 
   pub made_walked : Stepped l next_steps (body_marks l body v a s whole ++ record { kind = kinds.Publish; seen = w.seen } ∷ []) v w
-  made_walked = walked_then l body_steps 1 _ _ v a w (body_walked l body v a s whole) (grew_walked l kinds.Publish (with_birth E) (E ∷ []) a w before_steady g refl refl refl made_steady)
+  made_walked = walked_then l body_steps 1 _ _ v a w (body_walked l body v a s whole) (grew_walked l kinds.Publish (with_birth stage told E) (E ∷ []) a w before_steady g refl refl refl made_steady)
 
   -- the element is born in what is seen afterwards
   pub made_born : element_of w.seen (next_row a) ≡ Some (next_element a stage (next_row a) None)
@@ -160,8 +161,8 @@ module _ (l : Limits) (body : List ℕ) (stage : ℕ) (v a w : View) (s : Steady
     ap (λ (z : Hand). z.next) b,
   )
 
-  made_all : hand w ≡ noted kinds.Publish w.seen (with_birth E (with_stored l body v a s whole (hand v)))
-  made_all = made_hand ∙ ap (λ h. noted kinds.Publish w.seen (with_birth E h)) (body_hand l body v a s whole)
+  made_all : hand w ≡ noted kinds.Publish w.seen (with_birth stage told E (with_stored l body v a s whole (hand v)))
+  made_all = made_hand ∙ ap (λ h. noted kinds.Publish w.seen (with_birth stage told E h)) (body_hand l body v a s whole)
 
   -- and the last that was seen
   pub made_adds : (t t' : Spot) (old : PassShown) → shown t v ≡ old → Adds (Enqueue old.number (request (hand v).next stage body)) old (shown t' w)
@@ -173,19 +174,20 @@ module _ (l : Limits) (body : List ℕ) (stage : ℕ) (v a w : View) (s : Steady
         begins = subst (λ h. IsPrefix h (a.seen ++ g.between)) (body_seen l body v a s whole) (g.between, refl);
       }
 
-pub made_rests : (l : Limits) (body : List ℕ) (stage : ℕ) (seat next : SeatShown) (a : View) → (same : (view_of seat).limits ≡ l) → (s : Steady l (view_of seat)) → (whole : Bodied body (view_of seat) a) → Publishes a stage (view_of next)
+pub made_rests : (l : Limits) (body : List ℕ) (stage told tail : ℕ) (seat next : SeatShown) (a : View) → (same : (view_of seat).limits ≡ l) → (s : Steady l (view_of seat)) → (whole : Bodied body (view_of seat) a) → tail ≤ told + 1 → Publishes a stage told (view_of next)
     → 0 < (hand (view_of seat)).left → (number : ℕ) (run : Run) (used : ℕ) (task : Option Task) → Rests seat number run used task
-    → Rests next number (record { next = run.next + 1; left = run.left - 1; drawn = run.drawn; done = run.done }) used task
-made_rests l body stage seat next a same s whole g room number run used task r =
+    → Rests next number (record { next = run.next + 1; left = run.left - 1; tail = tail; tail_stage = stage; drawn = run.drawn; done = run.done }) used task
+made_rests l body stage told tail seat next a same s whole short g room number run used task r =
     let v : View = view_of seat in let w : View = view_of next in
-    let h = made_all l body stage v a w s whole g room in
-    let steady : Steady l w = made_steady l body stage v a w s whole g room in
+    let h = made_all l body stage told v a w s whole g room in
+    let steady : Steady l w = made_steady l body stage told v a w s whole g room in
     let lim : l ≡ w.limits = sym steady.pass.1 in
-    let walk = made_walked l body stage v a w s whole g room in
+    let walk = made_walked l body stage told v a w s whole g room in
     record {
       steady = steady_at l w.limits w lim steady;
       number_is = ap (λ (z : Hand). z.number) h ∙ r.number_is;
       run_is = (ap (λ (z : Hand). z.next) h ∙ ap (λ n. n + 1) r.run_is.0, ap (λ (z : Hand). z.left) h ∙ ap (λ n. n - 1) r.run_is.1);
+      tail = subst (λ (z : Hand). tail ≤ run_before stage z) (sym h) (let is : run_before stage (with_birth stage told (birth a stage) (hand v)) ≡ told + 1 = if_same stage stage (told + 1) 0 refl in omega arith);
       drawn = drawn_later v w run.drawn (sym (same ∙ lim)) walk.knows r.drawn;
       done = done_walked l next_steps _ v w run.done same walk r.done;
       used_is = ap (λ (z : Hand). z.claimed) h ∙ r.used_is;

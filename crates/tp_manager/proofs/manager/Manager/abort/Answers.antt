@@ -31,14 +31,14 @@ abort_exchange-requires-clause-unit c = let i = (goal.at.abort_exchange-requires
 
 pub invariant_of-pass : goal.invariant_of-pass
 invariant_of-pass c = let i = (goal.at.invariant_of-pass c).In-Some in let l : Limits = table_limits c.self.inside.shared.words in (
-  shut_rests l 1 0 _ c.pass.inside.seat c.abort_exchange.new.seat _ _ _ _ _ (lim i) (shut_hit l kinds.AbortExchange _ _ _ refl (steady i) c.in-Ok.ensures.hit) refl (omega arith) (omega arith) refl
+  shut_rests l 1 0 _ c.pass.inside.seat c.abort_exchange.new.seat _ _ _ _ _ (lim i) (shut_hit l kinds.AbortExchange _ _ _ refl (steady i) c.in-Ok.ensures.hit) refl (omega arith) (omega arith) refl refl
       (done_walked l _ _ _ _ c.pass.inside.run.done (lim i) (shut_hit l kinds.AbortExchange _ _ _ refl (steady i) c.in-Ok.ensures.hit).walk c.pass.invariant.0.done) c.pass.invariant.0,
   remembers c.pass.inside.lows _ _ _ _ _ (shut_hit l kinds.AbortExchange _ _ _ refl (steady i) c.in-Ok.ensures.hit).walk c.pass.invariant.1,
 )
 
 pub invariant_of-pass-in-Err : goal.invariant_of-pass-in-Err
 invariant_of-pass-in-Err c = let i = (goal.at.invariant_of-pass-in-Err c).In-Some in let l : Limits = table_limits c.self.inside.shared.words in (
-  shut_rests l 1 0 _ c.pass.inside.seat c.abort_exchange.new.seat _ _ _ _ _ (lim i) (shut_miss l kinds.AbortExchange _ _ refl (steady i) (c.in-Err.ensures.miss.own (held i)).0) refl (omega arith) (omega arith) refl
+  shut_rests l 1 0 _ c.pass.inside.seat c.abort_exchange.new.seat _ _ _ _ _ (lim i) (shut_miss l kinds.AbortExchange _ _ refl (steady i) (c.in-Err.ensures.miss.own (held i)).0) refl (omega arith) (omega arith) refl refl
       (done_walked l _ _ _ _ c.pass.inside.run.done (lim i) (shut_miss l kinds.AbortExchange _ _ refl (steady i) (c.in-Err.ensures.miss.own (held i)).0).walk c.pass.invariant.0.done) c.pass.invariant.0,
   remembers c.pass.inside.lows _ _ _ _ _ (shut_miss l kinds.AbortExchange _ _ refl (steady i) (c.in-Err.ensures.miss.own (held i)).0).walk c.pass.invariant.1,
 )

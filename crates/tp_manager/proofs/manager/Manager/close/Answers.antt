@@ -73,14 +73,14 @@ both c es y sh = let row : ℕ = c.pass.inside.run.next in
 
 pub invariant_of-pass : goal.invariant_of-pass
 invariant_of-pass c = let at = goal.at.invariant_of-pass c in (
-  shut_rests _ _ _ _ c.pass.inside.seat c.commit_exchange.new.seat _ _ _ _ _ (lim at.In-Some) (both at.After-write_all _ _ (hit at.After-write_all at.In-Some _ (c.commit_exchange.ensures.hit c.if-commit_exchange.true))) refl refl (let few = c.requires.room in let same = left_is at.In-Some in omega arith) refl
+  shut_rests _ _ _ _ c.pass.inside.seat c.commit_exchange.new.seat _ _ _ _ _ (lim at.In-Some) (both at.After-write_all _ _ (hit at.After-write_all at.In-Some _ (c.commit_exchange.ensures.hit c.if-commit_exchange.true))) refl refl (let few = c.requires.room in let same = left_is at.In-Some in omega arith) refl refl
       (shut_done _ _ _ _ _ _ _ c.pass.inside.number c.in-Some.task (both at.After-write_all _ _ (hit at.After-write_all at.In-Some _ (c.commit_exchange.ensures.hit c.if-commit_exchange.true))) (rests at.In-Some).work) c.pass.invariant.0,
   remembers c.pass.inside.lows _ _ _ _ _ (both at.After-write_all _ _ (hit at.After-write_all at.In-Some _ (c.commit_exchange.ensures.hit c.if-commit_exchange.true))).walk c.pass.invariant.1,
 )
 
 pub invariant_of-pass-else-commit_exchange : goal.invariant_of-pass-else-commit_exchange
 invariant_of-pass-else-commit_exchange c = let at = goal.at.invariant_of-pass-else-commit_exchange c in (
-  shut_rests _ _ _ _ c.pass.inside.seat c.commit_exchange.new.seat _ _ _ _ _ (lim at.In-Some) (both at.After-write_all _ _ (shut_miss _ kinds.CommitExchange _ _ refl c.write_all.ensures.wrote.walk.steady (c.commit_exchange.ensures.miss c.if-commit_exchange.false).0)) refl refl (let few = c.requires.room in let same = left_is at.In-Some in omega arith) refl
+  shut_rests _ _ _ _ c.pass.inside.seat c.commit_exchange.new.seat _ _ _ _ _ (lim at.In-Some) (both at.After-write_all _ _ (shut_miss _ kinds.CommitExchange _ _ refl c.write_all.ensures.wrote.walk.steady (c.commit_exchange.ensures.miss c.if-commit_exchange.false).0)) refl refl (let few = c.requires.room in let same = left_is at.In-Some in omega arith) refl refl
       (done_walked _ _ _ _ _ c.pass.inside.run.done (lim at.In-Some) (both at.After-write_all _ _ (shut_miss _ kinds.CommitExchange _ _ refl c.write_all.ensures.wrote.walk.steady (c.commit_exchange.ensures.miss c.if-commit_exchange.false).0)).walk c.pass.invariant.0.done) c.pass.invariant.0,
   remembers c.pass.inside.lows _ _ _ _ _ (both at.After-write_all _ _ (shut_miss _ kinds.CommitExchange _ _ refl c.write_all.ensures.wrote.walk.steady (c.commit_exchange.ensures.miss c.if-commit_exchange.false).0)).walk c.pass.invariant.1,
 )

@@ -26,22 +26,22 @@ steady c = steady_at _ _ _ (lim c) c.pass.invariant.0.steady
 
 pub invariant_of-pass : goal.invariant_of-pass
 invariant_of-pass c = let at = (goal.at.invariant_of-pass c).After-publish in (
-  made_rests (table_limits c.self.inside.shared.words) c.args.body c.args.stage c.pass.inside.seat c.publish.new.seat _ (lim at) (steady at) c.store_draft_body.ensures.view c.publish.ensures.grew (room at) _ _ _ _ c.pass.invariant.0,
-  remembers c.pass.inside.lows _ next_steps _ _ _ (made_walked (table_limits c.self.inside.shared.words) c.args.body c.args.stage _ _ _ (steady at) c.store_draft_body.ensures.view c.publish.ensures.grew (room at)) c.pass.invariant.1,
+  made_rests (table_limits c.self.inside.shared.words) c.args.body c.args.stage _ _ c.pass.inside.seat c.publish.new.seat _ (lim at) (steady at) c.store_draft_body.ensures.view (search rules) c.publish.ensures.grew (room at) _ _ _ _ c.pass.invariant.0,
+  remembers c.pass.inside.lows _ next_steps _ _ _ (made_walked (table_limits c.self.inside.shared.words) c.args.body c.args.stage _ _ _ _ (steady at) c.store_draft_body.ensures.view c.publish.ensures.grew (room at)) c.pass.invariant.1,
 )
 
 pub returns-clause-follows : goal.returns-clause-follows
 returns-clause-follows c = let at = (goal.at.returns-clause-follows c).After-publish in
     follows (spot c.pass.inside.seat.table c.pass.inside.lows c.pass.inside.run.drawn c.pass.inside.from) (spot c.publish.new.seat.table c.pass.inside.lows c.pass.inside.run.drawn c.pass.inside.from) (climbs_same c.pass.inside.lows c.pass.inside.run.drawn) (view_of c.pass.inside.seat) (view_of c.publish.new.seat) c.args.pass.now c.pass.view_is (table_limits c.self.inside.shared.words) next_steps _
-    (made_walked (table_limits c.self.inside.shared.words) c.args.body c.args.stage _ _ _ (steady at) c.store_draft_body.ensures.view c.publish.ensures.grew (room at)) next_steps (omega arith)
+    (made_walked (table_limits c.self.inside.shared.words) c.args.body c.args.stage _ _ _ _ (steady at) c.store_draft_body.ensures.view c.publish.ensures.grew (room at)) next_steps (omega arith)
 
 pub returns-clause-answer : goal.returns-clause-answer
 returns-clause-answer c = let at = (goal.at.returns-clause-answer c).After-publish in let l : Limits = table_limits c.self.inside.shared.words in record {
   stage_is = c.requires.stage;
   adds = subst (λ n. Adds (Enqueue c.args.pass.now.number (request n c.args.stage c.args.body)) c.args.pass.now (shown (spot c.publish.new.seat.table c.pass.inside.lows c.pass.inside.run.drawn c.pass.inside.from) (view_of c.publish.new.seat))) (at.pass.invariant.0.run_is.0)
-      (made_adds l c.args.body c.args.stage _ _ (view_of c.publish.new.seat) (steady at) c.store_draft_body.ensures.view c.publish.ensures.grew (room at)
+      (made_adds l c.args.body c.args.stage _ _ _ (view_of c.publish.new.seat) (steady at) c.store_draft_body.ensures.view c.publish.ensures.grew (room at)
       (spot c.pass.inside.seat.table c.pass.inside.lows c.pass.inside.run.drawn c.pass.inside.from) (spot c.publish.new.seat.table c.pass.inside.lows c.pass.inside.run.drawn c.pass.inside.from) c.args.pass.now c.pass.view_is);
-  is_born = let t = made_request l c.args.body c.args.stage _ _ (view_of c.publish.new.seat) (steady at) c.store_draft_body.ensures.view c.publish.ensures.grew (room at) in
+  is_born = let t = made_request l c.args.body c.args.stage _ _ _ (view_of c.publish.new.seat) (steady at) c.store_draft_body.ensures.view c.publish.ensures.grew (room at) in
       subst (λ n. element_of (seen_by c.publish.new.seat) n ≡ Some (request n c.args.stage c.args.body)) (t.1 ∙ (search rules)) t.0;
   open_unit = search rules;
   run = inl record {

@@ -25,6 +25,7 @@ returns-in-Ok-clause-yes c = λ _. let l : Limits = table_limits c.args.self.now
       c.block_first.ensures.first ∙ ap (λ (z : Limits). block_first z b) (sym c.args.self.now.same),
       refl,
       refl,
+      refl,
     )
 
 pub loop-run-preserved : goal.loop-run-preserved
