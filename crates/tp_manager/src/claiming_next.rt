@@ -98,7 +98,9 @@ impl Shared {
             (λ t. Took l n from who.stage who.unit (view_of seat.old) (view_of seat.new) t.element t.attempt
             × (t.element.root ≡ t.root)) }
     {
-        let mark = self.low_at(seat, lows, who.stage, part);
+        let stage = who.stage;
+        let unit = who.unit;
+        let mark = self.low_at(seat, lows, stage, part);
         let rows = self.places.limits.rows as u32;
         let first = part as u32 * rows;
         let known = past_done(first + lows[part as usize] as u32, first + rows, who.done);
@@ -107,14 +109,12 @@ impl Shared {
         let mut row = begin;
         while row < to {
             let mut born = row;
-            if let Some(taken) = self.try_row(
-                seat, &mut row, &mut low, &mut born, who.stage, who.unit,
-            ) {
-                self.raise_low(seat, lows, who.stage, part, mark, low);
+            if let Some(taken) = self.try_row(seat, &mut row, &mut low, &mut born, stage, unit) {
+                self.raise_low(seat, lows, stage, part, mark, low);
                 return Some(taken);
             }
         }
-        self.raise_low(seat, lows, who.stage, part, mark, low);
+        self.raise_low(seat, lows, stage, part, mark, low);
         None
     }
 

@@ -298,6 +298,7 @@ impl Shared {
             (λ t. Took l n 0 who.stage who.unit (view_of seat.old) (view_of seat.new) t.element t.attempt
             × (t.element.root ≡ t.root)) }
     {
+        let stage = who.stage;
         let limits = self.places.limits;
         let begin = self.first_open(lows, *begins);
         *begins = begin;
@@ -308,7 +309,7 @@ impl Shared {
                 part += 1;
                 continue;
             }
-            part = self.past_bare(seat, lows, part, who.stage);
+            part = self.past_bare(seat, lows, part, stage);
             if part == limits.parts {
                 return None;
             }
