@@ -98,7 +98,9 @@ impl Shared {
             (λ t. Took l n from who.stage who.unit (view_of seat.old) (view_of seat.new) t.element t.attempt
             × (t.element.root ≡ t.root)) }
     {
-        let mark = self.low_at(seat, lows, who.stage, part);
+        let stage = who.stage;
+        let unit = who.unit;
+        let mark = self.low_at(seat, lows, stage, part);
         let rows = self.places.limits.rows as u32;
         let first = part as u32 * rows;
         let known = past_done(first + lows[part as usize] as u32, first + rows, who.done);
@@ -107,14 +109,12 @@ impl Shared {
         let mut row = begin;
         while row < to {
             let mut born = row;
-            if let Some(taken) = self.try_row(
-                seat, &mut row, &mut low, &mut born, who.stage, who.unit,
-            ) {
-                self.raise_low(seat, lows, who.stage, part, mark, low);
+            if let Some(taken) = self.try_row(seat, &mut row, &mut low, &mut born, stage, unit) {
+                self.raise_low(seat, lows, stage, part, mark, low);
                 return Some(taken);
             }
         }
-        self.raise_low(seat, lows, who.stage, part, mark, low);
+        self.raise_low(seat, lows, stage, part, mark, low);
         None
     }
 
@@ -180,7 +180,8 @@ impl Shared {
         ensures few { let l = table_limits self.now.words in
             StepsTo (scan_steps l try_steps 3 lows.old l.parts) (view_of seat.old) (view_of seat.new) }
         ensures lean { let l = table_limits self.now.words in
-            IsLeanAmong l who.stage (3 * l.parts) lows.old l.parts from to (view_of seat.old) (view_of seat.new) }
+            IsLeanAmong l who.stage (3 * l.parts) lows.old l.parts from to
+            (view_of seat.old) (view_of seat.new) }
         ensures told { let l = table_limits self.now.words in let n = 3 * l.parts + (to - from) * try_steps in
             MatchOption result
             (Begun l (PassedBy l who.stage) n from to (view_of seat.old) (view_of seat.new))
@@ -270,7 +271,8 @@ impl Shared {
             let n = drawn_steps l.spare + (to - p - (from - p)) * try_steps in
             StepsTo (scan_steps l try_steps 3 lows.old l.parts + n) (view_of seat.old) (view_of seat.new) }
         ensures lean { let l = table_limits self.now.words in
-            IsLean l (span_steps l who.stage lows.old drawn.new from to) (view_of seat.old) (view_of seat.new) }
+            IsLean l (span_steps l who.stage lows.old drawn.new from to)
+            (view_of seat.old) (view_of seat.new) }
         ensures told { let l = table_limits self.now.words in let n = circle_steps l (to - from) in
             MatchOption result
             (Begun l (PassedBy l who.stage) n from to (view_of seat.old) (view_of seat.new))
@@ -319,8 +321,8 @@ impl Shared {
         ensures told { let l = table_limits self.now.words in
             let n = 6 * l.parts + 2 * drawn_steps l.spare + rows_of l * try_steps in MatchOption result
             (Sought l n (EachRow (PassedBy l who.stage) 0 (rows_of l)) (view_of seat.old) (view_of seat.new))
-            (λ t. TookNext l n turn who.stage who.unit (view_of seat.old) (view_of seat.new) t.element t.attempt
-            × (t.element.root ≡ t.root)) }
+            (λ t. TookNext l n turn who.stage who.unit (view_of seat.old) (view_of seat.new)
+            t.element t.attempt × (t.element.root ≡ t.root)) }
     {
         let rows = self.places.rows();
         let from = earlier(turn, rows);

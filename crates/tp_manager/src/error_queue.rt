@@ -100,7 +100,8 @@ impl Shared {
         requires row { row < rows_of (table_limits self.now.words) }
         ensures same { IsSameSeat seat.old seat.new }
         ensures acted { Acted (table_limits self.now.words) 3 (view_of seat.old) (view_of seat.new) }
-        ensures fate { HasFate (table_limits self.now.words) row (seen_by seat.old) (seen_by seat.new) result }
+        ensures fate { let l = table_limits self.now.words in
+            HasFate l row (seen_by seat.old) (seen_by seat.new) result }
     {
         let claim = self.words.load_claim(seat, row);
         match claim.tells {

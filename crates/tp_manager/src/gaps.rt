@@ -157,15 +157,15 @@ impl Shared {
             (λ t. Took l n from who.stage who.unit (view_of seat.old) (view_of seat.new) t.element t.attempt
             × (t.element.root ≡ t.root)) }
     {
+        let stage = who.stage;
+        let unit = who.unit;
         let mut start = gap.0 as u32;
         let mut begin = first;
         let mut low = from;
         let mut born = from;
         let mut row = from;
         while row < to {
-            if let Some(taken) = self.try_row(
-                seat, &mut row, &mut low, &mut born, who.stage, who.unit,
-            ) {
+            if let Some(taken) = self.try_row(seat, &mut row, &mut low, &mut born, stage, unit) {
                 *gap = longer(*gap, start, begin, low);
                 return Some(taken);
             }
@@ -261,7 +261,9 @@ impl Shared {
             (view_of seat.new) t.element t.attempt
             × (t.element.root ≡ t.root)) }
     {
-        let mark = self.low_at(seat, lows, who.stage, part);
+        let stage = who.stage;
+        let unit = who.unit;
+        let mark = self.low_at(seat, lows, stage, part);
         let rows = self.places.limits.rows as u32;
         let first = part as u32 * rows;
         let end = first + rows;
@@ -270,14 +272,12 @@ impl Shared {
         let mut row = begin;
         while row < end {
             let mut born = row;
-            if let Some(taken) = self.try_row(
-                seat, &mut row, &mut low, &mut born, who.stage, who.unit,
-            ) {
-                self.raise_low(seat, lows, who.stage, part, mark, low);
+            if let Some(taken) = self.try_row(seat, &mut row, &mut low, &mut born, stage, unit) {
+                self.raise_low(seat, lows, stage, part, mark, low);
                 return Some(taken);
             }
             if low < row && row < end {
-                self.raise_low(seat, lows, who.stage, part, mark, low);
+                self.raise_low(seat, lows, stage, part, mark, low);
                 let at = 3 * part as usize;
                 let mut gap = (gaps[at], gaps[at + 1], gaps[at + 2]);
                 let found = self.scan_behind(seat, &mut gap, row, end, who);
@@ -287,7 +287,7 @@ impl Shared {
                 return found;
             }
         }
-        self.raise_low(seat, lows, who.stage, part, mark, low);
+        self.raise_low(seat, lows, stage, part, mark, low);
         None
     }
 }

@@ -22,6 +22,7 @@ mod killing;
 mod manager;
 mod marking;
 mod meeting;
+mod passed_parts;
 mod reading;
 mod releasing;
 mod replying;

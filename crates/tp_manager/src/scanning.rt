@@ -18,9 +18,9 @@ ghost use Rattle.tp_manager.specs.declared.scanning.Stand.TheVariants as stands;
 ghost use Rattle.tp_manager.specs.Looks.{GoesOn, HasStand};
 ghost use Rattle.tp_manager.specs.Leans.{scan_end, IsLean, IsLeanAt, IsLeanIn};
 ghost use Rattle.tp_manager.specs.Spares.{SpareRests};
-ghost use Rattle.tp_manager.specs.Marks.{AreFinished, AreOfStage, CameTo, IsBehind, RestInParts, RestsAt};
+ghost use Rattle.tp_manager.specs.Marks.{AreOfStage, CameTo, IsBehind, RestInParts};
 ghost use Rattle.tp_manager.specs.Marks.{Remembers, RemembersGaps, RisesAt, Rose, WasOfUse, WasUnsettled};
-ghost use Rattle.tp_manager.specs.Scans.{Begun, Sought, EachRow, OfPart, PassedBy, IsSpare, Took};
+ghost use Rattle.tp_manager.specs.Scans.{Begun, Sought, EachRow, PassedBy, IsSpare, Took};
 ghost use Rattle.tp_manager.specs.CallSteps.{IsSteady, Looked};
 ghost use Rattle.tp_manager.specs.BetweenCalls.{RemembersDone, RemembersDrawn};
 
@@ -205,65 +205,6 @@ impl Shared {
         }
     }
 
-    /// The first part from `from` on that the pass knows finished, or in which a row has a head from the mark
-    /// on that it remembers, or else the number of parts. One look at each part before that one, and at it
-    /// where it isn't known finished. An Idle claim does little more than this.
-    #[inline(always)]
-    fn past_bare(&self, seat: &mut Seat, lows: &Lows, from: u16, stage: u8) -> u16
-        requires steady { IsSteady self.now.words seat.old }
-        requires remembers { Remembers stage (view_of seat.old) lows.now }
-        requires from { from ≤ (table_limits self.now.words).parts }
-        requires stage { IsServerStage stage }
-        ensures same { IsSameSeat seat.old seat.new }
-        ensures part { (from ≤ result) × (result ≤ (table_limits self.now.words).parts) }
-        ensures left { (q : ℕ) → from ≤ q → q < result
-            → ¬ (slice_index lows.now q ≡ (table_limits self.now.words).rows) }
-        ensures rests { (q : ℕ) → from ≤ q → q < result → let l = table_limits self.now.words in
-            RestsAt l stage q (slice_index lows.now q) (view_of seat.old) (view_of seat.new) }
-        ensures few { let l = table_limits self.now.words in
-            Looked l (result - from) (view_of seat.old) (view_of seat.new)
-            ⊎ ((result < l.parts) × ¬ (slice_index lows.now result ≡ l.rows)
-            × Looked l (result - from + 1) (view_of seat.old) (view_of seat.new)) }
-        ensures told { let l = table_limits self.now.words in
-            Begun l (OfPart l (PassedBy l stage)) (result - from + 1) from result
-            (view_of seat.old) (view_of seat.new) }
-    {
-        let limits = self.places.limits;
-        let rows = limits.rows as u32;
-        let mut first = from as u32 * rows;
-        for part in from..limits.parts {
-            let low = lows[part as usize];
-            if low == limits.rows {
-                return part;
-            }
-            if !self.is_bare_to(seat, part, first + low as u32, first + rows) {
-                return part;
-            }
-            first += rows;
-        }
-        limits.parts
-    }
-
-    /// The first part that has a row which the pass doesn't know finished, or else the last part, where all
-    /// before `from` are finished. No step.
-    #[inline(always)]
-    fn first_open(&self, lows: &Lows, from: u16) -> u16
-        requires from { IsBehind (table_limits self.now.words) lows.now from }
-        ensures part { result < (table_limits self.now.words).parts }
-        ensures finished { AreFinished (table_limits self.now.words) lows.now result }
-        ensures open { result + 1 < (table_limits self.now.words).parts
-            → ¬ (slice_index lows.now result ≡ (table_limits self.now.words).rows) }
-    {
-        let limits = self.places.limits;
-        let last = limits.parts - 1;
-        for part in from..last {
-            if lows[part as usize] != limits.rows {
-                return part;
-            }
-        }
-        last
-    }
-
     /// The unit takes the first element of a part that waits in the stage. What the pass knows finished isn't
     /// looked at again, but for the last part, so that each call looks. `begins` goes on to the first part
     /// that isn't known finished.
@@ -294,10 +235,12 @@ impl Shared {
             IsLeanIn l who.stage k lows.old l.parts end (view_of seat.old) (view_of seat.new) }
         ensures told { let l = table_limits self.now.words in
             let n = scan_steps l try_steps 3 lows.old l.parts in MatchOption result
-            (Sought l n (EachRow (PassedBy l who.stage) 0 (part_rows l)) (view_of seat.old) (view_of seat.new))
+            (Sought l n (EachRow (PassedBy l who.stage) 0 (part_rows l))
+            (view_of seat.old) (view_of seat.new))
             (λ t. Took l n 0 who.stage who.unit (view_of seat.old) (view_of seat.new) t.element t.attempt
             × (t.element.root ≡ t.root)) }
     {
+        let stage = who.stage;
         let limits = self.places.limits;
         let begin = self.first_open(lows, *begins);
         *begins = begin;
@@ -308,7 +251,7 @@ impl Shared {
                 part += 1;
                 continue;
             }
-            part = self.past_bare(seat, lows, part, who.stage);
+            part = self.past_bare(seat, lows, part, stage);
             if part == limits.parts {
                 return None;
             }

@@ -130,8 +130,8 @@ impl Words {
         FoundClaim::read(found)
     }
 
-    /// Reads the word of a unit: how it ended, or that it is undecided. Each pass takes its units in order: so
-    /// where one is undecided, no later one was taken.
+    /// Reads the word of a unit: how it ended, or that it is undecided. Each pass takes its units in order:
+    /// so where one is undecided, no later one was taken.
     #[inline(always)]
     pub fn load_unit(&self, seat: &mut Seat, unit: u16) -> UnitWord
         requires own { IsSeatOf self.now seat.old }

@@ -14,12 +14,12 @@ invariant-loop-row l = record {
   from : l.from ≤ l.row;
   inside : l.row ≤ rows_of (table_limits l.self.words);
   low : l.low ≤ l.row;
-  gap : IsGap l.who.stage (view_of l.seat) l.gap;
-  run : Rose l.who.stage (view_of l.seat) l.begin l.low;
-  start : (l.start < 65536) × AreOfStage l.who.stage (seen_by l.seat) l.start l.begin;
-  born : (l.born ≤ l.row) × AreOfStage l.who.stage (seen_by l.seat) l.born l.row;
-  lean : (k : ℕ) × (k ≤ l.row - l.from) × (k ≤ l.to - l.from) × IsLeanAt (table_limits l.self.words) l.who.stage 0 l.from k (view_of l.initial.seat) (view_of l.seat);
-  begun : (k : ℕ) × (k ≤ l.row - l.from) × (k ≤ l.to - l.from) × Begun (table_limits l.self.words) (PassedBy (table_limits l.self.words) l.who.stage) (k * try_steps) l.from l.row (view_of l.initial.seat) (view_of l.seat);
+  gap : IsGap l.stage (view_of l.seat) l.gap;
+  run : Rose l.stage (view_of l.seat) l.begin l.low;
+  start : (l.start < 65536) × AreOfStage l.stage (seen_by l.seat) l.start l.begin;
+  born : (l.born ≤ l.row) × AreOfStage l.stage (seen_by l.seat) l.born l.row;
+  lean : (k : ℕ) × (k ≤ l.row - l.from) × (k ≤ l.to - l.from) × IsLeanAt (table_limits l.self.words) l.stage 0 l.from k (view_of l.initial.seat) (view_of l.seat);
+  begun : (k : ℕ) × (k ≤ l.row - l.from) × (k ≤ l.to - l.from) × Begun (table_limits l.self.words) (PassedBy (table_limits l.self.words) l.stage) (k * try_steps) l.from l.row (view_of l.initial.seat) (view_of l.seat);
 }
 
 abbrev pub decreases-loop-row : goal.decreases-loop-row

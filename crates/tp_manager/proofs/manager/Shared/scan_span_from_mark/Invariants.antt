@@ -15,9 +15,9 @@ invariant-loop-row l = record {
   inside : l.row ≤ l.first + l.rows;
   above : l.known ≤ l.low;
   low : l.low ≤ l.row;
-  rose : Rose l.who.stage (view_of l.seat) (l.first + l.mark) l.low;
-  lean : (k : ℕ) × (k ≤ l.row - l.begin) × (k ≤ l.to - l.begin) × IsLeanAt (table_limits l.self.words) l.who.stage 0 l.begin k (view_of l.initial.seat) (view_of l.seat);
-  begun : (k : ℕ) × (k ≤ l.row - l.begin) × (k ≤ l.to - l.begin) × Begun (table_limits l.self.words) (PassedBy (table_limits l.self.words) l.who.stage) (k * try_steps) l.begin l.row (view_of l.initial.seat) (view_of l.seat);
+  rose : Rose l.stage (view_of l.seat) (l.first + l.mark) l.low;
+  lean : (k : ℕ) × (k ≤ l.row - l.begin) × (k ≤ l.to - l.begin) × IsLeanAt (table_limits l.self.words) l.stage 0 l.begin k (view_of l.initial.seat) (view_of l.seat);
+  begun : (k : ℕ) × (k ≤ l.row - l.begin) × (k ≤ l.to - l.begin) × Begun (table_limits l.self.words) (PassedBy (table_limits l.self.words) l.stage) (k * try_steps) l.begin l.row (view_of l.initial.seat) (view_of l.seat);
 }
 
 abbrev pub decreases-loop-row : goal.decreases-loop-row

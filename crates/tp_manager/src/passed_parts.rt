@@ -1,0 +1,73 @@
+//! Parts that a scan passes by: those that its pass knows finished, and those in which no row has a head.
+ghost use Rattle.std.specs.Prelude.{◌≡◌, ◌⊎◌, ℕ, ◌+◌, ◌-◌, ◌<◌, ◌≤◌, slice_index};
+ghost use Rattle.tp_model.specs.Steps.{IsServerStage};
+ghost use Rattle.tp_rule.specs.Views.{view_of, IsSameSeat};
+ghost use Rattle.tp_rule.specs.Tables.{table_limits};
+ghost use Rattle.tp_manager.specs.CallSteps.{IsSteady, Looked};
+ghost use Rattle.tp_manager.specs.Marks.{AreFinished, IsBehind, Remembers, RestsAt};
+ghost use Rattle.tp_manager.specs.Scans.{Begun, OfPart, PassedBy};
+
+use crate::manager::Shared;
+use crate::marking::Lows;
+use tp_rule::Seat;
+
+impl Shared {
+    /// The first part from `from` on that the pass knows finished, or in which a row has a head from the mark
+    /// on that it remembers, or else the number of parts. One look at each part before that one, and at it
+    /// where it isn't known finished. An Idle claim does little more than this.
+    #[inline(always)]
+    pub(crate) fn past_bare(&self, seat: &mut Seat, lows: &Lows, from: u16, stage: u8) -> u16
+        requires steady { IsSteady self.now.words seat.old }
+        requires remembers { Remembers stage (view_of seat.old) lows.now }
+        requires from { from ≤ (table_limits self.now.words).parts }
+        requires stage { IsServerStage stage }
+        ensures same { IsSameSeat seat.old seat.new }
+        ensures part { (from ≤ result) × (result ≤ (table_limits self.now.words).parts) }
+        ensures left { (q : ℕ) → from ≤ q → q < result
+            → ¬ (slice_index lows.now q ≡ (table_limits self.now.words).rows) }
+        ensures rests { (q : ℕ) → from ≤ q → q < result → let l = table_limits self.now.words in
+            RestsAt l stage q (slice_index lows.now q) (view_of seat.old) (view_of seat.new) }
+        ensures few { let l = table_limits self.now.words in
+            Looked l (result - from) (view_of seat.old) (view_of seat.new)
+            ⊎ ((result < l.parts) × ¬ (slice_index lows.now result ≡ l.rows)
+            × Looked l (result - from + 1) (view_of seat.old) (view_of seat.new)) }
+        ensures told { let l = table_limits self.now.words in
+            Begun l (OfPart l (PassedBy l stage)) (result - from + 1) from result
+            (view_of seat.old) (view_of seat.new) }
+    {
+        let limits = self.places.limits;
+        let rows = limits.rows as u32;
+        let mut first = from as u32 * rows;
+        for part in from..limits.parts {
+            let low = lows[part as usize];
+            if low == limits.rows {
+                return part;
+            }
+            if !self.is_bare_to(seat, part, first + low as u32, first + rows) {
+                return part;
+            }
+            first += rows;
+        }
+        limits.parts
+    }
+
+    /// The first part that has a row which the pass doesn't know finished, or else the last part, where all
+    /// before `from` are finished. No step.
+    #[inline(always)]
+    pub(crate) fn first_open(&self, lows: &Lows, from: u16) -> u16
+        requires from { IsBehind (table_limits self.now.words) lows.now from }
+        ensures part { result < (table_limits self.now.words).parts }
+        ensures finished { AreFinished (table_limits self.now.words) lows.now result }
+        ensures open { result + 1 < (table_limits self.now.words).parts
+            → ¬ (slice_index lows.now result ≡ (table_limits self.now.words).rows) }
+    {
+        let limits = self.places.limits;
+        let last = limits.parts - 1;
+        for part in from..last {
+            if lows[part as usize] != limits.rows {
+                return part;
+            }
+        }
+        last
+    }
+}
