@@ -17,10 +17,11 @@ use Rattle.tp_model.proofs.Bridges.{found_later, taking_later, by_own, claim_eit
 use Rattle.tp_model.proofs.Lists.{option_or-None, if_same, if_other}
 use Rattle.tp_model.proofs.WordProofs.{end_of-snoc}
 use Rattle.tp_rule.specs.Places.{Word, HeadWord, BodyWord, ClaimWord, UnitWord, MarkWord, DrawnWord, IsThere, head_place, body_place, claim_place, unit_place, place_of, size_of}
-use Rattle.tp_rule.specs.Words.{IsFitHead, IsFitUnit, head_of, pack_by, pack_head, pack_unit}
+use Rattle.tp_rule.specs.Words.{IsFitHead, IsFitUnit, head_of, pack_by, pack_head, pack_unit, unit_bits, unit_run_bits}
+use Rattle.tp_rule.specs.declared.bits.TheConstants.{UNIT_RUN}
 use Rattle.tp_rule.specs.Doors.{Permits}
 use Rattle.tp_rule.specs.Plays.{exchanges_commit, exchanges_abort}
-use Rattle.tp_rule.specs.Rule.{AreasHold, HasHead, HasTail, HaveIdsFrom, HandHolds, Holds, RowsHold, Rule, WordIs, UnitsHold, drawn_in}
+use Rattle.tp_rule.specs.Rule.{AreCommitted, AreasHold, HasHead, HasTail, HaveIdsFrom, HandHolds, Holds, RowsHold, Rule, WordIs, UnitsHold, drawn_in}
 use Rattle.tp_model.specs.Passes.{Ascend, IsOwnArea}
 use Rattle.tp_rule.specs.declared.view.Known.TheVariants.{RowHead}
 use Rattle.tp_rule.specs.Steps.{IsOut, after, unchanged, with_end, with_lost, IsOwnWork, IsClaimed, commit_event, Grew, LosesUnit, HasCleared}
@@ -34,9 +35,16 @@ use Rattle.tp_rule.proofs.Owning.{own_inside}
 use Rattle.tp_model.proofs.Areas.{ascend_wider}
 use Rattle.tp_rule.proofs.Parts.{fair_rows, fair_units, in_run}
 use Rattle.tp_rule.proofs.Storing.{drawn_rises, has_full, may_unit, row_left, tail_same}
-use Rattle.tp_rule.proofs.Tellings.{body_later, born_fit, claim_later, head_later, unit_later, unit_now}
+use Rattle.tp_rule.proofs.Tellings.{body_later, born_fit, claim_later, head_later, still_committed, unit_later, unit_now}
 use Rattle.tp_rule.proofs.Units.{decide}
 use Rattle.tp_rule.proofs.Watching.{rows_lost}
+
+-- how a unit ended can be told from a run beside it, and the other way round
+unit_beside : (p m : ℕ) → p < UNIT_RUN → unit_bits (p + UNIT_RUN * m) ≡ p
+unit_beside p m small = omega arith
+
+unit_run_beside : (p m : ℕ) → p < UNIT_RUN → unit_run_bits (p + UNIT_RUN * m) ≡ m
+unit_run_beside p m small = omega arith
 
 unit_undecided : (w : Option UnitEnd) → pack_unit w ≡ 0 → w ≡ None
 unit_undecided None e = refl
@@ -123,12 +131,12 @@ module _ (k : Limits) where
   decided_told h ws e u quiet else_is full (UnitWord z) at other old = unit_later h e z (get_or ws (unit_place k z) 0) (else_is z (λ same. other (ap UnitWord same))) old
 
   -- an event of the pass that decides unit u
-  unit_event : (t : Turn k) (e : Event) (u x : ℕ) (w : Option UnitEnd) (kind : StepKind) → u < units_of k → x ≡ pack_unit w → IsFitUnit w → pass_of e ≡ (hand t.view).number → Step k t.rule.history e
+  unit_event : (t : Turn k) (e : Event) (u x : ℕ) (w : Option UnitEnd) (kind : StepKind) → u < units_of k → unit_bits x ≡ pack_unit w → IsFitUnit w → w ≢ None → AreCommitted t.rule.history u (unit_run_bits x) → pass_of e ≡ (hand t.view).number → Step k t.rule.history e
       → ((i : ℕ) → claim_word_after i (claim_word t.rule.history i) e ≡ claim_word t.rule.history i) → decide u (end_of t.rule.history u) e ≡ w → ((z : ℕ) → z ≢ u → decide z (end_of t.rule.history z) e ≡ end_of t.rule.history z)
       → ((y : Element) → In y (births e) → Holds t.state.words y × IsFitHead (head_of y)) → ((y : Element) → In y (births e) → IsMine k t y.id) → HandHolds k (t.rule.history ++ e ∷ []) (set t.state.words (unit_place k u) x) (with_end e (hand t.view))
       → Rule k record { words = set t.state.words (unit_place k u) x; homes = t.state.homes; views = set t.state.views t.id (after kind (with_end e) (t.rule.history ++ e ∷ []) t.view.known t.view) }
       × Grew kind (with_end e) (e ∷ []) t.view (after kind (with_end e) (t.rule.history ++ e ∷ []) t.view.known t.view)
-  unit_event t e u x w kind room is fit own st quiet here_is else_is full born_own mine = let h = t.rule.history in acted k t record {
+  unit_event t e u x w kind room is fit some before own st quiet here_is else_is full born_own mine = let h = t.rule.history in acted k t record {
     event = e;
     word = UnitWord u;
     number = x;
@@ -138,7 +146,7 @@ module _ (k : Limits) where
     own = own;
     step = st;
     there = room;
-    told = unit_now h e u x w here_is is fit;
+    told = unit_now h e u x w here_is is fit some before;
     rest = λ v there other. decided_told h t.state.words e u quiet else_is full v there other (t.rule.world.tells v there);
     may = may_unit k t.state.words u x;
     unmarked = λ s z q. cc;
@@ -230,16 +238,16 @@ module _ (k : Limits) where
   loses : (t : Turn k) (kind : StepKind) (p u : ℕ) → p ≡ unit_place k u → u < units_of k → (hand t.view).open_unit ≡ Some u → get_or t.state.words p 0 ≢ 0
       → Rule k record { words = set t.state.words p (get_or t.state.words p 0); homes = t.state.homes; views = set t.state.views t.id (looking_after k t p kind with_lost) } × LosesUnit kind t.view u (looking_after k t p kind with_lost)
   loses t kind p u place room held miss = let mine = hand_holds k t in let own = mine.units.open_own u held in
-      let gone = only_aborted (end_of t.rule.history u) (λ z. miss (ap (λ y. get_or t.state.words y 0) place ∙ ((t.rule.world.tells (UnitWord u) room).0 ∙ z))) own.uncommitted in
+      let gone = only_aborted (end_of t.rule.history u) (λ z. miss (ap (λ y. get_or t.state.words y 0) place ∙ (t.rule.world.tells (UnitWord u) room).bare (unit_undecided (end_of t.rule.history u) z))) own.uncommitted in
       let w = watched k t p kind with_lost (λ a. (refl, refl)) (lost_hand t.rule.history t.state.words u (hand t.view) held gone mine) in (w.0, (w.1, gone, own.kept))
 
   open_unit : (t : Turn k) (p u : ℕ) → p ≡ unit_place k u → u < units_of k → get_or t.state.words p 0 ≡ 0 → end_of t.rule.history u ≡ None
-  open_unit t p u place room hit = unit_undecided (end_of t.rule.history u) (sym (t.rule.world.tells (UnitWord u) room).0 ∙ (ap (λ y. get_or t.state.words y 0) (sym place) ∙ hit))
+  open_unit t p u place room hit = unit_undecided (end_of t.rule.history u) (sym (t.rule.world.tells (UnitWord u) room).packed ∙ ap unit_bits (ap (λ y. get_or t.state.words y 0) (sym place) ∙ hit))
 
-  pub commits_go : (v : View) (p new u first count : ℕ) → AreLimits k → IsOnePass v → v.limits ≡ k → (hand v).open_unit ≡ Some u → IsOwnWork v u → length (hand v).drafts ≤ 4
-      → first ≡ first_id (hand v).drafts → count ≡ length (hand v).drafts → HasCleared v → u < k.parts * k.units → p ≡ unit_place k u → new ≡ pack_unit (Some (Committed first count))
+  pub commits_go : (v : View) (p new u first count run : ℕ) → AreLimits k → IsOnePass v → v.limits ≡ k → (hand v).open_unit ≡ Some u → IsOwnWork v u → length (hand v).drafts ≤ 4
+      → first ≡ first_id (hand v).drafts → count ≡ length (hand v).drafts → HasCleared v → u < k.parts * k.units → p ≡ unit_place k u → new ≡ pack_unit (Some (Committed first count)) + UNIT_RUN * run → AreCommitted v.seen u run
       → Permits k v p (λ x. either (eqb x 0) new x) (exchanges_commit p 0 new v)
-  commits_go v p new u first count fair one lim held work few f_is c_is cleared room place to s r id at = let t : Turn k = record { state = s; rule = r; id = id; view = v; at = at; one = one } in let a : Hand = hand v in let x : ℕ = get_or s.words p 0 in let h = r.history in
+  commits_go v p new u first count run fair one lim held work few f_is c_is cleared room place to earlier s r id at = let t : Turn k = record { state = s; rule = r; id = id; view = v; at = at; one = one } in let a : Hand = hand v in let x : ℕ = get_or s.words p 0 in let h = r.history in
       let seat = seat_holds k t in let mine = hand_holds k t in let ds : List Element = a.drafts in let word : p ≡ unit_place v.limits u = place ∙ ap (λ (l : Limits). unit_place l u) (sym lim) in dite (ℕ_discrete x 0)
       (λ hit. let e : Event = commit_event v u in let undecided = open_unit t p u place room hit in let rows = mine.rows in let count_is = rows.counted in let bottom = rows.begins in let top = rows.ends in
       let drafts_own : (y : Element) → In y ds → IsMine k t y.id = λ y q. (let b = in_run a.first_draft ds y rows.run q in let l = b.0 in let m = b.1 in (omega arith, omega arith)) in let inside = own_inside k a.number a.blocks mine.first mine.end mine.area in
@@ -257,7 +265,10 @@ module _ (k : Limits) where
       let now : decide u (end_of h u) e ≡ Some (Committed first count) = ap (λ z. decide u z e) undecided ∙ (commit_here a.number u ds ∙ (λ i. Some (Committed (sym f_is i) (sym c_is i)))) in
       let many = fair_units k fair in let none_first : count ≡ 0 → first ≡ 0 = λ z. f_is ∙ first_of_none ds (sym c_is ∙ z) in let small = first_fits mine.end a.first_draft a.next a.left ds fair rows.counted rows.ends inside rows.run in
       let old = born_fit k h s.words r.world work.taking.item work.item item in let low : work.item.root ≤ 65535 = old.2 in
-      let done = unit_event t e u new (Some (Committed first count)) kinds.CommitExchange room to (omega arith, omega arith, none_first) refl st (λ i. refl) now (λ z ne. commit_else a.number u ds z (end_of h z) ne)
+      let bits : unit_bits new ≡ pack_unit (Some (Committed first count)) = ap unit_bits to ∙ unit_beside (pack_unit (Some (Committed first count))) run (omega arith) in
+      let long : unit_run_bits new ≡ run = ap unit_run_bits to ∙ unit_run_beside (pack_unit (Some (Committed first count))) run (omega arith) in
+      let before : AreCommitted h u (unit_run_bits new) = subst (AreCommitted h u) (sym long) (still_committed v.seen h u run seat.seen earlier) in
+      let done = unit_event t e u new (Some (Committed first count)) kinds.CommitExchange room bits (omega arith, omega arith, none_first) (λ q. absurd cc) before refl st (λ i. refl) now (λ z ne. commit_else a.number u ds z (end_of h z) ne)
       (λ y q. let o = work.outputs y q in let same_root : y.root ≡ work.item.root = o.2 in (rows.written y q, (o.0.0, o.0.1, omega arith, subst (λ z. pack_by z ≤ 65535) (sym o.1) (omega arith)))) drafts_own record {
         given = mine.given;
         mine = ap (λ l. l ++ e ∷ []) mine.mine ∙ sym (by_own a.number h e refl);
@@ -294,7 +305,7 @@ module _ (k : Limits) where
       (λ hit. let e : Event = Abort a.number u in let undecided = open_unit t p u place room hit in
       let st : Step k h e = record { pass = mine.given; taking = was.0; open_unit = record { claimed = taking_later v.seen h seat.seen u was.0 was.1; unfinished = undecided } } in
       let now : decide u (end_of h u) e ≡ (Some Aborted) = ap (λ z. decide u z e) undecided ∙ abort_here a.number u in
-      let done = unit_event t e u 2 (Some Aborted) kinds.AbortExchange room refl tt refl st (λ i. refl) now (λ z ne. abort_else a.number u z (end_of h z) ne) (λ y q. absurd (in_none q)) (λ y q. absurd (in_none q)) record {
+      let done = unit_event t e u 2 (Some Aborted) kinds.AbortExchange room refl tt (λ q. absurd cc) (λ z less up. let more : u ≤ z + 0 = up in absurd (omega arith)) refl st (λ i. refl) now (λ z ne. abort_else a.number u z (end_of h z) ne) (λ y q. absurd (in_none q)) (λ y q. absurd (in_none q)) record {
         given = mine.given;
         mine = ap (λ l. l ++ e ∷ []) mine.mine ∙ sym (by_own a.number h e refl);
         blocks = blocks_end s.words u 2 a.blocks room r.world.wide mine.blocks;

@@ -10,14 +10,14 @@ use Rattle.tp_model.proofs.Histories.{legal_empty}
 use Rattle.tp_model.proofs.Bridges.{begins_refl, in_cons, in_here, in_none}
 use Rattle.tp_model.specs.History.{In, there}
 use Rattle.tp_model.specs.declared.types.Limits.{Limits}
-use Rattle.tp_rule.specs.Rule.{HandHolds, IsApart, MarkHolds, Owners, Rule, SeatHolds, WordIs}
+use Rattle.tp_rule.specs.Rule.{AreCommitted, HandHolds, IsApart, MarkHolds, Owners, Rule, SeatHolds, WordIs}
 use Rattle.tp_rule.specs.Views.{first_view, fresh, fresh_from}
 use Rattle.tp_rule.proofs.Blanks.{blank_there, zeros}
 use Rattle.tp_rule.specs.declared.view.Hand.{Hand}
 use Rattle.tp_rule.specs.declared.view.View.{View}
 use Rattle.tp_rule.specs.Places.{Word, HeadWord, BodyWord, ClaimWord, UnitWord, MarkWord, DrawnWord, IsThere, head_place, body_place, claim_place, unit_place, mark_place, drawn_place, place_of, size_of}
 use Rattle.tp_rule.specs.declared.packing.Head.TheVariants.{Empty, Filled}
-use Rattle.tp_rule.specs.Words.{head_bits}
+use Rattle.tp_rule.specs.Words.{head_bits, unit_bits, unit_run_bits}
 use Rattle.tp_rule.proofs.Storing.{has_full}
 
 -- the first seat stands for all passes, and no block is drawn
@@ -103,7 +103,7 @@ module _ (k : Limits) where
       zero_told (HeadWord i) l = record { head = Empty; packed = ap head_bits (zeros (size_of k) (head_place i)); fit = tt; bare = λ _. zeros (size_of k) (head_place i); born = λ x p. absurd cc; draft = λ un. tt }
       zero_told (BodyWord i j) l = λ x p. absurd cc
       zero_told (ClaimWord i) l = (zeros (size_of k) (claim_place i), tt)
-      zero_told (UnitWord u) l = (zeros (size_of k) (unit_place k u), tt)
+      zero_told (UnitWord u) l = let none = zeros (size_of k) (unit_place k u) in record { packed = ap unit_bits none; fit = tt; bare = λ _. none; before = subst (AreCommitted [] u) (sym (ap unit_run_bits none)) (λ w less up. let more : u ≤ w + 0 = up in absurd (omega arith)) }
       zero_told (MarkWord s p) l = tt
       zero_told DrawnWord l = tt
 

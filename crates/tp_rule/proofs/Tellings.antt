@@ -16,16 +16,20 @@ use Rattle.tp_model.proofs.Later.{births_inside}
 use Rattle.tp_model.proofs.WordProofs.{claim_word-snoc, end_of-snoc}
 use Rattle.tp_rule.specs.Places.{Word, HeadWord, BodyWord, ClaimWord as ClaimOf, UnitWord, MarkWord, DrawnWord, IsThere, head_place, mark_place, place_of}
 use Rattle.tp_rule.specs.declared.bits.TheConstants.{HEAD_RUN}
-use Rattle.tp_rule.specs.Words.{IsFitClaim, IsFitHead, IsFitUnit, head_bits, head_of, pack_claim, pack_head, pack_unit, run_bits}
+use Rattle.tp_rule.specs.Words.{IsFitClaim, IsFitHead, IsFitUnit, head_bits, head_of, pack_claim, pack_head, pack_unit, run_bits, unit_bits, unit_run_bits}
 use Rattle.tp_rule.specs.declared.packing.Head.{Head}
 use Rattle.tp_rule.specs.declared.packing.Head.TheVariants.{Empty, Void, Filled}
-use Rattle.tp_rule.specs.Rule.{Concerns, HasHead, HasStage, HeadTold, IsAside, IsFinished, IsInside, IsOther, IsUseless, MarkHolds, StillSo, WordIs, World}
+use Rattle.tp_rule.specs.Rule.{AreCommitted, Concerns, HasHead, HasStage, HeadTold, IsAside, IsFinished, IsInside, IsOther, IsUseless, MarkHolds, StillSo, WordIs, World}
 use Rattle.tp_rule.specs.Steps.{AreFinishedFor, Found, IsLow, IsFinishedFor, IsSo}
 use Rattle.tp_rule.specs.declared.view.Known.{Known}
 use Rattle.tp_rule.specs.declared.view.Known.TheVariants.{RowHead, RowRun, PartMark, MarkAbove, BlocksDrawn}
 use Rattle.tp_rule.proofs.Births.{MadeBy, by_unit}
 use Rattle.tp_rule.proofs.Storing.{MayStore, bare_after, behind_after, drawn_inside, full_head, has_full, heads_kept, left, runs_after, same_or_other, stored, unwritten_after}
 use Rattle.tp_rule.proofs.Units.{decide}
+
+-- what is committed stays so
+pub still_committed : (h g : List Event) (u run : ℕ) → IsPrefix h g → AreCommitted h u run → AreCommitted g u run
+still_committed h g u run begins old w less up = let t = old w less up in (t.0, t.1, end_stays h g w (Committed t.0 t.1) begins t.2)
 
 -- a head's word holds the head
 pub head_told : (a b : Head) → IsFitHead a → IsFitHead b → pack_head a ≡ pack_head b → a ≡ b
@@ -204,10 +208,20 @@ module _ (h : List Event) (e : Event) where
   claim_now i n w is at fit = let now = sym (claim_word-snoc h e i ∙ is) in (at ∙ ap pack_claim now, subst IsFitClaim now fit)
 
   pub unit_later : (u n : ℕ) → decide u (end_of h u) e ≡ end_of h u → WordIs h (UnitWord u) n → WordIs (h ++ e ∷ []) (UnitWord u) n
-  unit_later u n same old = let now = sym (end_of-snoc h e u ∙ same) in (old.0 ∙ ap pack_unit now, subst IsFitUnit now old.1)
+  unit_later u n same old = let now = sym (end_of-snoc h e u ∙ same) in record {
+    packed = old.packed ∙ ap pack_unit now;
+    fit = subst IsFitUnit now old.fit;
+    bare = λ none. old.bare (now ∙ none);
+    before = still_committed h (h ++ e ∷ []) u (unit_run_bits n) (e ∷ [], refl) old.before;
+  }
 
-  pub unit_now : (u n : ℕ) (w : Option UnitEnd) → decide u (end_of h u) e ≡ w → n ≡ pack_unit w → IsFitUnit w → WordIs (h ++ e ∷ []) (UnitWord u) n
-  unit_now u n w is at fit = let now = sym (end_of-snoc h e u ∙ is) in (at ∙ ap pack_unit now, subst IsFitUnit now fit)
+  pub unit_now : (u n : ℕ) (w : Option UnitEnd) → decide u (end_of h u) e ≡ w → unit_bits n ≡ pack_unit w → IsFitUnit w → w ≢ None → AreCommitted h u (unit_run_bits n) → WordIs (h ++ e ∷ []) (UnitWord u) n
+  unit_now u n w is at fit some before = let now = sym (end_of-snoc h e u ∙ is) in record {
+    packed = at ∙ ap pack_unit now;
+    fit = subst IsFitUnit now fit;
+    bare = λ none. absurd (some (now ∙ none));
+    before = still_committed h (h ++ e ∷ []) u (unit_run_bits n) (e ∷ [], refl) before;
+  }
 
   -- a word that says nothing of what an event without births changes
   pub told_later : births e ≡ [] → (w : Word) (n : ℕ) → ((i : ℕ) → w ≡ ClaimOf i → claim_word_after i (claim_word h i) e ≡ claim_word h i) → ((u : ℕ) → w ≡ UnitWord u → decide u (end_of h u) e ≡ end_of h u) → WordIs h w n → WordIs (h ++ e ∷ []) w n

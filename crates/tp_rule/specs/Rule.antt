@@ -22,7 +22,7 @@ use Rattle.tp_rule.specs.declared.view.View.{View}
 use Rattle.tp_rule.specs.Places.{Word, HeadWord, BodyWord, ClaimWord, UnitWord, MarkWord, DrawnWord, IsThere}
 use Rattle.tp_rule.specs.Places.{head_place, body_place, mark_place, drawn_place, place_of, size_of}
 use Rattle.tp_rule.specs.Words.{IsFitHead, IsFitClaim, IsFitUnit, head_bits, head_of, pack_claim, pack_head}
-use Rattle.tp_rule.specs.Words.{pack_unit, run_bits}
+use Rattle.tp_rule.specs.Words.{pack_unit, run_bits, unit_bits, unit_run_bits}
 use Rattle.tp_rule.specs.declared.packing.Head.{Head}
 use Rattle.tp_rule.specs.declared.packing.Head.TheVariants.{Empty, Void, Filled}
 
@@ -212,6 +212,24 @@ pub record HeadTold (h : List Event) (i n : ℕ) : Type 0 where
   -- where none is born, it is empty or void, or names a unit
   pub draft : IsUnborn h i → IsDraft head
 
+-- unit u is committed
+abbrev pub IsCommitted : List Event → ℕ → Type 0
+IsCommitted h u = (from : ℕ) × (count : ℕ) × (end_of h u ≡ Some (Committed from count))
+
+-- and so are this many units right before it
+abbrev pub AreCommitted : List Event → ℕ → ℕ → Type 0
+AreCommitted h u run = (w : ℕ) → w < u → u ≤ w + run → IsCommitted h w
+
+-- what the word of unit u says, where the number n is there
+pub record UnitTold (h : List Event) (u n : ℕ) : Type 0 where
+  -- it says how the unit ended
+  pub packed : unit_bits n ≡ pack_unit (end_of h u)
+  pub fit : IsFitUnit (end_of h u)
+  -- it has no run where that is undecided
+  pub bare : end_of h u ≡ None → n ≡ 0
+  -- the units of its run are committed
+  pub before : AreCommitted h u (unit_run_bits n)
+
 -- what each word says of the history h, where the number n is there
 abbrev pub WordIs : List Event → Word → ℕ → Type 0
 -- a head: what it says, which is that of the element where one is born
@@ -220,8 +238,8 @@ WordIs h (HeadWord i) n = HeadTold h i n
 WordIs h (BodyWord i k) n = (x : Element) → element_of h i ≡ Some x → n ≡ slice_index x.body k
 -- a claim: the packing of what the history says of the element's claims and kill
 WordIs h (ClaimWord i) n = (n ≡ pack_claim (claim_word h i)) × IsFitClaim (claim_word h i)
--- a unit's word: the packing of how the unit ended
-WordIs h (UnitWord u) n = (n ≡ pack_unit (end_of h u)) × IsFitUnit (end_of h u)
+-- a unit's word: how the unit ended
+WordIs h (UnitWord u) n = UnitTold h u n
 -- a mark: that hangs on other words too, and is said of all words together
 WordIs h (MarkWord s p) n = Unit {0}
 -- the counter of drawn blocks: the same

@@ -8,7 +8,8 @@ use Rattle.tp_rule.specs.declared.bits.TheConstants.{HEAD_EMPTY, HEAD_VOID, HEAD
 use Rattle.tp_rule.specs.declared.bits.TheConstants.{HEAD_ROOT, HEAD_BY, HEAD_RUN, CLAIM_FREE, CLAIM_TAKEN}
 use Rattle.tp_rule.specs.declared.bits.TheConstants.{CLAIM_KILLED, CLAIM_AGAIN, CLAIM_ATTEMPT, CLAIM_UNIT}
 use Rattle.tp_rule.specs.declared.bits.TheConstants.{CLAIM_ROUND, UNIT_UNDECIDED, UNIT_COMMITTED}
-use Rattle.tp_rule.specs.declared.bits.TheConstants.{UNIT_ABORTED, UNIT_COUNT, UNIT_FIRST, MAX_UNIT, MAX_ID}
+use Rattle.tp_rule.specs.declared.bits.TheConstants.{UNIT_ABORTED, UNIT_COUNT, UNIT_FIRST, UNIT_RUN, MAX_UNIT}
+use Rattle.tp_rule.specs.declared.bits.TheConstants.{MAX_ID}
 use Rattle.tp_rule.specs.declared.packing.Head.{Head}
 use Rattle.tp_rule.specs.declared.packing.Head.TheVariants.{Empty, Void, Filled}
 use Rattle.tp_rule.specs.declared.packing.Claim as claims
@@ -58,11 +59,18 @@ pack_claim (TakenWord n u r) = CLAIM_TAKEN + CLAIM_ATTEMPT * n + CLAIM_UNIT * u 
 pack_claim (KilledWord n u r) = CLAIM_KILLED + CLAIM_ATTEMPT * n + CLAIM_UNIT * u + CLAIM_ROUND * r
 pack_claim (AgainWord r) = CLAIM_AGAIN + CLAIM_ROUND * r
 
--- the word of a unit
+-- the word of a unit, without its run
 abbrev pub pack_unit : Option UnitEnd → ℕ
 pack_unit None = UNIT_UNDECIDED
 pack_unit (Some (Committed first count)) = UNIT_COMMITTED + UNIT_COUNT * count + UNIT_FIRST * first
 pack_unit (Some Aborted) = UNIT_ABORTED
+
+-- how a unit ended by its word, and the run of a committed one: how many units right before it are committed
+abbrev pub unit_bits : ℕ → ℕ
+unit_bits word = word % UNIT_RUN
+
+abbrev pub unit_run_bits : ℕ → ℕ
+unit_run_bits word = word / UNIT_RUN
 
 -- the values that heads have: a stage that is 1 to 15, an id, and a unit's number with room for 1 more
 abbrev pub IsFitHead : Head → Type 0

@@ -62,6 +62,9 @@ pub const UNIT_COUNT: u64 = 1 << 2;
 /// Unit, bits 5 to 20: the id of its first output, and 0 where there is none.
 pub const UNIT_FIRST: u64 = 1 << 5;
 
+/// Unit, bits 21 to 36: how many units right before a committed one are committed, as far as its pass tells.
+pub const UNIT_RUN: u64 = 1 << 21;
+
 /// The greatest number of a unit: a head has room for the number plus 1.
 pub const MAX_UNIT: u64 = 65534;
 

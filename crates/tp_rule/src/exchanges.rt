@@ -8,7 +8,7 @@ ghost use Rattle.tp_model.specs.History.{first_id};
 ghost use Rattle.tp_model.specs.Steps.{rows_of, units_of};
 ghost use Rattle.tp_model.specs.Words.{round_in};
 ghost use Rattle.tp_rule.specs.Words.{claim_value, unit_value, IsFitClaim};
-ghost use Rattle.tp_rule.specs.Rule.{IsInside};
+ghost use Rattle.tp_rule.specs.Rule.{AreCommitted, IsInside};
 ghost use Rattle.tp_rule.specs.Views.{hand_of, seen_by, view_of, IsNextUnit, IsSameSeat};
 ghost use Rattle.tp_rule.specs.declared.view.Known.TheVariants.{MarkAbove, PartMark};
 ghost use Rattle.tp_rule.specs.declared.places.TheConstants.{MARK_KINDS};
@@ -17,7 +17,7 @@ ghost use Rattle.tp_rule.specs.Steps.{Chooses, MakesClaim, MakesCommit, MakesAbo
 ghost use Rattle.tp_rule.specs.Steps.{LosesUnit, FindsOther, FindsEnded, AllowsClaim, AllowsKill};
 ghost use Rattle.tp_rule.specs.Steps.{AllowsRequeue, HasCleared, HasElement, HasWork, IsOwnWork, IsClaimed};
 
-use crate::bits::{HEAD_EMPTY, HEAD_VOID, UNIT_ABORTED, UNIT_UNDECIDED};
+use crate::bits::{HEAD_EMPTY, HEAD_VOID, UNIT_ABORTED, UNIT_RUN, UNIT_UNDECIDED};
 use crate::packing::{Claim, FoundClaim, UnitWord};
 use crate::plays::{
     AbortExchange, ClaimExchange, CommitExchange, Draw, KillExchange, Raise, RequeueExchange,
@@ -85,9 +85,17 @@ impl Words {
 
     /// The open unit is committed with its drafts, if it is undecided. `true` adds the commit to the history:
     /// in this one step the element that the unit took is consumed and all drafts are born. `false`: another
-    /// pass had aborted the unit, and its drafts are never born.
+    /// pass had aborted the unit, and its drafts are never born. `run` is how many units right before this one
+    /// were seen to be committed, or fewer.
     #[inline(always)]
-    pub fn commit_exchange(&self, seat: &mut Seat, unit: u16, first: u16, count: u8) -> bool
+    pub fn commit_exchange(
+        &self,
+        seat: &mut Seat,
+        unit: u16,
+        first: u16,
+        count: u8,
+        run: u16,
+    ) -> bool
         requires own { IsSeatOf self.now seat.old }
         requires one { IsPassOf self.now seat.old }
         requires unit { ((hand_of seat.old).open_unit ≡ Some unit)
@@ -95,6 +103,7 @@ impl Words {
         requires work { IsOwnWork (view_of seat.old) unit }
         requires count { (count ≡ length (hand_of seat.old).drafts) × (count ≤ MAX_OUTPUTS) }
         requires first { first ≡ first_id (hand_of seat.old).drafts }
+        requires run { AreCommitted (seen_by seat.old) unit run }
         requires cleared { HasCleared (view_of seat.old) }
         ensures same { IsSameSeat seat.old seat.new }
         ensures hit { result ≡ true → MakesCommit (view_of seat.old) unit (view_of seat.new) }
@@ -102,7 +111,7 @@ impl Words {
             (view_of seat.new) }
     {
         let word = self.places.unit(unit);
-        let committed = UnitWord::Committed { first, count }.pack();
+        let committed = UnitWord::Committed { first, count }.pack() + UNIT_RUN * run as u64;
         let was = self
             .table
             .compare_exchange::<CommitExchange>(seat, word, UNIT_UNDECIDED, committed);
@@ -132,7 +141,7 @@ impl Words {
         if was == UNIT_UNDECIDED {
             return Ok(());
         }
-        Err(UnitWord::read(was))
+        Err(UnitWord::read(was % UNIT_RUN))
     }
 
     /// The element of a row is killed, if its claim is still the one that was found: it was free, or its unit

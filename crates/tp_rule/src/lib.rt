@@ -19,7 +19,7 @@ mod stores;
 mod view;
 mod words;
 
-pub use packing::{Claim, FoundClaim, FoundHead, Head, UnitWord};
+pub use packing::{Claim, FoundClaim, FoundHead, FoundUnit, Head, UnitWord};
 pub use places::{MARK_KINDS, Places, places_differ};
 pub use seat::Seat;
 pub use view::{Hand, Known, View};

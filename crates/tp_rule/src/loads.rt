@@ -10,14 +10,14 @@ ghost use Rattle.tp_rule.specs.Words.{claim_value, unit_value, head_of, IsFitCla
 ghost use Rattle.tp_rule.specs.Places.{size_of};
 ghost use Rattle.tp_rule.specs.declared.places.TheConstants.{MARK_KINDS};
 ghost use Rattle.tp_rule.specs.declared.packing.Head.TheVariants.{Empty, Filled};
-ghost use Rattle.tp_rule.specs.Rule.{IsDraft};
+ghost use Rattle.tp_rule.specs.Rule.{AreCommitted, IsDraft};
 ghost use Rattle.tp_rule.specs.Views.{seen_by, view_of, HasPass, IsSameSeat};
 ghost use Rattle.tp_rule.specs.Steps.{AreInOrder, IsLow, Loads, Grew, Knows, MayBeBorn, NoneDrawn, Shares};
 ghost use Rattle.tp_rule.specs.Steps.{unchanged};
 ghost use Rattle.tp_rule.specs.declared.view.Known.TheVariants.{RowHead, RowRun, PartMark, BlocksDrawn};
 
-use crate::bits::HEAD_RUN;
-use crate::packing::{FoundClaim, FoundHead, Head, UnitWord};
+use crate::bits::{HEAD_RUN, UNIT_RUN};
+use crate::packing::{FoundClaim, FoundHead, FoundUnit, Head, UnitWord};
 use crate::plays::{Load, LoadDrawn, LoadHead, LoadMark, LoadUnit};
 use crate::seat::Seat;
 use crate::words::Words;
@@ -144,7 +144,27 @@ impl Words {
     {
         let word = self.places.unit(unit);
         let found = self.table.load::<LoadUnit>(seat, word);
-        UnitWord::read(found)
+        UnitWord::read(found % UNIT_RUN)
+    }
+
+    /// The same, and the run of a committed unit: so many units right before it are committed.
+    #[inline(always)]
+    pub fn load_unit_run(&self, seat: &mut Seat, unit: u16) -> FoundUnit
+        requires own { IsSeatOf self.now seat.old }
+        requires one { IsPassOf self.now seat.old }
+        requires unit { unit < units_of (table_limits self.now) }
+        ensures same { IsSameSeat seat.old seat.new }
+        ensures grew { Grew kinds.Load unchanged [] (view_of seat.old) (view_of seat.new) }
+        ensures end { unit_value result.tells ≡ end_of (seen_by seat.new) unit }
+        ensures order { AreInOrder (table_limits self.now) (seen_by seat.new) }
+        ensures before { AreCommitted (seen_by seat.new) unit result.run }
+    {
+        let word = self.places.unit(unit);
+        let found = self.table.load::<LoadUnit>(seat, word);
+        FoundUnit {
+            tells: UnitWord::read(found % UNIT_RUN),
+            run: found / UNIT_RUN,
+        }
     }
 
     /// Reads the mark of a kind of a part, or of the spare rows where `part` is the number of parts. The seat

@@ -3,7 +3,8 @@
 //! `Head`, `Claim` and `UnitWord` can each hold more than the words can; `pack` asks for a value that a word
 //! can hold, and `unpack` answers such values alone. `unpack` undoes `pack`, and `pack` undoes `unpack`.
 //! `read` is the same for a number of which it is proved that it is such a word. A `FoundClaim` is a claim
-//! beside the word that it is in. The run of a head word, its bits from 37 on, is apart from all this.
+//! beside the word that it is in. The runs of a head and of a unit's word, their bits from 37 and
+//! from 21 on, are apart from all this.
 ghost use Rattle.std.specs.Prelude.{◌≡◌, ◌↔◌, ℕ, IfSome, IsSome, Option, Some};
 ghost use Rattle.std.specs.Option.{option_map};
 ghost use Rattle.tp_model.specs.History.{UnitEnd};
@@ -79,6 +80,15 @@ pub enum UnitWord {
     Committed { first: u16, count: u8 },
     /// The unit was aborted.
     Aborted,
+}
+
+/// The word of a unit as it was found.
+#[derive(Clone, Copy, Debug, PartialEq, Eq)]
+pub struct FoundUnit {
+    /// How the unit ended.
+    pub tells: UnitWord,
+    /// The run: where the unit is committed, so many units right before it are.
+    pub run: u64,
 }
 
 impl Head {

@@ -2,7 +2,6 @@ use Rattle.std.proofs.Common.{◌≡◌, ◌≢◌, rules, sym, ◌∙◌, ap, s
 use Rattle.tp_model.specs.declared.trace.StepKind.TheVariants as kinds
 use Rattle.tp_rule.specs.Steps.{LosesUnit}
 use Rattle.tp_rule.specs.Places.{UnitWord}
-use Rattle.tp_rule.specs.Words.{pack_unit}
 use Rattle.tp_rule.specs.Rule.{WordIs}
 use Rattle.tp_rule.specs.Views.{seen_by, view_of}
 use Rattle.tp_rule.proofs.Deciding.{aborts_go}
@@ -21,12 +20,12 @@ says : (c : Else-was-eq-UNIT_UNDECIDED) → WordIs (seen_by c.compare_exchange-w
 says c = found_told _ _ _ (UnitWord c.args.unit) _ _ c.requires.one.1 c.requires.unit.1 c.unit-word.ensures.place (c.compare_exchange-was.ensures.told.5 (decided c))
 
 pub read-requires : goal.read-requires
-read-requires c = let t = says (goal.at.read-requires c).Else-was-eq-UNIT_UNDECIDED in (_, t.1, t.0)
+read-requires c = let t = says (goal.at.read-requires c).Else-was-eq-UNIT_UNDECIDED in (_, t.fit, t.packed)
 
 pub returns-clause-miss : goal.returns-clause-miss
-returns-clause-miss c = let at = (goal.at.returns-clause-miss c).Else-was-eq-UNIT_UNDECIDED in let t = says at in let now = c.read.ensures.of_pack _ t.1 t.0 in let told = c.compare_exchange-was.ensures.told in
+returns-clause-miss c = let at = (goal.at.returns-clause-miss c).Else-was-eq-UNIT_UNDECIDED in let t = says at in let now = c.read.ensures.of_pack _ t.fit t.packed in let told = c.compare_exchange-was.ensures.told in
     let same : c.compare_exchange-was.ensures.told.0 ≡ c.args.unit = search rules in record {
-      ended = λ none. decided at (t.0 ∙ ap pack_unit (sym now ∙ none));
+      ended = λ none. decided at (t.bare (sym now ∙ none));
       found_is = now;
       own = λ held. subst (λ u. LosesUnit kinds.AbortExchange (view_of c.args.seat.now) u (view_of c.compare_exchange-was.new.seat)) same (told.3 (decided at) (held ∙ ap Some (sym same)));
       other = λ none. told.4 (decided at) none;

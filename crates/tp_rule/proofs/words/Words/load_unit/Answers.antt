@@ -22,10 +22,10 @@ says : (c : After-load-found) → WordIs (seen_by c.load-found.new.seat) (UnitWo
 says c = told _ _ _ (UnitWord c.args.unit) _ _ c.requires.one.1 c.requires.unit c.unit-word.ensures.place c.load-found.ensures.told.0
 
 pub read-requires : goal.read-requires
-read-requires c = let t = says (goal.at.read-requires c).After-load-found in (_, t.1, t.0)
+read-requires c = let t = says (goal.at.read-requires c).After-load-found in (_, t.fit, t.packed)
 
 pub returns-clause-end : goal.returns-clause-end
-returns-clause-end c = let t = says (goal.at.returns-clause-end c).After-load-found in c.read.ensures.of_pack _ t.1 t.0
+returns-clause-end c = let t = says (goal.at.returns-clause-end c).After-load-found in c.read.ensures.of_pack _ t.fit t.packed
 
 pub returns-clause-order : goal.returns-clause-order
 returns-clause-order c = subst (λ l. AreInOrder l (seen_by c.load-found.new.seat)) c.requires.one.1 c.load-found.ensures.told.1
