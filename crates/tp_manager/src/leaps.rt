@@ -62,14 +62,7 @@ impl Shared {
     /// A row up to which all from `first` on are known of no use to the stage. Where this one is (`aside`) it
     /// looks ahead, twice as far each time, and less far again where that tells nothing. No more looks tell
     /// nothing than there are rows that no look was made at.
-    pub(crate) fn leap(
-        &self,
-        seat: &mut Seat,
-        first: u32,
-        end: u32,
-        stage: u8,
-        aside: bool,
-    ) -> u32
+    pub(crate) fn leap(&self, seat: &mut Seat, first: u32, end: u32, stage: u8, aside: bool) -> u32
         requires steady { IsSteady self.now.words seat.old }
         requires rows { (first ≤ end) × (end ≤ rows_of (table_limits self.now.words)) }
         requires known { aside ≡ true → (first < end) × Rose stage (view_of seat.old) first (first + 1) }

@@ -11,4 +11,4 @@ returns-clause-acted c = acted_by _ _ _ _ c.requires.steady.steady refl c.load_r
 pub returns-clause-aside : goal.returns-clause-aside
 returns-clause-aside c = λ yes. let l = table_limits c.args.self.now.words in let t = c.is_run_aside.ensures yes in let far = t.5 in let low = c.requires.rows.0 in
     rose_run l c.args.stage (view_of c.load_run-found.new.seat) c.args.row c.args.at t.0 c.load_run-found.result.run (c.load_run-found.ensures.run t.0 t.1 t.2 t.3) (omega arith) (omega arith)
-        (unconcerned l c.args.stage t.0 c.requires.stage.0 t.4)
+    (unconcerned l c.args.stage t.0 c.requires.stage.0 t.4)
