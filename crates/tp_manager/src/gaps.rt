@@ -1,5 +1,5 @@
 //! Gaps: runs of rows of no use to a stage that lie behind a row which may be of use.
-ghost use Rattle.std.specs.Prelude.{◌≡◌, ◌⊎◌, ◌+◌, ◌-◌, ◌*◌, ◌<◌, ◌≤◌, slice_index, IfSome, MatchOption};
+ghost use Rattle.std.specs.Prelude.{◌≡◌, ◌⊎◌, ◌+◌, ◌-◌, ◌*◌, ◌<◌, ◌≤◌, slice_index, true, IfSome, MatchOption};
 ghost use Rattle.tp_model.specs.Steps.{rows_of, IsServerStage};
 ghost use Rattle.tp_rule.specs.Views.{seen_by, view_of, IsSameSeat};
 ghost use Rattle.tp_rule.specs.Tables.{table_limits};
@@ -12,6 +12,7 @@ ghost use Rattle.tp_manager.specs.Marks.{RestsAt, RisesAt, Rose};
 ghost use Rattle.tp_manager.specs.Scans.{Begun, IsSpare, OfPart, PassedBy, Sought, Took};
 ghost use Rattle.tp_manager.specs.Spares.{Passed};
 
+use crate::error_queue::later;
 use crate::manager::Shared;
 use crate::marking::{Lows, MARKED_PARTS};
 use crate::scanning::past_done;
@@ -226,20 +227,24 @@ impl Shared {
     }
 
     /// The unit takes the first element of a part that waits in the stage. The scan starts at the part's
-    /// mark, after the row that the pass has consumed last where that comes first, and raises the mark.
-    /// Behind a row that may be of use it goes on past the part's gap.
+    /// mark, or at row `next` where that comes later and those between are known of no use; after the row that
+    /// the pass has consumed last where that comes first; and it raises the mark. Behind a row that may be of
+    /// use it goes on past the part's gap.
     pub(crate) fn scan_from_mark(
         &self,
         seat: &mut Seat,
         lows: &mut Lows,
         gaps: &mut Gaps,
         part: u16,
+        next: u32,
         who: Seeker,
     ) -> Option<Taken>
         requires steady { IsSteady self.now.words seat.old }
         requires remembers { Remembers who.stage (view_of seat.old) lows.old }
         requires gaps { RemembersGaps who.stage (view_of seat.old) gaps.old }
         requires part { part < (table_limits self.now.words).parts }
+        requires next { let l = table_limits self.now.words in (next ≤ part * l.rows + l.rows)
+            × Rose who.stage (view_of seat.old) (part * l.rows + slice_index lows.old part) next }
         requires done { RemembersDone (view_of seat.old) who.done }
         requires spare { IsSpare who.unit (view_of seat.old) }
         ensures same { IsSameSeat seat.old seat.new }
@@ -250,12 +255,12 @@ impl Shared {
             RestsAt l who.stage part (slice_index lows.new part) (view_of seat.old) (view_of seat.new) }
         ensures inside { let l = table_limits self.now.words in
             IfSome result (λ t. t.element.id < part * l.rows + l.rows) }
+        ensures behind { IfSome result (λ t. next ≤ t.element.id) }
         ensures lean { let l = table_limits self.now.words in
             let end = scan_end (part * l.rows + l.rows) result in
-            let n = part * l.rows + slice_index lows.old part in
-            IsLeanAt l who.stage 2 n (end - n) (view_of seat.old) (view_of seat.new) }
+            IsLeanAt l who.stage 2 next (end - next) (view_of seat.old) (view_of seat.new) }
         ensures told { let l = table_limits self.now.words in
-            let n = 2 + (l.rows - slice_index lows.old part) * try_steps in MatchOption result
+            let n = 2 + (part * l.rows + l.rows - next) * try_steps in MatchOption result
             (Sought l n (OfPart l (PassedBy l who.stage) part) (view_of seat.old) (view_of seat.new))
             (λ t. Took l n (part * l.rows) who.stage who.unit (view_of seat.old)
             (view_of seat.new) t.element t.attempt
@@ -267,7 +272,8 @@ impl Shared {
         let rows = self.places.limits.rows as u32;
         let first = part as u32 * rows;
         let end = first + rows;
-        let begin = past_done(first + lows[part as usize] as u32, end, who.done);
+        let known = later(first + lows[part as usize] as u32, next);
+        let begin = past_done(known, end, who.done);
         let mut low = begin;
         let mut row = begin;
         while row < end {
@@ -289,5 +295,53 @@ impl Shared {
         }
         self.raise_low(seat, lows, stage, part, mark, low);
         None
+    }
+
+    /// The unit takes the first element of a part that waits in the stage. Where the first row that the pass
+    /// doesn't know of no use was found to be so by its head (`aside`), the scan leaps over the rows behind it
+    /// that tell of other stages.
+    #[inline(always)]
+    pub(crate) fn scan_part(
+        &self,
+        seat: &mut Seat,
+        lows: &mut Lows,
+        gaps: &mut Gaps,
+        part: u16,
+        aside: bool,
+        who: Seeker,
+    ) -> Option<Taken>
+        requires steady { IsSteady self.now.words seat.old }
+        requires remembers { Remembers who.stage (view_of seat.old) lows.old }
+        requires gaps { RemembersGaps who.stage (view_of seat.old) gaps.old }
+        requires part { part < (table_limits self.now.words).parts }
+        requires aside { aside ≡ true → let l = table_limits self.now.words in
+            let n = slice_index lows.old part in
+            (n < l.rows) × Rose who.stage (view_of seat.old) (part * l.rows + n) (part * l.rows + n + 1) }
+        requires done { RemembersDone (view_of seat.old) who.done }
+        requires spare { IsSpare who.unit (view_of seat.old) }
+        ensures same { IsSameSeat seat.old seat.new }
+        ensures remembers { Remembers who.stage (view_of seat.new) lows.new }
+        ensures gaps { RemembersGaps who.stage (view_of seat.new) gaps.new }
+        ensures lows { RisesAt part lows.old lows.new }
+        ensures rests { let l = table_limits self.now.words in
+            RestsAt l who.stage part (slice_index lows.new part) (view_of seat.old) (view_of seat.new) }
+        ensures inside { let l = table_limits self.now.words in
+            IfSome result (λ t. t.element.id < part * l.rows + l.rows) }
+        ensures lean { let l = table_limits self.now.words in
+            let end = scan_end (part * l.rows + l.rows) result in
+            let n = part * l.rows + slice_index lows.old part in
+            IsLeanAt l who.stage 2 n (end - n) (view_of seat.old) (view_of seat.new) }
+        ensures told { let l = table_limits self.now.words in
+            let n = 2 + (l.rows - slice_index lows.old part) * try_steps in MatchOption result
+            (Sought l n (OfPart l (PassedBy l who.stage) part) (view_of seat.old) (view_of seat.new))
+            (λ t. Took l n (part * l.rows) who.stage who.unit (view_of seat.old)
+            (view_of seat.new) t.element t.attempt
+            × (t.element.root ≡ t.root)) }
+    {
+        let rows = self.places.limits.rows as u32;
+        let begin = part as u32 * rows;
+        let first = begin + lows[part as usize] as u32;
+        let next = self.leap(seat, first, begin + rows, who.stage, aside);
+        self.scan_from_mark(seat, lows, gaps, part, next, who)
     }
 }

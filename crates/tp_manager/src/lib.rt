@@ -19,6 +19,7 @@ mod error_units;
 mod family_members;
 mod gaps;
 mod killing;
+mod leaps;
 mod manager;
 mod marking;
 mod meeting;

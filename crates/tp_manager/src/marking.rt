@@ -7,7 +7,7 @@ ghost use Rattle.tp_rule.specs.declared.places.TheConstants.{MARK_KINDS};
 ghost use Rattle.tp_rule.specs.Views.{seen_by, view_of, IsSameSeat};
 ghost use Rattle.tp_rule.specs.Rule.{IsInside};
 ghost use Rattle.tp_rule.specs.Steps.{IsLow, Knows, MayBeBorn};
-ghost use Rattle.tp_rule.specs.declared.view.Known.TheVariants.{MarkAbove, PartMark};
+ghost use Rattle.tp_rule.specs.declared.view.Known.TheVariants.{MarkAbove, PartMark, RowHead};
 ghost use Rattle.tp_rule.specs.Tables.{table_limits};
 ghost use Rattle.tp_manager.specs.CallSteps.{Acted, IsSteady, Looked};
 ghost use Rattle.tp_manager.specs.Marks.{Remembers, RisesAt, Rose};
@@ -193,6 +193,23 @@ impl Shared {
     {
         let rows = self.places.limits.rows as u32;
         self.is_bare_to(seat, part, row, part as u32 * rows + rows)
+    }
+
+    /// The head of this row of a part, whose end is known: where it is empty nothing is born in the part from
+    /// there on. One step.
+    #[inline(always)]
+    pub(crate) fn first_head(&self, seat: &mut Seat, part: u16, row: u32, end: u32) -> Head
+        requires steady { IsSteady self.now.words seat.old }
+        requires part { part < (table_limits self.now.words).parts }
+        requires row { let l = table_limits self.now.words in
+            (part * l.rows ≤ row) × (row < end) × (end ≡ part * l.rows + l.rows) }
+        ensures same { IsSameSeat seat.old seat.new }
+        ensures acted { Acted (table_limits self.now.words) 1 (view_of seat.old) (view_of seat.new) }
+        ensures bare { result ≡ Empty → (i : ℕ) → row ≤ i → i < end → IsUnborn (seen_by seat.new) i }
+        ensures ahead { result ≡ Empty → MayBeBorn (table_limits self.now.words) (seen_by seat.new) row }
+        ensures knows { Knows (view_of seat.new) (RowHead row result) }
+    {
+        self.head_at(seat, row)
     }
 
     /// The same where the end of the part is known.

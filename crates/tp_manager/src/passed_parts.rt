@@ -1,39 +1,51 @@
 //! Parts that a scan passes by: those that its pass knows finished, and those in which no row has a head.
-ghost use Rattle.std.specs.Prelude.{◌≡◌, ◌⊎◌, ℕ, ◌+◌, ◌-◌, ◌<◌, ◌≤◌, slice_index};
+ghost use Rattle.std.specs.Prelude.{◌≡◌, ◌⊎◌, ℕ, ◌+◌, ◌-◌, ◌*◌, ◌<◌, ◌≤◌, slice_index, true};
 ghost use Rattle.tp_model.specs.Steps.{IsServerStage};
 ghost use Rattle.tp_rule.specs.Views.{view_of, IsSameSeat};
 ghost use Rattle.tp_rule.specs.Tables.{table_limits};
 ghost use Rattle.tp_manager.specs.CallSteps.{IsSteady, Looked};
-ghost use Rattle.tp_manager.specs.Marks.{AreFinished, IsBehind, Remembers, RestsAt};
+ghost use Rattle.tp_manager.specs.Marks.{AreFinished, IsBehind, Remembers, RestsAt, Rose};
 ghost use Rattle.tp_manager.specs.Scans.{Begun, OfPart, PassedBy};
 
 use crate::manager::Shared;
 use crate::marking::Lows;
-use tp_rule::Seat;
+use crate::scanning::is_of_stage;
+use tp_rule::{Head, Seat};
+
+/// The part at which a scan goes on.
+#[derive(Clone, Copy)]
+pub(crate) struct NextPart {
+    pub part: u16,
+    /// Whether its first row that wasn't known of no use was found to be so by its head.
+    pub aside: bool,
+}
 
 impl Shared {
     /// The first part from `from` on that the pass knows finished, or in which a row has a head from the mark
     /// on that it remembers, or else the number of parts. One look at each part before that one, and at it
     /// where it isn't known finished. An Idle claim does little more than this.
     #[inline(always)]
-    pub(crate) fn past_bare(&self, seat: &mut Seat, lows: &Lows, from: u16, stage: u8) -> u16
+    pub(crate) fn past_bare(&self, seat: &mut Seat, lows: &Lows, from: u16, stage: u8) -> NextPart
         requires steady { IsSteady self.now.words seat.old }
         requires remembers { Remembers stage (view_of seat.old) lows.now }
         requires from { from ≤ (table_limits self.now.words).parts }
         requires stage { IsServerStage stage }
         ensures same { IsSameSeat seat.old seat.new }
-        ensures part { (from ≤ result) × (result ≤ (table_limits self.now.words).parts) }
-        ensures left { (q : ℕ) → from ≤ q → q < result
+        ensures part { (from ≤ result.part) × (result.part ≤ (table_limits self.now.words).parts) }
+        ensures left { (q : ℕ) → from ≤ q → q < result.part
             → ¬ (slice_index lows.now q ≡ (table_limits self.now.words).rows) }
-        ensures rests { (q : ℕ) → from ≤ q → q < result → let l = table_limits self.now.words in
+        ensures rests { (q : ℕ) → from ≤ q → q < result.part → let l = table_limits self.now.words in
             RestsAt l stage q (slice_index lows.now q) (view_of seat.old) (view_of seat.new) }
         ensures few { let l = table_limits self.now.words in
-            Looked l (result - from) (view_of seat.old) (view_of seat.new)
-            ⊎ ((result < l.parts) × ¬ (slice_index lows.now result ≡ l.rows)
-            × Looked l (result - from + 1) (view_of seat.old) (view_of seat.new)) }
+            Looked l (result.part - from) (view_of seat.old) (view_of seat.new)
+            ⊎ ((result.part < l.parts) × ¬ (slice_index lows.now result.part ≡ l.rows)
+            × Looked l (result.part - from + 1) (view_of seat.old) (view_of seat.new)) }
         ensures told { let l = table_limits self.now.words in
-            Begun l (OfPart l (PassedBy l stage)) (result - from + 1) from result
+            Begun l (OfPart l (PassedBy l stage)) (result.part - from + 1) from result.part
             (view_of seat.old) (view_of seat.new) }
+        ensures aside { result.aside ≡ true → let l = table_limits self.now.words in
+            let n = slice_index lows.now result.part in
+            (n < l.rows) × Rose stage (view_of seat.new) (result.part * l.rows + n) (result.part * l.rows + n + 1) }
     {
         let limits = self.places.limits;
         let rows = limits.rows as u32;
@@ -41,14 +53,21 @@ impl Shared {
         for part in from..limits.parts {
             let low = lows[part as usize];
             if low == limits.rows {
-                return part;
+                return NextPart { part, aside: false };
             }
-            if !self.is_bare_to(seat, part, first + low as u32, first + rows) {
-                return part;
+            let head = self.first_head(seat, part, first + low as u32, first + rows);
+            if head != Head::Empty {
+                return NextPart {
+                    part,
+                    aside: !is_of_stage(head, stage),
+                };
             }
             first += rows;
         }
-        limits.parts
+        NextPart {
+            part: limits.parts,
+            aside: false,
+        }
     }
 
     /// The first part that has a row which the pass doesn't know finished, or else the last part, where all

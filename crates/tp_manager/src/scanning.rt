@@ -44,7 +44,7 @@ pub(crate) enum Stand {
 }
 
 #[inline(always)]
-fn is_of_stage(head: Head, stage: u8) -> bool
+pub(crate) fn is_of_stage(head: Head, stage: u8) -> bool
     ensures yes { result ≡ true → (e : element) → head ≡ head_of e → e.stage ≡ stage }
     ensures no { result ≡ false → (e : element) → head ≡ head_of e → ¬ (e.stage ≡ stage) }
     ensures full { result ≡ true → (head ≢ Empty) × (head ≢ Void) }
@@ -251,7 +251,8 @@ impl Shared {
                 part += 1;
                 continue;
             }
-            part = self.past_bare(seat, lows, part, stage);
+            let next = self.past_bare(seat, lows, part, stage);
+            part = next.part;
             if part == limits.parts {
                 return None;
             }
@@ -259,7 +260,7 @@ impl Shared {
                 part += 1;
                 continue;
             }
-            if let Some(taken) = self.scan_from_mark(seat, lows, gaps, part, who) {
+            if let Some(taken) = self.scan_part(seat, lows, gaps, part, next.aside, who) {
                 return Some(taken);
             }
             part += 1;

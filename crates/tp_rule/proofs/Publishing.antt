@@ -85,7 +85,7 @@ module _ (k : Limits) (fair : AreLimits k) where
       let whole : IsBody y.body = ready.1 in let fits : IsFitHead (head_of y) = (pos, omega arith, omega arith, omega arith) in
       let bits : head_bits x ≡ pack_head (head_of y) = ap head_bits is ∙ bits_with (head_of y) run fits in let long : run_bits x ≡ run = ap run_bits is ∙ run_with (head_of y) run fits in
       let before : RunsBefore s.words x row = λ st named j low up. (let same : Filled st named.0 named.1 ≡ head_of y = head_told (Filled st named.0 named.1) (head_of y) named.2 fits (sym named.3 ∙ bits) in let one : stage ≡ st = cc in
-          subst (λ z. HasStage s.words z j) one (run_holds s.words mine.first stage a mine.tail j low (omega arith)).1) in
+      subst (λ z. HasStage s.words z j) one (run_holds s.words mine.first stage a mine.tail j low (omega arith)).1) in
       let may = next_may k t room w x refl (λ _ _. before) in
       let body : (j : ℕ) → j < BODY_WORDS → get_or s.words (body_place row j) 0 ≡ slice_index y.body j = λ j less. mine.rows.body_there room j (omega arith) in
       let now = new_birth h a.number y st.unborn in let births_own : (z : Element) → In z (births e) → IsMine k t z.id = λ z q. subst (λ (n : Element). IsMine k t n.id) (sym (in_one q)) (next_own k t room) in

@@ -108,6 +108,7 @@ impl Words {
             by: None,
         }
         .pack();
-        self.table.store::<Publish>(seat, word, head + HEAD_RUN * run as u64);
+        self.table
+            .store::<Publish>(seat, word, head + HEAD_RUN * run as u64);
     }
 }

@@ -1,5 +1,5 @@
 -- A row that was passed by, and a row whose element was taken.
-use Rattle.std.proofs.Common.{◌≡◌, ◌≢◌, ℕ, ◌+◌, ◌-◌, ◌*◌, ◌<◌, ◌≤◌, Some, List, [], ◌∷◌, ◌++◌, sym, refl, ap, ◌∙◌, subst, inl, ⊎_elim, arith, slice_index, mul-le-mul_right, Option, None, MatchOption, Bool, true, false, cond, nat_lt, inr}
+use Rattle.std.proofs.Common.{◌≡◌, ◌≢◌, ℕ, ◌+◌, ◌-◌, ◌*◌, ◌<◌, ◌≤◌, Some, List, [], ◌∷◌, ◌++◌, sym, refl, ap, ◌∙◌, subst, inl, ⊎_elim, arith, slice_index, mul-le-mul_right, Option, None, MatchOption, IfSome, Bool, true, false, cond, nat_lt, inr}
 use Rattle.tp_manager.specs.declared.seeker.Taken.{Taken}
 use Rattle.std.proofs.lemmas.Bool.Decides.{nat_tests}
 use mathlib.Core.List.{IsPrefix}
@@ -25,7 +25,9 @@ use Rattle.tp_manager.specs.Calls.{IsWaiting}
 use Rattle.tp_manager.specs.Looks.{HasStand}
 use Rattle.tp_manager.specs.declared.scanning.Stand.TheVariants.{Busy, Over, Ready}
 use Rattle.tp_manager.proofs.Rows.Looks.{consumed_now, held_yet}
-use Rattle.tp_manager.specs.CallSteps.{Looked, with_trace, Acted}
+use Rattle.tp_model.specs.declared.trace.TraceEntry.{TraceEntry}
+use Rattle.tp_manager.specs.CallSteps.{Looked, Stepped, with_trace, Acted}
+use Rattle.tp_manager.specs.Leans.{scan_end}
 use Rattle.tp_manager.specs.Marks.{AreFinished, Remembers, WasUnsettled}
 use Rattle.tp_manager.specs.Scans.{EachRow, OfPart, PassedBy, Sought, Took, Begun}
 use Rattle.tp_manager.proofs.Marks.Raises.{low_kept, over_passed}
@@ -272,3 +274,20 @@ pub scan_behind : (l : Limits) (stage u n m k from end : ℕ) (v w y : View) (o 
     → MatchOption o (Sought l k (EachRow (PassedBy l stage) from end) v y) (λ (t : Taken). Took l k from stage u v y t.element t.attempt × (t.element.root ≡ t.root))
 scan_behind l stage u n m k from end v w y None le a s = sought_few l (n + m) k (EachRow (PassedBy l stage) from end) v y le (sought_behind l n m (PassedBy l stage) (passed_widens l stage) from end v w y a s)
 scan_behind l stage u n m k from end v w y (Some t) le a s = (took_few l stage u t.attempt t.element (n + m) k from v y le (took_behind l stage u t.attempt t.element n m from v w y a s.0), s.1)
+
+-- what a scan of some rows takes is none before them
+pub came_behind : (A : Type 0) (l : Limits) (n stage u next from : ℕ) (v w : View) (o : Option Taken) → next ≤ from
+    → MatchOption o A (λ (t : Taken). Took l n from stage u v w t.element t.attempt × (t.element.root ≡ t.root)) → IfSome o (λ (t : Taken). next ≤ t.element.id)
+came_behind A l n stage u next from v w None le s = tt
+came_behind A l n stage u next from v w (Some t) le s = let reach = s.0.reach in omega arith
+
+-- and so it ends behind them
+pub ends_behind : (next to : ℕ) (o : Option Taken) → next ≤ to → IfSome o (λ (t : Taken). next ≤ t.element.id) → next ≤ scan_end to o
+ends_behind next to None le s = le
+ends_behind next to (Some t) le s = let after : next ≤ t.element.id = s in omega arith
+
+-- the steps of a scan
+pub told_walked : (l : Limits) (n from stage u : ℕ) (P : List Event → List Event → Type 0) (v w : View) (o : Option Taken)
+    → MatchOption o (Sought l n P v w) (λ (t : Taken). Took l n from stage u v w t.element t.attempt × (t.element.root ≡ t.root)) → (ms : List TraceEntry) × Stepped l n ms v w
+told_walked l n from stage u P v w None s = (s.marks, s.walk)
+told_walked l n from stage u P v w (Some t) s = (s.0.marks, s.0.walk)

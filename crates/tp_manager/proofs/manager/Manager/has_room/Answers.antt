@@ -1,4 +1,4 @@
-use Rattle.std.proofs.Common.{Bool, true, false, ℕ, ◌×◌, List, rules, ◌≡◌, ◌+◌, ◌-◌, ◌<◌, ◌≤◌, sym, refl, ap, ◌∙◌, subst, inr, arith}
+use Rattle.std.proofs.Common.{Bool, true, false, ℕ, List, rules, ◌≡◌, ◌+◌, ◌-◌, ◌<◌, ◌≤◌, sym, refl, ap, ◌∙◌, subst, inr, arith}
 use Rattle.tp_model.specs.declared.types.Limits.{Limits}
 use Rattle.tp_rule.specs.Tables.{table_limits}
 use Rattle.tp_rule.specs.Steps.{run_before}

@@ -13,7 +13,7 @@ void_rows-requires-clause-left c = let l : Limits = table_limits c.args.self.now
 
 pub returns-clause-yes : goal.returns-clause-yes
 returns-clause-yes c = λ _. let l : Limits = table_limits c.args.self.now.words in let d = c.draw.ensures.yes c.if-not-draw.false in
-    (d.0, drew_tried l (draw_steps l) c.args.run.now.left d.0 (view_of c.args.seat.now) (view_of c.draw.new.seat) (view_of c.void_rows.new.seat) d.1 c.void_rows.ensures.tried, d.2, d.3, d.4)
+    (d.0, drew_tried l (draw_steps l) c.args.run.now.left d.0 (view_of c.args.seat.now) (view_of c.draw.new.seat) (view_of c.void_rows.new.seat) d.1 c.void_rows.ensures.tried, d.2, d.3, d.4, d.5)
 
 pub returns-clause-cleared : goal.returns-clause-cleared
 returns-clause-cleared c = let l : Limits = table_limits c.args.self.now.words in let d = c.draw.ensures.yes c.if-not-draw.false in
