@@ -3,13 +3,10 @@
 use Rattle.std.specs.Prelude.{◌≡◌, ℕ, ◌+◌, ◌*◌, ◌<◌, List, Some, slice_index}
 use Rattle.tp_model.specs.declared.event.Event.{Event}
 use Rattle.tp_model.specs.declared.types.Limits.{Limits}
-use Rattle.tp_model.specs.History.{Aborted, Committed, end_of}
+use Rattle.tp_model.specs.History.{Aborted, end_of}
 use Rattle.tp_model.specs.Steps.{IsUnitOf}
+use Rattle.tp_rule.specs.Rule.{IsCommitted}
 use Rattle.tp_rule.specs.declared.view.View.{View}
-
--- unit u is committed
-abbrev pub IsCommitted : List Event → ℕ → Type 0
-IsCommitted h u = (from : ℕ) × (count : ℕ) × (end_of h u ≡ Some (Committed from count))
 
 -- of the units of each part so many of the first ones were seen to be committed
 abbrev pub RemembersUnits : View → List ℕ → Type 0

@@ -67,10 +67,13 @@ impl Manager {
         pass.run.next = next + count;
         pass.run.left -= count;
         pass.run.tail = 0;
+        let units = shared.places.limits.units;
+        let run = pass.units.run_before(pass.number, units, task.unit);
         if shared
             .words
-            .commit_exchange(seat, task.unit, first, count as u8)
+            .commit_exchange(seat, task.unit, first, count as u8, run)
         {
+            pass.units.go_on(pass.number, units, task.unit);
             pass.run.done = Some(task.row);
             pass.task = None;
             Outcome::Committed {

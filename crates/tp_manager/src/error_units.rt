@@ -1,6 +1,6 @@
 //! What a pass has seen of units. An element is parked where the last unit that took it is aborted. So where
 //! no unit is, a listing of what is parked need not walk over what waits.
-ghost use Rattle.std.specs.Prelude.{◌≡◌, ◌+◌, ◌<◌, true};
+ghost use Rattle.std.specs.Prelude.{◌≡◌, ◌⊎◌, ◌+◌, ◌*◌, ◌<◌, ◌≤◌, slice_index, slice_set, true};
 ghost use Rattle.tp_model.specs.Steps.{rows_of};
 ghost use Rattle.tp_rule.specs.Tables.{table_limits};
 ghost use Rattle.tp_rule.specs.Views.{view_of, IsSameSeat};
@@ -15,6 +15,9 @@ use crate::manager::Shared;
 use crate::marking::{Lows, MARKED_PARTS};
 use tp_rule::{Seat, UnitWord};
 
+/// The most units that a pass has.
+const MOST_UNITS: u16 = 1024;
+
 /// What a pass remembers of units.
 #[derive(Clone, Copy)]
 pub(crate) struct UnitsSeen {
@@ -24,14 +27,62 @@ pub(crate) struct UnitsSeen {
     pub aborted: bool,
 }
 
-impl Shared {
-    /// Whether the first unit of a part that isn't known to be committed shows that none of the part is
-    /// aborted. A pass takes its units in order: so where one is undecided, no later one was taken. At most
-    /// one step.
+impl UnitsSeen {
+    /// How many units of a part, which has so many, are known to be committed right before this one of it: 0
+    /// where it isn't the first that isn't known to be.
     #[inline(always)]
-    fn shows_none_aborted(&self, seat: &mut Seat, units: &mut UnitsSeen, part: u16) -> bool
+    pub(crate) fn run_before(&self, part: u16, units: u16, unit: u16) -> u16
+        requires part { part < 33 }
+        ensures { (result ≡ 0) ⊎ ((result ≡ slice_index self.now.committed part)
+            × (unit ≡ part * units + result) × (result < units)) }
+    {
+        let known = self.committed[part as usize];
+        if unit as u32 == part as u32 * units as u32 + known as u32 && known < units {
+            known
+        } else {
+            0
+        }
+    }
+
+    /// That unit was committed.
+    #[inline(always)]
+    pub(crate) fn go_on(&mut self, part: u16, units: u16, unit: u16)
+        requires part { part < 33 }
+        ensures { (self.new.committed ≡ self.old.committed)
+            ⊎ ((unit ≡ part * units + slice_index self.old.committed part)
+            × (self.new.committed ≡ slice_set self.old.committed part (slice_index self.old.committed part + 1))) }
+    {
+        let known = self.committed[part as usize];
+        if unit as u32 == part as u32 * units as u32 + known as u32 && known < units {
+            self.committed[part as usize] = known + 1;
+        }
+    }
+}
+
+/// The earlier of two units.
+#[inline(always)]
+fn earlier(a: u16, b: u16) -> u16
+    ensures { (result ≤ a) × (result ≤ b) × ((result ≡ a) ⊎ (result ≡ b)) }
+{
+    if b < a { b } else { a }
+}
+
+impl Shared {
+    /// Whether a look at one unit of a part shows that none of the part is aborted: the one that is `ahead`
+    /// behind the first which isn't known to be committed. A pass takes its units in order: so where one is
+    /// undecided, no later one was taken. And a committed one tells how many right before it are. At most one
+    /// step.
+    #[inline(always)]
+    fn shows_none_aborted(
+        &self,
+        seat: &mut Seat,
+        units: &mut UnitsSeen,
+        part: u16,
+        ahead: u16,
+    ) -> bool
         requires steady { IsSteady self.now.words seat.old }
         requires part { part < (table_limits self.now.words).parts }
+        requires few { ahead ≤ 1024 }
         requires remembers { RemembersUnits (view_of seat.old) units.old.committed }
         ensures same { IsSameSeat seat.old seat.new }
         ensures remembers { RemembersUnits (view_of seat.new) units.new.committed }
@@ -44,17 +95,22 @@ impl Shared {
         if count >= all {
             return false;
         }
-        match self.words.load_unit(seat, part * all + count) {
-            UnitWord::Undecided => true,
+        let at = earlier(count + ahead, all - 1);
+        let found = self.words.load_unit_run(seat, part * all + at);
+        match found.tells {
+            UnitWord::Undecided => at <= count,
             UnitWord::Aborted => {
                 units.aborted = true;
                 false
             }
             UnitWord::Committed { first: _, count: _ } => {
-                if count + 1 == all {
+                if found.run < (at - count) as u64 {
+                    return false;
+                }
+                if at + 1 == all {
                     return true;
                 }
-                units.committed[part as usize] = count + 1;
+                units.committed[part as usize] = at + 1;
                 false
             }
         }
@@ -70,9 +126,17 @@ impl Shared {
         true
     }
 
-    /// Whether at most so many looks show that none of the part is aborted.
+    /// Whether at most so many looks show that none of the part is aborted. The first one is so far `ahead`;
+    /// the next ones are twice as far each time, and less far again where one tells nothing.
     #[inline(always)]
-    fn none_aborted(&self, seat: &mut Seat, units: &mut UnitsSeen, part: u16, most: u16) -> bool
+    fn none_aborted(
+        &self,
+        seat: &mut Seat,
+        units: &mut UnitsSeen,
+        part: u16,
+        most: u16,
+        first: u16,
+    ) -> bool
         requires steady { IsSteady self.now.words seat.old }
         requires part { part < (table_limits self.now.words).parts }
         requires remembers { RemembersUnits (view_of seat.old) units.old.committed }
@@ -82,13 +146,20 @@ impl Shared {
         ensures none { result ≡ true → let l = table_limits self.now.words in
             Sought l most (EachRow (NoneAborted l) part (part + 1)) (view_of seat.old) (view_of seat.new) }
     {
+        let mut ahead = earlier(first, MOST_UNITS);
+        let mut next = if first == 0 { 1 } else { 0 };
+        let mut grows = true;
         for _look in 0..most {
-            if self.shows_none_aborted(seat, units, part) {
+            let before = units.committed[part as usize];
+            if self.shows_none_aborted(seat, units, part, ahead) {
                 return true;
             }
             if units.aborted {
                 return false;
             }
+            grows = grows && units.committed[part as usize] != before;
+            ahead = if grows { next } else { ahead / 2 };
+            next = earlier(2 * next + 1, MOST_UNITS);
         }
         false
     }
@@ -112,11 +183,16 @@ impl Shared {
             return false;
         }
         let rows = self.places.limits.rows;
+        let mut ahead = 0;
         for part in 0..self.places.limits.parts {
             let left = rows - lows[part as usize];
-            if !self.none_aborted(seat, units, part, 1 + left) {
+            let before = units.committed[part as usize];
+            if !self.none_aborted(seat, units, part, 1 + left, ahead) {
                 return false;
             }
+            ahead = units.committed[part as usize]
+                .saturating_sub(before)
+                .saturating_sub(1);
         }
         true
     }

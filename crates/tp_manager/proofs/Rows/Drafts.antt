@@ -35,7 +35,7 @@ use Rattle.tp_manager.specs.Bounds.{close_steps, draft_steps}
 use Rattle.tp_manager.specs.CallSteps.{SameRun, Steady}
 use Rattle.tp_manager.specs.BetweenCalls.{Rests, IsTask, RemembersDone, RemembersDrawn}
 use Rattle.tp_manager.specs.Drafts.{Shut, Wrote, output}
-use Rattle.tp_rule.specs.Rule.{IsSettledRow}
+use Rattle.tp_rule.specs.Rule.{IsCommitted, IsSettledRow}
 use Rattle.tp_rule.proofs.Births.{claimed_inside}
 use Rattle.tp_manager.proofs.Calls.Passes.{claims_append, steady_at, drawn_later, cleared_later}
 use Rattle.tp_manager.proofs.Calls.CallSteps.{grew_hand, grew_steady, grew_walked, walked_few, walked_none, walked_then, walked_begins}
@@ -230,6 +230,14 @@ commit_consumes l c u h before outs legal is = let whole = subst (IsLegal l) is 
       subst (λ z. IsClaim z c u t.item t.attempt) (sym is) (claim_kept before (Commit c u outs ∷ []) c u t.item t.attempt claim),
       ap (λ z. status_of l.attempts z t.item) is ∙ (status_of-snoc l.attempts before (Commit c u outs) t.item ∙ (ap (committed_status u) held ∙ if_same u u (Consumed u) (Held u t.attempt) refl)),
     )
+
+-- and commits the unit
+pub commit_commits : (l : Limits) (c u : ℕ) (h before : List Event) (outs : List Element) → IsLegal l h → h ≡ before ++ Commit c u outs ∷ [] → IsCommitted h u
+commit_commits l c u h before outs legal is = let step : Step l before (Commit c u outs) = legal_at l before (Commit c u outs) [] (subst (IsLegal l) is legal) in (
+  first_id outs,
+  length outs,
+  ap (λ z. end_of z u) is ∙ (end_of-snoc before (Commit c u outs) u ∙ (ap (λ o. option_or o (end_by u (Commit c u outs))) step.open_unit.unfinished ∙ if_same u u (Some (Committed (first_id outs) (length outs))) None refl)),
+)
 
 -- a unit takes one element
 one_item : (h : List Event) (u c d i j n m : ℕ) → IsClaim h c u i n → IsClaim h d u j m → i ≡ j

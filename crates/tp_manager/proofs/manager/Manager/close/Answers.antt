@@ -1,6 +1,7 @@
-use Rattle.std.proofs.Common.{◌≡◌, ◌<◌, ℕ, List, [], ◌∷◌, sym, ◌∙◌, ap, refl, arith, subst, Some, length, inl}
+use Rattle.std.proofs.Common.{◌≡◌, ◌⊎◌, ◌+◌, ◌*◌, ◌<◌, ℕ, List, [], ◌∷◌, sym, ◌∙◌, ap, refl, arith, rules, subst, Some, length, slice_index, slice_set, inl}
 use Rattle.tp_model.specs.declared.types.Limits.{Limits}
-use Rattle.tp_model.specs.declared.event.Event.TheVariants.{Abort}
+use Rattle.tp_model.specs.declared.event.Event.TheVariants.{Abort, Commit}
+use Rattle.tp_model.specs.declared.types.Element.{Element}
 use Rattle.tp_model.specs.declared.trace.StepKind.TheVariants as kinds
 use Rattle.tp_model.specs.declared.event.Event.{Event}
 use Rattle.tp_model.specs.Births.{outputs}
@@ -16,9 +17,11 @@ use Rattle.tp_manager.specs.Bounds.{close_steps}
 use Rattle.tp_manager.specs.CallSteps.{Steady}
 use Rattle.tp_manager.specs.BetweenCalls.{Rests, unit_in}
 use Rattle.tp_manager.specs.Drafts.{Shut}
-use Rattle.tp_manager.proofs.Calls.CallSteps.{follows, climbs_same, remembers}
+use Rattle.tp_manager.specs.Marks.{Recalls}
+use Rattle.tp_manager.proofs.Calls.CallSteps.{follows, climbs_same, remembers, units_kept}
+use Rattle.tp_manager.proofs.Rows.UnitsSeen.{run_known, units_noted}
 use Rattle.tp_manager.proofs.Calls.Passes.{done_walked, steady_at, cleared_later}
-use Rattle.tp_manager.proofs.Rows.Drafts.{units_few, own_work, own_count, own_first, wrote_shut, committed_answer, task_claimed, shut_done, shut_hit, shut_miss, shut_rests, shut_closes, shut_uses, shut_loses}
+use Rattle.tp_manager.proofs.Rows.Drafts.{commit_commits, units_few, own_work, own_count, own_first, wrote_shut, committed_answer, task_claimed, shut_done, shut_hit, shut_miss, shut_rests, shut_closes, shut_uses, shut_loses}
 use Rattle.tp_manager.proofs.manager.Manager.close.Goals as goal
 use Rattle.tp_manager.proofs.manager.Manager.close.Goals.{In-Some, After-write_all, then-count-eq0, else-count-eq0}
 
@@ -71,11 +74,45 @@ both c es y sh = let row : ℕ = c.pass.inside.run.next in
     subst (λ n. Shut (table_limits c.self.inside.shared.words) (close_steps n) n es (view_of c.pass.inside.seat) y) (length-outputs c.in-Some.task.unit c.in-Some.task.root row c.args.drafts.now)
     (wrote_shut (table_limits c.self.inside.shared.words) (outputs c.in-Some.task.unit c.in-Some.task.root row c.args.drafts.now) es (view_of c.pass.inside.seat) (view_of c.write_all.new.seat) y c.write_all.ensures.wrote sh)
 
+-- the pass has a place among those of which it remembers units
+own_part : (c : In-Some) → c.pass.inside.number < (table_limits c.self.inside.shared.words).parts
+own_part c = let given = c.pass.invariant.0.steady.shows.given in let is = c.pass.invariant.0.number_is in let parts = ap (λ (z : Limits). z.parts) (lim c) in omega arith
+
+same_units : (c : In-Some) → c.self.inside.shared.places.limits.units ≡ (table_limits c.self.inside.shared.words).units
+same_units c = sym (ap (λ (z : Limits). z.units) c.self.inside.shared.same)
+
+pub run_before-run-requires : goal.run_before-run-requires
+run_before-run-requires c = let own = own_part (goal.at.run_before-run-requires c).In-Some in let few = c.self.inside.shared.words.places.valid.parts.1 in omega arith
+
+pub go_on-requires : goal.go_on-requires
+go_on-requires c = let own = own_part (goal.at.go_on-requires c).In-Some in let few = c.self.inside.shared.words.places.valid.parts.1 in omega arith
+
+pub commit_exchange-requires-clause-run : goal.commit_exchange-requires-clause-run
+commit_exchange-requires-clause-run c = let i = (goal.at.commit_exchange-requires-clause-run c).In-Some in let l : Limits = table_limits c.self.inside.shared.words in let w = c.write_all.ensures.wrote.walk in
+    run_known l (view_of c.write_all.new.seat) c.pass.inside.units.committed c.pass.inside.number c.in-Some.task.unit c.run_before-run.result w.steady.pass.1 (own_part i)
+    (units_kept c.pass.inside.units.committed _ _ _ _ _ w c.pass.invariant.1.committed)
+    (subst (λ z. (c.run_before-run.result ≡ 0) ⊎ ((c.run_before-run.result ≡ slice_index c.pass.inside.units.committed c.pass.inside.number) × (c.in-Some.task.unit ≡ c.pass.inside.number * z + c.run_before-run.result) × (c.run_before-run.result < z))) (same_units i) c.run_before-run.ensures)
+
+-- what it remembers once the unit is committed
+noted : (c : After-write_all) → c.pass.inside.number < (table_limits c.self.inside.shared.words).parts → (outs : List Element) (y : View) → Shut (table_limits c.self.inside.shared.words) (close_steps (length c.args.drafts.now)) (length c.args.drafts.now) (Commit (hand (view_of c.write_all.new.seat)).number c.in-Some.task.unit outs ∷ []) (view_of c.pass.inside.seat) y
+    → (news : List ℕ) → Recalls (view_of c.pass.inside.seat) c.pass.inside.lows c.pass.inside.gaps c.pass.inside.begins c.pass.inside.units.committed
+    → (news ≡ c.pass.inside.units.committed) ⊎ ((c.in-Some.task.unit ≡ c.pass.inside.number * c.self.inside.shared.places.limits.units + slice_index c.pass.inside.units.committed c.pass.inside.number)
+    × (news ≡ slice_set c.pass.inside.units.committed c.pass.inside.number (slice_index c.pass.inside.units.committed c.pass.inside.number + 1)))
+    → Recalls y c.pass.inside.lows c.pass.inside.gaps c.pass.inside.begins news
+noted c own outs y sh news old how = let l : Limits = table_limits c.self.inside.shared.words in let r = remembers c.pass.inside.lows _ _ _ _ _ sh.walk old in let long : length c.pass.inside.units.committed ≡ 33 = search rules in let few = c.self.inside.shared.words.places.valid.parts.1 in record {
+  marks = r.marks;
+  gaps = r.gaps;
+  behind = r.behind;
+  committed = units_noted l y c.pass.inside.units.committed news c.pass.inside.number c.in-Some.task.unit sh.walk.steady.pass.1 (omega arith) r.committed
+      (commit_commits l _ c.in-Some.task.unit y.seen sh.before outs sh.walk.steady.shows.legal sh.ends)
+      (subst (λ z. (news ≡ c.pass.inside.units.committed) ⊎ ((c.in-Some.task.unit ≡ c.pass.inside.number * z + slice_index c.pass.inside.units.committed c.pass.inside.number) × (news ≡ slice_set c.pass.inside.units.committed c.pass.inside.number (slice_index c.pass.inside.units.committed c.pass.inside.number + 1)))) (sym (ap (λ (z : Limits). z.units) c.self.inside.shared.same)) how);
+}
+
 pub invariant_of-pass : goal.invariant_of-pass
 invariant_of-pass c = let at = goal.at.invariant_of-pass c in (
   shut_rests _ _ _ _ c.pass.inside.seat c.commit_exchange.new.seat _ _ _ _ _ (lim at.In-Some) (both at.After-write_all _ _ (hit at.After-write_all at.In-Some _ (c.commit_exchange.ensures.hit c.if-commit_exchange.true))) refl refl (let few = c.requires.room in let same = left_is at.In-Some in omega arith) refl refl
       (shut_done _ _ _ _ _ _ _ c.pass.inside.number c.in-Some.task (both at.After-write_all _ _ (hit at.After-write_all at.In-Some _ (c.commit_exchange.ensures.hit c.if-commit_exchange.true))) (rests at.In-Some).work) c.pass.invariant.0,
-  remembers c.pass.inside.lows _ _ _ _ _ (both at.After-write_all _ _ (hit at.After-write_all at.In-Some _ (c.commit_exchange.ensures.hit c.if-commit_exchange.true))).walk c.pass.invariant.1,
+  noted at.After-write_all (own_part at.In-Some) _ _ (both at.After-write_all _ _ (hit at.After-write_all at.In-Some _ (c.commit_exchange.ensures.hit c.if-commit_exchange.true))) _ c.pass.invariant.1 (c.go_on.ensures),
 )
 
 pub invariant_of-pass-else-commit_exchange : goal.invariant_of-pass-else-commit_exchange

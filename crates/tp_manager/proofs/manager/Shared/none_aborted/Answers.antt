@@ -12,6 +12,7 @@ pub loop-look-init : goal.loop-look-init
 loop-look-init c = record {
   same = search rules;
   remembers = c.requires.remembers;
+  few = search rules;
   looked = looked_none _ _ c.requires.steady.steady;
 }
 
@@ -32,6 +33,7 @@ pub loop-look-preserved : goal.loop-look-preserved
 loop-look-preserved c = let l : Limits = table_limits c.args.self.now.words in record {
   same = search rules;
   remembers = c.shows_none_aborted.ensures.remembers;
+  few = search rules;
   looked = looked_then l c.loop-look._look 1 _ _ _ c.loop-look.invariant.looked c.shows_none_aborted.ensures.looked;
 }
 
