@@ -89,15 +89,16 @@ impl Shared {
             × HasListed l (t.0 + (l.rows - slice_index lows.now t.0)) from t.1 lows.now
             (view_of seat.old) (view_of seat.new)) }
     {
-        let rows = self.places.limits.rows as u32;
-        let last = self.places.limits.parts - 1;
+        let limits = self.places.limits;
+        let rows = limits.rows as u32;
+        let last = limits.parts - 1;
         let mut first = 0;
         let mut row = from;
         for part in 0..self.places.limits.parts {
             let end = first + rows;
             if row < end {
                 let low = lows[part as usize];
-                if low == self.places.limits.rows {
+                if low == limits.rows {
                     if part == last {
                         return Some((part, row));
                     }

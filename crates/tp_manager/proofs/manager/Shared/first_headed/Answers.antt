@@ -12,7 +12,7 @@ use Rattle.tp_manager.proofs.Marks.Lows.{lows_inside}
 use Rattle.tp_manager.proofs.Rows.Finds.{listed_all, listed_more, listed_on, listed_sought, none_over, over_remembered, over_widens}
 use Rattle.tp_manager.proofs.Rows.Seeks.{rows_more, sought_bare}
 use Rattle.tp_manager.proofs.manager.Shared.first_headed.Goals as goal
-use Rattle.tp_manager.proofs.manager.Shared.first_headed.Goals.{else-row-end, then-row-end+else-low-self+else-not-is_bare_to, then-row-end+then-low-self+else-part-last}
+use Rattle.tp_manager.proofs.manager.Shared.first_headed.Goals.{else-row-end, then-row-end+else-low-limits+else-not-is_bare_to, then-row-end+then-low-limits+else-part-last}
 
 -- a row of a part, of which so many are below the mark, and the first that is left from the mark on
 abbrev IsStart : ℕ → ℕ → ℕ → ℕ → ℕ → Type 0
@@ -27,7 +27,7 @@ pub returns-then-not-is_bare_to-clause-told : goal.returns-then-not-is_bare_to-c
 returns-then-not-is_bare_to-clause-told c = let l : Limits = table_limits c.args.self.now.words in let k : Limits = c.args.self.now.places.limits in let same : l ≡ k = c.args.self.now.same in let i = c.loop-part.invariant in let n = c.loop-part.part in let lows = c.args.lows.now in
     let low : ℕ = slice_index lows n in let v = view_of c.loop-part.seat in let w = view_of c.is_bare_to.new.seat in
     let a : n * l.rows ≡ n * k.rows = ap (λ (z : Limits). n * z.rows) same in let b : l.rows ≡ k.rows = ap (λ (z : Limits). z.rows) same in
-    let part : n < l.parts = subst (λ (z : Limits). n < z.parts) (sym same) c.loop-part-test.true in let begins = i.begins in let reach = i.reach in let less = c.if-row-end.true in let left = c.if-low-self.false in
+    let part : n < l.parts = subst (λ (z : Limits). n < z.parts) (sym same) c.loop-part-test.true in let begins = i.begins in let reach = i.reach in let less = c.if-row-end.true in let left = c.if-low-limits.false in
     let most = lows_inside l lows 0 v i.steady.pass.1 i.steady.known i.remembers n part in let some : low < k.rows = omega arith in
     let at = starts c.later-start.result c.loop-part.row c.loop-part.first low k.rows c.later-start.ensures.most c.later-start.ensures.one less some in let inside = at.2 in
     let acted : Acted l 1 v w = c.is_bare_to.ensures.acted (λ e. omega arith) in (
@@ -46,8 +46,8 @@ loop-part-preserved c = let l : Limits = table_limits c.args.self.now.words in l
     let end : n * l.rows + l.rows ≤ part_rows l = rows_more n l.parts l.rows part in
     let goes_on : c.loop-part.first + k.rows ≡ (n + 1) * k.rows = omega arith in
     elim c.if-row-end.branch [
-      | then-row-end+else-low-self+else-not-is_bare_to w ↦
-          let at = w.row-is in let less = w.if-row-end.true in let left = w.if-low-self.false in let low : ℕ = slice_index lows n in let v = view_of c.loop-part.seat in let y = view_of w.is_bare_to.new.seat in
+      | then-row-end+else-low-limits+else-not-is_bare_to w ↦
+          let at = w.row-is in let less = w.if-row-end.true in let left = w.if-low-limits.false in let low : ℕ = slice_index lows n in let v = view_of c.loop-part.seat in let y = view_of w.is_bare_to.new.seat in
           let most = lows_inside l lows 0 v i.steady.pass.1 i.steady.known i.remembers n part in let some : low < k.rows = omega arith in
           let bare = w.is_bare_to.ensures.bare w.if-not-is_bare_to.false in
           let one : Sought l 1 (EachRow (PassedOver l) c.loop-part.row (n * l.rows + l.rows)) v y = sought_bare l (PassedOver l) (over_widens l) c.loop-part.row w.later-start.result (n * l.rows + l.rows) v y bare.0 (none_over l)
@@ -64,8 +64,8 @@ loop-part-preserved c = let l : Limits = table_limits c.args.self.now.words in l
                 inr (subst (λ (z : ℕ × SeatShown). Sought l (n + 1) (EachRow (PassedOver l) c.args.from z.0) (view_of c.args.seat.now) (view_of z.1)) (λ j. (sym to j, sym w.seat-is j))
                 (listed_sought l n 1 c.args.from c.loop-part.row (n * l.rows + l.rows) lows (view_of c.args.seat.now) v y i.from c.requires.remembers i.listed one));
           }
-      | then-row-end+then-low-self+else-part-last w ↦
-          let at = w.row-is in let less = w.if-row-end.true in let finished = w.if-low-self.true in let other = w.if-part-last.false in
+      | then-row-end+then-low-limits+else-part-last w ↦
+          let at = w.row-is in let less = w.if-row-end.true in let finished = w.if-low-limits.true in let other = w.if-part-last.false in
           let count : l.parts ≡ k.parts = ap (λ (z : Limits). z.parts) same in
           let some = c.args.self.now.words.places.valid.rows.0 in let after : n + 1 < l.parts = omega arith in
           let room = rows_more (n + 1) l.parts l.rows after in let next' = suc-mul n l.rows in
