@@ -151,7 +151,7 @@ error_steps = birth_steps + 3
 abbrev pub listed_steps : ℕ
 listed_steps = error_steps + 1
 
--- before all that it looks at the words of the part's units, once and so often for each row
+-- before it walks it looks at the words of the part's units, once and so often for each row
 abbrev pub unit_looks : ℕ
 unit_looks = 1
 

@@ -1,13 +1,14 @@
 -- What a listing finds on its way. In each definition l are the table's limits, a is the history before, and
 -- b the history after.
-use Rattle.std.specs.Prelude.{◌≡◌, ℕ, ◌<◌, ◌≤◌, List, MatchOption, Option, Some}
+use Rattle.std.specs.Prelude.{◌≡◌, ◌⊎◌, ℕ, ◌+◌, ◌-◌, ◌*◌, ◌<◌, ◌≤◌, List, MatchOption, Option, Some, slice_index}
 use mathlib.Core.List.{IsPrefix}
 use Rattle.tp_model.specs.declared.types.Element.{Element}
 use Rattle.tp_model.specs.declared.types.Limits.{Limits}
 use Rattle.tp_model.specs.declared.event.Event.{Event}
 use Rattle.tp_model.specs.History.{IsSettled, element_of, status_of}
 use Rattle.tp_rule.specs.declared.view.View.{View}
-use Rattle.tp_model.specs.Steps.{IsParked}
+use Rattle.tp_model.specs.Steps.{IsParked, part_rows}
+use Rattle.tp_manager.specs.Bounds.{error_steps, listed_steps, scan_steps}
 use Rattle.tp_manager.specs.Scans.{EachRow, Sought}
 use Rattle.tp_manager.specs.Requeues.{IsBetween}
 use Rattle.tp_manager.specs.declared.error_queue.Fate.{Fate}
@@ -35,3 +36,18 @@ abbrev pub Finds : Limits → ℕ → ℕ → ℕ → View → View → Option �
 Finds l n from end v w result = MatchOption result
     (Sought l n (EachRow (PassedOver l) from end) v w)
     (λ id. (from ≤ id) × (id < end) × Hits l id w.seen × Sought l n (EachRow (PassedOver l) from id) v w)
+
+-- a row below a mark that a pass remembers
+abbrev pub IsBelowMark : Limits → List ℕ → ℕ → Type 0
+IsBelowMark l lows i = (p : ℕ) × (p * l.rows ≤ i) × (i < p * l.rows + slice_index lows p)
+
+-- how far a listing of the parts has come: before its first look it has left out rows below the marks alone
+abbrev pub HasListed : Limits → ℕ → ℕ → ℕ → List ℕ → View → View → Type 0
+HasListed l n from row lows v w = ((w ≡ v) × (row < part_rows l)
+    × ((i : ℕ) → from ≤ i → i < row → IsBelowMark l lows i))
+    ⊎ Sought l n (EachRow (PassedOver l) from row) v w
+
+-- a walk over a part whose first head was looked at before, and over those behind it
+abbrev pub parts_walk : Limits → List ℕ → ℕ → ℕ
+parts_walk l lows part = 2 + (l.rows - slice_index lows part) * error_steps
+    + (scan_steps l listed_steps 2 lows l.parts - scan_steps l listed_steps 2 lows (part + 1))

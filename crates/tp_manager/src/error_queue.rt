@@ -10,18 +10,18 @@ ghost use Rattle.tp_rule.specs.declared.packing.Head.TheVariants.{Filled};
 ghost use Rattle.tp_rule.specs.declared.places.TheConstants.{MARK_KINDS};
 ghost use Rattle.tp_rule.specs.Rule.{Concerns};
 ghost use Rattle.tp_manager.specs.Shown.{marks_of, IsOf, NoneFalls};
-ghost use Rattle.tp_manager.specs.Bounds.{error_steps, listed_steps, listing_steps_left, marked_steps};
-ghost use Rattle.tp_manager.specs.Bounds.{next_error_steps, seek_steps, scan_steps, spare_left};
+ghost use Rattle.tp_manager.specs.Bounds.{error_steps, listing_steps_left, marked_steps};
+ghost use Rattle.tp_manager.specs.Bounds.{next_error_steps, seek_steps, scan_steps, spare_left, unit_looks};
 ghost use Rattle.tp_manager.specs.Calls.{Follows, HasLooked, IsQuiet};
 ghost use Rattle.tp_manager.specs.Lists.{NoneParked, NextError};
 ghost use Rattle.tp_manager.specs.Looks.{GoesOn};
 ghost use Rattle.tp_manager.specs.CallSteps.{Acted, IsSteady};
 ghost use Rattle.tp_manager.specs.BetweenCalls.{RemembersDrawn};
-ghost use Rattle.tp_manager.specs.Marks.{Remembers, RisesAt, Rose};
+ghost use Rattle.tp_manager.specs.Marks.{Remembers, Rose};
 ghost use Rattle.tp_manager.specs.Scans.{Begun, EachRow};
 ghost use Rattle.tp_manager.specs.Scans.{Sought};
 ghost use Rattle.tp_manager.specs.UnitsSeen.{RemembersUnits};
-ghost use Rattle.tp_manager.specs.Finds.{Finds, HasFate, Hits, PassedOver};
+ghost use Rattle.tp_manager.specs.Finds.{Finds, HasFate, Hits, PassedOver, parts_walk};
 ghost use Rattle.tp_manager.specs.declared.error_queue.Fate.TheVariants as fates;
 
 use crate::error_units::UnitsSeen;
@@ -169,106 +169,6 @@ impl Shared {
         is_error(fate)
     }
 
-    /// The first row of a part, from one of its rows on, whose element is looked for. The scan starts at the
-    /// part's mark, if that is further on, and raises the mark.
-    #[inline(never)]
-    fn find_from_mark(&self, seat: &mut Seat, lows: &mut Lows, part: u16, from: u32) -> Option<u32>
-        requires steady { IsSteady self.now.words seat.old }
-        requires from { IsRowOf (table_limits self.now.words) part from }
-        requires remembers { Remembers 0 (view_of seat.old) lows.old }
-        ensures same { IsSameSeat seat.old seat.new }
-        ensures remembers { Remembers 0 (view_of seat.new) lows.new }
-        ensures lows { RisesAt part lows.old lows.new }
-        ensures told { let l = table_limits self.now.words in
-            Finds l (2 + (l.rows - slice_index lows.old part) * error_steps) from (part * l.rows + l.rows)
-            (view_of seat.old) (view_of seat.new) result }
-    {
-        let kind = 0;
-        let mark = self.mark_at(seat, lows, kind, part);
-        let rows = self.places.limits.rows as u32;
-        let first = part as u32 * rows;
-        let end = first + rows;
-        let mut low = first + mark as u32;
-        let start = later(from, low);
-        let mut row = start;
-        while row < end {
-            let here = row;
-            if self.is_parked_at(seat, &mut row, &mut low) {
-                self.raise_to(seat, lows, kind, part, mark, low);
-                return Some(here);
-            }
-        }
-        self.raise_to(seat, lows, kind, part, mark, low);
-        None
-    }
-
-    /// The first row of a part, from one of its rows on, whose element is looked for. One look where no row
-    /// has a head from there on, or from the mark on that the pass remembers. Where the part begins, and how
-    /// long it is, is handed down, since a listing that finds nothing does little more than this.
-    #[inline(always)]
-    fn find_in_part(
-        &self,
-        seat: &mut Seat,
-        lows: &mut Lows,
-        part: u16,
-        first: u32,
-        end: u32,
-        from: u32,
-    ) -> Option<u32>
-        requires steady { IsSteady self.now.words seat.old }
-        requires first { let l = table_limits self.now.words in
-            (first ≡ part * l.rows) × (end ≡ part * l.rows + l.rows) }
-        requires from { IsRowOf (table_limits self.now.words) part from }
-        requires remembers { Remembers 0 (view_of seat.old) lows.old }
-        ensures same { IsSameSeat seat.old seat.new }
-        ensures remembers { Remembers 0 (view_of seat.new) lows.new }
-        ensures lows { RisesAt part lows.old lows.new }
-        ensures told { let l = table_limits self.now.words in
-            Finds l (2 + (l.rows - slice_index lows.old part) * listed_steps) from (part * l.rows + l.rows)
-            (view_of seat.old) (view_of seat.new) result }
-    {
-        let start = later(from, first + lows[part as usize] as u32);
-        if start == end {
-            return self.find_from_mark(seat, lows, part, from);
-        }
-        if self.is_bare_to(seat, part, start, end) {
-            return None;
-        }
-        self.find_from_mark(seat, lows, part, from)
-    }
-
-    /// The first row of the parts, from this one on, whose element is looked for. What the pass knows
-    /// finished isn't looked at again, but for the last part, so that each call looks.
-    fn find_in_parts(&self, seat: &mut Seat, lows: &mut Lows, from: u32) -> Option<u32>
-        requires steady { IsSteady self.now.words seat.old }
-        requires from { from < part_rows (table_limits self.now.words) }
-        requires remembers { Remembers 0 (view_of seat.old) lows.old }
-        ensures same { IsSameSeat seat.old seat.new }
-        ensures remembers { Remembers 0 (view_of seat.new) lows.new }
-        ensures lows { NoneFalls lows.old lows.new }
-        ensures told { let l = table_limits self.now.words in
-            Finds l (scan_steps l listed_steps 2 lows.old l.parts) from (part_rows l)
-            (view_of seat.old) (view_of seat.new) result }
-    {
-        let rows = self.places.limits.rows as u32;
-        let last = self.places.limits.parts - 1;
-        let mut first = 0;
-        let mut row = from;
-        for part in 0..self.places.limits.parts {
-            let end = first + rows;
-            if row < end {
-                if lows[part as usize] != self.places.limits.rows || part == last {
-                    if let Some(id) = self.find_in_part(seat, lows, part, first, end, row) {
-                        return Some(id);
-                    }
-                }
-                row = end;
-            }
-            first = end;
-        }
-        None
-    }
-
     /// The first row of the spare blocks, from this one on, whose element is looked for.
     fn find_in_blocks(
         &self,
@@ -299,16 +199,17 @@ impl Shared {
         self.find_spare(seat, lows, end, from)
     }
 
-    /// The same, of all rows.
+    /// The first row from this one of a part on whose element is looked for.
     fn find_walking(
         &self,
         seat: &mut Seat,
         lows: &mut Lows,
         drawn: &mut u16,
+        part: u16,
         from: u32,
     ) -> Option<u32>
         requires steady { IsSteady self.now.words seat.old }
-        requires from { from < rows_of (table_limits self.now.words) }
+        requires from { IsRowOf (table_limits self.now.words) part from }
         requires remembers { Remembers 0 (view_of seat.old) lows.old }
         requires drawn { RemembersDrawn (view_of seat.old) drawn.old }
         ensures same { IsSameSeat seat.old seat.new }
@@ -318,22 +219,58 @@ impl Shared {
         ensures lows { NoneFalls lows.old lows.new }
         ensures inside { IfSome result (λ id. id < rows_of (table_limits self.now.words)) }
         ensures told { let l = table_limits self.now.words in
-            let n = scan_steps l listed_steps 2 lows.old l.parts
-            + spare_left l error_steps (slice_index lows.old l.parts) in
+            let n = parts_walk l lows.old part + spare_left l error_steps (slice_index lows.old l.parts) in
             Finds l n from (rows_of l) (view_of seat.old) (view_of seat.new) result }
     {
-        let parts = self.places.part_rows();
-        if from >= parts {
-            return self.find_in_blocks(seat, lows, drawn, from);
-        }
-        if let Some(id) = self.find_in_parts(seat, lows, from) {
+        if let Some(id) = self.find_in_parts(seat, lows, part, from) {
             return Some(id);
         }
+        let parts = self.places.part_rows();
         self.find_in_blocks(seat, lows, drawn, parts)
     }
 
-    /// The first row from this one on whose element is looked for: none where looks at units show it, and
-    /// else it walks.
+    /// The first row of the spare blocks, from this one on, whose element is looked for. None where none of
+    /// them is drawn, or looks at units show it, and else it walks.
+    fn find_past_parts(
+        &self,
+        seat: &mut Seat,
+        lows: &mut Lows,
+        drawn: &mut u16,
+        units: &mut UnitsSeen,
+        from: u32,
+    ) -> Option<u32>
+        requires steady { IsSteady self.now.words seat.old }
+        requires remembers { Remembers 0 (view_of seat.old) lows.old }
+        requires drawn { RemembersDrawn (view_of seat.old) drawn.old }
+        requires units { RemembersUnits (view_of seat.old) units.old.committed }
+        requires from { let l = table_limits self.now.words in (part_rows l ≤ from) × (from ≤ rows_of l) }
+        ensures same { IsSameSeat seat.old seat.new }
+        ensures remembers { Remembers 0 (view_of seat.new) lows.new }
+        ensures drawn { RemembersDrawn (view_of seat.new) drawn.new }
+        ensures units { RemembersUnits (view_of seat.new) units.new.committed }
+        ensures risen { drawn.old ≤ drawn.new }
+        ensures lows { NoneFalls lows.old lows.new }
+        ensures told { let l = table_limits self.now.words in let P = PassedOver l in
+            let n = 1 + (scan_steps l unit_looks 1 lows.old l.parts
+            + spare_left l error_steps (slice_index lows.old l.parts)) in MatchOption result
+            (Begun l P n from (rows_of l) (view_of seat.old) (view_of seat.new))
+            (λ id. (from ≤ id) × (id < rows_of l) × Hits l id (seen_by seat.new)
+            × Sought l n (EachRow P from id) (view_of seat.old) (view_of seat.new)) }
+    {
+        let Some(end) = self.blocks_end(seat, drawn) else {
+            return None;
+        };
+        if end <= from {
+            return None;
+        }
+        if self.none_parked(seat, units, lows) {
+            return None;
+        }
+        self.find_in_blocks(seat, lows, drawn, from)
+    }
+
+    /// The first row from this one on whose element is looked for. None where looks at heads or at units show
+    /// it, and else it walks. Where only finished rows are left, it walks at once: that is one look.
     fn find(
         &self,
         seat: &mut Seat,
@@ -358,10 +295,20 @@ impl Shared {
             Finds l (marked_steps l seek_steps lows.old) from (rows_of l)
             (view_of seat.old) (view_of seat.new) result }
     {
+        let parts = self.places.part_rows();
+        if from >= parts {
+            return self.find_past_parts(seat, lows, drawn, units, from);
+        }
+        let Some((part, row)) = self.first_headed(seat, lows, from) else {
+            return self.find_past_parts(seat, lows, drawn, units, parts);
+        };
+        if self.places.limits.spare == 0 && lows[part as usize] == self.places.limits.rows {
+            return self.find_walking(seat, lows, drawn, part, row);
+        }
         if self.none_parked(seat, units, lows) {
             return None;
         }
-        self.find_walking(seat, lows, drawn, from)
+        self.find_walking(seat, lows, drawn, part, row)
     }
 }
 

@@ -14,6 +14,7 @@ mod collecting_next;
 mod drafting;
 mod drawing;
 mod ending;
+mod error_parts;
 mod error_queue;
 mod error_units;
 mod family_members;

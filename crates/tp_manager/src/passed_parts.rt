@@ -1,12 +1,14 @@
 //! Parts that a scan passes by: those that its pass knows finished, and those in which no row has a head.
-ghost use Rattle.std.specs.Prelude.{◌≡◌, ◌⊎◌, ℕ, ◌+◌, ◌-◌, ◌*◌, ◌<◌, ◌≤◌, slice_index, true};
-ghost use Rattle.tp_model.specs.Steps.{IsServerStage};
+ghost use Rattle.std.specs.Prelude.{◌≡◌, ◌⊎◌, ℕ, ◌+◌, ◌-◌, ◌*◌, ◌<◌, ◌≤◌, slice_index, true, MatchOption};
+ghost use Rattle.tp_model.specs.Steps.{part_rows, IsRowOf, IsServerStage};
 ghost use Rattle.tp_rule.specs.Views.{view_of, IsSameSeat};
 ghost use Rattle.tp_rule.specs.Tables.{table_limits};
 ghost use Rattle.tp_manager.specs.CallSteps.{IsSteady, Looked};
+ghost use Rattle.tp_manager.specs.Finds.{HasListed, PassedOver};
 ghost use Rattle.tp_manager.specs.Marks.{AreFinished, IsBehind, Remembers, RestsAt, Rose};
-ghost use Rattle.tp_manager.specs.Scans.{Begun, OfPart, PassedBy};
+ghost use Rattle.tp_manager.specs.Scans.{Begun, EachRow, OfPart, PassedBy, Sought};
 
+use crate::error_queue::later;
 use crate::manager::Shared;
 use crate::marking::Lows;
 use crate::scanning::is_of_stage;
@@ -88,5 +90,47 @@ impl Shared {
             }
         }
         last
+    }
+
+    /// The first part from row `from` on in which a row has a head, from the mark on that the pass remembers,
+    /// and which it doesn't know finished; and the first of its rows from there on. The last part is one also
+    /// where it is finished, so that each listing looks. One look at each part up to that one.
+    #[inline(always)]
+    pub(crate) fn first_headed(&self, seat: &mut Seat, lows: &Lows, from: u32) -> Option<(u16, u32)>
+        requires steady { IsSteady self.now.words seat.old }
+        requires from { from < part_rows (table_limits self.now.words) }
+        requires remembers { Remembers 0 (view_of seat.old) lows.now }
+        ensures same { IsSameSeat seat.old seat.new }
+        ensures told { let l = table_limits self.now.words in MatchOption result
+            (Sought l l.parts (EachRow (PassedOver l) from (part_rows l))
+            (view_of seat.old) (view_of seat.new))
+            (λ t. IsRowOf l t.0 t.1 × (from ≤ t.1)
+            × HasListed l (t.0 + (l.rows - slice_index lows.now t.0)) from t.1 lows.now
+            (view_of seat.old) (view_of seat.new)) }
+    {
+        let limits = self.places.limits;
+        let rows = limits.rows as u32;
+        let last = limits.parts - 1;
+        let mut first = 0;
+        let mut row = from;
+        for part in 0..self.places.limits.parts {
+            let end = first + rows;
+            if row < end {
+                let low = lows[part as usize];
+                if low == limits.rows {
+                    if part == last {
+                        return Some((part, row));
+                    }
+                } else {
+                    let start = later(row, first + low as u32);
+                    if !self.is_bare_to(seat, part, start, end) {
+                        return Some((part, row));
+                    }
+                }
+                row = end;
+            }
+            first = end;
+        }
+        None
     }
 }

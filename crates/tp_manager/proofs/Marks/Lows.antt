@@ -12,6 +12,7 @@ use Rattle.tp_rule.specs.Rule.{IsInside}
 use Rattle.tp_manager.specs.Shown.{AllRise, NoneFalls, marks_of}
 use Rattle.tp_manager.specs.Bounds.{claim_next_steps_left, claim_steps_left, drawn_steps, error_steps, listed_steps, listing_steps_left, low_sum, marked_steps, seek_steps, rows_left, scan_steps, spare_left, try_steps, unit_looks}
 use Rattle.tp_manager.specs.CallSteps.{IsKnown, Steady}
+use Rattle.tp_manager.specs.Finds.{parts_walk}
 use Rattle.tp_manager.specs.UnitsSeen.{RemembersUnits}
 use Rattle.tp_manager.specs.Marks.{IsBehind, MayRemember, Recalls, Remembers, RemembersAll, RemembersGaps, RisesAt}
 use Rattle.tp_manager.proofs.Marks.Raises.{low_any}
@@ -99,8 +100,19 @@ scan_both : (l : Limits) (lows : List ℕ) (n : ℕ) → scan_steps l listed_ste
 scan_both l lows zero = omega arith
 scan_both l lows (suc n) = let rest = scan_both l lows n in omega arith
 
-pub units_before : (l : Limits) (lows : List ℕ) → scan_steps l unit_looks 1 lows l.parts + (scan_steps l listed_steps 2 lows l.parts + spare_left l error_steps (slice_index lows l.parts)) ≤ marked_steps l seek_steps lows
-units_before l lows = let both = scan_both l lows l.parts in omega arith
+-- each part counts twice
+parts_few : (l : Limits) (lows : List ℕ) (n : ℕ) → 2 * n ≤ scan_steps l listed_steps 2 lows n
+parts_few l lows zero = omega arith
+parts_few l lows (suc n) = let rest = parts_few l lows n in omega arith
+
+-- looks at heads up to a part, at units, and the walk from there on
+pub heads_before : (l : Limits) (lows : List ℕ) (p : ℕ) → p < l.parts
+    → (p + (l.rows - slice_index lows p)) + (scan_steps l unit_looks 1 lows l.parts + (parts_walk l lows p + spare_left l error_steps (slice_index lows l.parts))) ≤ marked_steps l seek_steps lows
+heads_before l lows p less = let both = scan_both l lows l.parts in let few = parts_few l lows p in let next = scan_next l lows listed_steps 2 p in let all = scan_rises l lows listed_steps 2 (p + 1) l.parts (omega arith) in omega arith
+
+-- or at all heads and at units, and a walk over the spare blocks
+pub bare_before : (l : Limits) (lows : List ℕ) → 0 < l.parts → l.parts + (1 + (scan_steps l unit_looks 1 lows l.parts + spare_left l error_steps (slice_index lows l.parts))) ≤ marked_steps l seek_steps lows
+bare_before l lows some = let both = scan_both l lows l.parts in let few = parts_few l lows l.parts in omega arith
 
 -- by the limits and the marks that a caller sees
 pub listing_shown : (l k : Limits) (lows lows' : List ℕ) (n : ℕ) → l ≡ k → lows ≡ lows' → n ≤ listing_steps_left l lows → n ≤ listing_steps_left k lows'

@@ -1,5 +1,5 @@
 -- The rows that a listing passed over, and the one that it answers.
-use Rattle.std.proofs.Common.{◌≡◌, ◌≢◌, ◌⊎◌, ℕ, ◌+◌, ◌*◌, ◌<◌, ◌≤◌, Option, Some, None, MatchOption, List, [], ◌∷◌, ◌++◌, refl, sym, ◌∙◌, subst, inl, inr, arith, ⊎_elim, slice_index}
+use Rattle.std.proofs.Common.{◌≡◌, ◌≢◌, ℕ, ◌+◌, ◌*◌, ◌<◌, ◌≤◌, Option, Some, None, MatchOption, List, [], ◌∷◌, ◌++◌, refl, sym, ◌∙◌, subst, inl, inr, arith, ⊎_elim, slice_index}
 use Rattle.std.proofs.lemmas.Bool.Decides.{eqb_tells}
 use mathlib.Core.List.{IsPrefix}
 use mathlib.Core.Logic.{dite}
@@ -33,12 +33,12 @@ use Rattle.tp_manager.specs.CallSteps.{Acted, Looked, Steady, Stepped}
 use Rattle.tp_manager.specs.Marks.{Remembers}
 use Rattle.tp_manager.specs.Scans.{EachRow, Begun, Sought}
 use Rattle.tp_manager.specs.Lists.{AllKilled, NextError, NoneParked}
-use Rattle.tp_manager.specs.Finds.{Finds, HasFate, Hits, PassedOver}
+use Rattle.tp_manager.specs.Finds.{Finds, HasFate, HasListed, Hits, IsBelowMark, PassedOver}
 use Rattle.tp_manager.specs.declared.error_queue.Fate.{Fate}
 use Rattle.tp_manager.specs.declared.error_queue.Fate.TheVariants.{Error, Over, Other}
-use Rattle.tp_manager.proofs.Rows.Seeks.{Widens, begun_sought, sought_behind, sought_more, sought_then}
+use Rattle.tp_manager.proofs.Rows.Seeks.{Widens, begun_done, begun_looked, begun_sought, sought_behind, sought_more, sought_then}
 use Rattle.tp_manager.proofs.Marks.Raises.{low_kept}
-use Rattle.tp_manager.proofs.Calls.CallSteps.{opening_is, sought_acted, sought_few, walked_none}
+use Rattle.tp_manager.proofs.Calls.CallSteps.{looked, looked_few, looked_none, opening_is, sought_acted, sought_by, sought_few, walked_none}
 
 -- units take elements of the servers' stages alone
 module _ (l : Limits) where
@@ -199,15 +199,6 @@ pub find_both : (l : Limits) (n m from : ℕ) (v w y : View) (o : Option ℕ) �
 find_both l n m from v w y None start s b = sought_more l (PassedOver l) (over_widens l) n m from (part_rows l) (rows_of l) v w y start (omega arith) s b
 find_both l n m from v w y (Some id) start s b = let low = b.0 in (omega arith, b.1, b.2, sought_more l (PassedOver l) (over_widens l) n m from (part_rows l) id v w y start low s (inr b.3))
 
--- a row below a mark that a pass remembers
-abbrev pub IsBelowMark : Limits → List ℕ → ℕ → Type 0
-IsBelowMark l lows i = (p : ℕ) × (p * l.rows ≤ i) × (i < p * l.rows + slice_index lows p)
-
--- how far a listing of the parts has come: before its first look it has left out rows below the marks alone
-abbrev pub HasListed : Limits → ℕ → ℕ → ℕ → List ℕ → View → View → Type 0
-HasListed l n from row lows v w = ((w ≡ v) × (row < part_rows l) × ((i : ℕ) → from ≤ i → i < row → IsBelowMark l lows i))
-    ⊎ Sought l n (EachRow (PassedOver l) from row) v w
-
 -- rows that were looked at, and rows before them that are below the marks
 pub over_before : (l : Limits) (n from row end : ℕ) (lows : List ℕ) (v w : View) → Remembers 0 v lows → ((i : ℕ) → from ≤ i → i < row → IsBelowMark l lows i)
     → Sought l n (EachRow (PassedOver l) row end) v w → Sought l n (EachRow (PassedOver l) from end) v w
@@ -259,3 +250,36 @@ listed_more l n m from row lows v w le h = ⊎_elim (λ t. inl t) (λ t. inr (so
 pub listed_all : (l : Limits) (n m from row : ℕ) (lows : List ℕ) (v w : View) → n ≤ m → row ≡ part_rows l → HasListed l n from row lows v w → Sought l m (EachRow (PassedOver l) from (part_rows l)) v w
 listed_all l n m from row lows v w le all h = ⊎_elim (λ t. absurd (let less = t.1 in omega arith))
     (λ t. subst (λ z. Sought l m (EachRow (PassedOver l) from z) v w) all (sought_few l n m (EachRow (PassedOver l) from row) v w le t)) h
+
+-- the steps of a listing of the parts so far
+pub listed_looked : (l : Limits) (n from row : ℕ) (lows : List ℕ) (v w : View) → Steady l v → HasListed l n from row lows v w → Looked l n v w
+listed_looked l n from row lows v w steady h = ⊎_elim
+    (λ t. subst (λ z. Looked l n v z) (sym t.0) (looked_few l 0 n v v (omega arith) (looked_none l v steady)))
+    (λ t. record { marks = t.marks; walk = t.walk; kept = t.kept }) h
+
+-- a listing of what is left
+pub finds_listed : (l : Limits) (n m k from row end : ℕ) (lows : List ℕ) (v w y : View) (r : Option ℕ) → n + m ≤ k → from ≤ row → Remembers 0 v lows → HasListed l n from row lows v w → Finds l m row end w y r → Finds l k from end v y r
+finds_listed l n m k from row end lows v w y None le start rem h s = sought_few l (n + m) k (EachRow (PassedOver l) from end) v y le (listed_sought l n m from row end lows v w y start rem h s)
+finds_listed l n m k from row end lows v w y (Some id) le start rem h s = let low = s.0 in (omega arith, s.1, s.2, sought_few l (n + m) k (EachRow (PassedOver l) from id) v y le (listed_sought l n m from row id lows v w y start rem h s.3))
+
+-- a listing of the last rows, after steps that look
+pub begun_behind : (l : Limits) (n m k from top : ℕ) (v w y : View) (o : Option ℕ) → n + m ≤ k → Acted l n v w
+    → MatchOption o (Begun l (PassedOver l) m from top w y) (λ id. (from ≤ id) × (id < top) × Hits l id y.seen × Sought l m (EachRow (PassedOver l) from id) w y)
+    → MatchOption o (Begun l (PassedOver l) k from top v y) (λ id. (from ≤ id) × (id < top) × Hits l id y.seen × Sought l k (EachRow (PassedOver l) from id) v y)
+begun_behind l n m k from top v w y None le a b = inr (⊎_elim
+    (λ t. subst (λ z. Sought l k (EachRow (PassedOver l) from top) v z) (sym t.1)
+    (sought_few l n k (EachRow (PassedOver l) from top) v w (omega arith) (sought_by l n (EachRow (PassedOver l) from top) v w a (λ i low high. absurd (let e = t.0 in omega arith)))))
+    (λ t. sought_few l (n + m) k (EachRow (PassedOver l) from top) v y le (sought_behind l n m (PassedOver l) (over_widens l) from top v w y (looked l n v w a) t)) b)
+begun_behind l n m k from top v w y (Some id) le a b = (b.0, b.1, b.2, sought_few l (n + m) k (EachRow (PassedOver l) from id) v y le (sought_behind l n m (PassedOver l) (over_widens l) from id v w y (looked l n v w a) b.3))
+
+-- the steps of a listing of the last rows
+pub begun_steps : (l : Limits) (m from top : ℕ) (v y : View) (o : Option ℕ) → Steady l v
+    → MatchOption o (Begun l (PassedOver l) m from top v y) (λ id. (from ≤ id) × (id < top) × Hits l id y.seen × Sought l m (EachRow (PassedOver l) from id) v y) → Looked l m v y
+begun_steps l m from top v y None steady b = begun_looked l (PassedOver l) (over_widens l) m from top v y b steady
+begun_steps l m from top v y (Some id) steady b = record { marks = b.3.marks; walk = b.3.walk; kept = b.3.kept }
+
+-- where there is a row to look at
+pub begun_finds : (l : Limits) (m k from top : ℕ) (v y : View) (o : Option ℕ) → m ≤ k → from < top
+    → MatchOption o (Begun l (PassedOver l) m from top v y) (λ id. (from ≤ id) × (id < top) × Hits l id y.seen × Sought l m (EachRow (PassedOver l) from id) v y) → Finds l k from top v y o
+begun_finds l m k from top v y None le less b = sought_few l m k (EachRow (PassedOver l) from top) v y le (begun_done l (PassedOver l) (over_widens l) m from top v y b less)
+begun_finds l m k from top v y (Some id) le less b = (b.0, b.1, b.2, sought_few l m k (EachRow (PassedOver l) from id) v y le b.3)
