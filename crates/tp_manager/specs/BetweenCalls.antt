@@ -12,7 +12,7 @@ use Rattle.tp_rule.specs.declared.view.Hand.{Hand}
 use Rattle.tp_rule.specs.declared.view.View.{View}
 use Rattle.tp_manager.specs.declared.manager.Run.{Run}
 use Rattle.tp_manager.specs.declared.manager.Task.{Task}
-use Rattle.tp_rule.specs.Steps.{run_before, Knows, HasCleared}
+use Rattle.tp_rule.specs.Steps.{tail_before, Knows, HasCleared}
 use Rattle.tp_rule.specs.declared.view.Known.TheVariants.{BlocksDrawn}
 use Rattle.tp_manager.specs.Calls.{claims_in}
 use Rattle.tp_manager.specs.CallSteps.{IsKnown, Steady, IsBlank, with_trace}
@@ -42,7 +42,7 @@ pub record Rests (seat : SeatShown) (number : ℕ) (run : Run) (used : ℕ) (tas
   pub number_is : (hand (view_of seat)).number ≡ number
   pub run_is : ((hand (view_of seat)).next ≡ run.next) × ((hand (view_of seat)).left ≡ run.left)
   -- it has published that many rows right before the next one in that stage
-  pub tail : run.tail ≤ run_before run.tail_stage (hand (view_of seat))
+  pub tail : run.tail ≤ tail_before run.tail_stage (hand (view_of seat))
   pub drawn : RemembersDrawn (view_of seat) run.drawn
   pub done : RemembersDone (view_of seat) run.done
   pub used_is : (hand (view_of seat)).claimed ≡ used

@@ -68,10 +68,10 @@ impl Manager {
         pass.run.left -= count;
         pass.run.tail = 0;
         let units = shared.places.limits.units;
-        let run = pass.units.run_before(pass.number, units, task.unit);
+        let tail = pass.units.tail_before(pass.number, units, task.unit);
         if shared
             .words
-            .commit_exchange(seat, task.unit, first, count as u8, run)
+            .commit_exchange(seat, task.unit, first, count as u8, tail)
         {
             pass.units.go_on(pass.number, units, task.unit);
             pass.run.done = Some(task.row);

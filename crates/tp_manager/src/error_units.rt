@@ -31,7 +31,7 @@ impl UnitsSeen {
     /// How many units of a part, which has so many, are known to be committed right before this one of it: 0
     /// where it isn't the first that isn't known to be.
     #[inline(always)]
-    pub(crate) fn run_before(&self, part: u16, units: u16, unit: u16) -> u16
+    pub(crate) fn tail_before(&self, part: u16, units: u16, unit: u16) -> u16
         requires part { part < 33 }
         ensures { (result ≡ 0) ⊎ ((result ≡ slice_index self.now.committed part)
             × (unit ≡ part * units + result) × (result < units)) }
@@ -96,7 +96,7 @@ impl Shared {
             return false;
         }
         let at = earlier(count + ahead, all - 1);
-        let found = self.words.load_unit_run(seat, part * all + at);
+        let found = self.words.load_unit_tail(seat, part * all + at);
         match found.tells {
             UnitWord::Undecided => at <= count,
             UnitWord::Aborted => {
@@ -104,7 +104,7 @@ impl Shared {
                 false
             }
             UnitWord::Committed { first: _, count: _ } => {
-                if found.run < (at - count) as u64 {
+                if found.tail < (at - count) as u64 {
                     return false;
                 }
                 if at + 1 == all {

@@ -26,11 +26,26 @@ fn last_of(row: u32, span: u32, end: u32) -> u32
     }
 }
 
+/// How far to look from this row on, after a leap over so many: up to the target, a row at the target, and
+/// behind it twice as far.
+#[inline(always)]
+fn span_after(row: u32, gone: u32, target: u32) -> u32
+    requires few { gone < 65536 }
+{
+    if row < target {
+        target - row
+    } else if row == target {
+        1
+    } else {
+        2 * gone
+    }
+}
+
 /// Whether this head, and those of so many rows right before it, are of another stage.
 #[inline(always)]
-fn is_run_aside(found: FoundHead, rows: u32, stage: u8) -> bool
+fn is_tail_aside(found: FoundHead, rows: u32, stage: u8) -> bool
     ensures { result ≡ true → (of : ℕ) × (root : ℕ) × (by : Option ℕ) × (found.tells ≡ Filled of root by)
-        × ¬ (of ≡ stage) × (rows ≤ found.run) }
+        × ¬ (of ≡ stage) × (rows ≤ found.tail) }
 {
     match found.tells {
         Head::Empty => false,
@@ -39,7 +54,7 @@ fn is_run_aside(found: FoundHead, rows: u32, stage: u8) -> bool
             stage: of,
             root: _,
             by: _,
-        } => of != stage && rows <= found.run,
+        } => of != stage && rows <= found.tail,
     }
 }
 
@@ -47,7 +62,7 @@ impl Shared {
     /// Whether the head of row `at` tells that it and all rows from `row` on before it are of other stages.
     /// One step.
     #[inline(always)]
-    fn tells_of_run(&self, seat: &mut Seat, row: u32, at: u32, stage: u8) -> bool
+    fn tells_of_tail(&self, seat: &mut Seat, row: u32, at: u32, stage: u8) -> bool
         requires steady { IsSteady self.now.words seat.old }
         requires rows { (row ≤ at) × (at < rows_of (table_limits self.now.words)) }
         requires stage { IsServerStage stage }
@@ -55,17 +70,25 @@ impl Shared {
         ensures acted { Acted (table_limits self.now.words) 1 (view_of seat.old) (view_of seat.new) }
         ensures aside { result ≡ true → Rose stage (view_of seat.new) row (at + 1) }
     {
-        let found = self.words.load_run(seat, at);
-        is_run_aside(found, at - row, stage)
+        let found = self.words.load_tail(seat, at);
+        is_tail_aside(found, at - row, stage)
     }
 
-    /// A row up to which all from `first` on are known of no use to the stage. Where this one is (`aside`) it
-    /// looks ahead, twice as far each time, and less far again where that tells nothing. No more looks tell
-    /// nothing than there are rows that no look was made at.
-    pub(crate) fn leap(&self, seat: &mut Seat, first: u32, end: u32, stage: u8, aside: bool) -> u32
+    /// A row up to which all from `first` on are known of no use to the stage, where this one is. It looks
+    /// ahead, as far as row `target` where that comes later, and else twice as far each time, and less far
+    /// again where that tells nothing. No more looks tell nothing than there are rows that no look was made at.
+    #[inline(never)]
+    fn leap_ahead(
+        &self,
+        seat: &mut Seat,
+        first: u32,
+        end: u32,
+        stage: u8,
+        target: u32,
+    ) -> u32
         requires steady { IsSteady self.now.words seat.old }
-        requires rows { (first ≤ end) × (end ≤ rows_of (table_limits self.now.words)) }
-        requires known { aside ≡ true → (first < end) × Rose stage (view_of seat.old) first (first + 1) }
+        requires rows { (first < end) × (end ≤ rows_of (table_limits self.now.words)) }
+        requires known { Rose stage (view_of seat.old) first (first + 1) }
         requires stage { IsServerStage stage }
         ensures same { IsSameSeat seat.old seat.new }
         ensures end { result ≤ end }
@@ -73,9 +96,6 @@ impl Shared {
         ensures few { Looked (table_limits self.now.words) (result - first) (view_of seat.old)
             (view_of seat.new) }
     {
-        if !aside {
-            return first;
-        }
         let mut row = first + 1;
         let mut spare = 1;
         let mut span = 2;
@@ -86,10 +106,10 @@ impl Shared {
             }
             let at = last_of(row, span, end);
             let gone = at - row + 1;
-            if self.tells_of_run(seat, row, at, stage) {
+            if self.tells_of_tail(seat, row, at, stage) {
                 row += gone;
                 spare += gone - 1;
-                span = if grows { 2 * gone } else { gone / 2 };
+                span = if grows { span_after(row, gone, target) } else { gone / 2 };
                 continue;
             }
             spare -= 1;
@@ -97,5 +117,33 @@ impl Shared {
             span = gone / 2;
         }
         row
+    }
+
+    /// The same, and this row where it isn't known to be of no use.
+    #[inline(always)]
+    pub(crate) fn leap(
+        &self,
+        seat: &mut Seat,
+        first: u32,
+        end: u32,
+        stage: u8,
+        aside: bool,
+        target: u32,
+    ) -> u32
+        requires steady { IsSteady self.now.words seat.old }
+        requires rows { (first ≤ end) × (end ≤ rows_of (table_limits self.now.words)) }
+        requires known { aside ≡ true → (first < end) × Rose stage (view_of seat.old) first (first + 1) }
+        requires stage { IsServerStage stage }
+        ensures same { IsSameSeat seat.old seat.new }
+        ensures end { result ≤ end }
+        ensures rose { Rose stage (view_of seat.new) first result }
+        ensures few { Looked (table_limits self.now.words) (result - first) (view_of seat.old)
+            (view_of seat.new) }
+    {
+        if aside {
+            self.leap_ahead(seat, first, end, stage, target)
+        } else {
+            first
+        }
     }
 }

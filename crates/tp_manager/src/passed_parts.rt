@@ -18,8 +18,15 @@ use tp_rule::{Head, Seat};
 #[derive(Clone, Copy)]
 pub(crate) struct NextPart {
     pub part: u16,
-    /// Whether its first row that wasn't known of no use was found to be so by its head.
+    /// Whether its first row that wasn't known of no use was found to be so by its head, and more such ones are
+    /// likely behind it.
     pub aside: bool,
+}
+
+/// Whether rows of one stage are likely behind a row: it is the first of its part, or several are before it.
+#[inline(always)]
+fn is_begun(low: u16, tail: u32) -> bool {
+    low == 0 || tail > 1
 }
 
 impl Shared {
@@ -57,11 +64,11 @@ impl Shared {
             if low == limits.rows {
                 return NextPart { part, aside: false };
             }
-            let head = self.first_head(seat, part, first + low as u32, first + rows);
-            if head != Head::Empty {
+            let found = self.first_head(seat, part, first + low as u32, first + rows);
+            if found.tells != Head::Empty {
                 return NextPart {
                     part,
-                    aside: !is_of_stage(head, stage),
+                    aside: is_begun(low, found.tail) && !is_of_stage(found.tells, stage),
                 };
             }
             first += rows;

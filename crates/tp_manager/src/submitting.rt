@@ -24,13 +24,13 @@ impl Manager {
         let seat = &mut pass.seat;
         let row = pass.run.next as u32;
         self.shared.words.store_draft_body(seat, row, body);
-        let run = if pass.run.tail_stage == stage {
+        let tail = if pass.run.tail_stage == stage {
             pass.run.tail
         } else {
             0
         };
-        self.shared.words.publish(seat, row, stage, run);
-        pass.run.tail = run.saturating_add(1);
+        self.shared.words.publish(seat, row, stage, tail);
+        pass.run.tail = tail.saturating_add(1);
         pass.run.tail_stage = stage;
         pass.run.next += 1;
         pass.run.left -= 1;

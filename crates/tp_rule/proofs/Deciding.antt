@@ -17,8 +17,8 @@ use Rattle.tp_model.proofs.Bridges.{found_later, taking_later, by_own, claim_eit
 use Rattle.tp_model.proofs.Lists.{option_or-None, if_same, if_other}
 use Rattle.tp_model.proofs.WordProofs.{end_of-snoc}
 use Rattle.tp_rule.specs.Places.{Word, HeadWord, BodyWord, ClaimWord, UnitWord, MarkWord, DrawnWord, IsThere, head_place, body_place, claim_place, unit_place, place_of, size_of}
-use Rattle.tp_rule.specs.Words.{IsFitHead, IsFitUnit, head_of, pack_by, pack_head, pack_unit, unit_bits, unit_run_bits}
-use Rattle.tp_rule.specs.declared.bits.TheConstants.{UNIT_RUN}
+use Rattle.tp_rule.specs.Words.{IsFitHead, IsFitUnit, head_of, pack_by, pack_head, pack_unit, unit_bits, unit_tail_bits}
+use Rattle.tp_rule.specs.declared.bits.TheConstants.{UNIT_TAIL}
 use Rattle.tp_rule.specs.Doors.{Permits}
 use Rattle.tp_rule.specs.Plays.{exchanges_commit, exchanges_abort}
 use Rattle.tp_rule.specs.Rule.{AreCommitted, AreasHold, HasHead, HasTail, HaveIdsFrom, HandHolds, Holds, RowsHold, Rule, WordIs, UnitsHold, drawn_in}
@@ -40,11 +40,11 @@ use Rattle.tp_rule.proofs.Units.{decide}
 use Rattle.tp_rule.proofs.Watching.{rows_lost}
 
 -- how a unit ended can be told from a run beside it, and the other way round
-unit_beside : (p m : ℕ) → p < UNIT_RUN → unit_bits (p + UNIT_RUN * m) ≡ p
+unit_beside : (p m : ℕ) → p < UNIT_TAIL → unit_bits (p + UNIT_TAIL * m) ≡ p
 unit_beside p m small = omega arith
 
-unit_run_beside : (p m : ℕ) → p < UNIT_RUN → unit_run_bits (p + UNIT_RUN * m) ≡ m
-unit_run_beside p m small = omega arith
+unit_tail_beside : (p m : ℕ) → p < UNIT_TAIL → unit_tail_bits (p + UNIT_TAIL * m) ≡ m
+unit_tail_beside p m small = omega arith
 
 unit_undecided : (w : Option UnitEnd) → pack_unit w ≡ 0 → w ≡ None
 unit_undecided None e = refl
@@ -131,7 +131,7 @@ module _ (k : Limits) where
   decided_told h ws e u quiet else_is full (UnitWord z) at other old = unit_later h e z (get_or ws (unit_place k z) 0) (else_is z (λ same. other (ap UnitWord same))) old
 
   -- an event of the pass that decides unit u
-  unit_event : (t : Turn k) (e : Event) (u x : ℕ) (w : Option UnitEnd) (kind : StepKind) → u < units_of k → unit_bits x ≡ pack_unit w → IsFitUnit w → w ≢ None → AreCommitted t.rule.history u (unit_run_bits x) → pass_of e ≡ (hand t.view).number → Step k t.rule.history e
+  unit_event : (t : Turn k) (e : Event) (u x : ℕ) (w : Option UnitEnd) (kind : StepKind) → u < units_of k → unit_bits x ≡ pack_unit w → IsFitUnit w → w ≢ None → AreCommitted t.rule.history u (unit_tail_bits x) → pass_of e ≡ (hand t.view).number → Step k t.rule.history e
       → ((i : ℕ) → claim_word_after i (claim_word t.rule.history i) e ≡ claim_word t.rule.history i) → decide u (end_of t.rule.history u) e ≡ w → ((z : ℕ) → z ≢ u → decide z (end_of t.rule.history z) e ≡ end_of t.rule.history z)
       → ((y : Element) → In y (births e) → Holds t.state.words y × IsFitHead (head_of y)) → ((y : Element) → In y (births e) → IsMine k t y.id) → HandHolds k (t.rule.history ++ e ∷ []) (set t.state.words (unit_place k u) x) (with_end e (hand t.view))
       → Rule k record { words = set t.state.words (unit_place k u) x; homes = t.state.homes; views = set t.state.views t.id (after kind (with_end e) (t.rule.history ++ e ∷ []) t.view.known t.view) }
@@ -245,7 +245,7 @@ module _ (k : Limits) where
   open_unit t p u place room hit = unit_undecided (end_of t.rule.history u) (sym (t.rule.world.tells (UnitWord u) room).packed ∙ ap unit_bits (ap (λ y. get_or t.state.words y 0) (sym place) ∙ hit))
 
   pub commits_go : (v : View) (p new u first count run : ℕ) → AreLimits k → IsOnePass v → v.limits ≡ k → (hand v).open_unit ≡ Some u → IsOwnWork v u → length (hand v).drafts ≤ 4
-      → first ≡ first_id (hand v).drafts → count ≡ length (hand v).drafts → HasCleared v → u < k.parts * k.units → p ≡ unit_place k u → new ≡ pack_unit (Some (Committed first count)) + UNIT_RUN * run → AreCommitted v.seen u run
+      → first ≡ first_id (hand v).drafts → count ≡ length (hand v).drafts → HasCleared v → u < k.parts * k.units → p ≡ unit_place k u → new ≡ pack_unit (Some (Committed first count)) + UNIT_TAIL * run → AreCommitted v.seen u run
       → Permits k v p (λ x. either (eqb x 0) new x) (exchanges_commit p 0 new v)
   commits_go v p new u first count run fair one lim held work few f_is c_is cleared room place to earlier s r id at = let t : Turn k = record { state = s; rule = r; id = id; view = v; at = at; one = one } in let a : Hand = hand v in let x : ℕ = get_or s.words p 0 in let h = r.history in
       let seat = seat_holds k t in let mine = hand_holds k t in let ds : List Element = a.drafts in let word : p ≡ unit_place v.limits u = place ∙ ap (λ (l : Limits). unit_place l u) (sym lim) in dite (ℕ_discrete x 0)
@@ -266,8 +266,8 @@ module _ (k : Limits) where
       let many = fair_units k fair in let none_first : count ≡ 0 → first ≡ 0 = λ z. f_is ∙ first_of_none ds (sym c_is ∙ z) in let small = first_fits mine.end a.first_draft a.next a.left ds fair rows.counted rows.ends inside rows.run in
       let old = born_fit k h s.words r.world work.taking.item work.item item in let low : work.item.root ≤ 65535 = old.2 in
       let bits : unit_bits new ≡ pack_unit (Some (Committed first count)) = ap unit_bits to ∙ unit_beside (pack_unit (Some (Committed first count))) run (omega arith) in
-      let long : unit_run_bits new ≡ run = ap unit_run_bits to ∙ unit_run_beside (pack_unit (Some (Committed first count))) run (omega arith) in
-      let before : AreCommitted h u (unit_run_bits new) = subst (AreCommitted h u) (sym long) (still_committed v.seen h u run seat.seen earlier) in
+      let long : unit_tail_bits new ≡ run = ap unit_tail_bits to ∙ unit_tail_beside (pack_unit (Some (Committed first count))) run (omega arith) in
+      let before : AreCommitted h u (unit_tail_bits new) = subst (AreCommitted h u) (sym long) (still_committed v.seen h u run seat.seen earlier) in
       let done = unit_event t e u new (Some (Committed first count)) kinds.CommitExchange room bits (omega arith, omega arith, none_first) (λ q. absurd cc) before refl st (λ i. refl) now (λ z ne. commit_else a.number u ds z (end_of h z) ne)
       (λ y q. let o = work.outputs y q in let same_root : y.root ≡ work.item.root = o.2 in (rows.written y q, (o.0.0, o.0.1, omega arith, subst (λ z. pack_by z ≤ 65535) (sym o.1) (omega arith)))) drafts_own record {
         given = mine.given;

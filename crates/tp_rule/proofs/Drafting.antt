@@ -11,7 +11,7 @@ use Rattle.tp_model.specs.declared.types.TheConstants.{BODY_WORDS}
 use Rattle.tp_model.specs.Steps.{IsBody, block_first, rows_of}
 use Rattle.tp_model.proofs.Bridges.{begins_refl, in_either, in_one}
 use Rattle.tp_rule.specs.Places.{Word, HeadWord, BodyWord, IsThere, head_place, body_place, place_of, size_of}
-use Rattle.tp_rule.specs.Words.{head_bits, head_of, pack_head, run_bits, IsFitHead}
+use Rattle.tp_rule.specs.Words.{head_bits, head_of, pack_head, tail_bits, IsFitHead}
 use Rattle.tp_rule.specs.declared.packing.Head.TheVariants.{Filled}
 use Rattle.tp_rule.specs.Doors.{Permits}
 use Rattle.tp_rule.specs.Plays.{stores_word, stores_head}
@@ -26,8 +26,8 @@ use Rattle.tp_rule.proofs.Frames.{IsMine, Stays, Turn, draws_still, hand_holds, 
 use Rattle.tp_rule.proofs.Owning.{own_drawn, own_inside}
 use Rattle.tp_rule.proofs.Parts.{in_run, run_snoc}
 use Rattle.tp_model.proofs.Areas.{ascend_wider, one_area, own_area}
-use Rattle.tp_rule.proofs.Storing.{MayHead, MayStore, RunsBefore, body_row, drawn_left, drawn_rises, full_head, holds_same, left, row_left, still_left, stored, tail_same}
-use Rattle.tp_rule.proofs.Tellings.{bits_alone, head_told, run_alone, world_stored}
+use Rattle.tp_rule.proofs.Storing.{MayHead, MayStore, TailBefore, body_row, drawn_left, drawn_rises, full_head, holds_same, left, row_left, still_left, stored, tail_same}
+use Rattle.tp_rule.proofs.Tellings.{bits_alone, head_told, tail_alone, world_stored}
 
 -- a word of a body is no head, and is one of its body alone
 no_head : (i j n : ℕ) → BodyWord i j ≢ HeadWord n
@@ -136,10 +136,10 @@ module _ (k : Limits) where
     next_drawn = let r = hand_holds k t in let high = next_own.1 in let top = own_drawn k (me k t).number (drawn_in k t.state.words) (me k t).blocks r.first r.end r.blocks r.area in omega arith
 
     -- its head may be stored
-    next_head : (x : ℕ) → RunsBefore t.state.words x next → MayHead k t.state.words x next
+    next_head : (x : ℕ) → TailBefore t.state.words x next → MayHead k t.state.words x next
     next_head x before = let r = hand_holds k t in let low = next_own.0 in let high = next_own.1 in record {
       empty = next_empty;
-      run = before;
+      tail = before;
       full = λ _ first end j area from to low' less. (let same = one_area k first end r.first r.end next area (own_area k (me k t).number (me k t).blocks r.first r.end r.area) from to low high in
           r.rows.full j (subst (λ z. z ≤ j) same.0 low') less);
       drawn = next_drawn;
@@ -149,7 +149,7 @@ module _ (k : Limits) where
     row_is_next w i is at = let q : Some next ≡ Some i = sym is ∙ at in cc
 
     -- and so may each word of it
-    pub next_may : (w : Word) (x : ℕ) → body_row w ≡ Some next → ((i : ℕ) → w ≡ HeadWord i → RunsBefore t.state.words x next) → MayStore k t.state.words w x
+    pub next_may : (w : Word) (x : ℕ) → body_row w ≡ Some next → ((i : ℕ) → w ≡ HeadWord i → TailBefore t.state.words x next) → MayStore k t.state.words w x
     next_may w x is before = record {
       head = λ i e. subst (MayHead k t.state.words x) (row_is_next w i is (ap body_row e)) (next_head x (before i e));
       mark = λ s p e. let q : None ≡ Some next = sym (ap body_row e) ∙ is in absurd cc;
@@ -161,7 +161,7 @@ module _ (k : Limits) where
     next_tells w is i at = subst (IsMine k t) (row_is_next w i is at) next_own
 
     -- a store to a word of the row that the pass draws next, of which the history says nothing
-    stores : (w : Word) (x : ℕ) → IsThere k w → body_row w ≡ Some next → ((i : ℕ) → w ≡ HeadWord i → RunsBefore t.state.words x next) → WordIs t.rule.history w x → (f : Hand → Hand) → Stays k t f
+    stores : (w : Word) (x : ℕ) → IsThere k w → body_row w ≡ Some next → ((i : ℕ) → w ≡ HeadWord i → TailBefore t.state.words x next) → WordIs t.rule.history w x → (f : Hand → Hand) → Stays k t f
         → HandHolds k t.rule.history (set t.state.words (place_of k w) x) (f (me k t))
         → Rule k record { words = set t.state.words (place_of k w) x; homes = t.state.homes; views = set t.state.views t.id (drafted f t.view) }
     stores w x at is before told f stays mine = let h = t.rule.history in let ws = t.state.words in let may = next_may w x is before in moved k t record {
@@ -220,8 +220,8 @@ module _ (k : Limits) where
       → Permits k v p (λ _. x) (λ _ w. stores_head p x 0 v x w)
   heads v p x stage root u ready room place is pos top low small held s r id at = let t : Turn k = record { state = s; rule = r; id = id; view = v; at = at; one = ready.0 } in let a : Hand = hand v in let b = hand_holds k t in let e : Element = next_element v stage root (Some u) in
       let here : e.id ≡ next t room = refl in let w : Word = HeadWord (next t room) in let fits : IsFitHead (Filled stage root (Some u)) = (pos, top, omega arith, omega arith) in
-      let bits : head_bits x ≡ pack_head (Filled stage root (Some u)) = ap head_bits is ∙ bits_alone (Filled stage root (Some u)) fits in let alone : run_bits x ≡ 0 = ap run_bits is ∙ run_alone (Filled stage root (Some u)) fits in
-      let before : RunsBefore s.words x (next t room) = λ st named j low up. absurd (omega arith) in (
+      let bits : head_bits x ≡ pack_head (Filled stage root (Some u)) = ap head_bits is ∙ bits_alone (Filled stage root (Some u)) fits in let alone : tail_bits x ≡ 0 = ap tail_bits is ∙ tail_alone (Filled stage root (Some u)) fits in
+      let before : TailBefore s.words x (next t room) = λ st named j low up. absurd (omega arith) in (
         drafted (with_draft e) v,
         subst (λ q. Rule k record { words = set s.words q x; homes = s.homes; views = set s.views id (drafted (with_draft e) v) }) (sym place)
             (stores t room w x (next_there t room) refl (λ _ _. before) record {

@@ -17,7 +17,7 @@ use Rattle.tp_rule.specs.declared.view.Hand.{Hand}
 use Rattle.tp_rule.specs.declared.view.View.{View}
 use Rattle.tp_rule.specs.Places.{Word, HeadWord, BodyWord, ClaimWord, UnitWord, MarkWord, DrawnWord, IsThere, head_place, body_place, claim_place, unit_place, mark_place, drawn_place, place_of, size_of}
 use Rattle.tp_rule.specs.declared.packing.Head.TheVariants.{Empty, Filled}
-use Rattle.tp_rule.specs.Words.{head_bits, unit_bits, unit_run_bits}
+use Rattle.tp_rule.specs.Words.{head_bits, unit_bits, unit_tail_bits}
 use Rattle.tp_rule.proofs.Storing.{has_full}
 
 -- the first seat stands for all passes, and no block is drawn
@@ -90,7 +90,7 @@ module _ (k : Limits) where
       drawn = let none = zeros (size_of k) (drawn_place k) in omega arith;
       bare = λ i low high. zeros (size_of k) (head_place i);
       unwritten = λ i low high j few. zeros (size_of k) (body_place i j);
-      runs = λ i stage there s. absurd (has_full (replicate (size_of k) 0) i (Filled stage s.0 s.1) (λ q. cc) s.3 (zeros (size_of k) (head_place i)));
+      tails = λ i stage there s. absurd (has_full (replicate (size_of k) 0) i (Filled stage s.0 s.1) (λ q. cc) s.3 (zeros (size_of k) (head_place i)));
       behind = λ first end i j area low later high zero. inl (zeros (size_of k) (head_place j));
       marks = λ s p l. subst (MarkHolds k s [] (replicate (size_of k) 0) p) (sym (zeros (size_of k) (mark_place k s p))) record { inside = (λ _. omega arith, λ _. omega arith); below = λ i low high. let up : i < p * k.rows + 0 = high in let down : p * k.rows ≤ i = low in absurd (omega arith) };
     };
@@ -103,7 +103,7 @@ module _ (k : Limits) where
       zero_told (HeadWord i) l = record { head = Empty; packed = ap head_bits (zeros (size_of k) (head_place i)); fit = tt; bare = λ _. zeros (size_of k) (head_place i); born = λ x p. absurd cc; draft = λ un. tt }
       zero_told (BodyWord i j) l = λ x p. absurd cc
       zero_told (ClaimWord i) l = (zeros (size_of k) (claim_place i), tt)
-      zero_told (UnitWord u) l = let none = zeros (size_of k) (unit_place k u) in record { packed = ap unit_bits none; fit = tt; bare = λ _. none; before = subst (AreCommitted [] u) (sym (ap unit_run_bits none)) (λ w less up. let more : u ≤ w + 0 = up in absurd (omega arith)) }
+      zero_told (UnitWord u) l = let none = zeros (size_of k) (unit_place k u) in record { packed = ap unit_bits none; fit = tt; bare = λ _. none; before = subst (AreCommitted [] u) (sym (ap unit_tail_bits none)) (λ w less up. let more : u ≤ w + 0 = up in absurd (omega arith)) }
       zero_told (MarkWord s p) l = tt
       zero_told DrawnWord l = tt
 

@@ -14,13 +14,13 @@ use Rattle.tp_model.proofs.Bridges.{born_at, by_own, in_either, in_none, in_one,
 use Rattle.tp_model.proofs.Lists.{if_other, if_same, option_or-None}
 use Rattle.tp_model.proofs.WordProofs.{end_of-snoc}
 use Rattle.tp_rule.specs.Places.{Word, HeadWord, BodyWord, ClaimWord, UnitWord, MarkWord, DrawnWord, IsThere, head_place, body_place, place_of, size_of}
-use Rattle.tp_rule.specs.declared.bits.TheConstants.{HEAD_RUN}
-use Rattle.tp_rule.specs.Words.{IsFitHead, head_bits, head_of, pack_head, run_bits}
+use Rattle.tp_rule.specs.declared.bits.TheConstants.{HEAD_TAIL}
+use Rattle.tp_rule.specs.Words.{IsFitHead, head_bits, head_of, pack_head, tail_bits}
 use Rattle.tp_rule.specs.declared.packing.Head.TheVariants.{Filled}
 use Rattle.tp_rule.specs.Doors.{Permits}
 use Rattle.tp_rule.specs.Plays.{publishes}
 use Rattle.tp_rule.specs.Rule.{HasStage, HasTail, RowsHold, Rule, WordIs, drawn_in}
-use Rattle.tp_rule.specs.Steps.{with_birth, next_element, birth, run_before, HasBodyStored, HasCleared}
+use Rattle.tp_rule.specs.Steps.{with_birth, next_element, birth, tail_before, HasBodyStored, HasCleared}
 use Rattle.tp_rule.specs.declared.view.Known.TheVariants.{RowHead}
 use Rattle.tp_rule.specs.Views.{blank_body, hand, next_row}
 use Rattle.tp_rule.specs.declared.view.Hand.{Hand}
@@ -33,8 +33,8 @@ use Rattle.tp_rule.proofs.OwnAreas.{areas_on}
 use Rattle.tp_rule.proofs.Owning.{own_inside}
 use Rattle.tp_model.proofs.Areas.{ascend_wider}
 use Rattle.tp_rule.proofs.Parts.{fair_rows}
-use Rattle.tp_rule.proofs.Storing.{RunsBefore, drawn_rises, full_head, has_full, row_left, stage_left, stored}
-use Rattle.tp_rule.proofs.Tellings.{bits_with, body_later, claim_later, head_later, head_told, run_with, unit_later}
+use Rattle.tp_rule.proofs.Storing.{TailBefore, drawn_rises, full_head, has_full, row_left, stage_left, stored}
+use Rattle.tp_rule.proofs.Tellings.{bits_with, body_later, claim_later, head_later, head_told, tail_with, unit_later}
 use Rattle.tp_rule.proofs.Units.{decide}
 
 enqueue_quiet : (c : ℕ) (y : Element) (u : ℕ) (w : Option UnitEnd) → decide u w (Enqueue c y) ≡ w
@@ -51,10 +51,10 @@ birth_told h c y DrawnWord n other body old = tt
 birth_told h c y (UnitWord u) n other body old = unit_later h (Enqueue c y) u n (enqueue_quiet c y u _) old
 
 -- the rows right before the next one that the pass published in a stage
-run_holds : (ws : List ℕ) (first stage : ℕ) (a : Hand) → HasTail ws first a.next a.tail a.tail_stage → (j : ℕ) → j < a.next → a.next ≤ j + run_before stage a → (first ≤ j) × HasStage ws stage j
+run_holds : (ws : List ℕ) (first stage : ℕ) (a : Hand) → HasTail ws first a.next a.tail a.tail_stage → (j : ℕ) → j < a.next → a.next ≤ j + tail_before stage a → (first ≤ j) × HasStage ws stage j
 run_holds ws first stage a tail j low up = dite (ℕ_discrete stage a.tail_stage)
-    (λ same. let is : run_before stage a ≡ a.tail = if_same stage a.tail_stage a.tail 0 same in let t = tail j low (omega arith) in (t.0, subst (λ z. HasStage ws z j) (sym same) t.1))
-    (λ other. let is : run_before stage a ≡ 0 = if_other stage a.tail_stage a.tail 0 other in absurd (omega arith))
+    (λ same. let is : tail_before stage a ≡ a.tail = if_same stage a.tail_stage a.tail 0 same in let t = tail j low (omega arith) in (t.0, subst (λ z. HasStage ws z j) (sym same) t.1))
+    (λ other. let is : tail_before stage a ≡ 0 = if_other stage a.tail_stage a.tail 0 other in absurd (omega arith))
 
 module _ (k : Limits) (fair : AreLimits k) where
   rows_publish : (h : List Event) (ws : List ℕ) (c first end first_draft row left x : ℕ) (body : List ℕ) (y : Element) (at : IsThere k (HeadWord row)) → end ≤ rows_of k → y.id ≡ row → 0 < left → x ≢ 0 → length ws ≡ size_of k
@@ -74,7 +74,7 @@ module _ (k : Limits) (fair : AreLimits k) where
   }
 
   pub births_go : (v : View) (p x stage run : ℕ) → HasBodyStored v → (hand v).drafts ≡ [] → 0 < (hand v).left → p ≡ head_place (hand v).next
-      → x ≡ pack_head (Filled stage (next_row v) None) + HEAD_RUN * run → run < 65536 → run ≤ run_before stage (hand v) → 1 ≤ stage → stage ≤ 14 → HasCleared v
+      → x ≡ pack_head (Filled stage (next_row v) None) + HEAD_TAIL * run → run < 65536 → run ≤ tail_before stage (hand v) → 1 ≤ stage → stage ≤ 14 → HasCleared v
       → Permits k v p (λ _. x) (λ _ w. publishes p x 0 v x w)
   births_go v p x stage run ready none_yet room place is few_run short pos top cleared s r id at = let t : Turn k = record { state = s; rule = r; id = id; view = v; at = at; one = ready.0 } in let t0 : Turn k = t in let a : Hand = hand v in let y : Element = next_element v stage (next_row v) None in let e : Event = birth v stage in let h = r.history in
       let mine = hand_holds k t in let row : ℕ = next k t room in let w : Word = HeadWord row in
@@ -83,8 +83,8 @@ module _ (k : Limits) (fair : AreLimits k) where
       let rows : RowsHold h s.words mine.first mine.end a.first_draft a.next a.left a.next_body [] = subst (λ l. RowsHold h s.words mine.first mine.end a.first_draft a.next a.left a.next_body l) none_yet mine.rows in
       let st : Step k h e = record { row = mine_may k t row (next_own k t room); unborn = subst (λ z. IsUnborn h z) (sym here) (next_unborn k t room); stage = (pos, omega arith); body = ready.1; root = refl; by = refl } in
       let whole : IsBody y.body = ready.1 in let fits : IsFitHead (head_of y) = (pos, omega arith, omega arith, omega arith) in
-      let bits : head_bits x ≡ pack_head (head_of y) = ap head_bits is ∙ bits_with (head_of y) run fits in let long : run_bits x ≡ run = ap run_bits is ∙ run_with (head_of y) run fits in
-      let before : RunsBefore s.words x row = λ st named j low up. (let same : Filled st named.0 named.1 ≡ head_of y = head_told (Filled st named.0 named.1) (head_of y) named.2 fits (sym named.3 ∙ bits) in let one : stage ≡ st = cc in
+      let bits : head_bits x ≡ pack_head (head_of y) = ap head_bits is ∙ bits_with (head_of y) run fits in let long : tail_bits x ≡ run = ap tail_bits is ∙ tail_with (head_of y) run fits in
+      let before : TailBefore s.words x row = λ st named j low up. (let same : Filled st named.0 named.1 ≡ head_of y = head_told (Filled st named.0 named.1) (head_of y) named.2 fits (sym named.3 ∙ bits) in let one : stage ≡ st = cc in
       subst (λ z. HasStage s.words z j) one (run_holds s.words mine.first stage a mine.tail j low (omega arith)).1) in
       let may = next_may k t room w x refl (λ _ _. before) in
       let body : (j : ℕ) → j < BODY_WORDS → get_or s.words (body_place row j) 0 ≡ slice_index y.body j = λ j less. mine.rows.body_there room j (omega arith) in

@@ -19,7 +19,7 @@ use Rattle.tp_rule.specs.Steps.{KnowsFinished, IsLow, KnowsUseless, after, uncha
 use Rattle.tp_rule.specs.Views.{IsOnePass, hand}
 use Rattle.tp_rule.specs.declared.view.Hand.{Hand}
 use Rattle.tp_rule.specs.declared.view.Known.{Known}
-use Rattle.tp_rule.specs.declared.view.Known.TheVariants.{MarkAbove, PartMark, RowHead, RowRun}
+use Rattle.tp_rule.specs.declared.view.Known.TheVariants.{MarkAbove, PartMark, RowHead, RowTail}
 use Rattle.tp_rule.specs.declared.view.View.{View}
 use Rattle.tp_rule.proofs.Frames.{Turn, hand_holds, hand_quiet, limits_are, mine_drawn, moved, seat_holds}
 use Rattle.tp_rule.proofs.Owning.{own_inside}
@@ -63,7 +63,7 @@ module _ (k : Limits) where
   past_is : (t : Turn k) (s i : ℕ) → KnowsUseless t.view s i → IsUseless k s t.rule.history t.state.words i
   past_is t s i u = let seat = seat_holds k t in ⊎_elim (λ d. inl (done_is t i d))
       (λ a. ⊎_elim (λ f. let so = seat.known (RowHead i f.0) f.1 in inr (f.0, so.1, so.2 (other_full s f.0 f.2), f.2))
-      (λ g. let so = seat.known (RowRun g.0 g.1 g.2) g.3 in let it = so.1 i g.4 g.5 in inr (Filled g.1 it.0 it.1, it.2, it.3, g.6)) a) u
+      (λ g. let so = seat.known (RowTail g.0 g.1 g.2) g.3 in let it = so.1 i g.4 g.5 in inr (Filled g.1 it.0 it.1, it.2, it.3, g.6)) a) u
 
   pub raises_go : (v : View) (word from to c p : ℕ) → IsOnePass v → v.limits ≡ k → IsThere k (MarkWord c p) → word ≡ mark_place k c p → from ≤ to → IsInside k p to
       → ((i : ℕ) → p * k.rows + from ≤ i → i < p * k.rows + to → KnowsUseless v c i) → Permits k v word (λ x. either (eqb x from) to x) (raises word from to v)

@@ -18,7 +18,7 @@ use Rattle.tp_model.proofs.Bridges.{append_nil, begins_refl, in_cons, in_none}
 use Rattle.tp_rule.specs.Places.{HeadWord, head_place}
 use Rattle.tp_rule.specs.declared.packing.Head.{Head}
 use Rattle.tp_rule.specs.declared.packing.Head.TheVariants.{Empty, Void, Filled}
-use Rattle.tp_rule.specs.Words.{IsFitHead, run_bits}
+use Rattle.tp_rule.specs.Words.{IsFitHead, tail_bits}
 use Rattle.tp_rule.specs.Doors.{Permits}
 use Rattle.tp_rule.specs.Plays.{loads, loads_head}
 use Rattle.tp_rule.specs.Rule.{AtSeat, HandHolds, HasHead, HasStage, HaveStage, IsApart, Owners, Rule, SeatHolds, StillSo}
@@ -26,7 +26,7 @@ use Rattle.tp_rule.specs.Steps.{Found, IsSo, Loads, MayBeBorn, noted, after, unc
 use Rattle.tp_rule.specs.Views.{HasPass, IsOnePass, hand}
 use Rattle.tp_rule.specs.declared.view.Hand.{Hand}
 use Rattle.tp_rule.specs.declared.view.Known.{Known}
-use Rattle.tp_rule.specs.declared.view.Known.TheVariants.{RowHead, RowRun}
+use Rattle.tp_rule.specs.declared.view.Known.TheVariants.{RowHead, RowTail}
 use Rattle.tp_rule.specs.declared.view.View.{View}
 use Rattle.tp_rule.proofs.Owning.{IsDrawer, S, blocks_for, run_of}
 use Rattle.tp_rule.proofs.Ahead.{ahead, ahead_empty, output}
@@ -139,39 +139,39 @@ module _ (k : Limits) where
   looks v word has s r id at = let t = looks_knowing v word has s r id at v.known (r.seats id v at).known (λ x p. p) in (after kinds.Load unchanged r.history v.known v, t.0, t.1)
 
   -- what is known of a row's run beside the rest
-  abbrev with_run : ℕ → Head → ℕ → List Known → List Known
-  with_run row Empty n ks = ks
-  with_run row Void n ks = ks
-  with_run row (Filled stage root by) n ks = RowRun row stage (run_bits n) ∷ ks
+  abbrev with_tail : ℕ → Head → ℕ → List Known → List Known
+  with_tail row Empty n ks = ks
+  with_tail row Void n ks = ks
+  with_tail row (Filled stage root by) n ks = RowTail row stage (tail_bits n) ∷ ks
 
-  run_so : (ws : List ℕ) (row : ℕ) (head : Head) (ks : List Known) → HasHead ws row head → IsFitHead head → row < rows_of k → ((stage : ℕ) → HasStage ws stage row → HaveStage ws stage row (run_bits (get_or ws (head_place row) 0)))
-      → ((x : Known) → In x ks → StillSo k ws x) → (x : Known) → In x (with_run row head (get_or ws (head_place row) 0) ks) → StillSo k ws x
-  run_so ws row Empty ks is fit room runs so x p = so x p
-  run_so ws row Void ks is fit room runs so x p = so x p
-  run_so ws row (Filled stage root by) ks is fit room runs so x p = ⊎_elim (λ e. subst (StillSo k ws) (sym e) (room, runs stage (root, by, fit, is))) (λ q. so x q) (in_cons p)
+  tail_so : (ws : List ℕ) (row : ℕ) (head : Head) (ks : List Known) → HasHead ws row head → IsFitHead head → row < rows_of k → ((stage : ℕ) → HasStage ws stage row → HaveStage ws stage row (tail_bits (get_or ws (head_place row) 0)))
+      → ((x : Known) → In x ks → StillSo k ws x) → (x : Known) → In x (with_tail row head (get_or ws (head_place row) 0) ks) → StillSo k ws x
+  tail_so ws row Empty ks is fit room runs so x p = so x p
+  tail_so ws row Void ks is fit room runs so x p = so x p
+  tail_so ws row (Filled stage root by) ks is fit room runs so x p = ⊎_elim (λ e. subst (StillSo k ws) (sym e) (room, runs stage (root, by, fit, is))) (λ q. so x q) (in_cons p)
 
-  run_there : (row : ℕ) (head : Head) (n : ℕ) (ks : List Known) (x : Known) → In x ks → In x (with_run row head n ks)
-  run_there row Empty n ks x p = p
-  run_there row Void n ks x p = p
-  run_there row (Filled stage root by) n ks x p = there p
+  tail_there : (row : ℕ) (head : Head) (n : ℕ) (ks : List Known) (x : Known) → In x ks → In x (with_tail row head n ks)
+  tail_there row Empty n ks x p = p
+  tail_there row Void n ks x p = p
+  tail_there row (Filled stage root by) n ks x p = there p
 
-  run_in : (row : ℕ) (head : Head) (n : ℕ) (ks : List Known) (stage root : ℕ) (by : Option ℕ) → head ≡ Filled stage root by → In (RowRun row stage (run_bits n)) (with_run row head n ks)
-  run_in row head n ks stage root by e = subst (λ z. In (RowRun row stage (run_bits n)) (with_run row z n ks)) (sym e) here
+  tail_in : (row : ℕ) (head : Head) (n : ℕ) (ks : List Known) (stage root : ℕ) (by : Option ℕ) → head ≡ Filled stage root by → In (RowTail row stage (tail_bits n)) (with_tail row head n ks)
+  tail_in row head n ks stage root by e = subst (λ z. In (RowTail row stage (tail_bits n)) (with_tail row z n ks)) (sym e) here
 
   -- the load of a head, which the seat remembers
   pub looks_head : (v : View) (row : ℕ) → HasPass v → row < rows_of k → Permits k v (head_place row) (λ n. n) (loads_head (head_place row) 0 0 v)
-  looks_head v row has room s r id at = let told = r.world.tells (HeadWord row) room in let n : ℕ = get_or s.words (head_place row) 0 in let beside : List Known = RowHead row told.head ∷ v.known in let known : List Known = with_run row told.head n beside in
+  looks_head v row has room s r id at = let told = r.world.tells (HeadWord row) room in let n : ℕ = get_or s.words (head_place row) 0 in let beside : List Known = RowHead row told.head ∷ v.known in let known : List Known = with_tail row told.head n beside in
       let so_beside : (x : Known) → In x beside → StillSo k s.words x = λ x p. ⊎_elim (λ e. subst (StillSo k s.words) (sym e) (room, told.fit, λ _. told.packed)) (λ q. (r.seats id v at).known x q) (in_cons p) in
-      let so = run_so s.words row told.head beside told.packed told.fit room (λ stage. r.world.runs row stage room) so_beside in
-      let t = looks_knowing v (head_place row) has s r id at known so (λ x p. run_there row told.head n beside x (there p)) in (
+      let so = tail_so s.words row told.head beside told.packed told.fit room (λ stage. r.world.tails row stage room) so_beside in
+      let t = looks_knowing v (head_place row) has s r id at known so (λ x p. tail_there row told.head n beside x (there p)) in (
         after kinds.Load unchanged r.history known v,
         t.0,
         (
           t.1,
           λ i head is packed fit. let same : row ≡ i = omega arith in let is_head : head ≡ told.head = head_told head told.head fit told.fit (sym packed ∙ told.packed) in
-              subst (λ (z : ℕ × Head). In (RowHead z.0 z.1) known) (λ j. (same j, sym is_head j)) (run_there row told.head n beside (RowHead row told.head) here),
+              subst (λ (z : ℕ × Head). In (RowHead z.0 z.1) known) (λ j. (same j, sym is_head j)) (tail_there row told.head n beside (RowHead row told.head) here),
           λ i stage root by is packed fit. let same : row ≡ i = omega arith in let is_head : Filled stage root by ≡ told.head = head_told (Filled stage root by) told.head fit told.fit (sym packed ∙ told.packed) in
-              subst (λ z. In (RowRun z stage (run_bits n)) known) same (run_in row told.head n beside stage root by (sym is_head)),
+              subst (λ z. In (RowTail z stage (tail_bits n)) known) same (tail_in row told.head n beside stage root by (sym is_head)),
           λ i is empty. let same : row ≡ i = omega arith in
               subst (λ l. MayBeBorn l r.history i) (sym ((r.seats id v at).limits has.0 has.1)) (ahead_empty k s r i (ap (λ z. get_or s.words (head_place z) 0) (sym same) ∙ empty)),
         ),

@@ -7,13 +7,13 @@ use Rattle.tp_model.specs.declared.types.Limits.{Limits}
 use Rattle.tp_model.specs.declared.types.TheConstants.{BODY_WORDS}
 use Rattle.tp_model.specs.Steps.{IsArea, block_first, rows_of}
 use Rattle.tp_rule.specs.Places.{Word, HeadWord, BodyWord, ClaimWord, UnitWord, MarkWord, DrawnWord, IsThere, head_place, body_place, mark_place, place_of, size_of}
-use Rattle.tp_rule.specs.Words.{IsFitHead, head_bits, pack_head, run_bits}
+use Rattle.tp_rule.specs.Words.{IsFitHead, head_bits, pack_head, tail_bits}
 use Rattle.tp_rule.specs.declared.packing.Head.{Head}
 use Rattle.tp_rule.specs.declared.packing.Head.TheVariants.{Empty, Void, Filled}
 use Rattle.tp_rule.proofs.PlaceLemmas.{places_differ, places_inside}
 use Rattle.tp_rule.specs.Rule.{HasHead, HasStage, HasTail, HaveStage, Holds, IsUnwritten, StillSo, drawn_in}
 use Rattle.tp_rule.specs.declared.view.Known.{Known}
-use Rattle.tp_rule.specs.declared.view.Known.TheVariants.{RowHead, RowRun, PartMark, MarkAbove, BlocksDrawn}
+use Rattle.tp_rule.specs.declared.view.Known.TheVariants.{RowHead, RowTail, PartMark, MarkAbove, BlocksDrawn}
 
 -- the row whose element the word is about, beside its claim
 abbrev pub body_row : Word → Option ℕ
@@ -54,8 +54,8 @@ abbrev pub IsStageWord : ℕ → ℕ → Type 0
 IsStageWord stage x = (root : ℕ) × (by : Option ℕ) × IsFitHead (Filled stage root by) × (head_bits x ≡ pack_head (Filled stage root by))
 
 -- the rows of its run before row i have heads of the same
-abbrev pub RunsBefore : List ℕ → ℕ → ℕ → Type 0
-RunsBefore ws x i = (stage : ℕ) → IsStageWord stage x → (j : ℕ) → j < i → i ≤ j + run_bits x → HasStage ws stage j
+abbrev pub TailBefore : List ℕ → ℕ → ℕ → Type 0
+TailBefore ws x i = (stage : ℕ) → IsStageWord stage x → (j : ℕ) → j < i → i ≤ j + tail_bits x → HasStage ws stage j
 
 -- the head x of row i may be stored: none is there, those before it in its area aren't empty or it is void, and its row is
 -- in no block that isn't drawn
@@ -63,7 +63,7 @@ pub record MayHead (l : Limits) (ws : List ℕ) (x i : ℕ) : Type 0 where
   pub empty : get_or ws (head_place i) 0 ≡ 0
   pub full : x ≢ pack_head Void → (first end j : ℕ) → IsArea l first end → first ≤ i → i < end → first ≤ j → j < i → get_or ws (head_place j) 0 ≢ 0
   pub drawn : i < block_first l (drawn_in l ws)
-  pub run : RunsBefore ws x i
+  pub tail : TailBefore ws x i
 
 -- the head of row i is empty or void
 abbrev pub IsBare : List ℕ → ℕ → Type 0
@@ -119,14 +119,14 @@ module _ (l : Limits) where
       stage_left stage i there s = stage_kept ws (set ws (place_of l w) x) stage i (heads_kept (λ j e. (may.head j e).empty) i there) s
 
       -- and so do those of each head's run
-      pub runs_after : ((i stage : ℕ) → i < rows_of l → HasStage ws stage i → HaveStage ws stage i (run_bits (get_or ws (head_place i) 0)))
-          → (i stage : ℕ) → i < rows_of l → HasStage (set ws (place_of l w) x) stage i → HaveStage (set ws (place_of l w) x) stage i (run_bits (get_or (set ws (place_of l w) x) (head_place i) 0))
-      runs_after old i stage there s j low up = same_or_other (HeadWord i) w there at
+      pub tails_after : ((i stage : ℕ) → i < rows_of l → HasStage ws stage i → HaveStage ws stage i (tail_bits (get_or ws (head_place i) 0)))
+          → (i stage : ℕ) → i < rows_of l → HasStage (set ws (place_of l w) x) stage i → HaveStage (set ws (place_of l w) x) stage i (tail_bits (get_or (set ws (place_of l w) x) (head_place i) 0))
+      tails_after old i stage there s j low up = same_or_other (HeadWord i) w there at
           (λ e. let now : get_or (set ws (place_of l w) x) (head_place i) 0 ≡ x = ap (λ z. get_or (set ws (place_of l w) x) (place_of l z) 0) e ∙ stored wide in dite (ℕ_discrete j i)
           (λ same. subst (HasStage (set ws (place_of l w) x) stage) (sym same) s)
-          (λ apart. stage_left stage j (omega arith) ((may.head i (sym e)).run stage (s.0, s.1, s.2, ap head_bits (sym now) ∙ s.3) j (omega arith) (subst (λ z. i ≤ j + run_bits z) now up))))
+          (λ apart. stage_left stage j (omega arith) ((may.head i (sym e)).tail stage (s.0, s.1, s.2, ap head_bits (sym now) ∙ s.3) j (omega arith) (subst (λ z. i ≤ j + tail_bits z) now up))))
           (λ other. let same = left (HeadWord i) there other in
-          stage_left stage j (omega arith) (old i stage there (s.0, s.1, s.2, ap head_bits (sym same) ∙ s.3) j low (subst (λ z. i ≤ j + run_bits z) same up)))
+          stage_left stage j (omega arith) (old i stage there (s.0, s.1, s.2, ap head_bits (sym same) ∙ s.3) j low (subst (λ z. i ≤ j + tail_bits z) same up)))
 
       -- the counter of drawn blocks doesn't fall, nor rise above the number of blocks
       pub drawn_rises : drawn_in l ws ≤ drawn_in l (set ws (place_of l w) x)
@@ -142,7 +142,7 @@ module _ (l : Limits) where
       -- what was found in words that stay or rise is still so
       pub still_left : (known : Known) → StillSo l ws known → StillSo l (set ws (place_of l w) x) known
       still_left (RowHead i head) t = (t.0, t.1, λ some. ap head_bits (heads_kept (λ j e. (may.head j e).empty) i t.0 (has_full ws i head some (t.2 some))) ∙ t.2 some)
-      still_left (RowRun i stage run) t = let there = t.0 in (there, λ j low up. stage_left stage j (omega arith) (t.1 j low up))
+      still_left (RowTail i stage run) t = let there = t.0 in (there, λ j low up. stage_left stage j (omega arith) (t.1 j low up))
       still_left (PartMark s p n) t = let low : n ≤ get_or ws (mark_place l s p) 0 = t.1 in (
         t.0,
         same_or_other (MarkWord s p) w t.0 at

@@ -15,16 +15,16 @@ use Rattle.tp_model.proofs.LawProofs.{settled_stay}
 use Rattle.tp_model.proofs.Later.{births_inside}
 use Rattle.tp_model.proofs.WordProofs.{claim_word-snoc, end_of-snoc}
 use Rattle.tp_rule.specs.Places.{Word, HeadWord, BodyWord, ClaimWord as ClaimOf, UnitWord, MarkWord, DrawnWord, IsThere, head_place, mark_place, place_of}
-use Rattle.tp_rule.specs.declared.bits.TheConstants.{HEAD_RUN}
-use Rattle.tp_rule.specs.Words.{IsFitClaim, IsFitHead, IsFitUnit, head_bits, head_of, pack_claim, pack_head, pack_unit, run_bits, unit_bits, unit_run_bits}
+use Rattle.tp_rule.specs.declared.bits.TheConstants.{HEAD_TAIL}
+use Rattle.tp_rule.specs.Words.{IsFitClaim, IsFitHead, IsFitUnit, head_bits, head_of, pack_claim, pack_head, pack_unit, tail_bits, unit_bits, unit_tail_bits}
 use Rattle.tp_rule.specs.declared.packing.Head.{Head}
 use Rattle.tp_rule.specs.declared.packing.Head.TheVariants.{Empty, Void, Filled}
 use Rattle.tp_rule.specs.Rule.{AreCommitted, Concerns, HasHead, HasStage, HeadTold, IsAside, IsFinished, IsInside, IsOther, IsUseless, MarkHolds, StillSo, WordIs, World}
 use Rattle.tp_rule.specs.Steps.{AreFinishedFor, Found, IsLow, IsFinishedFor, IsSo}
 use Rattle.tp_rule.specs.declared.view.Known.{Known}
-use Rattle.tp_rule.specs.declared.view.Known.TheVariants.{RowHead, RowRun, PartMark, MarkAbove, BlocksDrawn}
+use Rattle.tp_rule.specs.declared.view.Known.TheVariants.{RowHead, RowTail, PartMark, MarkAbove, BlocksDrawn}
 use Rattle.tp_rule.proofs.Births.{MadeBy, by_unit}
-use Rattle.tp_rule.proofs.Storing.{MayStore, bare_after, behind_after, drawn_inside, full_head, has_full, heads_kept, left, runs_after, same_or_other, stored, unwritten_after}
+use Rattle.tp_rule.proofs.Storing.{MayStore, bare_after, behind_after, drawn_inside, full_head, has_full, heads_kept, left, tails_after, same_or_other, stored, unwritten_after}
 use Rattle.tp_rule.proofs.Units.{decide}
 
 -- what is committed stays so
@@ -49,36 +49,36 @@ head_told (Filled s r (Some u)) (Filled t q (Some v)) f g e = let a : s ≤ 15 =
     let x : s ≡ t = omega arith in let y : r ≡ q = omega arith in let z : u ≡ v = omega arith in (λ i. Filled (x i) (y i) (Some (z i)))
 
 -- a head is below the run
-pub head_small : (head : Head) → IsFitHead head → pack_head head < HEAD_RUN
+pub head_small : (head : Head) → IsFitHead head → pack_head head < HEAD_TAIL
 head_small Empty f = omega arith
 head_small Void f = omega arith
 head_small (Filled s r None) f = let a : s ≤ 15 = f.1 in let b : r ≤ 65535 = f.2 in omega arith
 head_small (Filled s r (Some u)) f = let a : s ≤ 15 = f.1 in let b : r ≤ 65535 = f.2 in let c : u + 1 ≤ 65535 = f.3 in omega arith
 
 -- so it can be told from that, and the other way round
-bits_beside : (p m : ℕ) → p < HEAD_RUN → head_bits (p + HEAD_RUN * m) ≡ p
+bits_beside : (p m : ℕ) → p < HEAD_TAIL → head_bits (p + HEAD_TAIL * m) ≡ p
 bits_beside p m small = omega arith
 
-run_beside : (p m : ℕ) → p < HEAD_RUN → run_bits (p + HEAD_RUN * m) ≡ m
-run_beside p m small = omega arith
+tail_beside : (p m : ℕ) → p < HEAD_TAIL → tail_bits (p + HEAD_TAIL * m) ≡ m
+tail_beside p m small = omega arith
 
-alone_bits : (p : ℕ) → p < HEAD_RUN → head_bits p ≡ p
+alone_bits : (p : ℕ) → p < HEAD_TAIL → head_bits p ≡ p
 alone_bits p small = omega arith
 
-alone_run : (p : ℕ) → p < HEAD_RUN → run_bits p ≡ 0
-alone_run p small = omega arith
+alone_tail : (p : ℕ) → p < HEAD_TAIL → tail_bits p ≡ 0
+alone_tail p small = omega arith
 
-pub bits_with : (head : Head) (m : ℕ) → IsFitHead head → head_bits (pack_head head + HEAD_RUN * m) ≡ pack_head head
+pub bits_with : (head : Head) (m : ℕ) → IsFitHead head → head_bits (pack_head head + HEAD_TAIL * m) ≡ pack_head head
 bits_with head m fit = bits_beside (pack_head head) m (head_small head fit)
 
-pub run_with : (head : Head) (m : ℕ) → IsFitHead head → run_bits (pack_head head + HEAD_RUN * m) ≡ m
-run_with head m fit = run_beside (pack_head head) m (head_small head fit)
+pub tail_with : (head : Head) (m : ℕ) → IsFitHead head → tail_bits (pack_head head + HEAD_TAIL * m) ≡ m
+tail_with head m fit = tail_beside (pack_head head) m (head_small head fit)
 
 pub bits_alone : (head : Head) → IsFitHead head → head_bits (pack_head head) ≡ pack_head head
 bits_alone head fit = alone_bits (pack_head head) (head_small head fit)
 
-pub run_alone : (head : Head) → IsFitHead head → run_bits (pack_head head) ≡ 0
-run_alone head fit = alone_run (pack_head head) (head_small head fit)
+pub tail_alone : (head : Head) → IsFitHead head → tail_bits (pack_head head) ≡ 0
+tail_alone head fit = alone_tail (pack_head head) (head_small head fit)
 
 -- the stage of an element with this head
 head_stage : (stage root : ℕ) (by : Option ℕ) (x : Element) → Filled stage root by ≡ head_of x → x.stage ≡ stage
@@ -159,7 +159,7 @@ module _ (k : Limits) (h : List Event) (ws : List ℕ) (world : World k h ws) wh
   -- what a seat knows of words that stay is so
   pub so_now : (x : Known) → StillSo k ws x → IsSo k h x
   so_now (RowHead i head) still = λ some x p. recall i head x still some p
-  so_now (RowRun i stage run) still = λ j low up x p. let there = still.0 in let s = still.1 j low up in let told = world.tells (HeadWord j) (omega arith) in
+  so_now (RowTail i stage run) still = λ j low up x p. let there = still.0 in let s = still.1 j low up in let told = world.tells (HeadWord j) (omega arith) in
       head_stage stage s.0 s.1 x (head_told (Filled stage s.0 s.1) told.head s.2 told.fit (sym s.3 ∙ told.packed) ∙ told.born x p)
   so_now (PartMark s p n) still = low_below s p n still
   so_now (MarkAbove s p n) still = let low : n < get_or ws (mark_place k s p) 0 = still.1 in inside_below k p (n + 1) (get_or ws (mark_place k s p) 0) (omega arith) (world.marks s p still.0).inside
@@ -212,15 +212,15 @@ module _ (h : List Event) (e : Event) where
     packed = old.packed ∙ ap pack_unit now;
     fit = subst IsFitUnit now old.fit;
     bare = λ none. old.bare (now ∙ none);
-    before = still_committed h (h ++ e ∷ []) u (unit_run_bits n) (e ∷ [], refl) old.before;
+    before = still_committed h (h ++ e ∷ []) u (unit_tail_bits n) (e ∷ [], refl) old.before;
   }
 
-  pub unit_now : (u n : ℕ) (w : Option UnitEnd) → decide u (end_of h u) e ≡ w → unit_bits n ≡ pack_unit w → IsFitUnit w → w ≢ None → AreCommitted h u (unit_run_bits n) → WordIs (h ++ e ∷ []) (UnitWord u) n
+  pub unit_now : (u n : ℕ) (w : Option UnitEnd) → decide u (end_of h u) e ≡ w → unit_bits n ≡ pack_unit w → IsFitUnit w → w ≢ None → AreCommitted h u (unit_tail_bits n) → WordIs (h ++ e ∷ []) (UnitWord u) n
   unit_now u n w is at fit some before = let now = sym (end_of-snoc h e u ∙ is) in record {
     packed = at ∙ ap pack_unit now;
     fit = subst IsFitUnit now fit;
     bare = λ none. absurd (some (now ∙ none));
-    before = still_committed h (h ++ e ∷ []) u (unit_run_bits n) (e ∷ [], refl) before;
+    before = still_committed h (h ++ e ∷ []) u (unit_tail_bits n) (e ∷ [], refl) before;
   }
 
   -- a word that says nothing of what an event without births changes
@@ -250,6 +250,6 @@ world_stored k h h' ws w x world legal begins at now rest may mark = record {
   drawn = drawn_inside k ws w x at world.wide may world.drawn;
   bare = bare_after k ws w x at world.wide may world.bare;
   unwritten = unwritten_after k ws w x at world.wide may world.unwritten;
-  runs = runs_after k ws w x at world.wide may world.runs;
+  tails = tails_after k ws w x at world.wide may world.tails;
   behind = λ first end i j area low later high. behind_after k ws w x at world.wide may first end i j area (area_inside k first end area) low later high (world.behind first end i j area low later high);
 }

@@ -55,7 +55,7 @@ module _ (k : Limits) (t : Turn k) (i : ℕ) (away : IsLeftBehind k (hand t.view
       head = λ j e. let same : i ≡ j = cc in record {
         empty = subst (λ z. get_or t.state.words (head_place z) 0 ≡ 0) same empty;
         full = λ not. absurd (not refl);
-        run = λ stage s j low up. let q : Filled stage s.0 s.1 ≡ Void = head_told (Filled stage s.0 s.1) Void s.2 tt (sym s.3) in absurd cc;
+        tail = λ stage s j low up. let q : Filled stage s.0 s.1 ≡ Void = head_told (Filled stage s.0 s.1) Void s.2 tt (sym s.3) in absurd cc;
         drawn = let hold = hand_holds k t in let top = own_drawn k me.number (drawn_in k t.state.words) me.blocks away.0 away.1 hold.blocks away.2 in let high = away.4 in omega arith;
       };
       mark = λ s p e. absurd cc;

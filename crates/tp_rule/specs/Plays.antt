@@ -7,8 +7,8 @@ use Rattle.tp_model.specs.declared.types.TheConstants.{BODY_WORDS, REPLY_STAGE}
 use Rattle.tp_model.specs.declared.trace.StepKind.TheVariants as kinds
 use Rattle.tp_rule.specs.declared.packing.Head.{Head}
 use Rattle.tp_rule.specs.declared.packing.Head.TheVariants.{Filled}
-use Rattle.tp_rule.specs.declared.bits.TheConstants.{HEAD_RUN}
-use Rattle.tp_rule.specs.Words.{IsFitHead, head_bits, pack_claim, pack_head, run_bits}
+use Rattle.tp_rule.specs.declared.bits.TheConstants.{HEAD_TAIL}
+use Rattle.tp_rule.specs.Words.{IsFitHead, head_bits, pack_claim, pack_head, tail_bits}
 use Rattle.tp_rule.specs.Places.{IsThere, MarkWord, head_place, body_place, claim_place, mark_place}
 use Rattle.tp_rule.specs.Places.{drawn_place, unit_place}
 use Rattle.tp_rule.specs.Views.{hand, next_row}
@@ -16,7 +16,7 @@ use Rattle.tp_rule.specs.Steps.{Found, Grew, Knows, Loads, MayBeBorn, unchanged,
 use Rattle.tp_rule.specs.Steps.{Publishes, Chooses, MakesClaim, MakesCommit, LosesUnit, MakesAbort, MakesKill}
 use Rattle.tp_rule.specs.Steps.{MakesRequeue, Misses, IsLow, RaisesMark, NoneDrawn, Shares, Draws, DrawsNone}
 use Rattle.tp_rule.specs.Steps.{AreInOrder, Voids}
-use Rattle.tp_rule.specs.declared.view.Known.TheVariants.{RowHead, RowRun, PartMark, MarkAbove, BlocksDrawn}
+use Rattle.tp_rule.specs.declared.view.Known.TheVariants.{RowHead, RowTail, PartMark, MarkAbove, BlocksDrawn}
 use Rattle.tp_rule.specs.declared.view.View.{View}
 
 abbrev pub Telling : Type 1
@@ -25,13 +25,13 @@ Telling = ℕ → ℕ → ℕ → View → ℕ → View → Type 0
 abbrev pub loads : Telling
 loads word first second v r w = Loads v word r w
 
--- a load of a head, which the seat remembers, with its run; where it is empty, an element may be born in its row yet
+-- a load of a head, which the seat remembers, with its tail; where it is empty, an element may be born in its row yet
 abbrev pub loads_head : Telling
 loads_head word first second v r w = Loads v word r w
     × ((i : ℕ) (head : Head) → word ≡ head_place i → head_bits r ≡ pack_head head → IsFitHead head
     → Knows w (RowHead i head))
     × ((i stage root : ℕ) (by : Option ℕ) → word ≡ head_place i → head_bits r ≡ pack_head (Filled stage root by)
-    → IsFitHead (Filled stage root by) → Knows w (RowRun i stage (run_bits r)))
+    → IsFitHead (Filled stage root by) → Knows w (RowTail i stage (tail_bits r)))
     × ((i : ℕ) → word ≡ head_place i → r ≡ 0 → MayBeBorn v.limits w.seen i)
 
 -- a load of a unit's word, which tells too that each pass takes its units in order
@@ -48,8 +48,8 @@ stores_head word packed second v r w =
     × (packed ≡ pack_head (Filled stage root (Some u))) × Drafts v stage root u w
 
 abbrev pub publishes : Telling
-publishes word packed second v r w = (stage : ℕ) × (run : ℕ) × (stage ≤ REPLY_STAGE) × (run < 65536)
-    × (packed ≡ pack_head (Filled stage (next_row v) None) + HEAD_RUN * run) × Publishes v stage run w
+publishes word packed second v r w = (stage : ℕ) × (tail : ℕ) × (stage ≤ REPLY_STAGE) × (tail < 65536)
+    × (packed ≡ pack_head (Filled stage (next_row v) None) + HEAD_TAIL * tail) × Publishes v stage tail w
 
 abbrev pub chooses : Telling
 chooses word first second v r w = (u : ℕ) × (word ≡ unit_place v.limits u) × Chooses v u w

@@ -17,12 +17,12 @@ use Rattle.tp_model.specs.declared.types.Limits.{Limits}
 use Rattle.tp_model.specs.declared.types.TheConstants.{BLOCK_ROWS, BODY_WORDS, REPLY_STAGE}
 use Rattle.tp_rule.specs.declared.view.Hand.{Hand}
 use Rattle.tp_rule.specs.declared.view.Known.{Known}
-use Rattle.tp_rule.specs.declared.view.Known.TheVariants.{RowHead, RowRun, PartMark, MarkAbove, BlocksDrawn}
+use Rattle.tp_rule.specs.declared.view.Known.TheVariants.{RowHead, RowTail, PartMark, MarkAbove, BlocksDrawn}
 use Rattle.tp_rule.specs.declared.view.View.{View}
 use Rattle.tp_rule.specs.Places.{Word, HeadWord, BodyWord, ClaimWord, UnitWord, MarkWord, DrawnWord, IsThere}
 use Rattle.tp_rule.specs.Places.{head_place, body_place, mark_place, drawn_place, place_of, size_of}
 use Rattle.tp_rule.specs.Words.{IsFitHead, IsFitClaim, IsFitUnit, head_bits, head_of, pack_claim, pack_head}
-use Rattle.tp_rule.specs.Words.{pack_unit, run_bits, unit_bits, unit_run_bits}
+use Rattle.tp_rule.specs.Words.{pack_unit, tail_bits, unit_bits, unit_tail_bits}
 use Rattle.tp_rule.specs.declared.packing.Head.{Head}
 use Rattle.tp_rule.specs.declared.packing.Head.TheVariants.{Empty, Void, Filled}
 
@@ -45,7 +45,7 @@ HasStage ws stage i = (root : ℕ) × (by : Option ℕ) × IsFitHead (Filled sta
 
 -- and so are those of so many rows right before it
 abbrev pub HaveStage : List ℕ → ℕ → ℕ → ℕ → Type 0
-HaveStage ws stage i run = (j : ℕ) → j ≤ i → i ≤ j + run → HasStage ws stage j
+HaveStage ws stage i tail = (j : ℕ) → j ≤ i → i ≤ j + tail → HasStage ws stage j
 
 -- so many rows right before the next one, of those from `first` on, have heads of this stage
 abbrev pub HasTail : List ℕ → ℕ → ℕ → ℕ → ℕ → Type 0
@@ -169,7 +169,7 @@ IsApart (a ∷ hands) = ((b : Hand) → In b hands → ¬ (b.number ≡ a.number
 -- what was found in a word that stays is still so or has only risen
 abbrev pub StillSo : Limits → List ℕ → Known → Type 0
 StillSo l ws (RowHead i head) = (i < rows_of l) × IsFitHead head × (head ≢ Empty → HasHead ws i head)
-StillSo l ws (RowRun i stage run) = (i < rows_of l) × HaveStage ws stage i run
+StillSo l ws (RowTail i stage tail) = (i < rows_of l) × HaveStage ws stage i tail
 StillSo l ws (PartMark s p n) = IsThere l (MarkWord s p) × (n ≤ slice_index ws (mark_place l s p))
 StillSo l ws (MarkAbove s p n) = IsThere l (MarkWord s p) × (n < slice_index ws (mark_place l s p))
 StillSo l ws (BlocksDrawn n) = n ≤ drawn_in l ws
@@ -205,7 +205,7 @@ pub record HeadTold (h : List Event) (i n : ℕ) : Type 0 where
   -- the number's head is the packing of a value that a head can hold
   pub packed : head_bits n ≡ pack_head head
   pub fit : IsFitHead head
-  -- and it has no run where the head is empty
+  -- and it has no tail where the head is empty
   pub bare : head ≡ Empty → n ≡ 0
   -- where an element is born in the row, it is that element's head
   pub born : (x : Element) → element_of h i ≡ Some x → head ≡ head_of x
@@ -218,17 +218,17 @@ IsCommitted h u = (from : ℕ) × (count : ℕ) × (end_of h u ≡ Some (Committ
 
 -- and so are this many units right before it
 abbrev pub AreCommitted : List Event → ℕ → ℕ → Type 0
-AreCommitted h u run = (w : ℕ) → w < u → u ≤ w + run → IsCommitted h w
+AreCommitted h u tail = (w : ℕ) → w < u → u ≤ w + tail → IsCommitted h w
 
 -- what the word of unit u says, where the number n is there
 pub record UnitTold (h : List Event) (u n : ℕ) : Type 0 where
   -- it says how the unit ended
   pub packed : unit_bits n ≡ pack_unit (end_of h u)
   pub fit : IsFitUnit (end_of h u)
-  -- it has no run where that is undecided
+  -- it has no tail where that is undecided
   pub bare : end_of h u ≡ None → n ≡ 0
-  -- the units of its run are committed
-  pub before : AreCommitted h u (unit_run_bits n)
+  -- the units of its tail are committed
+  pub before : AreCommitted h u (unit_tail_bits n)
 
 -- what each word says of the history h, where the number n is there
 abbrev pub WordIs : List Event → Word → ℕ → Type 0
@@ -307,9 +307,9 @@ pub record World (l : Limits) (h : List Event) (ws : List ℕ) : Type 0 where
   pub behind : (first end i j : ℕ) → IsArea l first end → first ≤ i → i ≤ j → j < end
       → slice_index ws (head_place i) ≡ 0
       → (slice_index ws (head_place j) ≡ 0) ⊎ (slice_index ws (head_place j) ≡ pack_head Void)
-  -- the rows of each head's run have heads of its stage
-  pub runs : (i stage : ℕ) → i < rows_of l → HasStage ws stage i
-      → HaveStage ws stage i (run_bits (slice_index ws (head_place i)))
+  -- the rows of each head's tail have heads of its stage
+  pub tails : (i stage : ℕ) → i < rows_of l → HasStage ws stage i
+      → HaveStage ws stage i (tail_bits (slice_index ws (head_place i)))
 
 -- some seat has a pass of which P is so
 abbrev pub AtSeat : (Hand → Type 0) → List View → Type 0

@@ -27,7 +27,7 @@ use Rattle.tp_rule.specs.Rule.{Concerns, IsInside, IsOther, IsSettledRow, WordIs
 use Rattle.tp_rule.specs.Views.{IsOnePass, blank_body, hand, next_row}
 use Rattle.tp_rule.specs.declared.view.Hand.{Hand}
 use Rattle.tp_rule.specs.declared.view.Known.{Known}
-use Rattle.tp_rule.specs.declared.view.Known.TheVariants.{RowHead, RowRun, PartMark, MarkAbove, BlocksDrawn}
+use Rattle.tp_rule.specs.declared.view.Known.TheVariants.{RowHead, RowTail, PartMark, MarkAbove, BlocksDrawn}
 use Rattle.tp_rule.specs.declared.view.View.{View}
 
 -- the pass with one more entry in its trace
@@ -64,11 +64,11 @@ abbrev pub IsLow : Limits → ℕ → List Event → ℕ → ℕ → Type 0
 IsLow l s h p n = IsInside l p n × AreFinishedFor l s h p n
 
 -- what a seat that knows x knows of the history h: a head that isn't empty is that of the element that is
--- born in the row, what is born in a row of a run is of its stage, no row below a mark has an element of its stages that isn't consumed or killed, a mark
+-- born in the row, what is born in a row of a tail is of its stage, no row below a mark has an element of its stages that isn't consumed or killed, a mark
 -- that is above a number is in its part, and no more blocks are drawn than there are
 abbrev pub IsSo : Limits → List Event → Known → Type 0
 IsSo l h (RowHead i head) = head ≢ Empty → (x : Element) → element_of h i ≡ Some x → head ≡ head_of x
-IsSo l h (RowRun i stage run) = (j : ℕ) → j ≤ i → i ≤ j + run → (x : Element) → element_of h j ≡ Some x
+IsSo l h (RowTail i stage tail) = (j : ℕ) → j ≤ i → i ≤ j + tail → (x : Element) → element_of h j ≡ Some x
     → x.stage ≡ stage
 IsSo l h (PartMark s p n) = IsLow l s h p n
 IsSo l h (MarkAbove s p n) = IsInside l p (n + 1)
@@ -243,24 +243,24 @@ abbrev pub birth : View → ℕ → Event
 birth v stage = Enqueue (hand v).number (next_element v stage (next_row v) None)
 
 -- how many rows right before the next one were published in this stage
-abbrev pub run_before : ℕ → Hand → ℕ
-run_before stage a = if stage == a.tail_stage then a.tail else 0
+abbrev pub tail_before : ℕ → Hand → ℕ
+tail_before stage a = if stage == a.tail_stage then a.tail else 0
 
 -- the next row is born, in this stage, and tells of so many rows before it
 abbrev pub with_birth : ℕ → ℕ → Event → Hand → Hand
-with_birth stage run e a = record a {
+with_birth stage tail e a = record a {
   mine = a.mine ++ e ∷ [];
   first_draft = a.next + 1;
   next = a.next + 1;
   left = a.left - 1;
-  tail = run + 1;
+  tail = tail + 1;
   tail_stage = stage;
   next_body = blank_body;
   drafts = [];
 }
 
 abbrev pub Publishes : View → ℕ → ℕ → View → Type 0
-Publishes v stage run w = Grew kinds.Publish (with_birth stage run (birth v stage)) (birth v stage ∷ []) v w
+Publishes v stage tail w = Grew kinds.Publish (with_birth stage tail (birth v stage)) (birth v stage ∷ []) v w
 
 -- unit choice
 
@@ -398,13 +398,13 @@ KnowsFinished v i = IsSettledRow v.limits v.seen i ⊎ HasDead v i
 abbrev pub FoundAside : View → ℕ → ℕ → Type 0
 FoundAside v s i = (head : Head) × Knows v (RowHead i head) × IsOther s head
 
--- or row i is in a run of such a stage
-abbrev pub RunAside : View → ℕ → ℕ → Type 0
-RunAside v s i = (k : ℕ) × (stage : ℕ) × (run : ℕ) × Knows v (RowRun k stage run) × (i ≤ k) × (k ≤ i + run)
+-- or row i is in the tail of a head of such a stage
+abbrev pub TailAside : View → ℕ → ℕ → Type 0
+TailAside v s i = (k : ℕ) × (stage : ℕ) × (tail : ℕ) × Knows v (RowTail k stage tail) × (i ≤ k) × (k ≤ i + tail)
     × ¬ Concerns s stage
 
 abbrev pub HasAside : View → ℕ → ℕ → Type 0
-HasAside v s i = FoundAside v s i ⊎ RunAside v s i
+HasAside v s i = FoundAside v s i ⊎ TailAside v s i
 
 -- the seat knows that row i is of no use to kind s
 abbrev pub KnowsUseless : View → ℕ → ℕ → Type 0

@@ -5,10 +5,10 @@ use Rattle.tp_model.specs.History.{UnitEnd, Committed, Aborted}
 use Rattle.tp_model.specs.Words.{ClaimWord, FreeWord, TakenWord, KilledWord, AgainWord}
 use Rattle.tp_model.specs.declared.types.TheConstants.{MAX_ATTEMPTS, MAX_OUTPUTS, MAX_ROUNDS, REPLY_STAGE}
 use Rattle.tp_rule.specs.declared.bits.TheConstants.{HEAD_EMPTY, HEAD_VOID, HEAD_PRESENT, HEAD_STAGE}
-use Rattle.tp_rule.specs.declared.bits.TheConstants.{HEAD_ROOT, HEAD_BY, HEAD_RUN, CLAIM_FREE, CLAIM_TAKEN}
+use Rattle.tp_rule.specs.declared.bits.TheConstants.{HEAD_ROOT, HEAD_BY, HEAD_TAIL, CLAIM_FREE, CLAIM_TAKEN}
 use Rattle.tp_rule.specs.declared.bits.TheConstants.{CLAIM_KILLED, CLAIM_AGAIN, CLAIM_ATTEMPT, CLAIM_UNIT}
 use Rattle.tp_rule.specs.declared.bits.TheConstants.{CLAIM_ROUND, UNIT_UNDECIDED, UNIT_COMMITTED}
-use Rattle.tp_rule.specs.declared.bits.TheConstants.{UNIT_ABORTED, UNIT_COUNT, UNIT_FIRST, UNIT_RUN, MAX_UNIT}
+use Rattle.tp_rule.specs.declared.bits.TheConstants.{UNIT_ABORTED, UNIT_COUNT, UNIT_FIRST, UNIT_TAIL, MAX_UNIT}
 use Rattle.tp_rule.specs.declared.bits.TheConstants.{MAX_ID}
 use Rattle.tp_rule.specs.declared.packing.Head.{Head}
 use Rattle.tp_rule.specs.declared.packing.Head.TheVariants.{Empty, Void, Filled}
@@ -39,18 +39,18 @@ abbrev pub pack_by : Option ℕ → ℕ
 pack_by None = 0
 pack_by (Some u) = u + 1
 
--- the head word, without its run
+-- the head word, without its tail
 abbrev pub pack_head : Head → ℕ
 pack_head Empty = HEAD_EMPTY
 pack_head Void = HEAD_VOID
 pack_head (Filled stage root by) = HEAD_PRESENT + HEAD_STAGE * stage + HEAD_ROOT * root + HEAD_BY * pack_by by
 
--- the head in a head word, and the run: how many rows right before it have heads of its stage
+-- the head in a head word, and the tail: how many rows right before it have heads of its stage
 abbrev pub head_bits : ℕ → ℕ
-head_bits word = word % HEAD_RUN
+head_bits word = word % HEAD_TAIL
 
-abbrev pub run_bits : ℕ → ℕ
-run_bits word = word / HEAD_RUN
+abbrev pub tail_bits : ℕ → ℕ
+tail_bits word = word / HEAD_TAIL
 
 -- the claim word
 abbrev pub pack_claim : ClaimWord → ℕ
@@ -59,18 +59,18 @@ pack_claim (TakenWord n u r) = CLAIM_TAKEN + CLAIM_ATTEMPT * n + CLAIM_UNIT * u 
 pack_claim (KilledWord n u r) = CLAIM_KILLED + CLAIM_ATTEMPT * n + CLAIM_UNIT * u + CLAIM_ROUND * r
 pack_claim (AgainWord r) = CLAIM_AGAIN + CLAIM_ROUND * r
 
--- the word of a unit, without its run
+-- the word of a unit, without its tail
 abbrev pub pack_unit : Option UnitEnd → ℕ
 pack_unit None = UNIT_UNDECIDED
 pack_unit (Some (Committed first count)) = UNIT_COMMITTED + UNIT_COUNT * count + UNIT_FIRST * first
 pack_unit (Some Aborted) = UNIT_ABORTED
 
--- how a unit ended by its word, and the run of a committed one: how many units right before it are committed
+-- how a unit ended by its word, and the tail of a committed one: how many units right before it are committed
 abbrev pub unit_bits : ℕ → ℕ
-unit_bits word = word % UNIT_RUN
+unit_bits word = word % UNIT_TAIL
 
-abbrev pub unit_run_bits : ℕ → ℕ
-unit_run_bits word = word / UNIT_RUN
+abbrev pub unit_tail_bits : ℕ → ℕ
+unit_tail_bits word = word / UNIT_TAIL
 
 -- the values that heads have: a stage that is 1 to 15, an id, and a unit's number with room for 1 more
 abbrev pub IsFitHead : Head → Type 0

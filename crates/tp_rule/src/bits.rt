@@ -23,7 +23,7 @@ pub const HEAD_ROOT: u64 = 1 << 5;
 pub const HEAD_BY: u64 = 1 << 21;
 
 /// Head, bits 37 to 52: how many rows right before it have heads of its stage, as far as its pass tells.
-pub const HEAD_RUN: u64 = 1 << 37;
+pub const HEAD_TAIL: u64 = 1 << 37;
 
 /// The claim of an element that was never taken or killed, and of a row without an element.
 pub const CLAIM_FREE: u64 = 0;
@@ -63,7 +63,7 @@ pub const UNIT_COUNT: u64 = 1 << 2;
 pub const UNIT_FIRST: u64 = 1 << 5;
 
 /// Unit, bits 21 to 36: how many units right before a committed one are committed, as far as its pass tells.
-pub const UNIT_RUN: u64 = 1 << 21;
+pub const UNIT_TAIL: u64 = 1 << 21;
 
 /// The greatest number of a unit: a head has room for the number plus 1.
 pub const MAX_UNIT: u64 = 65534;

@@ -17,7 +17,7 @@ ghost use Rattle.tp_rule.specs.Steps.{Chooses, MakesClaim, MakesCommit, MakesAbo
 ghost use Rattle.tp_rule.specs.Steps.{LosesUnit, FindsOther, FindsEnded, AllowsClaim, AllowsKill};
 ghost use Rattle.tp_rule.specs.Steps.{AllowsRequeue, HasCleared, HasElement, HasWork, IsOwnWork, IsClaimed};
 
-use crate::bits::{HEAD_EMPTY, HEAD_VOID, UNIT_ABORTED, UNIT_RUN, UNIT_UNDECIDED};
+use crate::bits::{HEAD_EMPTY, HEAD_VOID, UNIT_ABORTED, UNIT_TAIL, UNIT_UNDECIDED};
 use crate::packing::{Claim, FoundClaim, UnitWord};
 use crate::plays::{
     AbortExchange, ClaimExchange, CommitExchange, Draw, KillExchange, Raise, RequeueExchange,
@@ -85,7 +85,7 @@ impl Words {
 
     /// The open unit is committed with its drafts, if it is undecided. `true` adds the commit to the history:
     /// in this one step the element that the unit took is consumed and all drafts are born. `false`: another
-    /// pass had aborted the unit, and its drafts are never born. `run` is how many units right before this one
+    /// pass had aborted the unit, and its drafts are never born. `tail` is how many units right before this one
     /// were seen to be committed, or fewer.
     #[inline(always)]
     pub fn commit_exchange(
@@ -94,7 +94,7 @@ impl Words {
         unit: u16,
         first: u16,
         count: u8,
-        run: u16,
+        tail: u16,
     ) -> bool
         requires own { IsSeatOf self.now seat.old }
         requires one { IsPassOf self.now seat.old }
@@ -103,7 +103,7 @@ impl Words {
         requires work { IsOwnWork (view_of seat.old) unit }
         requires count { (count ≡ length (hand_of seat.old).drafts) × (count ≤ MAX_OUTPUTS) }
         requires first { first ≡ first_id (hand_of seat.old).drafts }
-        requires run { AreCommitted (seen_by seat.old) unit run }
+        requires tail { AreCommitted (seen_by seat.old) unit tail }
         requires cleared { HasCleared (view_of seat.old) }
         ensures same { IsSameSeat seat.old seat.new }
         ensures hit { result ≡ true → MakesCommit (view_of seat.old) unit (view_of seat.new) }
@@ -111,7 +111,7 @@ impl Words {
             (view_of seat.new) }
     {
         let word = self.places.unit(unit);
-        let committed = UnitWord::Committed { first, count }.pack() + UNIT_RUN * run as u64;
+        let committed = UnitWord::Committed { first, count }.pack() + UNIT_TAIL * tail as u64;
         let was = self
             .table
             .compare_exchange::<CommitExchange>(seat, word, UNIT_UNDECIDED, committed);
@@ -141,7 +141,7 @@ impl Words {
         if was == UNIT_UNDECIDED {
             return Ok(());
         }
-        Err(UnitWord::read(was % UNIT_RUN))
+        Err(UnitWord::read(was % UNIT_TAIL))
     }
 
     /// The element of a row is killed, if its claim is still the one that was found: it was free, or its unit

@@ -14,9 +14,9 @@ ghost use Rattle.tp_rule.specs.Rule.{AreCommitted, IsDraft};
 ghost use Rattle.tp_rule.specs.Views.{seen_by, view_of, HasPass, IsSameSeat};
 ghost use Rattle.tp_rule.specs.Steps.{AreInOrder, IsLow, Loads, Grew, Knows, MayBeBorn, NoneDrawn, Shares};
 ghost use Rattle.tp_rule.specs.Steps.{unchanged};
-ghost use Rattle.tp_rule.specs.declared.view.Known.TheVariants.{RowHead, RowRun, PartMark, BlocksDrawn};
+ghost use Rattle.tp_rule.specs.declared.view.Known.TheVariants.{RowHead, RowTail, PartMark, BlocksDrawn};
 
-use crate::bits::{HEAD_RUN, UNIT_RUN};
+use crate::bits::{HEAD_TAIL, UNIT_TAIL};
 use crate::packing::{FoundClaim, FoundHead, FoundUnit, Head, UnitWord};
 use crate::plays::{Load, LoadDrawn, LoadHead, LoadMark, LoadUnit};
 use crate::seat::Seat;
@@ -54,15 +54,13 @@ impl Words {
         ensures knows { Knows (view_of seat.new) (RowHead row result) }
         ensures none { result ≡ Empty → MayBeBorn (table_limits self.now) (seen_by seat.new) row }
     {
-        let word = self.places.head(row);
-        let found = self.table.load::<LoadHead>(seat, word);
-        Head::read(found % HEAD_RUN)
+        self.load_tail(seat, row).tells
     }
 
-    /// The same, and the run of the head where the row has one: so many rows right before it have heads of its
+    /// The same, and the tail of the head where the row has one: so many rows right before it have heads of its
     /// stage, and the seat remembers that too.
     #[inline(always)]
-    pub fn load_run(&self, seat: &mut Seat, row: u32) -> FoundHead
+    pub fn load_tail(&self, seat: &mut Seat, row: u32) -> FoundHead
         requires own { IsSeatOf self.now seat.old }
         requires one { IsPassOf self.now seat.old }
         requires row { row < rows_of (table_limits self.now) }
@@ -72,14 +70,14 @@ impl Words {
         ensures draft { IsUnborn (seen_by seat.new) row → IsDraft result.tells }
         ensures knows { Knows (view_of seat.new) (RowHead row result.tells) }
         ensures none { result.tells ≡ Empty → MayBeBorn (table_limits self.now) (seen_by seat.new) row }
-        ensures run { (stage root : ℕ) (by : Option ℕ) → result.tells ≡ Filled stage root by
-            → Knows (view_of seat.new) (RowRun row stage result.run) }
+        ensures tail { (stage root : ℕ) (by : Option ℕ) → result.tells ≡ Filled stage root by
+            → Knows (view_of seat.new) (RowTail row stage result.tail) }
     {
         let word = self.places.head(row);
         let found = self.table.load::<LoadHead>(seat, word);
         FoundHead {
-            tells: Head::read(found % HEAD_RUN),
-            run: (found / HEAD_RUN) as u32,
+            tells: Head::read(found % HEAD_TAIL),
+            tail: (found / HEAD_TAIL) as u32,
         }
     }
 
@@ -95,7 +93,7 @@ impl Words {
     {
         let word = self.places.head(row);
         let found = self.table.load::<LoadHead>(seat, word);
-        Head::stage(found % HEAD_RUN)
+        Head::stage(found % HEAD_TAIL)
     }
 
     /// Reads a word of the body of a row: that of its element, where one is born.
@@ -142,14 +140,12 @@ impl Words {
         ensures end { unit_value result ≡ end_of (seen_by seat.new) unit }
         ensures order { AreInOrder (table_limits self.now) (seen_by seat.new) }
     {
-        let word = self.places.unit(unit);
-        let found = self.table.load::<LoadUnit>(seat, word);
-        UnitWord::read(found % UNIT_RUN)
+        self.load_unit_tail(seat, unit).tells
     }
 
-    /// The same, and the run of a committed unit: so many units right before it are committed.
+    /// The same, and the tail of a committed unit: so many units right before it are committed.
     #[inline(always)]
-    pub fn load_unit_run(&self, seat: &mut Seat, unit: u16) -> FoundUnit
+    pub fn load_unit_tail(&self, seat: &mut Seat, unit: u16) -> FoundUnit
         requires own { IsSeatOf self.now seat.old }
         requires one { IsPassOf self.now seat.old }
         requires unit { unit < units_of (table_limits self.now) }
@@ -157,13 +153,13 @@ impl Words {
         ensures grew { Grew kinds.Load unchanged [] (view_of seat.old) (view_of seat.new) }
         ensures end { unit_value result.tells ≡ end_of (seen_by seat.new) unit }
         ensures order { AreInOrder (table_limits self.now) (seen_by seat.new) }
-        ensures before { AreCommitted (seen_by seat.new) unit result.run }
+        ensures before { AreCommitted (seen_by seat.new) unit result.tail }
     {
         let word = self.places.unit(unit);
         let found = self.table.load::<LoadUnit>(seat, word);
         FoundUnit {
-            tells: UnitWord::read(found % UNIT_RUN),
-            run: found / UNIT_RUN,
+            tells: UnitWord::read(found % UNIT_TAIL),
+            tail: found / UNIT_TAIL,
         }
     }
 

@@ -3,7 +3,7 @@
 //! `Head`, `Claim` and `UnitWord` can each hold more than the words can; `pack` asks for a value that a word
 //! can hold, and `unpack` answers such values alone. `unpack` undoes `pack`, and `pack` undoes `unpack`.
 //! `read` is the same for a number of which it is proved that it is such a word. A `FoundClaim` is a claim
-//! beside the word that it is in. The runs of a head and of a unit's word, their bits from 37 and
+//! beside the word that it is in. The tails of a head and of a unit's word, their bits from 37 and
 //! from 21 on, are apart from all this.
 ghost use Rattle.std.specs.Prelude.{◌≡◌, ◌↔◌, ℕ, IfSome, IsSome, Option, Some};
 ghost use Rattle.std.specs.Option.{option_map};
@@ -66,8 +66,8 @@ pub struct FoundClaim {
 pub struct FoundHead {
     /// What the word says of the row.
     pub tells: Head,
-    /// The run: where the row has an element or a draft, so many rows right before it have heads of its stage.
-    pub run: u32,
+    /// Where the row has an element or a draft, so many rows right before it have heads of its stage.
+    pub tail: u32,
 }
 
 /// What the word of a unit says.
@@ -87,8 +87,8 @@ pub enum UnitWord {
 pub struct FoundUnit {
     /// How the unit ended.
     pub tells: UnitWord,
-    /// The run: where the unit is committed, so many units right before it are.
-    pub run: u64,
+    /// Where the unit is committed, so many units right before it are.
+    pub tail: u64,
 }
 
 impl Head {

@@ -4,9 +4,9 @@ ghost use Rattle.tp_model.specs.declared.types.TheConstants.{BODY_WORDS};
 ghost use Rattle.tp_model.specs.Steps.{IsBody, IsServerStage, IsStage};
 ghost use Rattle.tp_rule.specs.Views.{blank_body, hand_of, view_of, IsNextRow, IsOnePass, IsSameSeat};
 ghost use Rattle.tp_rule.specs.Steps.{drafted, with_word, Bodied, Drafts, Fills};
-ghost use Rattle.tp_rule.specs.Steps.{run_before, HasBodyStored, HasCleared, Publishes};
+ghost use Rattle.tp_rule.specs.Steps.{tail_before, HasBodyStored, HasCleared, Publishes};
 
-use crate::bits::HEAD_RUN;
+use crate::bits::HEAD_TAIL;
 use crate::packing::Head;
 use crate::plays::{DraftHead, DraftWord, Publish};
 use crate::seat::Seat;
@@ -87,9 +87,9 @@ impl Words {
     }
 
     /// Stores the head of the row that the pass draws next, whose body is stored. It names no unit, so the
-    /// store is the birth of a client's element, and the history has its event: it is its own root. `run` is
+    /// store is the birth of a client's element, and the history has its event: it is its own root. `tail` is
     /// how many rows right before it the pass has published in this stage, or fewer.
-    pub fn publish(&self, seat: &mut Seat, row: u32, stage: u8, run: u16)
+    pub fn publish(&self, seat: &mut Seat, row: u32, stage: u8, tail: u16)
         requires own { IsSeatOf self.now seat.old }
         requires one { IsPassOf self.now seat.old }
         requires ready { HasBodyStored (view_of seat.old) }
@@ -97,9 +97,9 @@ impl Words {
         requires next { IsNextRow (table_limits self.now) (view_of seat.old) row }
         requires cleared { HasCleared (view_of seat.old) }
         requires fits { IsServerStage stage }
-        requires run { run ≤ run_before stage (hand_of seat.old) }
+        requires tail { tail ≤ tail_before stage (hand_of seat.old) }
         ensures same { IsSameSeat seat.old seat.new }
-        ensures grew { Publishes (view_of seat.old) stage run (view_of seat.new) }
+        ensures grew { Publishes (view_of seat.old) stage tail (view_of seat.new) }
     {
         let word = self.places.head(row);
         let head = Head::Filled {
@@ -109,6 +109,6 @@ impl Words {
         }
         .pack();
         self.table
-            .store::<Publish>(seat, word, head + HEAD_RUN * run as u64);
+            .store::<Publish>(seat, word, head + HEAD_TAIL * tail as u64);
     }
 }

@@ -56,7 +56,7 @@ pub enum Known {
     /// The head of a row: once it isn't empty, it stays as it is.
     RowHead(u32, Head),
     /// The head of a row is of this stage, and so are those of so many rows right before it.
-    RowRun(u32, u8, u16),
+    RowTail(u32, u8, u16),
     /// The mark of a kind of a part, or of the spare rows: it never falls.
     PartMark(u8, u16, u16),
     /// The mark of a kind of a part, or of the spare rows, is above this number.

@@ -2,7 +2,7 @@
 use Rattle.std.proofs.Common.{◌≡◌, ℕ, ◌+◌, ◌≤◌, List, [], ◌∷◌, ◌++◌, sym, refl, ap, ◌∙◌, subst, arith, Option, Some, None}
 use Rattle.tp_rule.specs.declared.view.Known.TheVariants.{BlocksDrawn, RowHead}
 use Rattle.tp_rule.specs.declared.view.Known.{Known}
-use Rattle.tp_rule.specs.Steps.{run_before, Knows, HasCleared}
+use Rattle.tp_rule.specs.Steps.{tail_before, Knows, HasCleared}
 use mathlib.Core.List.{IsPrefix}
 use mathlib.Core.Logic.{dite}
 use native.Mathlib.Decide.{dec_le}
@@ -85,7 +85,7 @@ module _ (l : Limits) (seat next : SeatShown) (same : (view_of seat).limits ≡ 
     steady = steady_at l (view_of next).limits (view_of next) lim a.walk.steady;
     number_is = ap (λ (z : Hand). z.number) k ∙ r.number_is;
     run_is = (ap (λ (z : Hand). z.next) k ∙ r.run_is.0, ap (λ (z : Hand). z.left) k ∙ r.run_is.1);
-    tail = subst (λ (z : Hand). run.tail ≤ run_before run.tail_stage z) (sym k) r.tail;
+    tail = subst (λ (z : Hand). run.tail ≤ tail_before run.tail_stage z) (sym k) r.tail;
     drawn = drawn_later (view_of seat) (view_of next) run.drawn (sym (same ∙ lim)) a.walk.knows r.drawn;
     done = done_walked l n a.marks (view_of seat) (view_of next) run.done same a.walk r.done;
     used_is = ap (λ (z : Hand). z.claimed) k ∙ r.used_is;

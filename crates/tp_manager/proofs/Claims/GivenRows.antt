@@ -10,7 +10,7 @@ use Rattle.tp_model.specs.Passes.{opening_of}
 use Rattle.tp_model.specs.Steps.{IsLegal}
 use Rattle.tp_model.specs.Words.{ClaimWord, claim_word}
 use Rattle.tp_rule.specs.Views.{SeatShown, hand, view_of}
-use Rattle.tp_rule.specs.Steps.{Chooses, run_before, with_spare}
+use Rattle.tp_rule.specs.Steps.{Chooses, tail_before, with_spare}
 use Rattle.tp_rule.specs.declared.view.Hand.{Hand}
 use Rattle.tp_rule.specs.declared.view.View.{View}
 use Rattle.tp_manager.specs.declared.manager.Run.{Run}
@@ -90,7 +90,7 @@ left_rests l u n number run used task seat next w s g a same r =
       steady = steady_at l (view_of next).limits (view_of next) lim a.walk.steady;
       number_is = ap (λ (z : Hand). z.number) h ∙ r.number_is;
       run_is = (ap (λ (z : Hand). z.next) h ∙ r.run_is.0, ap (λ (z : Hand). z.left) h ∙ r.run_is.1);
-      tail = subst (λ (z : Hand). run.tail ≤ run_before run.tail_stage z) (sym h) r.tail;
+      tail = subst (λ (z : Hand). run.tail ≤ tail_before run.tail_stage z) (sym h) r.tail;
       drawn = drawn_later (view_of seat) (view_of next) run.drawn (sym (same ∙ lim)) k.knows r.drawn;
       done = done_walked l (1 + n) _ (view_of seat) (view_of next) run.done same k r.done;
       used_is = ap (λ (z : Hand). z.claimed) h ∙ r.used_is;

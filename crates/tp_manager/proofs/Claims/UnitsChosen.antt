@@ -18,7 +18,7 @@ use Rattle.tp_model.proofs.Histories.{legal_at, legal_start}
 use Rattle.tp_model.proofs.Bridges.{begins_refl, begins_trans, new_claim}
 use Rattle.tp_model.proofs.Later.{births_inside}
 use Rattle.tp_rule.specs.Views.{SeatShown, hand, view_of}
-use Rattle.tp_rule.specs.Steps.{Chooses, noted, run_before, with_claim, with_spare}
+use Rattle.tp_rule.specs.Steps.{Chooses, noted, tail_before, with_claim, with_spare}
 use Rattle.tp_rule.specs.declared.view.Hand.{Hand}
 use Rattle.tp_rule.specs.declared.view.View.{View}
 use Rattle.tp_manager.specs.declared.manager.Run.{Run}
@@ -166,7 +166,7 @@ chose_rests l u n stage number run used task seat next w s g a same r =
       steady = steady_at l (view_of next).limits (view_of next) lim a.walk.steady;
       number_is = ap (λ (z : Hand). z.number) h ∙ r.number_is;
       run_is = (ap (λ (z : Hand). z.next) h ∙ r.run_is.0, ap (λ (z : Hand). z.left) h ∙ r.run_is.1);
-      tail = subst (λ (z : Hand). run.tail ≤ run_before run.tail_stage z) (sym h) r.tail;
+      tail = subst (λ (z : Hand). run.tail ≤ tail_before run.tail_stage z) (sym h) r.tail;
       drawn = drawn_later (view_of seat) (view_of next) run.drawn (sym (same ∙ lim)) (idle_walked l u (view_of seat) w s g n stage (view_of next) a).knows r.drawn;
       done = done_walked l (1 + n) _ (view_of seat) (view_of next) run.done same (idle_walked l u (view_of seat) w s g n stage (view_of next) a) r.done;
       used_is = ap (λ (z : Hand). z.claimed) h ∙ r.used_is;
@@ -190,7 +190,7 @@ took_rests l u n from stage attempt root row number run used task seat next w x 
       steady = steady_at l y.limits y lim k.walk.steady;
       number_is = ap (λ (z : Hand). z.number) h ∙ r.number_is;
       run_is = (ap (λ (z : Hand). z.next) h ∙ r.run_is.0, ap (λ (z : Hand). z.left) h ∙ r.run_is.1);
-      tail = subst (λ (z : Hand). run.tail ≤ run_before run.tail_stage z) (sym h) r.tail;
+      tail = subst (λ (z : Hand). run.tail ≤ tail_before run.tail_stage z) (sym h) r.tail;
       drawn = drawn_later v y run.drawn (sym (same ∙ lim)) (took_walked l u v w s g n from stage attempt y x k).knows r.drawn;
       done = done_walked l (1 + n) _ v y run.done same (took_walked l u v w s g n from stage attempt y x k) r.done;
       used_is = ap (λ (z : Hand). z.claimed) h ∙ ap (λ z. z + 1) r.used_is;

@@ -17,7 +17,7 @@ use Rattle.tp_model.specs.Steps.{IsLegal, IsParked}
 use Rattle.tp_model.proofs.WordProofs.{rounds_by_words}
 use Rattle.tp_model.proofs.Bridges.{begins_trans, found_later, status_taken}
 use Rattle.tp_model.proofs.Later.{stood}
-use Rattle.tp_rule.specs.Steps.{HasElement, MakesRequeue, run_before, with_event}
+use Rattle.tp_rule.specs.Steps.{HasElement, MakesRequeue, tail_before, with_event}
 use Rattle.tp_rule.specs.Views.{SeatShown, hand, view_of}
 use Rattle.tp_rule.specs.declared.view.Hand.{Hand}
 use Rattle.tp_rule.specs.declared.view.View.{View}
@@ -137,7 +137,7 @@ rests_renewed l seat next number run used task same r n i round a = let k = a.ke
   steady = steady_at l (view_of next).limits (view_of next) lim a.walk.steady;
   number_is = ap (λ (z : Hand). z.number) k ∙ r.number_is;
   run_is = (ap (λ (z : Hand). z.next) k ∙ r.run_is.0, ap (λ (z : Hand). z.left) k ∙ r.run_is.1);
-  tail = subst (λ (z : Hand). run.tail ≤ run_before run.tail_stage z) (sym k) r.tail;
+  tail = subst (λ (z : Hand). run.tail ≤ tail_before run.tail_stage z) (sym k) r.tail;
   drawn = drawn_later (view_of seat) (view_of next) run.drawn (sym (same ∙ lim)) a.walk.knows r.drawn;
   done = done_walked l n a.marks (view_of seat) (view_of next) run.done same a.walk r.done;
   used_is = ap (λ (z : Hand). z.claimed) k ∙ r.used_is;

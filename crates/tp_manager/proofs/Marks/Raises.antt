@@ -15,7 +15,7 @@ use Rattle.tp_rule.proofs.Tellings.{inside_below, other_full}
 use Rattle.tp_rule.specs.Steps.{AreFinishedFor, HasAside, HasDead, IsLow, IsSo, Knows, KnowsUseless, RaisesMark, noted, unchanged, MayBeBorn}
 use Rattle.tp_rule.specs.Views.{hand}
 use Rattle.tp_rule.specs.declared.view.Hand.{Hand}
-use Rattle.tp_rule.specs.declared.view.Known.TheVariants.{PartMark, RowHead, RowRun}
+use Rattle.tp_rule.specs.declared.view.Known.TheVariants.{PartMark, RowHead, RowTail}
 use Rattle.tp_rule.specs.declared.view.View.{View}
 use Rattle.tp_manager.proofs.Calls.Unseen.{unseen_hand, unseen_steady, unseen_walked}
 use Rattle.tp_manager.specs.Calls.{IsWaiting}
@@ -120,11 +120,11 @@ module _ (l : Limits) where
   -- an element in a row whose head is known of no use is of a stage that the kind isn't about
   aside_is : (c : ℕ) (v : View) (i : ℕ) → Steady l v → HasAside v c i → (x : Element) → element_of v.seen i ≡ Some x → ¬ Concerns c x.stage
   aside_is c v i s a x born = ⊎_elim (λ f. subst (IsOther c) (s.known (RowHead i f.0) f.1 (other_full c f.0 f.2) x born) f.2)
-      (λ t about. t.6 (subst (Concerns c) (s.known (RowRun t.0 t.1 t.2) t.3 i t.4 t.5 x born) about)) a
+      (λ t about. t.6 (subst (Concerns c) (s.known (RowTail t.0 t.1 t.2) t.3 i t.4 t.5 x born) about)) a
 
   -- the rows of a run of a stage that the kind isn't about are of no use to it
-  pub rose_run : (c : ℕ) (v : View) (a row stage run : ℕ) → Knows v (RowRun row stage run) → a ≤ row + 1 → row ≤ a + run → ¬ Concerns c stage → Rose c v a (row + 1)
-  rose_run c v a row stage run known low up not = (low, λ i more less. inr (inr (row, stage, run, known, omega arith, omega arith, not)))
+  pub rose_tail : (c : ℕ) (v : View) (a row stage run : ℕ) → Knows v (RowTail row stage run) → a ≤ row + 1 → row ≤ a + run → ¬ Concerns c stage → Rose c v a (row + 1)
+  rose_tail c v a row stage run known low up not = (low, λ i more less. inr (inr (row, stage, run, known, omega arith, omega arith, not)))
 
   -- what isn't known of no use yet is no row after the next
   pub near_low : {S : Type 0} (low now row next : ℕ) → low ≤ row → row < next → (now ≡ low) ⊎ ((now ≡ low + 1) × (low ≡ row) × S) → now ≤ next

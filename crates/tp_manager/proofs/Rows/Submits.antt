@@ -15,7 +15,7 @@ use Rattle.tp_model.proofs.Histories.{legal_at}
 use Rattle.tp_model.proofs.Bridges.{new_birth}
 use Rattle.tp_model.proofs.Lists.{if_same}
 use Rattle.tp_rule.specs.Views.{SeatShown, hand, next_row, view_of}
-use Rattle.tp_rule.specs.Steps.{Bodied, Drafts, Publishes, birth, bodied, drafted, next_element, noted, stored, run_before, unchanged, with_birth, with_body, with_draft, HasCleared}
+use Rattle.tp_rule.specs.Steps.{Bodied, Drafts, Publishes, birth, bodied, drafted, next_element, noted, stored, tail_before, unchanged, with_birth, with_body, with_draft, HasCleared}
 use Rattle.tp_rule.proofs.Bodied.{bodied_seen}
 use Rattle.tp_rule.specs.declared.view.Hand.{Hand}
 use Rattle.tp_rule.specs.declared.view.View.{View}
@@ -187,7 +187,7 @@ made_rests l body stage told tail seat next a same s whole short g room number r
       steady = steady_at l w.limits w lim steady;
       number_is = ap (λ (z : Hand). z.number) h ∙ r.number_is;
       run_is = (ap (λ (z : Hand). z.next) h ∙ ap (λ n. n + 1) r.run_is.0, ap (λ (z : Hand). z.left) h ∙ ap (λ n. n - 1) r.run_is.1);
-      tail = subst (λ (z : Hand). tail ≤ run_before stage z) (sym h) (let is : run_before stage (with_birth stage told (birth a stage) (hand v)) ≡ told + 1 = if_same stage stage (told + 1) 0 refl in omega arith);
+      tail = subst (λ (z : Hand). tail ≤ tail_before stage z) (sym h) (let is : tail_before stage (with_birth stage told (birth a stage) (hand v)) ≡ told + 1 = if_same stage stage (told + 1) 0 refl in omega arith);
       drawn = drawn_later v w run.drawn (sym (same ∙ lim)) walk.knows r.drawn;
       done = done_walked l next_steps _ v w run.done same walk r.done;
       used_is = ap (λ (z : Hand). z.claimed) h ∙ r.used_is;

@@ -89,9 +89,9 @@ module _ (l : Limits) where
   over_from n from v w s = record { marks = s.marks; walk = s.walk; kept = s.kept; step = s.step; passed = λ i low high. s.passed i (omega arith) high }
 
 -- the units right before one that a pass remembers of its part are committed
-pub run_known : (l : Limits) (v : View) (counts : List ℕ) (part unit run : ℕ) → v.limits ≡ l → part < l.parts → RemembersUnits v counts
+pub tail_known : (l : Limits) (v : View) (counts : List ℕ) (part unit run : ℕ) → v.limits ≡ l → part < l.parts → RemembersUnits v counts
     → (run ≡ 0) ⊎ ((run ≡ slice_index counts part) × (unit ≡ part * l.units + run) × (run < l.units)) → AreCommitted v.seen unit run
-run_known l v counts part unit run lim there r known = ⊎_elim (λ none w less up. absurd (omega arith))
+tail_known l v counts part unit run lim there r known = ⊎_elim (λ none w less up. absurd (omega arith))
     (λ t w less up. let same = t.0 in let at = t.1 in let few = t.2 in r part w (subst (λ (z : Limits). IsUnitOf z part w) (sym lim) (there, omega arith, omega arith))
     (subst (λ (z : Limits). w < part * z.units + slice_index counts part) (sym lim) (omega arith))) known
 

@@ -19,7 +19,7 @@ use Rattle.tp_manager.specs.BetweenCalls.{Rests, unit_in}
 use Rattle.tp_manager.specs.Drafts.{Shut}
 use Rattle.tp_manager.specs.Marks.{Recalls}
 use Rattle.tp_manager.proofs.Calls.CallSteps.{follows, climbs_same, remembers, units_kept}
-use Rattle.tp_manager.proofs.Rows.UnitsSeen.{run_known, units_noted}
+use Rattle.tp_manager.proofs.Rows.UnitsSeen.{tail_known, units_noted}
 use Rattle.tp_manager.proofs.Calls.Passes.{done_walked, steady_at, cleared_later}
 use Rattle.tp_manager.proofs.Rows.Drafts.{commit_commits, units_few, own_work, own_count, own_first, wrote_shut, committed_answer, task_claimed, shut_done, shut_hit, shut_miss, shut_rests, shut_closes, shut_uses, shut_loses}
 use Rattle.tp_manager.proofs.manager.Manager.close.Goals as goal
@@ -81,17 +81,17 @@ own_part c = let given = c.pass.invariant.0.steady.shows.given in let is = c.pas
 same_units : (c : In-Some) → c.self.inside.shared.places.limits.units ≡ (table_limits c.self.inside.shared.words).units
 same_units c = sym (ap (λ (z : Limits). z.units) c.self.inside.shared.same)
 
-pub run_before-run-requires : goal.run_before-run-requires
-run_before-run-requires c = let own = own_part (goal.at.run_before-run-requires c).In-Some in let few = c.self.inside.shared.words.places.valid.parts.1 in omega arith
+pub tail_before-tail-requires : goal.tail_before-tail-requires
+tail_before-tail-requires c = let own = own_part (goal.at.tail_before-tail-requires c).In-Some in let few = c.self.inside.shared.words.places.valid.parts.1 in omega arith
 
 pub go_on-requires : goal.go_on-requires
 go_on-requires c = let own = own_part (goal.at.go_on-requires c).In-Some in let few = c.self.inside.shared.words.places.valid.parts.1 in omega arith
 
-pub commit_exchange-requires-clause-run : goal.commit_exchange-requires-clause-run
-commit_exchange-requires-clause-run c = let i = (goal.at.commit_exchange-requires-clause-run c).In-Some in let l : Limits = table_limits c.self.inside.shared.words in let w = c.write_all.ensures.wrote.walk in
-    run_known l (view_of c.write_all.new.seat) c.pass.inside.units.committed c.pass.inside.number c.in-Some.task.unit c.run_before-run.result w.steady.pass.1 (own_part i)
+pub commit_exchange-requires-clause-tail : goal.commit_exchange-requires-clause-tail
+commit_exchange-requires-clause-tail c = let i = (goal.at.commit_exchange-requires-clause-tail c).In-Some in let l : Limits = table_limits c.self.inside.shared.words in let w = c.write_all.ensures.wrote.walk in
+    tail_known l (view_of c.write_all.new.seat) c.pass.inside.units.committed c.pass.inside.number c.in-Some.task.unit c.tail_before-tail.result w.steady.pass.1 (own_part i)
     (units_kept c.pass.inside.units.committed _ _ _ _ _ w c.pass.invariant.1.committed)
-    (subst (λ z. (c.run_before-run.result ≡ 0) ⊎ ((c.run_before-run.result ≡ slice_index c.pass.inside.units.committed c.pass.inside.number) × (c.in-Some.task.unit ≡ c.pass.inside.number * z + c.run_before-run.result) × (c.run_before-run.result < z))) (same_units i) c.run_before-run.ensures)
+    (subst (λ z. (c.tail_before-tail.result ≡ 0) ⊎ ((c.tail_before-tail.result ≡ slice_index c.pass.inside.units.committed c.pass.inside.number) × (c.in-Some.task.unit ≡ c.pass.inside.number * z + c.tail_before-tail.result) × (c.tail_before-tail.result < z))) (same_units i) c.tail_before-tail.ensures)
 
 -- what it remembers once the unit is committed
 noted : (c : After-write_all) → c.pass.inside.number < (table_limits c.self.inside.shared.words).parts → (outs : List Element) (y : View) → Shut (table_limits c.self.inside.shared.words) (close_steps (length c.args.drafts.now)) (length c.args.drafts.now) (Commit (hand (view_of c.write_all.new.seat)).number c.in-Some.task.unit outs ∷ []) (view_of c.pass.inside.seat) y

@@ -1,7 +1,7 @@
 use Rattle.std.proofs.Common.{Bool, true, false, ℕ, List, rules, ◌≡◌, ◌+◌, ◌-◌, ◌<◌, ◌≤◌, sym, refl, ap, ◌∙◌, subst, inr, arith}
 use Rattle.tp_model.specs.declared.types.Limits.{Limits}
 use Rattle.tp_rule.specs.Tables.{table_limits}
-use Rattle.tp_rule.specs.Steps.{run_before}
+use Rattle.tp_rule.specs.Steps.{tail_before}
 use Rattle.tp_rule.specs.Views.{hand, view_of}
 use Rattle.tp_rule.specs.declared.view.Hand.{Hand}
 use Rattle.tp_manager.specs.Bounds.{draw_steps, room_steps}
@@ -53,9 +53,9 @@ walked : (c : After-draw_on) (t : Bool) → c.draw_on.result ≡ t → (n : ℕ)
 walked c true drew = let d = (c.draw_on.ensures.yes drew).1 in (_, d.marks, d.walk)
 walked c false none = let d = (c.draw_on.ensures.no none).0 in (_, d.marks, d.walk)
 
-tail_after : (c : After-draw_on) (t : Bool) → c.draw_on.result ≡ t → c.draw_on.new.run.tail ≤ run_before c.draw_on.new.run.tail_stage (hand (view_of c.draw_on.new.seat))
+tail_after : (c : After-draw_on) (t : Bool) → c.draw_on.result ≡ t → c.draw_on.new.run.tail ≤ tail_before c.draw_on.new.run.tail_stage (hand (view_of c.draw_on.new.seat))
 tail_after c true drew = let none : c.draw_on.new.run.tail ≡ 0 = (c.draw_on.ensures.yes drew).5 in omega arith
-tail_after c false none = let d = c.draw_on.ensures.no none in subst (λ (z : Run × Hand). z.0.tail ≤ run_before z.0.tail_stage z.1) (λ i. (sym d.1 i, sym d.0.hand_is i)) c.pass.invariant.0.tail
+tail_after c false none = let d = c.draw_on.ensures.no none in subst (λ (z : Run × Hand). z.0.tail ≤ tail_before z.0.tail_stage z.1) (λ i. (sym d.1 i, sym d.0.hand_is i)) c.pass.invariant.0.tail
 
 pub invariant_of-pass : goal.invariant_of-pass
 invariant_of-pass c = let a = walked (goal.at.invariant_of-pass c).After-draw_on c.draw_on.result refl in let tail = tail_after (goal.at.invariant_of-pass c).After-draw_on c.draw_on.result refl in

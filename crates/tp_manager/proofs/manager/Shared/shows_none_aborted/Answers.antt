@@ -15,98 +15,98 @@ use Rattle.tp_manager.specs.UnitsSeen.{RemembersUnits}
 use Rattle.tp_manager.proofs.Calls.CallSteps.{acted_by, looked, units_kept}
 use Rattle.tp_manager.proofs.Rows.UnitsSeen.{well_all, well_sought, well_until}
 use Rattle.tp_manager.proofs.manager.Shared.shows_none_aborted.Goals as goal
-use Rattle.tp_manager.proofs.manager.Shared.shows_none_aborted.Goals.{After-load_unit_run-found, In-Committed}
+use Rattle.tp_manager.proofs.manager.Shared.shows_none_aborted.Goals.{After-load_unit_tail-found, In-Committed}
 
 -- the unit that was looked at
-abbrev unit : (c : After-load_unit_run-found) → ℕ
+abbrev unit : (c : After-load_unit_tail-found) → ℕ
 unit c = c.args.part * c.args.self.now.places.limits.units + c.earlier-at.result
 
 -- the first one that wasn't known to be committed
-abbrev next : (c : After-load_unit_run-found) → ℕ
+abbrev next : (c : After-load_unit_tail-found) → ℕ
 next c = c.args.part * c.args.self.now.places.limits.units + slice_index c.args.units.now.committed c.args.part
 
-near : (c : After-load_unit_run-found) → next c ≤ unit c
+near : (c : After-load_unit_tail-found) → next c ≤ unit c
 near c = let e = c.earlier-at.ensures in let less = c.if-count-all.false in ⊎_elim (λ is. omega arith) (λ is. omega arith) e.2
 
-acted : (c : After-load_unit_run-found) → Acted (table_limits c.args.self.now.words) 1 (view_of c.args.seat.now) (view_of c.load_unit_run-found.new.seat)
-acted c = acted_by _ kinds.Load _ _ c.requires.steady.steady refl c.load_unit_run-found.ensures.grew
+acted : (c : After-load_unit_tail-found) → Acted (table_limits c.args.self.now.words) 1 (view_of c.args.seat.now) (view_of c.load_unit_tail-found.new.seat)
+acted c = acted_by _ kinds.Load _ _ c.requires.steady.steady refl c.load_unit_tail-found.ensures.grew
 
-kept : (c : After-load_unit_run-found) → RemembersUnits (view_of c.load_unit_run-found.new.seat) c.args.units.now.committed
+kept : (c : After-load_unit_tail-found) → RemembersUnits (view_of c.load_unit_tail-found.new.seat) c.args.units.now.committed
 kept c = units_kept c.args.units.now.committed _ 1 _ _ _ (acted c).walk c.requires.remembers
 
 -- what the seat knows of the limits
-lim : (c : After-load_unit_run-found) → (view_of c.load_unit_run-found.new.seat).limits ≡ table_limits c.args.self.now.words
+lim : (c : After-load_unit_tail-found) → (view_of c.load_unit_tail-found.new.seat).limits ≡ table_limits c.args.self.now.words
 lim c = (acted c).walk.steady.pass.1
 
-wide : (c : After-load_unit_run-found) → (table_limits c.args.self.now.words).units ≡ c.args.self.now.places.limits.units
+wide : (c : After-load_unit_tail-found) → (table_limits c.args.self.now.words).units ≡ c.args.self.now.places.limits.units
 wide c = ap (λ (z : Limits). z.units) c.args.self.now.same
 
-first : (c : After-load_unit_run-found) → c.args.part * (table_limits c.args.self.now.words).units ≡ c.args.part * c.args.self.now.places.limits.units
+first : (c : After-load_unit_tail-found) → c.args.part * (table_limits c.args.self.now.words).units ≡ c.args.part * c.args.self.now.places.limits.units
 first c = ap (λ (z : Limits). c.args.part * z.units) c.args.self.now.same
 
-own : (c : After-load_unit_run-found) → IsUnitOf (table_limits c.args.self.now.words) c.args.part (unit c)
+own : (c : After-load_unit_tail-found) → IsUnitOf (table_limits c.args.self.now.words) c.args.part (unit c)
 own c = let a = wide c in let m = first c in let less = c.if-count-all.false in let top = c.earlier-at.ensures.1 in (c.requires.part, omega arith, omega arith)
 
-known : (c : After-load_unit_run-found) (w : ℕ) → IsUnitOf (table_limits c.args.self.now.words) c.args.part w → w < next c → IsCommitted (seen_by c.load_unit_run-found.new.seat) w
+known : (c : After-load_unit_tail-found) (w : ℕ) → IsUnitOf (table_limits c.args.self.now.words) c.args.part w → w < next c → IsCommitted (seen_by c.load_unit_tail-found.new.seat) w
 known c w its less = kept c c.args.part w (subst (λ (z : Limits). IsUnitOf z c.args.part w) (sym (lim c)) its)
     (subst (λ (z : Limits). w < c.args.part * z.units + slice_index c.args.units.now.committed c.args.part) (sym (lim c ∙ c.args.self.now.same)) less)
 
--- where the run reaches back to that one, all before the unit are committed
-before : (c : After-load_unit_run-found) → unit c ≤ next c + c.load_unit_run-found.result.run → (w : ℕ) → IsUnitOf (table_limits c.args.self.now.words) c.args.part w → w < unit c → IsCommitted (seen_by c.load_unit_run-found.new.seat) w
+-- where the tail reaches back to that one, all before the unit are committed
+before : (c : After-load_unit_tail-found) → unit c ≤ next c + c.load_unit_tail-found.result.tail → (w : ℕ) → IsUnitOf (table_limits c.args.self.now.words) c.args.part w → w < unit c → IsCommitted (seen_by c.load_unit_tail-found.new.seat) w
 before c long w its less = dite (dec_le (next c) w)
-    (λ past. c.load_unit_run-found.ensures.before w less (omega arith))
+    (λ past. c.load_unit_tail-found.ensures.before w less (omega arith))
     (λ not. known c w its (omega arith))
 
 -- the unit is committed
-now : (c : In-Committed) (at : After-load_unit_run-found) → IsCommitted (seen_by c.load_unit_run-found.new.seat) (c.args.part * c.args.self.now.places.limits.units + c.earlier-at.result)
-now c at = (c.in-Committed.first, c.in-Committed.count, sym c.load_unit_run-found.ensures.end ∙ ap unit_value c.in-Committed.is)
+now : (c : In-Committed) (at : After-load_unit_tail-found) → IsCommitted (seen_by c.load_unit_tail-found.new.seat) (c.args.part * c.args.self.now.places.limits.units + c.earlier-at.result)
+now c at = (c.in-Committed.first, c.in-Committed.count, sym c.load_unit_tail-found.ensures.end ∙ ap unit_value c.in-Committed.is)
 
 pub returns-in-Undecided-clause-remembers : goal.returns-in-Undecided-clause-remembers
-returns-in-Undecided-clause-remembers c = kept (goal.at.returns-in-Undecided-clause-remembers c).After-load_unit_run-found
+returns-in-Undecided-clause-remembers c = kept (goal.at.returns-in-Undecided-clause-remembers c).After-load_unit_tail-found
 
 pub returns-in-Undecided-clause-looked : goal.returns-in-Undecided-clause-looked
-returns-in-Undecided-clause-looked c = looked _ 1 _ _ (acted (goal.at.returns-in-Undecided-clause-looked c).After-load_unit_run-found)
+returns-in-Undecided-clause-looked c = looked _ 1 _ _ (acted (goal.at.returns-in-Undecided-clause-looked c).After-load_unit_tail-found)
 
 pub returns-in-Undecided-clause-none : goal.returns-in-Undecided-clause-none
-returns-in-Undecided-clause-none c = λ yes. let l : Limits = table_limits c.args.self.now.words in let at = (goal.at.returns-in-Undecided-clause-none c).After-load_unit_run-found in let h = seen_by c.load_unit_run-found.new.seat in
-    let un : end_of h (unit at) ≡ None = sym c.load_unit_run-found.ensures.end ∙ ap unit_value c.in-Undecided.is in
+returns-in-Undecided-clause-none c = λ yes. let l : Limits = table_limits c.args.self.now.words in let at = (goal.at.returns-in-Undecided-clause-none c).After-load_unit_tail-found in let h = seen_by c.load_unit_tail-found.new.seat in
+    let un : end_of h (unit at) ≡ None = sym c.load_unit_tail-found.ensures.end ∙ ap unit_value c.in-Undecided.is in
     let first_one : c.earlier-at.result ≤ slice_index c.args.units.now.committed c.args.part = search rules in
-    well_sought l c.args.part _ _ (acted at) (well_until l h c.args.part (unit at) (acted at).walk.steady.shows.legal c.load_unit_run-found.ensures.order (own at) (λ w its less. known at w its (omega arith)) un)
+    well_sought l c.args.part _ _ (acted at) (well_until l h c.args.part (unit at) (acted at).walk.steady.shows.legal c.load_unit_tail-found.ensures.order (own at) (λ w its less. known at w its (omega arith)) un)
 
 pub returns-in-Aborted-clause-remembers : goal.returns-in-Aborted-clause-remembers
-returns-in-Aborted-clause-remembers c = kept (goal.at.returns-in-Aborted-clause-remembers c).After-load_unit_run-found
+returns-in-Aborted-clause-remembers c = kept (goal.at.returns-in-Aborted-clause-remembers c).After-load_unit_tail-found
 
 pub returns-in-Aborted-clause-looked : goal.returns-in-Aborted-clause-looked
-returns-in-Aborted-clause-looked c = looked _ 1 _ _ (acted (goal.at.returns-in-Aborted-clause-looked c).After-load_unit_run-found)
+returns-in-Aborted-clause-looked c = looked _ 1 _ _ (acted (goal.at.returns-in-Aborted-clause-looked c).After-load_unit_tail-found)
 
 pub returns-then-found-at-clause-remembers : goal.returns-then-found-at-clause-remembers
-returns-then-found-at-clause-remembers c = kept (goal.at.returns-then-found-at-clause-remembers c).After-load_unit_run-found
+returns-then-found-at-clause-remembers c = kept (goal.at.returns-then-found-at-clause-remembers c).After-load_unit_tail-found
 
 pub returns-then-found-at-clause-looked : goal.returns-then-found-at-clause-looked
-returns-then-found-at-clause-looked c = looked _ 1 _ _ (acted (goal.at.returns-then-found-at-clause-looked c).After-load_unit_run-found)
+returns-then-found-at-clause-looked c = looked _ 1 _ _ (acted (goal.at.returns-then-found-at-clause-looked c).After-load_unit_tail-found)
 
 pub returns-then-at-all-clause-remembers : goal.returns-then-at-all-clause-remembers
-returns-then-at-all-clause-remembers c = kept (goal.at.returns-then-at-all-clause-remembers c).After-load_unit_run-found
+returns-then-at-all-clause-remembers c = kept (goal.at.returns-then-at-all-clause-remembers c).After-load_unit_tail-found
 
 pub returns-then-at-all-clause-looked : goal.returns-then-at-all-clause-looked
-returns-then-at-all-clause-looked c = looked _ 1 _ _ (acted (goal.at.returns-then-at-all-clause-looked c).After-load_unit_run-found)
+returns-then-at-all-clause-looked c = looked _ 1 _ _ (acted (goal.at.returns-then-at-all-clause-looked c).After-load_unit_tail-found)
 
 pub returns-then-at-all-clause-none : goal.returns-then-at-all-clause-none
-returns-then-at-all-clause-none c = λ _. let l : Limits = table_limits c.args.self.now.words in let at = goal.at.returns-then-at-all-clause-none c in let h = seen_by c.load_unit_run-found.new.seat in let low = near at.After-load_unit_run-found in
-    let a = wide at.After-load_unit_run-found in let m = first at.After-load_unit_run-found in let last = c.if-at-all.true in let u : ℕ = unit at.After-load_unit_run-found in let long = c.if-found-at.false in
-    well_sought l c.args.part _ _ (acted at.After-load_unit_run-found) (well_all l h c.args.part (λ w its. dite (ℕ_discrete w u)
-    (λ same. subst (IsCommitted h) (sym same) (now at.In-Committed at.After-load_unit_run-found))
-    (λ ne. let top = its.2 in before at.After-load_unit_run-found (omega arith) w its (omega arith))))
+returns-then-at-all-clause-none c = λ _. let l : Limits = table_limits c.args.self.now.words in let at = goal.at.returns-then-at-all-clause-none c in let h = seen_by c.load_unit_tail-found.new.seat in let low = near at.After-load_unit_tail-found in
+    let a = wide at.After-load_unit_tail-found in let m = first at.After-load_unit_tail-found in let last = c.if-at-all.true in let u : ℕ = unit at.After-load_unit_tail-found in let long = c.if-found-at.false in
+    well_sought l c.args.part _ _ (acted at.After-load_unit_tail-found) (well_all l h c.args.part (λ w its. dite (ℕ_discrete w u)
+    (λ same. subst (IsCommitted h) (sym same) (now at.In-Committed at.After-load_unit_tail-found))
+    (λ ne. let top = its.2 in before at.After-load_unit_tail-found (omega arith) w its (omega arith))))
 
 pub returns-else-at-all-clause-looked : goal.returns-else-at-all-clause-looked
-returns-else-at-all-clause-looked c = looked _ 1 _ _ (acted (goal.at.returns-else-at-all-clause-looked c).After-load_unit_run-found)
+returns-else-at-all-clause-looked c = looked _ 1 _ _ (acted (goal.at.returns-else-at-all-clause-looked c).After-load_unit_tail-found)
 
 pub returns-else-at-all-clause-remembers : goal.returns-else-at-all-clause-remembers
-returns-else-at-all-clause-remembers c = let at = goal.at.returns-else-at-all-clause-remembers c in let h = seen_by c.load_unit_run-found.new.seat in let xs = c.args.units.now.committed in let p : ℕ = c.args.part in let n : ℕ = c.earlier-at.result in let long = c.if-found-at.false in let up = near at.After-load_unit_run-found in
+returns-else-at-all-clause-remembers c = let at = goal.at.returns-else-at-all-clause-remembers c in let h = seen_by c.load_unit_tail-found.new.seat in let xs = c.args.units.now.committed in let p : ℕ = c.args.part in let n : ℕ = c.earlier-at.result in let long = c.if-found-at.false in let up = near at.After-load_unit_tail-found in
     let inside : p < length xs = search rules in λ d w its low. dite (ℕ_discrete d p)
-    (λ same. let k = c.args.self.now.places.limits in let is = lim at.After-load_unit_run-found ∙ c.args.self.now.same in
+    (λ same. let k = c.args.self.now.places.limits in let is = lim at.After-load_unit_tail-found ∙ c.args.self.now.same in
     let less : w < p * k.units + (n + 1) = subst (λ z. w < p * k.units + z) (get_or-set_same xs p (n + 1) 0 inside) (subst (λ (z : ℕ × Limits). w < z.0 * z.1.units + slice_index (slice_set xs p (n + 1)) z.0) (λ j. (same j, is j)) low) in
-    let own_w : IsUnitOf (view_of c.load_unit_run-found.new.seat).limits p w = subst (λ z. IsUnitOf (view_of c.load_unit_run-found.new.seat).limits z w) same its in
-    dite (ℕ_discrete w (unit at.After-load_unit_run-found)) (λ one. subst (IsCommitted h) (sym one) (now at.In-Committed at.After-load_unit_run-found))
-    (λ ne. before at.After-load_unit_run-found (omega arith) w (subst (λ (z : Limits). IsUnitOf z p w) (lim at.After-load_unit_run-found) own_w) (omega arith)))
-    (λ other. kept at.After-load_unit_run-found d w its (subst (λ z. w < d * (view_of c.load_unit_run-found.new.seat).limits.units + z) (get_or-set_other xs p d (n + 1) 0 other) low))
+    let own_w : IsUnitOf (view_of c.load_unit_tail-found.new.seat).limits p w = subst (λ z. IsUnitOf (view_of c.load_unit_tail-found.new.seat).limits z w) same its in
+    dite (ℕ_discrete w (unit at.After-load_unit_tail-found)) (λ one. subst (IsCommitted h) (sym one) (now at.In-Committed at.After-load_unit_tail-found))
+    (λ ne. before at.After-load_unit_tail-found (omega arith) w (subst (λ (z : Limits). IsUnitOf z p w) (lim at.After-load_unit_tail-found) own_w) (omega arith)))
+    (λ other. kept at.After-load_unit_tail-found d w its (subst (λ z. w < d * (view_of c.load_unit_tail-found.new.seat).limits.units + z) (get_or-set_other xs p d (n + 1) 0 other) low))

@@ -10,8 +10,8 @@ use Rattle.tp_rule.specs.Views.{seen_by}
 use Rattle.tp_rule.proofs.InOrder.{looks_unit}
 use Rattle.tp_rule.proofs.Seats.{one_has}
 use Rattle.tp_rule.proofs.Reading.{told}
-use Rattle.tp_rule.proofs.words.Words.load_unit_run.Goals as goal
-use Rattle.tp_rule.proofs.words.Words.load_unit_run.Goals.{After-load-found}
+use Rattle.tp_rule.proofs.words.Words.load_unit_tail.Goals as goal
+use Rattle.tp_rule.proofs.words.Words.load_unit_tail.Goals.{After-load-found}
 
 pub load-found-requires-clause-permits : goal.load-found-requires-clause-permits
 load-found-requires-clause-permits c = let keyed : table_limits c.args.self.now ≡ key_of c.args.self.now.table = search rules in

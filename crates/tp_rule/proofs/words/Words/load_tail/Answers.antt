@@ -10,8 +10,8 @@ use Rattle.tp_rule.specs.Rule.{HeadTold, IsDraft}
 use Rattle.tp_rule.specs.Views.{seen_by}
 use Rattle.tp_rule.proofs.Seats.{looks_head, one_has}
 use Rattle.tp_rule.proofs.Reading.{told}
-use Rattle.tp_rule.proofs.words.Words.load_run.Goals as goal
-use Rattle.tp_rule.proofs.words.Words.load_run.Goals.{After-load-found}
+use Rattle.tp_rule.proofs.words.Words.load_tail.Goals as goal
+use Rattle.tp_rule.proofs.words.Words.load_tail.Goals.{After-load-found}
 
 pub load-found-requires-clause-permits : goal.load-found-requires-clause-permits
 load-found-requires-clause-permits c = let room : c.args.row < rows_of (key_of c.args.self.now.table) = search rules in
@@ -34,6 +34,6 @@ pub returns-clause-none : goal.returns-clause-none
 returns-clause-none c = λ is. let t = says (goal.at.returns-clause-none c).After-load-found in let zero : c.load-found.result ≡ 0 = t.bare (sym (c.read.ensures.of_pack t.head t.fit t.packed) ∙ is) in
     subst (λ l. MayBeBorn l (seen_by c.load-found.new.seat) c.args.row) c.requires.one.1 (c.load-found.ensures.told.3 c.args.row c.head-word.ensures.place zero)
 
-pub returns-clause-run : goal.returns-clause-run
-returns-clause-run c = let t = says (goal.at.returns-clause-run c).After-load-found in λ stage root by is. let same : t.head ≡ Filled stage root by = sym (c.read.ensures.of_pack t.head t.fit t.packed) ∙ is in
+pub returns-clause-tail : goal.returns-clause-tail
+returns-clause-tail c = let t = says (goal.at.returns-clause-tail c).After-load-found in λ stage root by is. let same : t.head ≡ Filled stage root by = sym (c.read.ensures.of_pack t.head t.fit t.packed) ∙ is in
     c.load-found.ensures.told.2 c.args.row stage root by c.head-word.ensures.place (t.packed ∙ ap pack_head same) (subst IsFitHead same t.fit)

@@ -3,7 +3,7 @@ use Rattle.tp_rule.specs.Views.{view_of, IsSameSeat}
 use Rattle.tp_rule.specs.Tables.{table_limits}
 use Rattle.tp_manager.specs.CallSteps.{Looked}
 use Rattle.tp_manager.specs.Marks.{Rose}
-use Rattle.tp_manager.proofs.manager.Shared.leap.Given as goal
+use Rattle.tp_manager.proofs.manager.Shared.leap_ahead.Given as goal
 
 abbrev pub invariant-loop-look : goal.invariant-loop-look
 invariant-loop-look l = record {
