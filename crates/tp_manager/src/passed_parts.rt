@@ -100,7 +100,7 @@ impl Shared {
     }
 
     /// The first part from row `from` on in which a row has a head, from the mark on that the pass remembers,
-    /// and which it doesn't know finished; and the first of its rows from there on. The last part is one also
+    /// and which it doesn't know finished; and the first of its rows from `from` on. The last part is one also
     /// where it is finished, so that each listing looks. One look at each part up to that one.
     #[inline(always)]
     pub(crate) fn first_headed(&self, seat: &mut Seat, lows: &Lows, from: u32) -> Option<(u16, u32)>
@@ -119,22 +119,17 @@ impl Shared {
         let rows = limits.rows as u32;
         let last = limits.parts - 1;
         let mut first = 0;
-        let mut row = from;
         for part in 0..self.places.limits.parts {
             let end = first + rows;
-            if row < end {
+            if from < end {
                 let low = lows[part as usize];
                 if low == limits.rows {
                     if part == last {
-                        return Some((part, row));
+                        return Some((part, later(from, first)));
                     }
-                } else {
-                    let start = later(row, first + low as u32);
-                    if !self.is_bare_to(seat, part, start, end) {
-                        return Some((part, row));
-                    }
+                } else if !self.is_bare_to(seat, part, first + low as u32, end) {
+                    return Some((part, later(from, first)));
                 }
-                row = end;
             }
             first = end;
         }

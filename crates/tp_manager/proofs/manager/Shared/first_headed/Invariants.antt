@@ -1,4 +1,4 @@
-use Rattle.std.proofs.Common.{◌≡◌, ◌*◌, ◌≤◌}
+use Rattle.std.proofs.Common.{◌≡◌, ◌⊎◌, ◌*◌, ◌<◌, ◌≤◌, ℕ}
 use Rattle.tp_model.specs.Steps.{part_rows}
 use Rattle.tp_rule.specs.Tables.{table_limits}
 use Rattle.tp_rule.specs.Views.{IsSameSeat, view_of}
@@ -9,12 +9,10 @@ use Rattle.tp_manager.proofs.manager.Shared.first_headed.Given as goal
 
 abbrev pub invariant-loop-part : goal.invariant-loop-part
 invariant-loop-part l = record {
-  from : l.from ≤ l.row;
-  reach : l.part * l.rows ≤ l.row;
   begins : l.first ≡ l.part * l.rows;
-  inside : l.row ≤ part_rows (table_limits l.self.words);
+  inside : l.from < part_rows (table_limits l.self.words);
   same : IsSameSeat l.initial.seat l.seat;
   steady : Steady (table_limits l.self.words) (view_of l.seat);
   remembers : Remembers 0 (view_of l.seat) l.lows;
-  listed : HasListed (table_limits l.self.words) l.part l.from l.row l.lows (view_of l.initial.seat) (view_of l.seat);
+  listed : (row : ℕ) → (l.from ≤ row) × (l.first ≤ row) → (row ≡ l.from) ⊎ (row ≡ l.first) → HasListed (table_limits l.self.words) l.part l.from row l.lows (view_of l.initial.seat) (view_of l.seat);
 }
