@@ -342,7 +342,11 @@ impl Shared {
         let begin = part as u32 * rows;
         let first = begin + lows[part as usize] as u32;
         // Parts are often as full as the one before.
-        let filled = if part == 0 { 0 } else { lows[part as usize - 1] };
+        let filled = if part == 0 {
+            0
+        } else {
+            lows[part as usize - 1]
+        };
         let target = begin + filled as u32;
         let next = self.leap(seat, first, begin + rows, who.stage, aside, target);
         self.scan_from_mark(seat, lows, gaps, part, next, who)

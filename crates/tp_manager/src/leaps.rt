@@ -78,14 +78,7 @@ impl Shared {
     /// ahead, as far as row `target` where that comes later, and else twice as far each time, and less far
     /// again where that tells nothing. No more looks tell nothing than there are rows that no look was made at.
     #[inline(never)]
-    fn leap_ahead(
-        &self,
-        seat: &mut Seat,
-        first: u32,
-        end: u32,
-        stage: u8,
-        target: u32,
-    ) -> u32
+    fn leap_ahead(&self, seat: &mut Seat, first: u32, end: u32, stage: u8, target: u32) -> u32
         requires steady { IsSteady self.now.words seat.old }
         requires rows { (first < end) × (end ≤ rows_of (table_limits self.now.words)) }
         requires known { Rose stage (view_of seat.old) first (first + 1) }
@@ -109,7 +102,11 @@ impl Shared {
             if self.tells_of_tail(seat, row, at, stage) {
                 row += gone;
                 spare += gone - 1;
-                span = if grows { span_after(row, gone, target) } else { gone / 2 };
+                span = if grows {
+                    span_after(row, gone, target)
+                } else {
+                    gone / 2
+                };
                 continue;
             }
             spare -= 1;

@@ -1,8 +1,9 @@
 //! Parts that a scan passes by: those that its pass knows finished, and those in which no row has a head.
-ghost use Rattle.std.specs.Prelude.{◌≡◌, ◌⊎◌, ℕ, ◌+◌, ◌-◌, ◌*◌, ◌<◌, ◌≤◌, slice_index, true, MatchOption};
+ghost use Rattle.std.specs.Prelude.{◌≡◌, ◌⊎◌, ℕ, ◌+◌, ◌-◌, ◌*◌, ◌<◌, ◌≤◌, slice_index, true, MatchOption, Option};
 ghost use Rattle.tp_model.specs.Steps.{part_rows, IsRowOf, IsServerStage};
 ghost use Rattle.tp_rule.specs.Views.{view_of, IsSameSeat};
 ghost use Rattle.tp_rule.specs.Tables.{table_limits};
+ghost use Rattle.tp_rule.specs.declared.packing.Head.TheVariants.{Filled};
 ghost use Rattle.tp_manager.specs.CallSteps.{IsSteady, Looked};
 ghost use Rattle.tp_manager.specs.Finds.{HasListed, PassedOver};
 ghost use Rattle.tp_manager.specs.Marks.{AreFinished, IsBehind, Remembers, RestsAt, Rose};
@@ -12,7 +13,7 @@ use crate::error_queue::later;
 use crate::manager::Shared;
 use crate::marking::Lows;
 use crate::scanning::is_of_stage;
-use tp_rule::{Head, Seat};
+use tp_rule::{FoundHead, Head, Seat};
 
 /// The part at which a scan goes on.
 #[derive(Clone, Copy)]
@@ -23,10 +24,13 @@ pub(crate) struct NextPart {
     pub aside: bool,
 }
 
-/// Whether rows of one stage are likely behind a row: it is the first of its part, or several are before it.
+/// Whether the head of a row, which has so many before it in its part, is of another stage, and more such ones
+/// are likely behind it: it is the part's first, or several are right before it.
 #[inline(always)]
-fn is_begun(low: u16, tail: u32) -> bool {
-    low == 0 || tail > 1
+fn begins_leap(low: u16, found: FoundHead, stage: u8) -> bool
+    ensures { result ≡ true → (of root : ℕ) (by : Option ℕ) → found.tells ≡ Filled of root by → ¬ (of ≡ stage) }
+{
+    (low == 0 || found.tail > 1) && !is_of_stage(found.tells, stage)
 }
 
 impl Shared {
@@ -68,7 +72,7 @@ impl Shared {
             if found.tells != Head::Empty {
                 return NextPart {
                     part,
-                    aside: is_begun(low, found.tail) && !is_of_stage(found.tells, stage),
+                    aside: begins_leap(low, found, stage),
                 };
             }
             first += rows;

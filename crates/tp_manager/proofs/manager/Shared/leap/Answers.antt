@@ -9,3 +9,6 @@ returns-else-aside-clause-rose c = (omega arith, λ i low high. absurd (omega ar
 
 pub returns-else-aside-clause-few : goal.returns-else-aside-clause-few
 returns-else-aside-clause-few c = looked_few (table_limits c.args.self.now.words) 0 (c.args.first - c.args.first) _ _ (omega arith) (looked_none (table_limits c.args.self.now.words) (view_of c.args.seat.now) c.requires.steady.steady)
+
+pub leap_ahead-requires-clause-known : goal.leap_ahead-requires-clause-known
+leap_ahead-requires-clause-known c = (c.requires.known c.if-aside.true).1

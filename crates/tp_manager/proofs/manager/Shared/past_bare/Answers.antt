@@ -2,7 +2,7 @@ use Rattle.std.proofs.Common.{◌≡◌, ◌+◌, ◌-◌, ◌*◌, ◌<◌, ◌
 use mathlib.Core.List.{IsPrefix}
 use Rattle.tp_model.specs.declared.types.Limits.{Limits}
 use Rattle.tp_model.proofs.Bridges.{begins_refl}
-use Rattle.tp_rule.specs.Steps.{MayBeBorn}
+use Rattle.tp_rule.specs.Steps.{Knows, MayBeBorn}
 use Rattle.tp_rule.specs.Tables.{table_limits}
 use Rattle.tp_rule.specs.declared.packing.Head.TheVariants.{Empty}
 use Rattle.tp_rule.specs.Views.{view_of}
@@ -10,7 +10,8 @@ use Rattle.tp_manager.specs.CallSteps.{Acted, Looked}
 use Rattle.tp_manager.specs.Marks.{RestsAt}
 use Rattle.tp_manager.specs.Scans.{Begun, OfPart, PassedBy, Sought}
 use Rattle.tp_manager.proofs.Marks.Lows.{lows_inside}
-use Rattle.tp_manager.proofs.Marks.Raises.{remembered_passed, use_unborn}
+use Rattle.tp_manager.proofs.Marks.Raises.{remembered_passed, rose_aside, unconcerned, use_unborn}
+use Rattle.tp_rule.specs.declared.view.Known.TheVariants.{RowHead}
 use Rattle.tp_manager.proofs.Marks.Rests.{parts_both, parts_on}
 use Rattle.tp_manager.proofs.Claims.Scans.{none_passed, passed_widens}
 use Rattle.tp_manager.proofs.Rows.Seeks.{begun_few, begun_hit, begun_looked, begun_on, one_row, part_widens, sought_bare}
@@ -53,6 +54,16 @@ returns-then-ne-clause-told c = let l : Limits = table_limits c.args.self.now.wo
 pub returns-then-ne-clause-rests : goal.returns-then-ne-clause-rests
 returns-then-ne-clause-rests c = let l : Limits = table_limits c.args.self.now.words in let P = PassedBy l c.args.stage in let at = (goal.at.returns-then-ne-clause-rests c).After-first_head-found in let n = c.loop-part.part in
     parts_both l c.args.stage c.args.from n n (n - c.args.from) 1 (OfPart l P) _ c.args.lows.now _ _ _ c.loop-part.invariant.begun (acted at c.if-low-limits.false).walk c.loop-part.invariant.rests (λ q low high. absurd (omega arith))
+
+pub returns-then-ne-clause-aside : goal.returns-then-ne-clause-aside
+returns-then-ne-clause-aside c = λ yes. let l : Limits = table_limits c.args.self.now.words in let at = (goal.at.returns-then-ne-clause-aside c).After-first_head-found in let gone = before at in let n = c.loop-part.part in let low = slice_index c.args.lows.now n in let w = view_of c.first_head-found.new.seat in
+    let still = remembers_kind c.args.stage c.args.lows.now _ _ _ _ _ gone.walk c.requires.remembers in
+    let inside = lows_inside l c.args.lows.now c.args.stage (view_of c.loop-part.seat) gone.walk.steady.pass.1 gone.walk.steady.known still n (subst (λ (z : Limits). n < z.parts) (sym c.args.self.now.same) c.loop-part-test.true) in
+    let left = c.if-low-limits.false in let wd = wide at in let full : ¬ (c.first_head-found.result.tells ≡ Empty) = search rules in let row : c.loop-part.first + low ≡ n * l.rows + low = ap (λ z. z + low) (starts at) in (
+      omega arith,
+      rose_aside l c.args.stage w (n * l.rows + low) (n * l.rows + low + 1) (n * l.rows + low) c.first_head-found.result.tells (subst (λ z. Knows w (RowHead z c.first_head-found.result.tells)) row c.first_head-found.ensures.knows)
+          (λ of root by is. unconcerned l c.args.stage of c.requires.stage.0 (c.begins_leap.ensures yes of root by is)) (inr (refl, refl, full)),
+    )
 
 pub loop-part-preserved : goal.loop-part-preserved
 loop-part-preserved c = let l : Limits = table_limits c.args.self.now.words in let P = PassedBy l c.args.stage in let W = part_widens l P (passed_widens l c.args.stage) in let at = (goal.at.loop-part-preserved c).After-first_head-found in let i = c.loop-part.invariant in let up = i.from in
