@@ -37,10 +37,10 @@
 #include <stdint.h>
 
 #define COVETRIVET_VERSION_MAJOR 0
-#define COVETRIVET_VERSION_MINOR 21
+#define COVETRIVET_VERSION_MINOR 22
 #define COVETRIVET_VERSION_PATCH 0
 /* 1000 times the major, plus the minor, then 1000 times that, plus the patch. */
-#define COVETRIVET_VERSION 21000
+#define COVETRIVET_VERSION 22000
 
 #ifdef __cplusplus
 extern "C" {

@@ -74,7 +74,7 @@ fn submit(words: &Words, seat: &mut Seat, row: u32, body: Body)
     ensures open_unit { (hand_of seat.new).open_unit ≡ (hand_of seat.old).open_unit }
 {
     words.store_draft_body(seat, row, body);
-    words.publish(seat, row, 1);
+    words.publish(seat, row, 1, 0);
 }
 
 /// Whether the row has a client's element of stage 1 with root 0.
