@@ -171,7 +171,7 @@ fn output_born_at_exchange(rt: HostRuntime) {
     );
     assert!(rt; made_by == UnitWord::Undecided);
 
-    assert!(rt; words.commit_exchange(&mut server, 0, 1, 1));
+    assert!(rt; words.commit_exchange(&mut server, 0, 1, 1, 0));
     let reply = words.load_head(&mut reader, 1);
     let made_by = words.load_unit(&mut reader, 0);
     assert!(rt; reply == draft);
