@@ -1,12 +1,12 @@
 //! Seats that step in turn.
-ghost use Rattle.std.specs.Prelude.{◌≡◌, ◌+◌, ◌-◌, ◌*◌, ◌<◌, [], length, true, IfSome, Some, None};
+ghost use Rattle.std.specs.Prelude.{◌≡◌, ◌+◌, ◌-◌, ◌*◌, ◌<◌, ◌≤◌, [], length, true, IfSome, Some, None};
 ghost use Rattle.tp_model.specs.declared.trace.StepKind.TheVariants as kinds;
 ghost use Rattle.tp_model.specs.declared.types.Element.{Element};
 ghost use Rattle.tp_model.specs.History.{Aborted, element_of, end_of, first_id};
 ghost use Rattle.tp_model.specs.Steps.{rows_of, units_of, IsServerStage};
 ghost use Rattle.tp_rule.specs.Views.{blank_body, hand_of, seen_by, view_of, first_view, fresh_from};
 ghost use Rattle.tp_rule.specs.Views.{IsNextRow, IsNextUnit, IsSameSeat};
-ghost use Rattle.tp_rule.specs.Steps.{HasWork, IsOwnWork, noted};
+ghost use Rattle.tp_rule.specs.Steps.{HasWork, IsOwnWork, noted, tail_before};
 ghost use Rattle.tp_rule.specs.Tables.{table_limits, IsSeatOf, IsPassOf};
 
 use std::process::Abort;
@@ -54,17 +54,20 @@ fn pass(words: &Words, keeper: &mut Seat, number: u16) -> Seat
     words.hand_out(keeper)
 }
 
-/// A client's element of stage 1 with this body, in the next row of the pass.
-fn submit(words: &Words, seat: &mut Seat, row: u32, body: Body)
+/// A client's element of stage 1 with this body, in the next row of the pass, which tells of so many right
+/// before it.
+fn submit(words: &Words, seat: &mut Seat, row: u32, body: Body, tail: u16)
     requires own { IsSeatOf words.now seat.old }
     requires one { IsPassOf words.now seat.old }
     requires next { IsNextRow (table_limits words.now) (view_of seat.old) row }
     requires no_drafts { (hand_of seat.old).drafts ≡ [] }
     requires blank { (hand_of seat.old).next_body ≡ blank_body }
     requires passed { (hand_of seat.old).passed_to ≡ 0 }
+    requires tail { tail ≤ tail_before 1 (hand_of seat.old) }
     ensures same { IsSameSeat seat.old seat.new }
     ensures one { IsPassOf words.now seat.new }
     ensures passed { (hand_of seat.new).passed_to ≡ 0 }
+    ensures tail { tail_before 1 (hand_of seat.new) ≡ tail + 1 }
     ensures number { (hand_of seat.new).number ≡ (hand_of seat.old).number }
     ensures used { ((hand_of seat.new).next ≡ (hand_of seat.old).next + 1)
         × ((hand_of seat.new).left ≡ (hand_of seat.old).left - 1) }
@@ -74,7 +77,7 @@ fn submit(words: &Words, seat: &mut Seat, row: u32, body: Body)
     ensures open_unit { (hand_of seat.new).open_unit ≡ (hand_of seat.old).open_unit }
 {
     words.store_draft_body(seat, row, body);
-    words.publish(seat, row, 1, 0);
+    words.publish(seat, row, 1, tail);
 }
 
 /// Whether the row has a client's element of stage 1 with root 0.
@@ -152,7 +155,7 @@ fn output_born_at_exchange(rt: HostRuntime) {
     let (words, mut keeper) = small(&rt);
     let mut server = pass(&words, &mut keeper, 0);
     let mut reader = pass(&words, &mut keeper, 1);
-    submit(&words, &mut server, 0, [0, 9, 8, 7]);
+    submit(&words, &mut server, 0, [0, 9, 8, 7], 0);
     if !claim(&words, &mut server, 0, 0) {
         assert!(rt; false);
         return;
@@ -176,6 +179,31 @@ fn output_born_at_exchange(rt: HostRuntime) {
     let made_by = words.load_unit(&mut reader, 0);
     assert!(rt; reply == draft);
     assert!(rt; made_by == UnitWord::Committed { first: 1, count: 1 });
+}
+
+#[test]
+fn head_tells_its_tail(rt: HostRuntime) {
+    let (words, mut keeper) = small(&rt);
+    let mut client = pass(&words, &mut keeper, 0);
+    let mut reader = pass(&words, &mut keeper, 1);
+    submit(&words, &mut client, 0, [0, 9, 8, 7], 0);
+    submit(&words, &mut client, 1, [0, 9, 8, 7], 1);
+    submit(&words, &mut client, 2, [0, 9, 8, 7], 2);
+
+    let found = words.load_tail(&mut reader, 2);
+    assert!(rt; found.tail == 2);
+    assert!(rt;
+        found.tells
+            == Head::Filled {
+                stage: 1,
+                root: 2,
+                by: None
+            }
+    );
+    assert!(rt; words.load_tail(&mut reader, 1).tail == 1);
+    assert!(rt; words.load_tail(&mut reader, 0).tail == 0);
+    // Bit 0, the stage from bit 1 on, the root from bit 5 on and the tail from bit 37 on.
+    assert!(rt; words.load(&mut reader, 12) == 1 + (1 << 1) + (2 << 5) + (2 << 37));
 }
 
 /// Whether the row has a client's element of stage 1, and the unit was aborted.
@@ -280,7 +308,7 @@ fn stale_kill_exchange(rt: HostRuntime) {
     let mut killer = pass(&words, &mut keeper, 0);
     let mut first = pass(&words, &mut keeper, 1);
     let mut second = pass(&words, &mut keeper, 2);
-    submit(&words, &mut killer, 0, [0, 9, 8, 7]);
+    submit(&words, &mut killer, 0, [0, 9, 8, 7], 0);
     assert!(rt; claim(&words, &mut first, 0, 2));
     assert!(rt; abort_holder(&words, &mut killer, 0, 2));
     assert!(rt; claim_again(&words, &mut second, 0, 2, 4));
