@@ -128,7 +128,7 @@ impl Shared {
 
     /// Whether at most so many looks show that none of the part is aborted. The first one is so far `ahead`;
     /// the next ones are twice as far each time, and less far again where one tells nothing.
-    #[inline(always)]
+    #[inline(never)]
     fn none_aborted(
         &self,
         seat: &mut Seat,
@@ -185,9 +185,12 @@ impl Shared {
         let rows = self.places.limits.rows;
         let mut ahead = 0;
         for part in 0..self.places.limits.parts {
+            if self.shows_none_aborted(seat, units, part, 0) {
+                continue;
+            }
             let left = rows - lows[part as usize];
             let before = units.committed[part as usize];
-            if !self.none_aborted(seat, units, part, 1 + left, ahead) {
+            if !self.none_aborted(seat, units, part, left, ahead) {
                 return false;
             }
             ahead = units.committed[part as usize]
