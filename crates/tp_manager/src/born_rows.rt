@@ -2,8 +2,7 @@
 ghost use Rattle.std.specs.Prelude.{true, ℕ, ◌≡◌, ◌+◌, ◌-◌, ◌*◌, ◌<◌, ◌≤◌, ◌⊎◌, IfSome, MatchOption};
 ghost use Rattle.tp_model.specs.declared.types.Element.{Element as element};
 ghost use Rattle.tp_model.specs.Steps.{rows_of, IsServerStage};
-ghost use Rattle.tp_model.specs.Words.{TakenWord};
-ghost use Rattle.tp_rule.specs.Words.{claim_value, head_of};
+ghost use Rattle.tp_rule.specs.Words.{head_of};
 ghost use Rattle.tp_rule.specs.declared.packing.Head.TheVariants.{Filled};
 ghost use Rattle.tp_rule.specs.Views.{seen_by, view_of, IsSameSeat};
 ghost use Rattle.tp_rule.specs.Tables.{table_limits};
@@ -18,7 +17,7 @@ use crate::manager::Shared;
 use crate::row_reads::Birth;
 use crate::scanning::Stand;
 use crate::seeker::Taken;
-use tp_rule::{Claim, FoundClaim, Head, Seat};
+use tp_rule::{Head, Seat};
 
 /// What the head of a born element says.
 #[inline(always)]
@@ -42,29 +41,6 @@ fn birth_of(head: Head) -> Birth
 }
 
 impl Shared {
-    /// Whether a unit took the element for the last attempt in its round, by the claim that was found: then
-    /// it doesn't wait.
-    #[inline(always)]
-    fn is_last(&self, claim: FoundClaim) -> bool
-        ensures { result ≡ true → (n u r : ℕ) × (claim_value claim.tells ≡ TakenWord n u r)
-            × ((table_limits self.now.words).attempts ≤ n) }
-    {
-        match claim.tells {
-            Claim::Taken {
-                attempt,
-                unit: _,
-                round: _,
-            } => attempt >= self.places.limits.attempts,
-            Claim::Free => false,
-            Claim::Again { round: _ } => false,
-            Claim::Killed {
-                attempt: _,
-                unit: _,
-                round: _,
-            } => false,
-        }
-    }
-
     /// The unit takes the element of a row, if that waits: it is known that one of the stage is born there.
     /// This makes a step less than other rows allow, and stands apart, since no parked row comes to it.
     #[inline(never)]
@@ -118,9 +94,9 @@ impl Shared {
         ensures told { let l = table_limits self.now.words in
             Begun l (PassedBy l stage) (result - from + 1) from result (view_of seat.old) (view_of seat.new) }
     {
+        let last = self.places.limits.attempts;
         for row in from..to {
-            let claim = self.words.load_claim(seat, row);
-            if !self.is_last(claim) {
+            if !self.words.load_claim(seat, row).is_attempt(last) {
                 return row;
             }
         }

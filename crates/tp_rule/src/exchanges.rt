@@ -18,7 +18,8 @@ ghost use Rattle.tp_rule.specs.Steps.{LosesUnit, FindsOther, FindsEnded, AllowsC
 ghost use Rattle.tp_rule.specs.Steps.{AllowsRequeue, HasCleared, HasElement, HasWork, IsOwnWork, IsClaimed};
 
 use crate::bits::{HEAD_EMPTY, HEAD_VOID, UNIT_ABORTED, UNIT_TAIL, UNIT_UNDECIDED};
-use crate::packing::{Claim, FoundClaim, UnitWord};
+use crate::found::FoundClaim;
+use crate::packing::{Claim, UnitWord};
 use crate::plays::{
     AbortExchange, ClaimExchange, CommitExchange, Draw, KillExchange, Raise, RequeueExchange,
     UnitChoice, Void,

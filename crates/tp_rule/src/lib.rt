@@ -1,5 +1,5 @@
-//! The words of the shared table, the one legal history that they tell, and the kinds of atomic step that keep
-//! it.
+//! The words of the shared table, the one legal history that they tell, and the kinds of atomic step that
+//! keep it.
 //!
 //! A table of words is shared by threads. Each thread acts through a [`Seat`], which stands for one or more
 //! passes and has a view, what it knows. The rule ties words and views. At every moment there is one legal
@@ -9,6 +9,7 @@
 
 mod bits;
 mod exchanges;
+mod found;
 mod loads;
 mod packing;
 mod places;
@@ -19,7 +20,8 @@ mod stores;
 mod view;
 mod words;
 
-pub use packing::{Claim, FoundClaim, FoundHead, FoundUnit, Head, UnitWord};
+pub use found::{FoundClaim, FoundHead, FoundUnit};
+pub use packing::{Claim, Head, UnitWord};
 pub use places::{MARK_KINDS, Places, places_differ};
 pub use seat::Seat;
 pub use view::{Hand, Known, View};

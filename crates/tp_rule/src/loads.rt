@@ -17,7 +17,8 @@ ghost use Rattle.tp_rule.specs.Steps.{unchanged};
 ghost use Rattle.tp_rule.specs.declared.view.Known.TheVariants.{RowHead, RowTail, PartMark, BlocksDrawn};
 
 use crate::bits::{HEAD_EMPTY, HEAD_TAIL, UNIT_TAIL};
-use crate::packing::{FoundClaim, FoundHead, FoundUnit, Head, UnitWord};
+use crate::found::{FoundClaim, FoundHead, FoundUnit};
+use crate::packing::{Head, UnitWord};
 use crate::plays::{Load, LoadDrawn, LoadHead, LoadMark, LoadUnit};
 use crate::seat::Seat;
 use crate::words::Words;

@@ -2,9 +2,8 @@
 //!
 //! `Head`, `Claim` and `UnitWord` can each hold more than the words can; `pack` asks for a value that a word
 //! can hold, and `unpack` answers such values alone. `unpack` undoes `pack`, and `pack` undoes `unpack`.
-//! `read` is the same for a number of which it is proved that it is such a word. A `FoundClaim` is a claim
-//! beside the word that it is in. The tails of a head and of a unit's word, their bits from 37 and
-//! from 21 on, are apart from all this.
+//! `read` is the same for a number of which it is proved that it is such a word. The tails of a head and of a
+//! unit's word, their bits from 37 and from 21 on, are apart from all this.
 ghost use Rattle.std.specs.Prelude.{◌≡◌, ◌↔◌, ℕ, IfSome, IsSome, Option, Some};
 ghost use Rattle.std.specs.Option.{option_map};
 ghost use Rattle.tp_model.specs.History.{UnitEnd};
@@ -52,24 +51,6 @@ pub enum Claim {
     Again { round: u8 },
 }
 
-/// A claim as it was found: the word, which an exchange compares, and what it says.
-#[derive(Clone, Copy, Debug, PartialEq, Eq)]
-pub struct FoundClaim {
-    word: u64,
-    /// What the word says.
-    pub tells: Claim,
-    pub ghost same: { word ≡ pack_claim (claim_value tells) },
-}
-
-/// A head as it was found.
-#[derive(Clone, Copy, Debug, PartialEq, Eq)]
-pub struct FoundHead {
-    /// What the word says of the row.
-    pub tells: Head,
-    /// Where the row has an element or a draft, so many rows right before it have heads of its stage.
-    pub tail: u32,
-}
-
 /// What the word of a unit says.
 #[derive(Clone, Copy, Debug, PartialEq, Eq)]
 pub enum UnitWord {
@@ -80,15 +61,6 @@ pub enum UnitWord {
     Committed { first: u16, count: u8 },
     /// The unit was aborted.
     Aborted,
-}
-
-/// The word of a unit as it was found.
-#[derive(Clone, Copy, Debug, PartialEq, Eq)]
-pub struct FoundUnit {
-    /// How the unit ended.
-    pub tells: UnitWord,
-    /// Where the unit is committed, so many units right before it are.
-    pub tail: u64,
 }
 
 impl Head {
@@ -299,61 +271,6 @@ impl Claim {
         } else {
             None
         }
-    }
-}
-
-impl FoundClaim {
-    /// What was found, of which it is proved that it is a claim word.
-    #[inline(always)]
-    pub fn read(word: u64) -> FoundClaim
-        requires { (w : ClaimWord) × IsFitClaim w × (word ≡ pack_claim w) }
-        ensures of_pack { (w : ClaimWord) → IsFitClaim w → word ≡ pack_claim w
-            → claim_value result.tells ≡ w }
-    {
-        FoundClaim {
-            word,
-            tells: Claim::read(word),
-        }
-    }
-
-    /// As if this claim had been found.
-    pub fn of(tells: Claim) -> FoundClaim
-        requires { IsFitClaim (claim_value tells) }
-        ensures { result.tells ≡ tells }
-    {
-        FoundClaim {
-            word: tells.pack(),
-            tells,
-        }
-    }
-
-    /// The word that was found.
-    #[inline(always)]
-    pub fn word(self) -> u64
-        ensures { result ≡ pack_claim (claim_value self.tells) }
-    {
-        self.word
-    }
-
-    /// The word after a unit has taken the element: the round stays. `attempt` is 1 to 7, `unit` at most
-    /// 65534.
-    #[inline(always)]
-    pub fn taken(self, attempt: u8, unit: u16) -> u64
-        requires found { IsFitClaim (claim_value self.tells) }
-        requires fits { IsFitClaim (TakenWord attempt unit 0) }
-        ensures { result ≡ pack_claim (TakenWord attempt unit (round_in (claim_value self.tells))) }
-    {
-        let round = self.word / CLAIM_ROUND * CLAIM_ROUND;
-        round + CLAIM_UNIT * unit as u64 + CLAIM_ATTEMPT * attempt as u64 + CLAIM_TAKEN
-    }
-
-    /// The word after a kill: the attempt, the unit and the round stay.
-    #[inline(always)]
-    pub fn killed(self) -> u64
-        requires { IsFitClaim (claim_value self.tells) }
-        ensures { result ≡ pack_claim (kill_word (claim_value self.tells)) }
-    {
-        self.word / CLAIM_ATTEMPT * CLAIM_ATTEMPT + CLAIM_KILLED
     }
 }
 
