@@ -17,7 +17,7 @@ use Rattle.tp_model.proofs.Bridges.{found_later, taking_later, by_own, claim_eit
 use Rattle.tp_model.proofs.Lists.{option_or-None, if_same, if_other}
 use Rattle.tp_model.proofs.WordProofs.{end_of-snoc}
 use Rattle.tp_rule.specs.Places.{Word, HeadWord, BodyWord, ClaimWord, UnitWord, MarkWord, DrawnWord, IsThere, head_place, body_place, claim_place, unit_place, place_of, size_of}
-use Rattle.tp_rule.specs.Words.{IsFitHead, IsFitUnit, head_of, pack_by, pack_head, pack_unit, unit_bits, unit_tail_bits}
+use Rattle.tp_rule.specs.Words.{IsFitHead, IsFitUnit, head_of, pack_by, pack_unit, unit_bits, unit_tail_bits}
 use Rattle.tp_rule.specs.declared.bits.TheConstants.{UNIT_TAIL}
 use Rattle.tp_rule.specs.Doors.{Permits}
 use Rattle.tp_rule.specs.Plays.{exchanges_commit, exchanges_abort}

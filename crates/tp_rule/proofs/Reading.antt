@@ -1,22 +1,15 @@
 -- What a load says of the place that it read.
-use Rattle.std.proofs.Common.{◌≡◌, ℕ, List, [], ◌∷◌, ◌++◌, map, sym, ◌∙◌, subst, ap, refl, append_assoc, ⊎_elim, Option, Some, None}
-use Rattle.tp_rule.specs.Rule.{IsDraft, WordIs}
+use Rattle.std.proofs.Common.{◌≡◌, ℕ, List, [], ◌∷◌, ◌++◌, map, sym, ◌∙◌, subst, ap, append_assoc, Option, Some, None}
+use Rattle.tp_rule.specs.Rule.{WordIs}
 use Rattle.tp_rule.specs.Views.{IsOnePass, first_hand, hand}
 use Rattle.tp_rule.specs.Steps.{Found, Loads, Misses, Grew, after, noted}
-use Rattle.tp_model.proofs.Bridges.{born_at, born_or_not}
-use Rattle.std.specs.Option.{option_map}
-use Rattle.tp_model.specs.History.{IsUnborn, element_of}
 use Rattle.tp_model.specs.declared.event.Event.{Event}
-use Rattle.tp_model.specs.declared.types.Element.{Element}
 use Rattle.tp_model.specs.declared.types.Limits.{Limits}
 use Rattle.tp_rule.specs.declared.view.Hand.{Hand}
 use Rattle.tp_rule.specs.declared.view.Known.{Known}
 use Rattle.tp_model.specs.declared.trace.StepKind.{StepKind}
 use Rattle.tp_rule.specs.declared.view.View.{View}
 use Rattle.tp_rule.specs.Places.{Word, IsThere, place_of}
-use Rattle.tp_rule.specs.Words.{head_of}
-use Rattle.tp_rule.specs.declared.packing.Head.{Head}
-use Rattle.tp_rule.specs.declared.packing.Head.TheVariants.{Filled}
 use mathlib.Core.List.{IsPrefix}
 
 -- what a load says of a word that is there

@@ -19,7 +19,7 @@ use Rattle.tp_rule.specs.declared.bits.TheConstants.{HEAD_TAIL}
 use Rattle.tp_rule.specs.Words.{IsFitClaim, IsFitHead, IsFitUnit, head_bits, head_of, pack_claim, pack_head, pack_unit, tail_bits, unit_bits, unit_tail_bits}
 use Rattle.tp_rule.specs.declared.packing.Head.{Head}
 use Rattle.tp_rule.specs.declared.packing.Head.TheVariants.{Empty, Void, Filled}
-use Rattle.tp_rule.specs.Rule.{AreCommitted, Concerns, HasHead, HasStage, HeadTold, IsAside, IsFinished, IsInside, IsOther, IsUseless, MarkHolds, StillSo, WordIs, World}
+use Rattle.tp_rule.specs.Rule.{AreCommitted, Concerns, HasHead, HeadTold, IsAside, IsFinished, IsInside, IsOther, IsUseless, MarkHolds, StillSo, WordIs, World}
 use Rattle.tp_rule.specs.Steps.{AreFinishedFor, Found, IsLow, IsFinishedFor, IsSo}
 use Rattle.tp_rule.specs.declared.view.Known.{Known}
 use Rattle.tp_rule.specs.declared.view.Known.TheVariants.{RowHead, RowTail, PartMark, MarkAbove, BlocksDrawn}

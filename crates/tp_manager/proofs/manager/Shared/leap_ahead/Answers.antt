@@ -1,8 +1,7 @@
-use Rattle.std.proofs.Common.{rules, ◌≡◌, ◌+◌, ◌-◌, ◌<◌, ◌≤◌, ℕ, refl, arith, subst}
+use Rattle.std.proofs.Common.{rules, ◌+◌, ◌-◌, refl, arith, subst}
 use Rattle.tp_model.specs.declared.types.Limits.{Limits}
 use Rattle.tp_rule.specs.Tables.{table_limits}
 use Rattle.tp_rule.specs.Views.{view_of}
-use Rattle.tp_manager.specs.CallSteps.{Looked}
 use Rattle.tp_manager.specs.Marks.{Rose}
 use Rattle.tp_manager.proofs.Calls.CallSteps.{looked, looked_few, looked_none, looked_then}
 use Rattle.tp_manager.proofs.Marks.Raises.{goes_walked, rose_then}

@@ -1,4 +1,4 @@
-use Rattle.std.proofs.Common.{◌+◌, ◌-◌, ◌<◌, ◌≤◌}
+use Rattle.std.proofs.Common.{◌-◌, ◌<◌, ◌≤◌}
 use Rattle.tp_rule.specs.Views.{view_of, IsSameSeat}
 use Rattle.tp_rule.specs.Tables.{table_limits}
 use Rattle.tp_manager.specs.CallSteps.{Looked}
