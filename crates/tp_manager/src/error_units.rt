@@ -50,7 +50,8 @@ impl UnitsSeen {
         requires part { part < 33 }
         ensures { (self.new.committed ≡ self.old.committed)
             ⊎ ((unit ≡ part * units + slice_index self.old.committed part)
-            × (self.new.committed ≡ slice_set self.old.committed part (slice_index self.old.committed part + 1))) }
+            × (self.new.committed
+            ≡ slice_set self.old.committed part (slice_index self.old.committed part + 1))) }
     {
         let known = self.committed[part as usize];
         if unit as u32 == part as u32 * units as u32 + known as u32 && known < units {

@@ -1,5 +1,6 @@
 //! Gaps: runs of rows of no use to a stage that lie behind a row which may be of use.
-ghost use Rattle.std.specs.Prelude.{◌≡◌, ◌⊎◌, ◌+◌, ◌-◌, ◌*◌, ◌<◌, ◌≤◌, slice_index, true, IfSome, MatchOption};
+ghost use Rattle.std.specs.Prelude.{◌≡◌, ◌⊎◌, ◌+◌, ◌-◌, ◌*◌, ◌<◌, ◌≤◌, slice_index, true};
+ghost use Rattle.std.specs.Prelude.{IfSome, MatchOption};
 ghost use Rattle.tp_model.specs.Steps.{rows_of, IsServerStage};
 ghost use Rattle.tp_rule.specs.Views.{seen_by, view_of, IsSameSeat};
 ghost use Rattle.tp_rule.specs.Tables.{table_limits};
@@ -227,9 +228,9 @@ impl Shared {
     }
 
     /// The unit takes the first element of a part that waits in the stage. The scan starts at the part's
-    /// mark, or at row `next` where that comes later and those between are known of no use; after the row that
-    /// the pass has consumed last where that comes first; and it raises the mark. Behind a row that may be of
-    /// use it goes on past the part's gap.
+    /// mark, or at row `next` where that comes later and those between are known of no use; after the row
+    /// that the pass has consumed last where that comes first; and it raises the mark. Behind a row that may
+    /// be of use it goes on past the part's gap.
     pub(crate) fn scan_from_mark(
         &self,
         seat: &mut Seat,
@@ -298,8 +299,8 @@ impl Shared {
     }
 
     /// The unit takes the first element of a part that waits in the stage. Where the first row that the pass
-    /// doesn't know of no use was found to be so by its head (`aside`), the scan leaps over the rows behind it
-    /// that tell of other stages.
+    /// doesn't know of no use was found to be so by its head (`aside`), the scan leaps over the rows behind
+    /// it that tell of other stages.
     #[inline(always)]
     pub(crate) fn scan_part(
         &self,

@@ -78,7 +78,8 @@ impl Shared {
 
     /// A row up to which all from `first` on are known of no use to the stage, where this one is. It looks
     /// ahead, as far as row `target` where that comes later, and else twice as far each time, and less far
-    /// again where that tells nothing. No more looks tell nothing than there are rows that no look was made at.
+    /// again where that tells nothing. No more looks tell nothing than there are rows that no look was made
+    /// at.
     #[inline(never)]
     fn leap_ahead(&self, seat: &mut Seat, first: u32, end: u32, stage: u8, target: u32) -> u32
         requires steady { IsSteady self.now.words seat.old }

@@ -13,7 +13,7 @@ ghost use Rattle.tp_manager.specs.CallSteps.{Acted, IsSteady, Looked};
 ghost use Rattle.tp_manager.specs.Marks.{Remembers, RisesAt, Rose};
 
 use crate::manager::Shared;
-use tp_rule::{FoundHead, Head, Seat};
+use tp_rule::{Head, Seat};
 
 /// The parts that have a mark of each kind: those of at most 32 passes, and the spare rows as one more.
 pub(crate) const MARKED_PARTS: usize = 33;
@@ -198,18 +198,18 @@ impl Shared {
     /// The head of this row of a part, whose end is known: where it is empty nothing is born in the part from
     /// there on. One step.
     #[inline(always)]
-    pub(crate) fn first_head(&self, seat: &mut Seat, part: u16, row: u32, end: u32) -> FoundHead
+    pub(crate) fn first_head(&self, seat: &mut Seat, part: u16, row: u32, end: u32) -> Head
         requires steady { IsSteady self.now.words seat.old }
         requires part { part < (table_limits self.now.words).parts }
         requires row { let l = table_limits self.now.words in
             (part * l.rows ≤ row) × (row < end) × (end ≡ part * l.rows + l.rows) }
         ensures same { IsSameSeat seat.old seat.new }
         ensures acted { Acted (table_limits self.now.words) 1 (view_of seat.old) (view_of seat.new) }
-        ensures bare { result.tells ≡ Empty → (i : ℕ) → row ≤ i → i < end → IsUnborn (seen_by seat.new) i }
-        ensures ahead { result.tells ≡ Empty → MayBeBorn (table_limits self.now.words) (seen_by seat.new) row }
-        ensures knows { Knows (view_of seat.new) (RowHead row result.tells) }
+        ensures bare { result ≡ Empty → (i : ℕ) → row ≤ i → i < end → IsUnborn (seen_by seat.new) i }
+        ensures ahead { result ≡ Empty → MayBeBorn (table_limits self.now.words) (seen_by seat.new) row }
+        ensures knows { Knows (view_of seat.new) (RowHead row result) }
     {
-        self.words.load_tail(seat, row)
+        self.words.load_head(seat, row)
     }
 
     /// The same where the end of the part is known.

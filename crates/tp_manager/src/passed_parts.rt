@@ -1,5 +1,6 @@
 //! Parts that a scan passes by: those that its pass knows finished, and those in which no row has a head.
-ghost use Rattle.std.specs.Prelude.{◌≡◌, ◌⊎◌, ℕ, ◌+◌, ◌-◌, ◌*◌, ◌<◌, ◌≤◌, slice_index, true, MatchOption, Option};
+ghost use Rattle.std.specs.Prelude.{◌≡◌, ◌⊎◌, ℕ, ◌+◌, ◌-◌, ◌*◌, ◌<◌, ◌≤◌, slice_index, true};
+ghost use Rattle.std.specs.Prelude.{MatchOption, Option};
 ghost use Rattle.tp_model.specs.Steps.{part_rows, IsRowOf, IsServerStage};
 ghost use Rattle.tp_rule.specs.Views.{view_of, IsSameSeat};
 ghost use Rattle.tp_rule.specs.Tables.{table_limits};
@@ -13,24 +14,23 @@ use crate::error_queue::later;
 use crate::manager::Shared;
 use crate::marking::Lows;
 use crate::scanning::is_of_stage;
-use tp_rule::{FoundHead, Head, Seat};
+use tp_rule::{Head, Seat};
 
 /// The part at which a scan goes on.
 #[derive(Clone, Copy)]
 pub(crate) struct NextPart {
     pub part: u16,
-    /// Whether its first row that wasn't known of no use was found to be so by its head, and more such ones are
-    /// likely behind it.
+    /// Whether its first row was found to be of no use by its head, and more such ones are likely behind it.
     pub aside: bool,
 }
 
-/// Whether the head of a row, which has so many before it in its part, is of another stage, and more such ones
-/// are likely behind it: it is the part's first, or several are right before it.
+/// Whether the head of a row, which has so many before it in its part, is of another stage, and more such
+/// ones are likely behind it: it is the part's first. Elsewhere few were mostly added since the last look.
 #[inline(always)]
-fn begins_leap(low: u16, found: FoundHead, stage: u8) -> bool
-    ensures { result ≡ true → (of root : ℕ) (by : Option ℕ) → found.tells ≡ Filled of root by → ¬ (of ≡ stage) }
+fn begins_leap(low: u16, found: Head, stage: u8) -> bool
+    ensures { result ≡ true → (of root : ℕ) (by : Option ℕ) → found ≡ Filled of root by → ¬ (of ≡ stage) }
 {
-    (low == 0 || found.tail > 1) && !is_of_stage(found.tells, stage)
+    low == 0 && !is_of_stage(found, stage)
 }
 
 impl Shared {
@@ -58,7 +58,8 @@ impl Shared {
             (view_of seat.old) (view_of seat.new) }
         ensures aside { result.aside ≡ true → let l = table_limits self.now.words in
             let n = slice_index lows.now result.part in
-            (n < l.rows) × Rose stage (view_of seat.new) (result.part * l.rows + n) (result.part * l.rows + n + 1) }
+            let row = result.part * l.rows + n in
+            (n < l.rows) × Rose stage (view_of seat.new) row (row + 1) }
     {
         let limits = self.places.limits;
         let rows = limits.rows as u32;
@@ -69,7 +70,7 @@ impl Shared {
                 return NextPart { part, aside: false };
             }
             let found = self.first_head(seat, part, first + low as u32, first + rows);
-            if found.tells != Head::Empty {
+            if found != Head::Empty {
                 return NextPart {
                     part,
                     aside: begins_leap(low, found, stage),
@@ -104,8 +105,8 @@ impl Shared {
     }
 
     /// The first part from row `from` on in which a row has a head, from the mark on that the pass remembers,
-    /// and which it doesn't know finished; and the first of its rows from `from` on. The last part is one also
-    /// where it is finished, so that each listing looks. One look at each part up to that one.
+    /// and which it doesn't know finished; and the first of its rows from `from` on. The last part is one
+    /// also where it is finished, so that each listing looks. One look at each part up to that one.
     #[inline(always)]
     pub(crate) fn first_headed(&self, seat: &mut Seat, lows: &Lows, from: u32) -> Option<(u16, u32)>
         requires steady { IsSteady self.now.words seat.old }

@@ -86,8 +86,8 @@ impl Words {
 
     /// The open unit is committed with its drafts, if it is undecided. `true` adds the commit to the history:
     /// in this one step the element that the unit took is consumed and all drafts are born. `false`: another
-    /// pass had aborted the unit, and its drafts are never born. `tail` is how many units right before this one
-    /// were seen to be committed, or fewer.
+    /// pass had aborted the unit, and its drafts are never born. `tail` is how many units right before this
+    /// one were seen to be committed, or fewer.
     #[inline(always)]
     pub fn commit_exchange(
         &self,

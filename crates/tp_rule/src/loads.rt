@@ -58,8 +58,8 @@ impl Words {
         self.load_tail(seat, row).tells
     }
 
-    /// The same, and the tail of the head where the row has one: so many rows right before it have heads of its
-    /// stage, and the seat remembers that too.
+    /// The same, and the tail of the head where the row has one: so many rows right before it have heads of
+    /// its stage, and the seat remembers that too.
     #[inline(always)]
     pub fn load_tail(&self, seat: &mut Seat, row: u32) -> FoundHead
         requires own { IsSeatOf self.now seat.old }

@@ -59,16 +59,16 @@ pub returns-then-ne-clause-aside : goal.returns-then-ne-clause-aside
 returns-then-ne-clause-aside c = λ yes. let l : Limits = table_limits c.args.self.now.words in let at = (goal.at.returns-then-ne-clause-aside c).After-first_head-found in let gone = before at in let n = c.loop-part.part in let low = slice_index c.args.lows.now n in let w = view_of c.first_head-found.new.seat in
     let still = remembers_kind c.args.stage c.args.lows.now _ _ _ _ _ gone.walk c.requires.remembers in
     let inside = lows_inside l c.args.lows.now c.args.stage (view_of c.loop-part.seat) gone.walk.steady.pass.1 gone.walk.steady.known still n (subst (λ (z : Limits). n < z.parts) (sym c.args.self.now.same) c.loop-part-test.true) in
-    let left = c.if-low-limits.false in let wd = wide at in let full : ¬ (c.first_head-found.result.tells ≡ Empty) = search rules in let row : c.loop-part.first + low ≡ n * l.rows + low = ap (λ z. z + low) (starts at) in (
+    let left = c.if-low-limits.false in let wd = wide at in let full : ¬ (c.first_head-found.result ≡ Empty) = search rules in let row : c.loop-part.first + low ≡ n * l.rows + low = ap (λ z. z + low) (starts at) in (
       omega arith,
-      rose_aside l c.args.stage w (n * l.rows + low) (n * l.rows + low + 1) (n * l.rows + low) c.first_head-found.result.tells (subst (λ z. Knows w (RowHead z c.first_head-found.result.tells)) row c.first_head-found.ensures.knows)
+      rose_aside l c.args.stage w (n * l.rows + low) (n * l.rows + low + 1) (n * l.rows + low) c.first_head-found.result (subst (λ z. Knows w (RowHead z c.first_head-found.result)) row c.first_head-found.ensures.knows)
           (λ of root by is. unconcerned l c.args.stage of c.requires.stage.0 (c.begins_leap.ensures yes of root by is)) (inr (refl, refl, full)),
     )
 
 pub loop-part-preserved : goal.loop-part-preserved
 loop-part-preserved c = let l : Limits = table_limits c.args.self.now.words in let P = PassedBy l c.args.stage in let W = part_widens l P (passed_widens l c.args.stage) in let at = (goal.at.loop-part-preserved c).After-first_head-found in let i = c.loop-part.invariant in let up = i.from in
     let n = c.loop-part.part in let v = view_of c.loop-part.seat in let w = view_of c.first_head-found.new.seat in let low = slice_index c.args.lows.now n in
-    let empty : c.first_head-found.result.tells ≡ Empty = search rules in let looked_at = c.first_head-found.ensures.acted in let none = c.first_head-found.ensures.bare empty in let e = starts at in let wd = wide at in let gone = before at in
+    let empty : c.first_head-found.result ≡ Empty = search rules in let looked_at = c.first_head-found.ensures.acted in let none = c.first_head-found.ensures.bare empty in let e = starts at in let wd = wide at in let gone = before at in
     let still = remembers_kind c.args.stage c.args.lows.now _ _ _ _ _ gone.walk c.requires.remembers in
     let inside = lows_inside l c.args.lows.now c.args.stage v gone.walk.steady.pass.1 gone.walk.steady.known still n (subst (λ (z : Limits). n < z.parts) (sym c.args.self.now.same) c.loop-part-test.true) in let left = c.if-low-limits.false in
     let less : low < l.rows = omega arith in
