@@ -1,7 +1,7 @@
 //! Which values given numbers are as words, and that others are none. That a value packs to the number that
 //! it is read from is proved, and not tried here.
 
-use tp_rule::{Claim, Head, UnitWord};
+use tp_rule::{Claim, FoundClaim, Head, UnitWord};
 
 fn filled(stage: u8, root: u16, by: Option<u16>) -> Option<Head> {
     Some(Head::Filled { stage, root, by })
@@ -86,6 +86,29 @@ fn refused_claims(rt: HostRuntime) {
         16777221,
     ] {
         assert!(rt; Claim::unpack(word).is_none(), "{word}");
+    }
+}
+
+/// Which attempt was found is told of what a unit took, and of nothing else.
+#[test]
+fn attempts(rt: HostRuntime) {
+    let taken = FoundClaim::of(Claim::Taken {
+        attempt: 2,
+        unit: 512,
+        round: 1,
+    });
+    let killed = FoundClaim::of(Claim::Killed {
+        attempt: 2,
+        unit: 512,
+        round: 1,
+    });
+    let again = FoundClaim::of(Claim::Again { round: 1 });
+    let free = FoundClaim::of(Claim::Free);
+    for attempt in 0..8u8 {
+        assert!(rt; taken.is_attempt(attempt) == (attempt == 2), "{attempt}");
+        assert!(rt; !killed.is_attempt(attempt), "{attempt}");
+        assert!(rt; !again.is_attempt(attempt), "{attempt}");
+        assert!(rt; !free.is_attempt(attempt), "{attempt}");
     }
 }
 
