@@ -349,12 +349,7 @@ impl Shared {
             lows[part as usize - 1]
         };
         let target = begin + filled as u32;
-        let end = begin + rows;
-        let next = self.leap(seat, first, end, who.stage, aside, target);
-        if aside && next == end {
-            self.pass_part(seat, lows, who.stage, part, end);
-            return None;
-        }
+        let next = self.leap(seat, first, begin + rows, who.stage, aside, target);
         self.scan_from_mark(seat, lows, gaps, part, next, who)
     }
 }

@@ -1,15 +1,13 @@
 //! Leaps over rows of other stages: each head tells how many rows right before it are of its stage.
-ghost use Rattle.std.specs.Prelude.{◌≡◌, ◌+◌, ◌-◌, ◌*◌, ◌<◌, ◌≤◌, ℕ, Option, slice_index, true};
+ghost use Rattle.std.specs.Prelude.{◌≡◌, ◌+◌, ◌-◌, ◌<◌, ◌≤◌, ℕ, Option, true};
 ghost use Rattle.tp_model.specs.Steps.{rows_of, IsServerStage};
 ghost use Rattle.tp_rule.specs.Views.{view_of, IsSameSeat};
 ghost use Rattle.tp_rule.specs.Tables.{table_limits};
 ghost use Rattle.tp_rule.specs.declared.packing.Head.TheVariants.{Filled};
 ghost use Rattle.tp_manager.specs.CallSteps.{Acted, IsSteady, Looked};
-ghost use Rattle.tp_manager.specs.Marks.{Remembers, RisesAt, Rose};
-ghost use Rattle.tp_manager.specs.Scans.{OfPart, PassedBy, Sought};
+ghost use Rattle.tp_manager.specs.Marks.{Rose};
 
 use crate::manager::Shared;
-use crate::marking::Lows;
 use tp_rule::{FoundHead, Head, Seat};
 
 /// How many looks there are at most in the leaps over a part: twice as often as its rows can be halved.
@@ -145,27 +143,5 @@ impl Shared {
         } else {
             first
         }
-    }
-
-    /// Raises the mark of a part over all its rows, where each from the mark on that the pass remembers is
-    /// known of no use. Two steps at most.
-    #[inline(always)]
-    pub(crate) fn pass_part(&self, seat: &mut Seat, lows: &mut Lows, stage: u8, part: u16, end: u32)
-        requires steady { IsSteady self.now.words seat.old }
-        requires stage { IsServerStage stage }
-        requires part { part < (table_limits self.now.words).parts }
-        requires remembers { Remembers stage (view_of seat.old) lows.old }
-        requires end { let l = table_limits self.now.words in end ≡ part * l.rows + l.rows }
-        requires known { let l = table_limits self.now.words in
-            Rose stage (view_of seat.old) (part * l.rows + slice_index lows.old part) end }
-        ensures same { IsSameSeat seat.old seat.new }
-        ensures remembers { Remembers stage (view_of seat.new) lows.new }
-        ensures lows { RisesAt part lows.old lows.new }
-        ensures full { slice_index lows.new part ≡ (table_limits self.now.words).rows }
-        ensures told { let l = table_limits self.now.words in
-            Sought l 2 (OfPart l (PassedBy l stage) part) (view_of seat.old) (view_of seat.new) }
-    {
-        let mark = self.low_at(seat, lows, stage, part);
-        self.raise_low(seat, lows, stage, part, mark, end);
     }
 }

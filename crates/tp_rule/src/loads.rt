@@ -16,7 +16,7 @@ ghost use Rattle.tp_rule.specs.Steps.{AreInOrder, IsLow, Loads, Grew, Knows, May
 ghost use Rattle.tp_rule.specs.Steps.{unchanged};
 ghost use Rattle.tp_rule.specs.declared.view.Known.TheVariants.{RowHead, RowTail, PartMark, BlocksDrawn};
 
-use crate::bits::{HEAD_EMPTY, HEAD_TAIL, UNIT_TAIL};
+use crate::bits::{HEAD_TAIL, UNIT_TAIL};
 use crate::found::{FoundClaim, FoundHead, FoundUnit};
 use crate::packing::{Head, UnitWord};
 use crate::plays::{Load, LoadDrawn, LoadHead, LoadMark, LoadUnit};
@@ -76,13 +76,6 @@ impl Words {
     {
         let word = self.places.head(row);
         let found = self.table.load::<LoadHead>(seat, word);
-        // First, since an Idle claim makes little else than this.
-        if found == HEAD_EMPTY {
-            return FoundHead {
-                tells: Head::Empty,
-                tail: 0,
-            };
-        }
         FoundHead {
             tells: Head::read(found % HEAD_TAIL),
             tail: (found / HEAD_TAIL) as u32,

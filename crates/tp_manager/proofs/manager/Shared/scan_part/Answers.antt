@@ -5,14 +5,13 @@ use Rattle.tp_rule.specs.Views.{view_of}
 use Rattle.tp_manager.specs.Bounds.{try_steps}
 use Rattle.tp_manager.specs.Leans.{scan_end}
 use Rattle.tp_manager.specs.Marks.{Rose}
-use Rattle.tp_manager.proofs.Calls.CallSteps.{gaps_kind, remembers_kind, sought_few}
+use Rattle.tp_manager.proofs.Calls.CallSteps.{gaps_kind, remembers_kind}
 use Rattle.tp_manager.proofs.Calls.Passes.{done_walked}
-use Rattle.tp_manager.proofs.Claims.Leans.{lean_apart, lean_at, lean_rows}
-use Rattle.tp_manager.specs.Scans.{PassedBy}
-use Rattle.tp_manager.proofs.Claims.Scans.{ends_behind, passed_widens, scan_behind, told_walked}
+use Rattle.tp_manager.proofs.Claims.Leans.{lean_apart, lean_rows}
+use Rattle.tp_manager.proofs.Claims.Scans.{ends_behind, scan_behind, told_walked}
 use Rattle.tp_manager.proofs.Marks.Lows.{lows_inside}
 use Rattle.tp_manager.proofs.Marks.Rests.{rests_before}
-use Rattle.tp_manager.proofs.Rows.Seeks.{rows_more, sought_behind}
+use Rattle.tp_manager.proofs.Rows.Seeks.{rows_more}
 use Rattle.tp_manager.proofs.manager.Shared.scan_part.Goals as goal
 use Rattle.tp_manager.proofs.manager.Shared.scan_part.Goals.{Start}
 
@@ -45,30 +44,6 @@ scan_from_mark-requires-clause-done c = done_walked _ _ _ _ _ c.args.who.done c.
 pub scan_from_mark-requires-clause-next : goal.scan_from_mark-requires-clause-next
 scan_from_mark-requires-clause-next c = let at = (goal.at.scan_from_mark-requires-clause-next c).Start in let e = first at in let w = wide at in let end = c.leap-next.ensures.end in
     (omega arith, subst (λ z. Rose c.args.who.stage (view_of c.leap-next.new.seat) (z + slice_index c.args.lows.now c.args.part) c.leap-next.result) (sym e) c.leap-next.ensures.rose)
-
--- a part that the leap went over whole
-pub pass_part-requires-clause-remembers : goal.pass_part-requires-clause-remembers
-pass_part-requires-clause-remembers c = remembers_kind c.args.who.stage c.args.lows.now _ _ _ _ _ c.leap-next.ensures.few.walk c.requires.remembers
-
-pub pass_part-requires-clause-known : goal.pass_part-requires-clause-known
-pass_part-requires-clause-known c = let e = first (goal.at.pass_part-requires-clause-known c).Start in let n = slice_index c.args.lows.now c.args.part in let w = view_of c.leap-next.new.seat in
-    subst (λ z. Rose c.args.who.stage w (c.args.part * (table_limits c.args.self.now.words).rows + n) z) c.if-next-end.true (subst (λ z. Rose c.args.who.stage w (z + n) c.leap-next.result) (sym e) c.leap-next.ensures.rose)
-
-pub returns-then-next-end-clause-gaps : goal.returns-then-next-end-clause-gaps
-returns-then-next-end-clause-gaps c = gaps_kind c.args.who.stage c.args.gaps.now _ _ _ _ _ c.pass_part.ensures.told.walk (gaps_kind c.args.who.stage c.args.gaps.now _ _ _ _ _ c.leap-next.ensures.few.walk c.requires.gaps)
-
-pub returns-then-next-end-clause-lean : goal.returns-then-next-end-clause-lean
-returns-then-next-end-clause-lean c = let at = (goal.at.returns-then-next-end-clause-lean c).Start in let l : Limits = table_limits c.args.self.now.words in let e = first at in let w = wide at in let up = c.leap-next.ensures.rose.0 in let is = c.if-next-end.true in
-    let n : ℕ = c.args.part * l.rows + slice_index c.args.lows.now c.args.part in let next : ℕ = c.leap-next.result in
-    lean_apart l c.args.who.stage 0 n (next - n) 2 next 0 2 n (c.args.part * l.rows + l.rows - n) _ _ _ (omega arith) (omega arith) (omega arith) (omega arith)
-    (lean_rows l c.args.who.stage _ n (next - n) _ _ _ (omega arith) c.leap-next.ensures.few.walk) (lean_at l c.args.who.stage 2 next _ _ _ c.pass_part.ensures.told.walk)
-
-pub returns-then-next-end-clause-told : goal.returns-then-next-end-clause-told
-returns-then-next-end-clause-told c = let at = (goal.at.returns-then-next-end-clause-told c).Start in let l : Limits = table_limits c.args.self.now.words in let e = first at in let w = wide at in let is = c.if-next-end.true in let i = inside at in
-    let gone : ℕ = c.leap-next.result - (c.args.part * c.args.self.now.places.limits.rows + slice_index c.args.lows.now c.args.part) in let low : ℕ = c.args.part * l.rows in
-    let all : gone * try_steps ≤ (l.rows - slice_index c.args.lows.now c.args.part) * try_steps = mul-le-mul_right try_steps (omega arith) in
-    sought_few l (gone + 2) (2 + (l.rows - slice_index c.args.lows.now c.args.part) * try_steps) _ _ _ (omega arith)
-    (sought_behind l gone 2 (PassedBy l c.args.who.stage) (passed_widens l c.args.who.stage) low (low + l.rows) _ _ _ c.leap-next.ensures.few c.pass_part.ensures.told)
 
 pub returns-clause-lean : goal.returns-clause-lean
 returns-clause-lean c = let at = (goal.at.returns-clause-lean c).Start in let l : Limits = table_limits c.args.self.now.words in let e = first at in let w = wide at in let up = c.leap-next.ensures.rose.0 in let top = c.leap-next.ensures.end in

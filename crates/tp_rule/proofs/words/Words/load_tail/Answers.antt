@@ -1,9 +1,9 @@
-use Rattle.std.proofs.Common.{◌≡◌, ◌<◌, rules, sym, ◌∙◌, ap, subst, arith}
+use Rattle.std.proofs.Common.{◌≡◌, ◌<◌, rules, sym, ◌∙◌, ap, subst}
 use Rattle.tp_model.specs.Steps.{rows_of}
 use Rattle.tp_rule.specs.Doors.{Permits, key_of}
 use Rattle.tp_rule.specs.Plays.{loads_head}
 use Rattle.tp_rule.specs.Places.{HeadWord}
-use Rattle.tp_rule.specs.Words.{IsFitHead, head_bits, pack_head}
+use Rattle.tp_rule.specs.Words.{IsFitHead, pack_head}
 use Rattle.tp_rule.specs.declared.packing.Head.TheVariants.{Filled}
 use Rattle.tp_rule.specs.Steps.{MayBeBorn}
 use Rattle.tp_rule.specs.Rule.{HeadTold, IsDraft}
@@ -23,14 +23,6 @@ says c = told _ _ _ (HeadWord c.args.row) _ _ c.requires.one.1 c.requires.row c.
 
 pub read-requires : goal.read-requires
 read-requires c = let t = says (goal.at.read-requires c).After-load-found in (t.head, t.fit, t.packed)
-
-pub returns-then-found-eq-HEAD_EMPTY-clause-born : goal.returns-then-found-eq-HEAD_EMPTY-clause-born
-returns-then-found-eq-HEAD_EMPTY-clause-born c = let t = says (goal.at.returns-then-found-eq-HEAD_EMPTY-clause-born c).After-load-found in λ e p.
-    let zero : pack_head t.head ≡ 0 = sym t.packed ∙ ap head_bits c.if-found-eq-HEAD_EMPTY.true in let full = ap pack_head (t.born e p) in absurd (omega arith)
-
-pub returns-then-found-eq-HEAD_EMPTY-clause-none : goal.returns-then-found-eq-HEAD_EMPTY-clause-none
-returns-then-found-eq-HEAD_EMPTY-clause-none c = λ _. subst (λ l. MayBeBorn l (seen_by c.load-found.new.seat) c.args.row) c.requires.one.1
-    (c.load-found.ensures.told.3 c.args.row c.head-word.ensures.place c.if-found-eq-HEAD_EMPTY.true)
 
 pub returns-clause-born : goal.returns-clause-born
 returns-clause-born c = let t = says (goal.at.returns-clause-born c).After-load-found in λ e p. c.read.ensures.of_pack t.head t.fit t.packed ∙ t.born e p
