@@ -202,8 +202,6 @@ fn head_tells_its_tail(rt: HostRuntime) {
     );
     assert!(rt; words.load_tail(&mut reader, 1).tail == 1);
     assert!(rt; words.load_tail(&mut reader, 0).tail == 0);
-    // Bit 0, the stage from bit 1 on, the root from bit 5 on and the tail from bit 37 on.
-    assert!(rt; words.load(&mut reader, 12) == 1 + (1 << 1) + (2 << 5) + (2 << 37));
 }
 
 /// Whether the row has a client's element of stage 1, and the unit was aborted.
