@@ -1,5 +1,6 @@
 //! Pictures that come late: two passes of a manager, and desks that are used one call at a time.
 ghost use Rattle.std.specs.Prelude.{◌≡◌, None};
+ghost use Rattle.tp_manager.specs.Shown.{IsOf};
 ghost use Rattle.tp_workers.specs.Free.{IsFreePass};
 
 use crate::day::{Boxed, LIMITS};
@@ -18,18 +19,30 @@ pub fn work<R: AllocGlobal + Print>(rt: &R) -> Result<(), ProgramFault> {
     let (manager, mut keeper) = Keeper::new(rt.alloc(), LIMITS.with_parts(2))?;
     let mut front = keeper.pass(&manager)?;
     let mut worker = keeper.pass(&manager)?;
-    let mut resizer: Boxed = Box::new(rt.alloc(), OwnServer::new(Resizer, [50_000]))?;
     manager.submit(&mut front, 2, [0, 8_000, 75, 5])?;
     manager.submit(&mut front, 3, [0, 77, 71, 6])?;
     let resized = resize(&manager, &mut worker, 8);
     let told = tell(rt, &manager, &mut worker)?;
     println!(rt; "late: {resized} resized, {told} notices")?;
+    cancel_at_work(rt, &manager, &mut front, &mut worker)
+}
 
-    let root = manager.submit(&mut front, 2, [1, 4_000, 74, 4])?;
-    let mut desk = Desk::new(&manager, &mut worker, &mut resizer);
+/// Cancels a request while the resizer works on it: the work is lost.
+fn cancel_at_work<R: AllocGlobal + Print>(
+    rt: &R,
+    manager: &Manager,
+    front: &mut Pass,
+    worker: &mut Pass,
+) -> Result<(), ProgramFault>
+    requires own { IsOf manager.now front.old }
+    requires free { IsFreePass manager.now worker.old }
+{
+    let mut resizer: Boxed = Box::new(rt.alloc(), OwnServer::new(Resizer, [50_000]))?;
+    let root = manager.submit(front, 2, [1, 4_000, 74, 4])?;
+    let mut desk = Desk::new(manager, worker, &mut resizer);
     if let Claimed::Work(work) = desk.claim() {
         if desk.prepare().is_ok() {
-            let cancelled = manager.cancel(&mut front, root)?;
+            let cancelled = manager.cancel(front, root)?;
             println!(rt; "cancelled: killed {}", cancelled.killed)?;
             match desk.commit() {
                 Outcome::Lost => println!(rt; "the work at stage {} was lost", work.element.stage)?,

@@ -1,6 +1,6 @@
 use Rattle.std.proofs.Common.{◌≡◌, true, sym, ◌∙◌}
 use Rattle.std.specs.Prelude.{Err, Ok, OnOk, Result, is_ok}
-use Rattle.tp_images.proofs.late.work.Goals as goal
+use Rattle.tp_images.proofs.late.cancel_at_work.Goals as goal
 
 -- what is so of a result that is fine
 of_ok : {T E : Type 0} (r : Result T E) (P : Type 0) → is_ok r ≡ true → OnOk r P → P
