@@ -1,6 +1,5 @@
 //! Pictures that come late: two passes of a manager, and desks that are used one call at a time.
 ghost use Rattle.std.specs.Prelude.{◌≡◌, None};
-ghost use Rattle.tp_manager.specs.Shown.{IsOf};
 ghost use Rattle.tp_workers.specs.Free.{IsFreePass};
 
 use crate::day::{Boxed, LIMITS};
@@ -34,8 +33,8 @@ fn cancel_at_work<R: AllocGlobal + Print>(
     front: &mut Pass,
     worker: &mut Pass,
 ) -> Result<(), ProgramFault>
-    requires own { IsOf manager.now front.old }
-    requires free { IsFreePass manager.now worker.old }
+    requires front { IsFreePass manager.now front.old }
+    requires worker { IsFreePass manager.now worker.old }
 {
     let mut resizer: Boxed = Box::new(rt.alloc(), OwnServer::new(Resizer, [50_000]))?;
     let root = manager.submit(front, 2, [1, 4_000, 74, 4])?;
