@@ -8,7 +8,7 @@ use Rattle.tp_model.specs.declared.types.Limits.{Limits}
 use Rattle.tp_model.specs.declared.event.Event.{Event}
 use Rattle.tp_model.specs.History.{IsSettled, element_of, status_of}
 use Rattle.tp_model.specs.Steps.{IsServerStage}
-use Rattle.tp_rule.specs.Rule.{IsInside}
+use Rattle.tp_rule.specs.Rule.{AreCommitted, IsInside}
 use Rattle.tp_rule.specs.declared.view.View.{View}
 use Rattle.tp_manager.specs.declared.seeker.Taken.{Taken}
 use Rattle.tp_rule.specs.Steps.{KnowsUseless, Knows}
@@ -16,6 +16,7 @@ use Rattle.tp_rule.specs.declared.view.Known.TheVariants.{MarkAbove, PartMark}
 use Rattle.tp_manager.specs.Shown.{NoneFalls, marks_of}
 use Rattle.tp_manager.specs.Raises.{IsOfUse}
 use Rattle.tp_manager.specs.UnitsSeen.{RemembersUnits}
+use Rattle.tp_manager.specs.declared.streak.Streak.{Streak}
 use Rattle.tp_manager.specs.CallSteps.{opening_in}
 
 -- the seat knows each row from a on and below b of no use to kind c: so a mark of that kind may rise from a
@@ -75,13 +76,14 @@ AreFinished l lows n = (p : ℕ) → p < n → slice_index lows p ≡ l.rows
 abbrev pub IsBehind : Limits → List ℕ → ℕ → Type 0
 IsBehind l lows part = (part < l.parts) × AreFinished l lows part
 
--- what a pass remembers of all kinds: marks, gaps behind them, and a part before which all are finished; and
--- of units
-pub record Recalls (v : View) (lows runs : List (List ℕ)) (begins units : List ℕ) : Type 0 where
+-- what a pass remembers of all kinds: marks, gaps behind them, and a part before which all are finished; of
+-- units; and of those that it has committed last
+pub record Recalls (v : View) (lows runs : List (List ℕ)) (begins units : List ℕ) (s : Streak) : Type 0 where
   pub marks : RemembersAll v lows
   pub gaps : (c : ℕ) → RemembersGaps c v (marks_of runs c)
   pub behind : (c : ℕ) → IsBehind v.limits (marks_of lows c) (slice_index begins c)
   pub committed : RemembersUnits v units
+  pub streak : AreCommitted v.seen s.end s.length
 
 -- no mark that the pass remembers fell, and it remembers no other than that of part p
 abbrev pub RisesAt : ℕ → List ℕ → List ℕ → Type 0

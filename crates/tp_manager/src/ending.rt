@@ -6,6 +6,7 @@ ghost use Rattle.tp_manager.specs.Bounds.{abort_steps, close_steps, commit_steps
 ghost use Rattle.tp_manager.specs.Calls.{AnswersAbort, Follows, HasEnded, Settles};
 
 use crate::manager::{Manager, Pass};
+use crate::streak::Streak;
 use tp_model::types::{Draft, Ended, Outcome};
 
 impl Manager {
@@ -67,13 +68,12 @@ impl Manager {
         pass.run.next = next + count;
         pass.run.left -= count;
         pass.run.tail = 0;
-        let units = shared.places.limits.units;
-        let tail = pass.units.tail_before(pass.number, units, task.unit);
+        let tail = pass.streak.before(task.unit);
         if shared
             .words
             .commit_exchange(seat, task.unit, first, count as u8, tail)
         {
-            pass.units.go_on(pass.number, units, task.unit);
+            pass.streak = Streak::behind(task.unit, tail);
             pass.run.done = Some(task.row);
             pass.task = None;
             Outcome::Committed {

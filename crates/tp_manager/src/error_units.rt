@@ -1,6 +1,6 @@
 //! What a pass has seen of units. An element is parked where the last unit that took it is aborted. So where
 //! no unit is, a listing of what is parked need not walk over what waits.
-ghost use Rattle.std.specs.Prelude.{◌≡◌, ◌⊎◌, ◌+◌, ◌*◌, ◌<◌, ◌≤◌, slice_index, slice_set, true};
+ghost use Rattle.std.specs.Prelude.{◌≡◌, ◌⊎◌, ◌+◌, ◌<◌, ◌≤◌, true};
 ghost use Rattle.tp_model.specs.Steps.{rows_of};
 ghost use Rattle.tp_rule.specs.Tables.{table_limits};
 ghost use Rattle.tp_rule.specs.Views.{view_of, IsSameSeat};
@@ -25,39 +25,6 @@ pub(crate) struct UnitsSeen {
     pub committed: [u16; MARKED_PARTS],
     /// Whether a unit is aborted: it stays so.
     pub aborted: bool,
-}
-
-impl UnitsSeen {
-    /// How many units of a part, which has so many, are known to be committed right before this one of it: 0
-    /// where it isn't the first that isn't known to be.
-    #[inline(always)]
-    pub(crate) fn tail_before(&self, part: u16, units: u16, unit: u16) -> u16
-        requires part { part < 33 }
-        ensures { (result ≡ 0) ⊎ ((result ≡ slice_index self.now.committed part)
-            × (unit ≡ part * units + result) × (result < units)) }
-    {
-        let known = self.committed[part as usize];
-        if unit as u32 == part as u32 * units as u32 + known as u32 && known < units {
-            known
-        } else {
-            0
-        }
-    }
-
-    /// That unit was committed.
-    #[inline(always)]
-    pub(crate) fn go_on(&mut self, part: u16, units: u16, unit: u16)
-        requires part { part < 33 }
-        ensures { (self.new.committed ≡ self.old.committed)
-            ⊎ ((unit ≡ part * units + slice_index self.old.committed part)
-            × (self.new.committed
-            ≡ slice_set self.old.committed part (slice_index self.old.committed part + 1))) }
-    {
-        let known = self.committed[part as usize];
-        if unit as u32 == part as u32 * units as u32 + known as u32 && known < units {
-            self.committed[part as usize] = known + 1;
-        }
-    }
 }
 
 /// The earlier of two units.

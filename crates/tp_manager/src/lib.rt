@@ -35,6 +35,7 @@ mod row_set;
 mod scanning;
 mod seeker;
 mod sparing;
+mod streak;
 mod submitting;
 mod walking;
 

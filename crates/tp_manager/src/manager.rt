@@ -14,6 +14,7 @@ use crate::error_units::UnitsSeen;
 use crate::gaps::Gaps;
 use crate::marking::{Lows, MARKED_PARTS};
 use crate::row_set::{NoRows, RowSet};
+use crate::streak::Streak;
 use std::alloc::Global;
 use std::marker::Model;
 use tp_model::types::Limits;
@@ -118,6 +119,8 @@ pub struct Pass {
     pub(crate) run: Run,
     pub(crate) used: u16,
     pub(crate) task: Option<Task>,
+    /// The units that it has committed last.
+    pub(crate) streak: Streak,
     /// The marks of each kind and part, as the pass last loaded or set them, or as far as a raise of a
     /// stage's mark that failed would have set it.
     pub(crate) lows: [Lows; MARK_KINDS],
@@ -145,7 +148,7 @@ impl Model for Pass {
     ghost view = { λ p. shown (spot p.seat.table p.lows p.run.drawn p.from) p.seat.view };
 
     ghost invariant = { λ p. Rests p.seat p.number p.run p.used p.task
-        × Recalls p.seat.view p.lows p.gaps p.begins p.units.committed };
+        × Recalls p.seat.view p.lows p.gaps p.begins p.units.committed p.streak };
 }
 
 impl Keeper {
@@ -216,6 +219,7 @@ impl Keeper {
             },
             used: 0,
             task: None,
+            streak: Streak { end: 0, length: 0 },
             lows: [[0; MARKED_PARTS]; MARK_KINDS],
             gaps: [[0; 3 * MARKED_PARTS]; MARK_KINDS],
             begins: [0; MARK_KINDS],

@@ -18,6 +18,8 @@ use Rattle.tp_manager.specs.Calls.{Follows, AtPoint, HasLooked, steps_of, openin
 use Rattle.tp_manager.specs.Shown.{AllRise, Climbs, NoneFalls, marks_of, Spot, PassShown, shown}
 use Rattle.tp_manager.specs.CallSteps.{Steady, Stepped, Looked, Acted, opening_in, pass_in, with_trace}
 use Rattle.tp_manager.specs.UnitsSeen.{RemembersUnits}
+use Rattle.tp_manager.specs.declared.streak.Streak.{Streak}
+use Rattle.tp_rule.specs.Rule.{AreCommitted}
 use Rattle.tp_manager.specs.Marks.{IsBehind, MayRemember, Recalls, Remembers, RemembersGaps, gap_in}
 use Rattle.tp_manager.specs.Scans.{Sought}
 use Rattle.tp_manager.proofs.Claims.Runs.{gap_later}
@@ -210,11 +212,16 @@ units_kept counts l n ms v w a r c u own low = let same : w.limits ≡ v.limits 
     let t = r c u (subst (λ (z : Limits). IsUnitOf z c u) same own) (subst (λ (z : Limits). u < c * z.units + slice_index counts c) same low) in
     (t.0, t.1, end_stays v.seen w.seen u (Committed t.0 t.1) (walked_begins l n ms v w a) t.2)
 
+-- and so is each one right before a unit
+pub streak_kept : (l : Limits) (n end length : ℕ) (ms : List TraceEntry) (v w : View) → Stepped l n ms v w → AreCommitted v.seen end length → AreCommitted w.seen end length
+streak_kept l n end length ms v w a r u low up = let t = r u low up in (t.0, t.1, end_stays v.seen w.seen u (Committed t.0 t.1) (walked_begins l n ms v w a) t.2)
+
 -- and so of all kinds
-pub remembers : {gaps : List (List ℕ)} {begins units : List ℕ} (lows : List (List ℕ)) (l : Limits) (n : ℕ) (ms : List TraceEntry) (v w : View) → Stepped l n ms v w → Recalls v lows gaps begins units → Recalls w lows gaps begins units
-remembers {gaps} {begins} {units} lows l n ms v w a r = record {
+pub remembers : {gaps : List (List ℕ)} {begins units : List ℕ} {streak : Streak} (lows : List (List ℕ)) (l : Limits) (n : ℕ) (ms : List TraceEntry) (v w : View) → Stepped l n ms v w → Recalls v lows gaps begins units streak → Recalls w lows gaps begins units streak
+remembers {gaps} {begins} {units} {streak} lows l n ms v w a r = record {
   marks = λ c. remembers_kind c (marks_of lows c) l n ms v w a (r.marks c);
   gaps = λ c. gaps_kind c _ l n ms v w a (r.gaps c);
   behind = λ c. subst (λ (z : Limits). IsBehind z (marks_of lows c) (slice_index begins c)) (a.limits ∙ sym a.steady.pass.1) (r.behind c);
   committed = units_kept units l n ms v w a r.committed;
+  streak = streak_kept l n streak.end streak.length ms v w a r.streak;
 }

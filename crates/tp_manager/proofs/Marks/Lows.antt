@@ -14,6 +14,7 @@ use Rattle.tp_manager.specs.Bounds.{claim_next_steps_left, claim_steps_left, dra
 use Rattle.tp_manager.specs.CallSteps.{IsKnown, Steady}
 use Rattle.tp_manager.specs.Finds.{parts_walk}
 use Rattle.tp_manager.specs.UnitsSeen.{RemembersUnits}
+use Rattle.tp_manager.specs.declared.streak.Streak.{Streak}
 use Rattle.tp_manager.specs.Marks.{IsBehind, MayRemember, Recalls, Remembers, RemembersAll, RemembersGaps, RisesAt}
 use Rattle.tp_manager.proofs.Marks.Raises.{low_any}
 use Rattle.tp_manager.proofs.Marks.Useless.{may_inside}
@@ -145,8 +146,8 @@ rises_in lows row c inside rises d p = dite (ℕ_discrete d c)
 pub behind_rises : (l : Limits) (c n : ℕ) (lows lows' : List ℕ) (v : View) → Steady l v → Remembers c v lows' → NoneFalls lows lows' → IsBehind l lows n → IsBehind l lows' n
 behind_rises l c n lows lows' v s r rises b = (b.0, λ p less. let part = b.0 in let up = rises p in let inside = lows_inside l lows' c v s.pass.1 s.known r p (omega arith) in let is = b.1 p less in omega arith)
 
-pub remembers_in : {gaps : List (List ℕ)} {begins units : List ℕ} (l : Limits) (lows : List (List ℕ)) (row : List ℕ) (c : ℕ) (v : View) → c < length lows → Steady l v → NoneFalls (marks_of lows c) row → Remembers c v row → Recalls v lows gaps begins units → Recalls v (set lows c row) gaps begins units
-remembers_in {gaps} {begins} {units} l lows row c v inside s rises one all = record {
+pub remembers_in : {gaps : List (List ℕ)} {begins units : List ℕ} {streak : Streak} (l : Limits) (lows : List (List ℕ)) (row : List ℕ) (c : ℕ) (v : View) → c < length lows → Steady l v → NoneFalls (marks_of lows c) row → Remembers c v row → Recalls v lows gaps begins units streak → Recalls v (set lows c row) gaps begins units streak
+remembers_in {gaps} {begins} {units} {streak} l lows row c v inside s rises one all = record {
   marks = λ d. dite (ℕ_discrete d c)
       (λ same. subst (λ z. Remembers z v (marks_of (set lows c row) z)) (sym same) (subst (Remembers c v) (sym (get_or-set_same lows c row [] inside)) one))
       (λ other. subst (Remembers d v) (sym (get_or-set_other lows c d row [] other)) (all.marks d));
@@ -157,10 +158,11 @@ remembers_in {gaps} {begins} {units} l lows row c v inside s rises one all = rec
       (subst (λ (z : Limits). IsBehind z row (slice_index begins c)) (sym s.pass.1) (behind_rises l c (slice_index begins c) (marks_of lows c) row v s one rises (subst (λ (z : Limits). IsBehind z (marks_of lows c) (slice_index begins c)) s.pass.1 (all.behind c))))))
       (λ other. subst (λ z. IsBehind v.limits z (slice_index begins d)) (sym (get_or-set_other lows c d row [] other)) (all.behind d));
   committed = all.committed;
+  streak = all.streak;
 }
 
 -- nor do the gaps
-pub recalls_in : {lows : List (List ℕ)} {begins units : List ℕ} (gaps : List (List ℕ)) (row : List ℕ) (c : ℕ) (v : View) → c < length gaps → RemembersGaps c v row → Recalls v lows gaps begins units → Recalls v lows (set gaps c row) begins units
+pub recalls_in : {lows : List (List ℕ)} {begins units : List ℕ} {streak : Streak} (gaps : List (List ℕ)) (row : List ℕ) (c : ℕ) (v : View) → c < length gaps → RemembersGaps c v row → Recalls v lows gaps begins units streak → Recalls v lows (set gaps c row) begins units streak
 recalls_in gaps row c v inside one all = record {
   marks = all.marks;
   gaps = λ d. dite (ℕ_discrete d c)
@@ -168,14 +170,15 @@ recalls_in gaps row c v inside one all = record {
       (λ other. subst (RemembersGaps d v) (sym (get_or-set_other gaps c d row [] other)) (all.gaps d));
   behind = all.behind;
   committed = all.committed;
+  streak = all.streak;
 }
 
 -- more is remembered of units
-pub units_in : {lows gaps : List (List ℕ)} {begins units : List ℕ} (counts : List ℕ) (v : View) → RemembersUnits v counts → Recalls v lows gaps begins units → Recalls v lows gaps begins counts
-units_in counts v more all = record { marks = all.marks; gaps = all.gaps; behind = all.behind; committed = more }
+pub units_in : {lows gaps : List (List ℕ)} {begins units : List ℕ} {streak : Streak} (counts : List ℕ) (v : View) → RemembersUnits v counts → Recalls v lows gaps begins units streak → Recalls v lows gaps begins counts streak
+units_in counts v more all = record { marks = all.marks; gaps = all.gaps; behind = all.behind; committed = more; streak = all.streak }
 
 -- nor do the parts behind which claims of them begin
-pub begins_in : {gaps : List (List ℕ)} {units : List ℕ} (l : Limits) (lows : List (List ℕ)) (row begins : List ℕ) (n c : ℕ) (v : View) → c < length lows → c < length begins → v.limits ≡ l → IsBehind l row n → Recalls v (set lows c row) gaps begins units → Recalls v (set lows c row) gaps (slice_set begins c n) units
+pub begins_in : {gaps : List (List ℕ)} {units : List ℕ} {streak : Streak} (l : Limits) (lows : List (List ℕ)) (row begins : List ℕ) (n c : ℕ) (v : View) → c < length lows → c < length begins → v.limits ≡ l → IsBehind l row n → Recalls v (set lows c row) gaps begins units streak → Recalls v (set lows c row) gaps (slice_set begins c n) units streak
 begins_in l lows row begins n c v inside within at one all = record {
   marks = all.marks;
   gaps = all.gaps;
@@ -185,6 +188,7 @@ begins_in l lows row begins n c v inside within at one all = record {
       (subst (IsBehind v.limits row) (sym (get_or-set_same begins c n 0 within)) (subst (λ (z : Limits). IsBehind z row n) (sym at) one))))
       (λ other. subst (IsBehind v.limits (marks_of (set lows c row) d)) (sym (get_or-set_other begins c d n 0 other)) (all.behind d));
   committed = all.committed;
+  streak = all.streak;
 }
 
 -- what is remembered of a mark is so in what was seen

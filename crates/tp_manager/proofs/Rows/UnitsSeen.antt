@@ -1,6 +1,5 @@
 -- Where no unit is aborted, nothing is parked.
-use Rattle.std.proofs.Common.{◌≡◌, ◌⊎◌, ℕ, ◌+◌, ◌*◌, ◌<◌, List, length, slice_index, slice_set, Option, Some, None, refl, sym, ap, ◌∙◌, subst, ⊎_elim, arith}
-use Rattle.std.proofs.lemmas.List.{get_or-set_other, get_or-set_same}
+use Rattle.std.proofs.Common.{◌≡◌, ◌⊎◌, ℕ, ◌+◌, ◌<◌, ◌≤◌, List, Option, Some, None, refl, sym, ap, ◌∙◌, subst, ⊎_elim, arith}
 use mathlib.Core.Logic.{dite}
 use native.Mathlib.Decide.{dec_le, ℕ_discrete}
 use Rattle.tp_model.specs.declared.event.Event.{Event}
@@ -20,7 +19,8 @@ use Rattle.tp_manager.specs.CallSteps.{Acted}
 use Rattle.tp_manager.specs.Finds.{PassedOver}
 use Rattle.tp_manager.specs.Scans.{EachRow, Sought}
 use Rattle.tp_rule.specs.Rule.{AreCommitted, IsCommitted}
-use Rattle.tp_manager.specs.UnitsSeen.{NoneAborted, RemembersUnits}
+use Rattle.tp_manager.specs.UnitsSeen.{NoneAborted}
+use Rattle.tp_manager.specs.declared.streak.Streak.{Streak}
 use Rattle.tp_manager.proofs.Calls.CallSteps.{sought_by}
 use Rattle.tp_manager.proofs.Rows.Seeks.{Widens, part_of}
 
@@ -88,22 +88,10 @@ module _ (l : Limits) where
   pub over_from : (n from : ℕ) (v w : View) → Sought l n (EachRow (PassedOver l) 0 (rows_of l)) v w → Sought l n (EachRow (PassedOver l) from (rows_of l)) v w
   over_from n from v w s = record { marks = s.marks; walk = s.walk; kept = s.kept; step = s.step; passed = λ i low high. s.passed i (omega arith) high }
 
--- the units right before one that a pass remembers of its part are committed
-pub tail_known : (l : Limits) (v : View) (counts : List ℕ) (part unit run : ℕ) → v.limits ≡ l → part < l.parts → RemembersUnits v counts
-    → (run ≡ 0) ⊎ ((run ≡ slice_index counts part) × (unit ≡ part * l.units + run) × (run < l.units)) → AreCommitted v.seen unit run
-tail_known l v counts part unit run lim there r known = ⊎_elim (λ none w less up. absurd (omega arith))
-    (λ t w less up. let same = t.0 in let at = t.1 in let few = t.2 in r part w (subst (λ (z : Limits). IsUnitOf z part w) (sym lim) (there, omega arith, omega arith))
-    (subst (λ (z : Limits). w < part * z.units + slice_index counts part) (sym lim) (omega arith))) known
+-- the units right before the next one of a streak are committed
+pub streak_before : (h : List Event) (s : Streak) (u n : ℕ) → AreCommitted h s.end s.length → (n ≡ 0) ⊎ ((n ≡ s.length) × (u ≡ s.end)) → AreCommitted h u n
+streak_before h s u n known how = ⊎_elim (λ none w less up. absurd (omega arith)) (λ t w less up. let long = t.0 in let at = t.1 in known w (omega arith) (omega arith)) how
 
--- and so is one that it has just committed
-pub units_noted : (l : Limits) (v : View) (old new : List ℕ) (part unit : ℕ) → v.limits ≡ l → part < length old → RemembersUnits v old → IsCommitted v.seen unit
-    → (new ≡ old) ⊎ ((unit ≡ part * l.units + slice_index old part) × (new ≡ slice_set old part (slice_index old part + 1))) → RemembersUnits v new
-units_noted l v old new part unit lim there r done how = ⊎_elim (λ same. subst (RemembersUnits v) (sym same) r) (λ t. subst (RemembersUnits v) (sym t.1) (more t.0)) how
-  where
-    more : unit ≡ part * l.units + slice_index old part → RemembersUnits v (slice_set old part (slice_index old part + 1))
-    more at c u its low = dite (ℕ_discrete c part)
-        (λ same. let less : u < part * l.units + (slice_index old part + 1) = subst (λ z. u < part * l.units + z) (get_or-set_same old part (slice_index old part + 1) 0 there)
-        (subst (λ (z : ℕ × Limits). u < z.0 * z.1.units + slice_index (slice_set old part (slice_index old part + 1)) z.0) (λ j. (same j, lim j)) low) in
-        dite (ℕ_discrete u unit) (λ one. subst (IsCommitted v.seen) (sym one) done)
-        (λ ne. r part u (subst (λ z. IsUnitOf v.limits z u) same its) (subst (λ (z : Limits). u < part * z.units + slice_index old part) (sym lim) (omega arith))))
-        (λ other. r c u its (subst (λ z. u < c * v.limits.units + z) (get_or-set_other old part c (slice_index old part + 1) 0 other) low))
+-- and so it goes on with a unit that is committed
+pub streak_on : (h : List Event) (s : Streak) (u n : ℕ) → AreCommitted h u n → IsCommitted h u → s.end ≡ u + 1 → s.length ≤ n + 1 → AreCommitted h s.end s.length
+streak_on h s u n known done end long w less up = dite (ℕ_discrete w u) (λ same. subst (IsCommitted h) (sym same) done) (λ other. known w (omega arith) (omega arith))

@@ -17,6 +17,7 @@ invariant_of-result-2 c = (
     behind = λ k. subst (IsBehind (view_of c.hand_out-seat.result).limits (marks_of (replicate 16 (replicate 33 0)) k)) (sym (none_in 16 k))
         (subst (λ (z : Limits). 0 < z.parts) (sym (fresh_limits c.self.inside.seat c.self.inside.limits c.self.inside.given c.self.invariant c.if-self.false c.hand_out-seat.result c.hand_out-seat.ensures.hands_out)) c.self.invariant.valid.parts.0, λ p less. absurd (omega arith));
     committed = λ d w own low. let none = none_in 33 d in let from = own.1 in absurd (omega arith);
+    streak = λ w low. absurd (omega arith);
   },
 )
 

@@ -46,7 +46,7 @@ begun : (c : After-choose_unit) → c.args.stage < length c.pass.inside.begins
 begun c = let all = c.pass.told in let top = c.requires.stage.1 in omega arith
 
 -- the choice of a unit leaves what is remembered
-known : (c : After-choose_unit) → Recalls (view_of c.choose_unit.new.seat) c.pass.inside.lows c.pass.inside.gaps c.pass.inside.begins c.pass.inside.units.committed
+known : (c : After-choose_unit) → Recalls (view_of c.choose_unit.new.seat) c.pass.inside.lows c.pass.inside.gaps c.pass.inside.begins c.pass.inside.units.committed c.pass.inside.streak
 known c = remembers c.pass.inside.lows _ _ _ _ _ (chose_walked _ _ _ _ (steady c) c.choose_unit.ensures.chooses) c.pass.invariant.1
 
 most : (l k : Limits) (lows : List ℕ) → l ≡ k → 1 + marked_steps l try_steps lows ≤ claim_steps k

@@ -1,4 +1,4 @@
-use Rattle.std.proofs.Common.{◌≡◌, ◌⊎◌, ◌+◌, ◌*◌, ◌<◌, ℕ, List, [], ◌∷◌, sym, ◌∙◌, ap, refl, arith, rules, subst, Some, length, slice_index, slice_set, inl}
+use Rattle.std.proofs.Common.{◌≡◌, ◌+◌, ◌<◌, ◌≤◌, ℕ, List, [], ◌∷◌, sym, ◌∙◌, ap, refl, arith, subst, Some, length, inl}
 use Rattle.tp_model.specs.declared.types.Limits.{Limits}
 use Rattle.tp_model.specs.declared.event.Event.TheVariants.{Abort, Commit}
 use Rattle.tp_model.specs.declared.types.Element.{Element}
@@ -18,8 +18,10 @@ use Rattle.tp_manager.specs.CallSteps.{Steady}
 use Rattle.tp_manager.specs.BetweenCalls.{Rests, unit_in}
 use Rattle.tp_manager.specs.Drafts.{Shut}
 use Rattle.tp_manager.specs.Marks.{Recalls}
-use Rattle.tp_manager.proofs.Calls.CallSteps.{follows, climbs_same, remembers, units_kept}
-use Rattle.tp_manager.proofs.Rows.UnitsSeen.{tail_known, units_noted}
+use Rattle.tp_manager.specs.declared.streak.Streak.{Streak}
+use Rattle.tp_rule.specs.Rule.{AreCommitted}
+use Rattle.tp_manager.proofs.Calls.CallSteps.{follows, climbs_same, remembers, streak_kept}
+use Rattle.tp_manager.proofs.Rows.UnitsSeen.{streak_before, streak_on}
 use Rattle.tp_manager.proofs.Calls.Passes.{done_walked, steady_at, cleared_later}
 use Rattle.tp_manager.proofs.Rows.Drafts.{commit_commits, units_few, own_work, own_count, own_first, wrote_shut, committed_answer, task_claimed, shut_done, shut_hit, shut_miss, shut_rests, shut_closes, shut_uses, shut_loses}
 use Rattle.tp_manager.proofs.manager.Manager.close.Goals as goal
@@ -74,45 +76,32 @@ both c es y sh = let row : ℕ = c.pass.inside.run.next in
     subst (λ n. Shut (table_limits c.self.inside.shared.words) (close_steps n) n es (view_of c.pass.inside.seat) y) (length-outputs c.in-Some.task.unit c.in-Some.task.root row c.args.drafts.now)
     (wrote_shut (table_limits c.self.inside.shared.words) (outputs c.in-Some.task.unit c.in-Some.task.root row c.args.drafts.now) es (view_of c.pass.inside.seat) (view_of c.write_all.new.seat) y c.write_all.ensures.wrote sh)
 
--- the pass has a place among those of which it remembers units
-own_part : (c : In-Some) → c.pass.inside.number < (table_limits c.self.inside.shared.words).parts
-own_part c = let given = c.pass.invariant.0.steady.shows.given in let is = c.pass.invariant.0.number_is in let parts = ap (λ (z : Limits). z.parts) (lim c) in omega arith
-
-same_units : (c : In-Some) → c.self.inside.shared.places.limits.units ≡ (table_limits c.self.inside.shared.words).units
-same_units c = sym (ap (λ (z : Limits). z.units) c.self.inside.shared.same)
-
-pub tail_before-tail-requires : goal.tail_before-tail-requires
-tail_before-tail-requires c = let own = own_part (goal.at.tail_before-tail-requires c).In-Some in let few = c.self.inside.shared.words.places.valid.parts.1 in omega arith
-
-pub go_on-requires : goal.go_on-requires
-go_on-requires c = let own = own_part (goal.at.go_on-requires c).In-Some in let few = c.self.inside.shared.words.places.valid.parts.1 in omega arith
-
 pub commit_exchange-requires-clause-tail : goal.commit_exchange-requires-clause-tail
-commit_exchange-requires-clause-tail c = let i = (goal.at.commit_exchange-requires-clause-tail c).In-Some in let l : Limits = table_limits c.self.inside.shared.words in let w = c.write_all.ensures.wrote.walk in
-    tail_known l (view_of c.write_all.new.seat) c.pass.inside.units.committed c.pass.inside.number c.in-Some.task.unit c.tail_before-tail.result w.steady.pass.1 (own_part i)
-    (units_kept c.pass.inside.units.committed _ _ _ _ _ w c.pass.invariant.1.committed)
-    (subst (λ z. (c.tail_before-tail.result ≡ 0) ⊎ ((c.tail_before-tail.result ≡ slice_index c.pass.inside.units.committed c.pass.inside.number) × (c.in-Some.task.unit ≡ c.pass.inside.number * z + c.tail_before-tail.result) × (c.tail_before-tail.result < z))) (same_units i) c.tail_before-tail.ensures)
+commit_exchange-requires-clause-tail c = let w = c.write_all.ensures.wrote.walk in
+    streak_before (view_of c.write_all.new.seat).seen c.pass.inside.streak c.in-Some.task.unit c.before-tail.result (streak_kept _ _ _ _ _ _ _ w c.pass.invariant.1.streak) c.before-tail.ensures
+
+pub behind-pass-inside-requires : goal.behind-pass-inside-requires
+behind-pass-inside-requires c = let i = (goal.at.behind-pass-inside-requires c).In-Some in let b = (claimed_unit i).1 in let few = units_few (table_limits c.self.inside.shared.words) c.self.inside.shared.words.places.valid in omega arith
 
 -- what it remembers once the unit is committed
-noted : (c : After-write_all) → c.pass.inside.number < (table_limits c.self.inside.shared.words).parts → (outs : List Element) (y : View) → Shut (table_limits c.self.inside.shared.words) (close_steps (length c.args.drafts.now)) (length c.args.drafts.now) (Commit (hand (view_of c.write_all.new.seat)).number c.in-Some.task.unit outs ∷ []) (view_of c.pass.inside.seat) y
-    → (news : List ℕ) → Recalls (view_of c.pass.inside.seat) c.pass.inside.lows c.pass.inside.gaps c.pass.inside.begins c.pass.inside.units.committed
-    → (news ≡ c.pass.inside.units.committed) ⊎ ((c.in-Some.task.unit ≡ c.pass.inside.number * c.self.inside.shared.places.limits.units + slice_index c.pass.inside.units.committed c.pass.inside.number)
-    × (news ≡ slice_set c.pass.inside.units.committed c.pass.inside.number (slice_index c.pass.inside.units.committed c.pass.inside.number + 1)))
-    → Recalls y c.pass.inside.lows c.pass.inside.gaps c.pass.inside.begins news
-noted c own outs y sh news old how = let l : Limits = table_limits c.self.inside.shared.words in let r = remembers c.pass.inside.lows _ _ _ _ _ sh.walk old in let long : length c.pass.inside.units.committed ≡ 33 = search rules in let few = c.self.inside.shared.words.places.valid.parts.1 in record {
+noted : (c : After-write_all) → (outs : List Element) (y : View) → Shut (table_limits c.self.inside.shared.words) (close_steps (length c.args.drafts.now)) (length c.args.drafts.now) (Commit (hand (view_of c.write_all.new.seat)).number c.in-Some.task.unit outs ∷ []) (view_of c.pass.inside.seat) y
+    → (tail : ℕ) (next : Streak) → AreCommitted (view_of c.pass.inside.seat).seen c.in-Some.task.unit tail → next.end ≡ c.in-Some.task.unit + 1 → next.length ≤ tail + 1
+    → Recalls (view_of c.pass.inside.seat) c.pass.inside.lows c.pass.inside.gaps c.pass.inside.begins c.pass.inside.units.committed c.pass.inside.streak
+    → Recalls y c.pass.inside.lows c.pass.inside.gaps c.pass.inside.begins c.pass.inside.units.committed next
+noted c outs y sh tail next before end long old = let l : Limits = table_limits c.self.inside.shared.words in let u : ℕ = c.in-Some.task.unit in let r = remembers c.pass.inside.lows _ _ _ _ _ sh.walk old in record {
   marks = r.marks;
   gaps = r.gaps;
   behind = r.behind;
-  committed = units_noted l y c.pass.inside.units.committed news c.pass.inside.number c.in-Some.task.unit sh.walk.steady.pass.1 (omega arith) r.committed
-      (commit_commits l _ c.in-Some.task.unit y.seen sh.before outs sh.walk.steady.shows.legal sh.ends)
-      (subst (λ z. (news ≡ c.pass.inside.units.committed) ⊎ ((c.in-Some.task.unit ≡ c.pass.inside.number * z + slice_index c.pass.inside.units.committed c.pass.inside.number) × (news ≡ slice_set c.pass.inside.units.committed c.pass.inside.number (slice_index c.pass.inside.units.committed c.pass.inside.number + 1)))) (sym (ap (λ (z : Limits). z.units) c.self.inside.shared.same)) how);
+  committed = r.committed;
+  streak = streak_on y.seen next u tail (streak_kept _ _ _ _ _ _ _ sh.walk before) (commit_commits l _ u y.seen sh.before outs sh.walk.steady.shows.legal sh.ends) end long;
 }
 
 pub invariant_of-pass : goal.invariant_of-pass
 invariant_of-pass c = let at = goal.at.invariant_of-pass c in (
   shut_rests _ _ _ _ c.pass.inside.seat c.commit_exchange.new.seat _ _ _ _ _ (lim at.In-Some) (both at.After-write_all _ _ (hit at.After-write_all at.In-Some _ (c.commit_exchange.ensures.hit c.if-commit_exchange.true))) refl refl (let few = c.requires.room in let same = left_is at.In-Some in omega arith) refl refl
       (shut_done _ _ _ _ _ _ _ c.pass.inside.number c.in-Some.task (both at.After-write_all _ _ (hit at.After-write_all at.In-Some _ (c.commit_exchange.ensures.hit c.if-commit_exchange.true))) (rests at.In-Some).work) c.pass.invariant.0,
-  noted at.After-write_all (own_part at.In-Some) _ _ (both at.After-write_all _ _ (hit at.After-write_all at.In-Some _ (c.commit_exchange.ensures.hit c.if-commit_exchange.true))) _ c.pass.invariant.1 (c.go_on.ensures),
+  noted at.After-write_all _ _ (both at.After-write_all _ _ (hit at.After-write_all at.In-Some _ (c.commit_exchange.ensures.hit c.if-commit_exchange.true))) c.before-tail.result _
+      (streak_before (view_of c.pass.inside.seat).seen c.pass.inside.streak c.in-Some.task.unit c.before-tail.result c.pass.invariant.1.streak c.before-tail.ensures) c.behind-pass-inside.ensures.end c.behind-pass-inside.ensures.length c.pass.invariant.1,
 )
 
 pub invariant_of-pass-else-commit_exchange : goal.invariant_of-pass-else-commit_exchange
