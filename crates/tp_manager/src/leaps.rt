@@ -62,7 +62,7 @@ impl Shared {
     /// Whether the head of row `at` tells that it and all rows from `row` on before it are of other stages.
     /// One step.
     #[inline(always)]
-    fn tells_of_tail(&self, seat: &mut Seat, row: u32, at: u32, stage: u8) -> bool
+    pub(crate) fn tells_of_tail(&self, seat: &mut Seat, row: u32, at: u32, stage: u8) -> bool
         requires steady { IsSteady self.now.words seat.old }
         requires rows { (row ≤ at) × (at < rows_of (table_limits self.now.words)) }
         requires stage { IsServerStage stage }

@@ -18,6 +18,7 @@ mod error_parts;
 mod error_queue;
 mod error_units;
 mod family_members;
+mod full_parts;
 mod gaps;
 mod killing;
 mod leaps;

@@ -246,12 +246,13 @@ impl Shared {
         *begins = begin;
         let last = limits.parts - 1;
         let mut part = begin;
+        let mut full = false;
         while part < limits.parts {
             if lows[part as usize] == limits.rows && part != last {
                 part += 1;
                 continue;
             }
-            let next = self.past_bare(seat, lows, part, stage);
+            let next = self.next_part(seat, lows, part, stage, full);
             part = next.part;
             if part == limits.parts {
                 return None;
@@ -263,6 +264,7 @@ impl Shared {
             if let Some(taken) = self.scan_part(seat, lows, gaps, part, next.aside, who) {
                 return Some(taken);
             }
+            full = next.aside && lows[part as usize] == limits.rows;
             part += 1;
         }
         None

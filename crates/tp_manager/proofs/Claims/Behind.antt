@@ -11,13 +11,13 @@ use Rattle.tp_model.specs.Steps.{rows_of}
 use Rattle.tp_model.proofs.Bridges.{begins_refl, begins_trans}
 use Rattle.tp_rule.specs.declared.view.View.{View}
 use Rattle.tp_rule.specs.Views.{hand}
-use Rattle.tp_manager.specs.CallSteps.{Looked, Steady, with_trace}
+use Rattle.tp_manager.specs.CallSteps.{Acted, Looked, Steady, with_trace}
 use Rattle.tp_manager.specs.Marks.{AreOfStage, IsGap, Remembers, RemembersGaps, Rose, gap_in}
 use Rattle.tp_manager.proofs.Claims.Runs.{of_both, of_none}
 use Rattle.tp_manager.specs.Scans.{Begun, EachRow, NoneBehind, OfPart, PassedBy, Sought, Took}
 use Rattle.tp_manager.specs.Spares.{Passed}
 use Rattle.tp_manager.specs.declared.seeker.Taken.{Taken}
-use Rattle.tp_manager.proofs.Calls.CallSteps.{looked_begins, looked_few, looked_then, sought_few, walked_then}
+use Rattle.tp_manager.proofs.Calls.CallSteps.{looked_begins, looked_few, looked_then, sought_by, sought_few, walked_then}
 use Rattle.tp_manager.proofs.Calls.Points.{has_more, opening_kept}
 use Rattle.tp_manager.proofs.Claims.Circles.{sought_less}
 use Rattle.tp_manager.proofs.Claims.Spares.{sought_passed}
@@ -190,6 +190,14 @@ pub begun_both : (l : Limits) (P : ℕ → List Event → List Event → Type 0)
 begun_both l P widens n m from i to v w y up a b = ⊎_elim
     (λ t. subst (λ (z : ℕ × View). Begun l P (n + m) from z.0 v z.1) (λ j. (sym t.0 j, sym t.1 j)) (begun_few l P widens n from (n + m) i v w (omega arith) a))
     (λ s. begun_on l P widens n from m i v w y a to up s) b
+
+-- parts that the pass knows finished are passed, by whatever steps look
+pub finished_sought : (l : Limits) (stage n first end : ℕ) (lows : List ℕ) (v w : View) → 1 ≤ stage → 1 ≤ l.rows → Remembers stage w lows → ((q : ℕ) → first ≤ q → q < end → slice_index lows q ≡ l.rows) → Acted l n v w
+    → Sought l n (EachRow (OfPart l (PassedBy l stage)) first end) v w
+finished_sought l stage n first end lows v w server some remembers finished a = sought_by l n (EachRow (OfPart l (PassedBy l stage)) first end) v w a (λ p low high.
+    let all = finished p low high in let under = low_remembered l stage w p lows a.walk.steady remembers (omega (arith, all, some)) in
+    (λ i from below. passed_widens l stage i (opening_of v.seen a.marks) w.seen w.seen w.seen a.walk.closes (begins_refl w.seen)
+    (over_passed l stage w.seen p (slice_index lows p) i server under.1 from (omega (arith, below, all)))))
 
 -- a part that the pass knows finished is passed by without a look
 pub finished_on : (l : Limits) (stage n first part : ℕ) (lows : List ℕ) (v w : View) → 1 ≤ stage → 1 ≤ l.rows → Remembers stage w lows → slice_index lows part ≡ l.rows

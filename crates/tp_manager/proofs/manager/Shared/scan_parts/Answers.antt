@@ -7,8 +7,8 @@ use Rattle.tp_manager.specs.RowSteps.{parts_left}
 use Rattle.tp_manager.specs.CallSteps.{Looked}
 use Rattle.tp_manager.specs.Marks.{RestsAt}
 use Rattle.tp_manager.specs.Scans.{Begun, EachRow, OfPart, PassedBy, Sought, Took}
-use Rattle.tp_manager.proofs.Marks.Lows.{behind_rises, rises_then, scan_apart, scan_next, scan_rises}
-use Rattle.tp_manager.proofs.Calls.CallSteps.{gaps_kind, looked_few, remembers_kind, rises_none, sought_few}
+use Rattle.tp_manager.proofs.Marks.Lows.{behind_rises, lows_inside, rises_then, scan_apart, scan_left, scan_next, scan_rises}
+use Rattle.tp_manager.proofs.Calls.CallSteps.{gaps_kind, looked_few, rises_none, sought_few}
 use Rattle.tp_manager.proofs.Claims.Scans.{finished_passed, passed_widens, took_then, took_few, begun_rows, finished_took}
 use Rattle.tp_manager.proofs.Claims.Behind.{begun_both, finished_on}
 use Rattle.tp_manager.proofs.Marks.Rests.{part_before, parts_both, parts_on}
@@ -20,30 +20,45 @@ use Rattle.tp_model.specs.Steps.{part_rows}
 use Rattle.tp_manager.specs.Leans.{IsLeanAt, IsLeanIn}
 use Rattle.tp_manager.proofs.Claims.Leans.{lean_from, lean_part, lean_parts, lean_skip, parts_all, parts_more, parts_rise}
 use Rattle.tp_manager.proofs.manager.Shared.scan_parts.Goals as goal
-use Rattle.tp_manager.proofs.manager.Shared.scan_parts.Goals.{After-past_bare-next, After-scan_part, else-lows-part-2-via-then-lows-part-2+else-part-last-2, else-lows-part-2-via-else-lows-part-2}
+use Rattle.tp_manager.proofs.manager.Shared.scan_parts.Goals.{After-next_part-next, After-scan_part, else-lows-part-2-via-then-lows-part-2+else-part-last-2, else-lows-part-2-via-else-lows-part-2}
 
 -- the looks at bare parts
-gone : (c : After-past_bare-next) → Looked (table_limits c.args.self.now.words) (c.past_bare-next.result.part - c.loop-part.part + 1) (view_of c.loop-part.seat) (view_of c.past_bare-next.new.seat)
-gone c = let l : Limits = table_limits c.args.self.now.words in let n : ℕ = c.past_bare-next.result.part - c.loop-part.part in ⊎_elim (λ a. looked_few l n (n + 1) _ _ (omega arith) a) (λ a. a.2) c.past_bare-next.ensures.few
+gone : (c : After-next_part-next) → Looked (table_limits c.args.self.now.words) (3 * (c.next_part-next.result.part - c.loop-part.part) + 1) (view_of c.loop-part.seat) (view_of c.next_part-next.new.seat)
+gone c = let l : Limits = table_limits c.args.self.now.words in let n : ℕ = 3 * (c.next_part-next.result.part - c.loop-part.part) in ⊎_elim (λ a. looked_few l n (n + 1) _ _ (omega arith) a) (λ a. a.2) c.next_part-next.ensures.few
 
--- the parts that were passed, up to the first that isn't bare
-begun : (c : After-past_bare-next) → Begun (table_limits c.args.self.now.words) (OfPart (table_limits c.args.self.now.words) (PassedBy (table_limits c.args.self.now.words) c.args.who.stage))
-    (scan_steps (table_limits c.args.self.now.words) try_steps 3 c.args.lows.now c.loop-part.part + (c.past_bare-next.result.part - c.loop-part.part + 1)) c.first_open-begin.result c.past_bare-next.result.part (view_of c.args.seat.now) (view_of c.past_bare-next.new.seat)
+-- no mark from that part on is remembered anew
+rest : (c : After-next_part-next) (q : ℕ) → c.next_part-next.result.part ≤ q → slice_index c.next_part-next.new.lows q ≡ slice_index c.args.lows.now q
+rest c q low = let up = c.next_part-next.ensures.part.0 in c.next_part-next.ensures.others q (inr low) ∙ c.loop-part.invariant.rest q (omega arith)
+
+-- and those before the first that was looked at are finished still
+done : (c : After-next_part-next) (q : ℕ) → q < c.first_open-begin.result → slice_index c.next_part-next.new.lows q ≡ (table_limits c.args.self.now.words).rows
+done c q less = let from = c.loop-part.invariant.from in c.next_part-next.ensures.others q (inl (omega arith)) ∙ c.loop-part.invariant.done q less
+
+-- the parts that were passed, up to the one at which the scan goes on
+begun : (c : After-next_part-next) → Begun (table_limits c.args.self.now.words) (OfPart (table_limits c.args.self.now.words) (PassedBy (table_limits c.args.self.now.words) c.args.who.stage))
+    (scan_steps (table_limits c.args.self.now.words) try_steps 3 c.args.lows.now c.loop-part.part + (3 * (c.next_part-next.result.part - c.loop-part.part) + 1)) c.first_open-begin.result c.next_part-next.result.part (view_of c.args.seat.now) (view_of c.next_part-next.new.seat)
 begun c = let l : Limits = table_limits c.args.self.now.words in let P = PassedBy l c.args.who.stage in let i = c.loop-part.invariant in
-    begun_both l (OfPart l P) (part_widens l P (passed_widens l c.args.who.stage)) (scan_steps l try_steps 3 c.args.lows.now c.loop-part.part) (c.past_bare-next.result.part - c.loop-part.part + 1) c.first_open-begin.result c.loop-part.part c.past_bare-next.result.part _ _ _ i.from i.begun c.past_bare-next.ensures.told
+    begun_both l (OfPart l P) (part_widens l P (passed_widens l c.args.who.stage)) (scan_steps l try_steps 3 c.args.lows.now c.loop-part.part) (3 * (c.next_part-next.result.part - c.loop-part.part) + 1) c.first_open-begin.result c.loop-part.part c.next_part-next.result.part _ _ _ i.from i.begun c.next_part-next.ensures.told
 
-all : (c : After-past_bare-next) → Looked (table_limits c.args.self.now.words) (scan_steps (table_limits c.args.self.now.words) try_steps 3 c.args.lows.now c.loop-part.part + (c.past_bare-next.result.part - c.loop-part.part + 1)) (view_of c.args.seat.now) (view_of c.past_bare-next.new.seat)
-all c = let l : Limits = table_limits c.args.self.now.words in let P = PassedBy l c.args.who.stage in begun_looked l (OfPart l P) (part_widens l P (passed_widens l c.args.who.stage)) _ c.first_open-begin.result c.past_bare-next.result.part _ _ (begun c) c.requires.steady.steady
+all : (c : After-next_part-next) → Looked (table_limits c.args.self.now.words) (scan_steps (table_limits c.args.self.now.words) try_steps 3 c.args.lows.now c.loop-part.part + (3 * (c.next_part-next.result.part - c.loop-part.part) + 1)) (view_of c.args.seat.now) (view_of c.next_part-next.new.seat)
+all c = let l : Limits = table_limits c.args.self.now.words in let P = PassedBy l c.args.who.stage in begun_looked l (OfPart l P) (part_widens l P (passed_widens l c.args.who.stage)) _ c.first_open-begin.result c.next_part-next.result.part _ _ (begun c) c.requires.steady.steady
 
 -- where their marks rest
-rests : (c : After-past_bare-next) (q : ℕ) → c.first_open-begin.result ≤ q → q < c.past_bare-next.result.part → RestsAt (table_limits c.args.self.now.words) c.args.who.stage q (slice_index c.loop-part.lows q) (view_of c.args.seat.now) (view_of c.past_bare-next.new.seat)
+rests : (c : After-next_part-next) (q : ℕ) → c.first_open-begin.result ≤ q → q < c.next_part-next.result.part → RestsAt (table_limits c.args.self.now.words) c.args.who.stage q (slice_index c.next_part-next.new.lows q) (view_of c.args.seat.now) (view_of c.next_part-next.new.seat)
 rests c = let l : Limits = table_limits c.args.self.now.words in let i = c.loop-part.invariant in
-    parts_both l c.args.who.stage c.first_open-begin.result c.loop-part.part c.past_bare-next.result.part _ _ (OfPart l (PassedBy l c.args.who.stage)) _ c.loop-part.lows _ _ _ i.begun (gone c).walk i.rests c.past_bare-next.ensures.rests
+    parts_both l c.args.who.stage c.first_open-begin.result c.loop-part.part c.next_part-next.result.part _ _ (OfPart l (PassedBy l c.args.who.stage)) _ c.next_part-next.new.lows _ _ _ i.begun (gone c).walk
+    (λ q low high. subst (λ z. RestsAt l c.args.who.stage q z (view_of c.args.seat.now) (view_of c.loop-part.seat)) (sym (c.next_part-next.ensures.others q (inl high))) (i.rests q low high)) c.next_part-next.ensures.rests
 
 -- each of them has rows left
-left : (c : After-past_bare-next) → parts_left (table_limits c.args.self.now.words) c.args.lows.now c.loop-part.part + (c.past_bare-next.result.part - c.loop-part.part) ≤ parts_left (table_limits c.args.self.now.words) c.args.lows.now c.past_bare-next.result.part
-left c = let l : Limits = table_limits c.args.self.now.words in let e = c.past_bare-next.ensures in
-    parts_all l c.args.lows.now c.loop-part.part c.past_bare-next.result.part e.part.0 (λ q low high same. e.left q low high (c.loop-part.invariant.rest q low ∙ same))
+left : (c : After-next_part-next) → parts_left (table_limits c.args.self.now.words) c.args.lows.now c.loop-part.part + (c.next_part-next.result.part - c.loop-part.part) ≤ parts_left (table_limits c.args.self.now.words) c.args.lows.now c.next_part-next.result.part
+left c = let l : Limits = table_limits c.args.self.now.words in let e = c.next_part-next.ensures in
+    parts_all l c.args.lows.now c.loop-part.part c.next_part-next.result.part e.part.0 (λ q low high same. e.left q low high (c.loop-part.invariant.rest q low ∙ same))
+
+-- the first of them has at least one
+some_left : (c : After-next_part-next) → c.loop-part.part < c.next_part-next.result.part → 1 ≤ ((table_limits c.args.self.now.words).rows - slice_index c.args.lows.now c.loop-part.part) * try_steps
+some_left c some = let l : Limits = table_limits c.args.self.now.words in let i = c.loop-part.invariant in let s = c.requires.steady.steady in let e = c.next_part-next.ensures in let high = e.part.1 in
+    let inside = lows_inside l c.args.lows.now c.args.who.stage (view_of c.args.seat.now) s.pass.1 s.known c.requires.remembers c.loop-part.part (omega arith) in
+    let not : ¬ (slice_index c.args.lows.now c.loop-part.part ≡ l.rows) = (λ same. e.left c.loop-part.part (omega arith) some (i.rest c.loop-part.part (omega arith) ∙ same)) in omega arith
 
 pub loop-part-init : goal.loop-part-init
 loop-part-init c = record {
@@ -62,30 +77,30 @@ loop-part-init c = record {
 
 -- all parts that are left were bare
 pub returns-then-part-limits-clause-remembers : goal.returns-then-part-limits-clause-remembers
-returns-then-part-limits-clause-remembers c = remembers_kind c.args.who.stage c.loop-part.lows _ _ _ _ _ (gone (goal.at.returns-then-part-limits-clause-remembers c).After-past_bare-next).walk c.loop-part.invariant.remembers
+returns-then-part-limits-clause-remembers c = c.next_part-next.ensures.remembers
 
 pub returns-then-part-limits-clause-gaps : goal.returns-then-part-limits-clause-gaps
-returns-then-part-limits-clause-gaps c = gaps_kind c.args.who.stage c.loop-part.gaps _ _ _ _ _ (gone (goal.at.returns-then-part-limits-clause-gaps c).After-past_bare-next).walk c.loop-part.invariant.gaps
+returns-then-part-limits-clause-gaps c = gaps_kind c.args.who.stage c.loop-part.gaps _ _ _ _ _ (gone (goal.at.returns-then-part-limits-clause-gaps c).After-next_part-next).walk c.loop-part.invariant.gaps
 
 pub returns-then-part-limits-clause-rests : goal.returns-then-part-limits-clause-rests
-returns-then-part-limits-clause-rests c = λ p inside came. let l : Limits = table_limits c.args.self.now.words in let at = (goal.at.returns-then-part-limits-clause-rests c).After-past_bare-next in
+returns-then-part-limits-clause-rests c = λ p inside came. let l : Limits = table_limits c.args.self.now.words in let at = (goal.at.returns-then-part-limits-clause-rests c).After-next_part-next in
     let count : l.parts ≡ c.args.self.now.places.limits.parts = ap (λ (z : Limits). z.parts) c.args.self.now.same in let end = c.if-part-limits.true in
-    dite (dec_le c.first_open-begin.result p) (λ low. rests at p low (omega arith)) (λ not. inl (c.loop-part.invariant.done p (omega arith)))
+    dite (dec_le c.first_open-begin.result p) (λ low. rests at p low (omega arith)) (λ not. inl (done at p (omega arith)))
 
 pub returns-then-part-limits-clause-lean : goal.returns-then-part-limits-clause-lean
-returns-then-part-limits-clause-lean c = let l : Limits = table_limits c.args.self.now.words in let at = (goal.at.returns-then-part-limits-clause-lean c).After-past_bare-next in let n = c.loop-part.part in let r = c.past_bare-next.result.part in let lows = c.args.lows.now in
-    let count : l.parts ≡ c.args.self.now.places.limits.parts = ap (λ (z : Limits). z.parts) c.args.self.now.same in let end = c.if-part-limits.true in let more = left at in let before = c.loop-part-test.true in let up = c.past_bare-next.ensures.part.0 in
+returns-then-part-limits-clause-lean c = let l : Limits = table_limits c.args.self.now.words in let at = (goal.at.returns-then-part-limits-clause-lean c).After-next_part-next in let n = c.loop-part.part in let r = c.next_part-next.result.part in let lows = c.args.lows.now in
+    let count : l.parts ≡ c.args.self.now.places.limits.parts = ap (λ (z : Limits). z.parts) c.args.self.now.same in let end = c.if-part-limits.true in let more = left at in let before = c.loop-part-test.true in let up = c.next_part-next.ensures.part.0 in
     let whole : parts_left l lows r ≡ parts_left l lows l.parts = ap (parts_left l lows) (omega arith) in
-    lean_skip l c.args.who.stage (3 * parts_left l lows n + 3 * (n + 1 - l.parts)) n (r - n + 1) (3 * (parts_left l lows l.parts + 1)) l.parts (part_rows l) lows _ _ _ _ (omega arith) (omega arith) c.loop-part.invariant.lean (gone at).walk
+    lean_skip l c.args.who.stage (3 * parts_left l lows n + 3 * (n + 1 - l.parts)) n (3 * (r - n) + 1) (3 * (parts_left l lows l.parts + 1)) l.parts (part_rows l) lows _ _ _ _ (omega arith) (omega arith) c.loop-part.invariant.lean (gone at).walk
 
 pub returns-then-part-limits-clause-told : goal.returns-then-part-limits-clause-told
-returns-then-part-limits-clause-told c = let l : Limits = table_limits c.args.self.now.words in let s = try_steps in let P = PassedBy l c.args.who.stage in let at = (goal.at.returns-then-part-limits-clause-told c).After-past_bare-next in let n = c.loop-part.part in let r = c.past_bare-next.result.part in let lows = c.args.lows.now in
+returns-then-part-limits-clause-told c = let l : Limits = table_limits c.args.self.now.words in let s = try_steps in let P = PassedBy l c.args.who.stage in let at = (goal.at.returns-then-part-limits-clause-told c).After-next_part-next in let n = c.loop-part.part in let r = c.next_part-next.result.part in let lows = c.args.lows.now in
     let count : l.parts ≡ c.args.self.now.places.limits.parts = ap (λ (z : Limits). z.parts) c.args.self.now.same in let end = c.if-part-limits.true in let before = c.loop-part-test.true in
-    let first = c.first_open-begin.result in let within = c.first_open-begin.ensures.part in let from = c.loop-part.invariant.from in let up = c.past_bare-next.ensures.part.0 in
-    let same : r ≡ l.parts = omega arith in let some = c.args.self.now.words.places.valid.rows.0 in let apart = scan_apart l lows s 3 n l.parts (omega arith) in let k : ℕ = scan_steps l s 3 lows n + (r - n + 1) in
+    let first = c.first_open-begin.result in let within = c.first_open-begin.ensures.part in let from = c.loop-part.invariant.from in let up = c.next_part-next.ensures.part.0 in
+    let same : r ≡ l.parts = omega arith in let some = c.args.self.now.words.places.valid.rows.0 in let apart = scan_left l lows s 3 n l.parts (omega arith) (some_left at (omega arith)) in let k : ℕ = scan_steps l s 3 lows n + (3 * (r - n) + 1) in
     sought_few l k (scan_steps l s 3 lows l.parts) _ _ _ (omega arith)
     (sought_all l k P _ _ (finished_passed l c.args.who.stage k first lows _ _ c.args.who.valid.0.0 some c.requires.remembers c.first_open-begin.ensures.finished
-    (subst (λ m. Sought l k (EachRow (OfPart l P) first m) (view_of c.args.seat.now) (view_of c.past_bare-next.new.seat)) same
+    (subst (λ m. Sought l k (EachRow (OfPart l P) first m) (view_of c.args.seat.now) (view_of c.next_part-next.new.seat)) same
     (begun_done l (OfPart l P) (part_widens l P (passed_widens l c.args.who.stage)) k first r _ _ (begun at) (omega arith)))))
 
 -- a part that the pass knows finished: it isn't the first of those that are looked at
@@ -113,88 +128,88 @@ loop-part-preserved-then-part-last c = let l : Limits = table_limits c.args.self
 
 -- nor is one that is found behind bare ones
 pub loop-part-preserved-then-part-last-2 : goal.loop-part-preserved-then-part-last-2
-loop-part-preserved-then-part-last-2 c = let l : Limits = table_limits c.args.self.now.words in let P = PassedBy l c.args.who.stage in let at = (goal.at.loop-part-preserved-then-part-last-2 c).After-past_bare-next in let n = c.loop-part.part in let r = c.past_bare-next.result.part in let s = try_steps in let i = c.loop-part.invariant in let lows = c.args.lows.now in
+loop-part-preserved-then-part-last-2 c = let l : Limits = table_limits c.args.self.now.words in let P = PassedBy l c.args.who.stage in let at = (goal.at.loop-part-preserved-then-part-last-2 c).After-next_part-next in let n = c.loop-part.part in let r = c.next_part-next.result.part in let s = try_steps in let i = c.loop-part.invariant in let lows = c.args.lows.now in
     let count : l.parts ≡ c.args.self.now.places.limits.parts = ap (λ (z : Limits). z.parts) c.args.self.now.same in let wide : l.rows ≡ c.args.self.now.places.limits.rows = ap (λ (z : Limits). z.rows) c.args.self.now.same in
-    let finished : slice_index c.loop-part.lows r ≡ l.rows = c.if-lows-part-2.true ∙ sym wide in let first = c.first_open-begin.result in let from = i.from in let up = c.past_bare-next.ensures.part.0 in let high = c.past_bare-next.ensures.part.1 in let not_end = c.if-part-limits.false in let below = c.loop-part-test.true in
-    let still = remembers_kind c.args.who.stage c.loop-part.lows _ _ _ _ _ (gone at).walk i.remembers in let k : ℕ = scan_steps l s 3 lows n + (r - n + 1) in record {
+    let finished : slice_index c.next_part-next.new.lows r ≡ l.rows = c.if-lows-part-2.true ∙ sym wide in let first = c.first_open-begin.result in let from = i.from in let up = c.next_part-next.ensures.part.0 in let high = c.next_part-next.ensures.part.1 in let not_end = c.if-part-limits.false in let below = c.loop-part-test.true in
+    let still = c.next_part-next.ensures.remembers in let k : ℕ = scan_steps l s 3 lows n + (3 * (r - n) + 1) in record {
       same = search rules;
       remembers = still;
       gaps = gaps_kind c.args.who.stage c.loop-part.gaps _ _ _ _ _ (gone at).walk i.gaps;
-      rises = i.rises;
+      rises = rises_then lows c.loop-part.lows c.next_part-next.new.lows i.rises c.next_part-next.ensures.rises;
       from = omega arith;
       top = omega arith;
-      rest = λ q low. i.rest q (omega arith);
-      done = i.done;
+      rest = λ q low. rest at q (omega arith);
+      done = done at;
       rests = λ q low below_q. dite (dec_le r q)
-          (λ here. let same : r ≡ q = omega arith in inl (subst (λ z. slice_index c.loop-part.lows z ≡ l.rows) same finished))
+          (λ here. let same : r ≡ q = omega arith in inl (subst (λ z. slice_index c.next_part-next.new.lows z ≡ l.rows) same finished))
           (λ not. rests at q low (omega arith));
       lean = let more = left at in let rise = parts_rise l lows r (r + 1) (omega arith) in ⊎_elim
-          (λ a. lean_skip l c.args.who.stage (3 * parts_left l lows n + 3 * (n + 1 - l.parts)) n (r - n) _ (r + 1) (part_rows l) lows _ _ _ _ (omega arith) (omega arith) i.lean a.walk)
-          (λ a. absurd (a.1 finished)) c.past_bare-next.ensures.few;
+          (λ a. lean_skip l c.args.who.stage (3 * parts_left l lows n + 3 * (n + 1 - l.parts)) n (3 * (r - n)) _ (r + 1) (part_rows l) lows _ _ _ _ (omega arith) (omega arith) i.lean a.walk)
+          (λ a. absurd (a.1 (sym (c.next_part-next.ensures.others r (inr (omega arith))) ∙ finished))) c.next_part-next.ensures.few;
       begun = ⊎_elim
-          (λ t. absurd (let same = t.0 in let more = c.if-part-last-2.true in c.first_open-begin.ensures.open (omega arith) (subst (λ z. slice_index lows z ≡ l.rows) same (sym (i.rest r up) ∙ finished))))
+          (λ t. absurd (let same = t.0 in let more = c.if-part-last-2.true in c.first_open-begin.ensures.open (omega arith) (subst (λ z. slice_index lows z ≡ l.rows) same (sym (rest at r (omega arith)) ∙ finished))))
           (λ sought. inr (sought_few l k (scan_steps l s 3 lows (r + 1)) _ _ _ (let apart = scan_apart l lows s 3 n (r + 1) (omega arith) in omega arith)
-          (finished_on l c.args.who.stage k first r c.loop-part.lows _ _ c.args.who.valid.0.0 c.args.self.now.words.places.valid.rows.0 still finished sought))) (begun at);
+          (finished_on l c.args.who.stage k first r c.next_part-next.new.lows _ _ c.args.who.valid.0.0 c.args.self.now.words.places.valid.rows.0 still finished sought))) (begun at);
     }
 
 pub scan_part-requires-clause-remembers : goal.scan_part-requires-clause-remembers
-scan_part-requires-clause-remembers c = remembers_kind c.args.who.stage c.loop-part.lows _ _ _ _ _ (gone (goal.at.scan_part-requires-clause-remembers c).After-past_bare-next).walk c.loop-part.invariant.remembers
+scan_part-requires-clause-remembers c = c.next_part-next.ensures.remembers
 
 pub scan_part-requires-clause-gaps : goal.scan_part-requires-clause-gaps
-scan_part-requires-clause-gaps c = gaps_kind c.args.who.stage c.loop-part.gaps _ _ _ _ _ (gone (goal.at.scan_part-requires-clause-gaps c).After-past_bare-next).walk c.loop-part.invariant.gaps
+scan_part-requires-clause-gaps c = gaps_kind c.args.who.stage c.loop-part.gaps _ _ _ _ _ (gone (goal.at.scan_part-requires-clause-gaps c).After-next_part-next).walk c.loop-part.invariant.gaps
 
 pub scan_part-requires-clause-done : goal.scan_part-requires-clause-done
-scan_part-requires-clause-done c = done_walked _ _ _ _ _ c.args.who.done c.requires.steady.steady.pass.1 (all (goal.at.scan_part-requires-clause-done c).After-past_bare-next).walk c.requires.done
+scan_part-requires-clause-done c = done_walked _ _ _ _ _ c.args.who.done c.requires.steady.steady.pass.1 (all (goal.at.scan_part-requires-clause-done c).After-next_part-next).walk c.requires.done
 
 -- the part has rows left, or it is the last one
-more : (c : After-scan_part) → parts_left (table_limits c.args.self.now.words) c.args.lows.now c.loop-part.part + (c.past_bare-next.result.part - c.loop-part.part) ≤ parts_left (table_limits c.args.self.now.words) c.args.lows.now c.past_bare-next.result.part
-    → ((3 * parts_left (table_limits c.args.self.now.words) c.args.lows.now c.loop-part.part + 3 * (c.loop-part.part + 1 - (table_limits c.args.self.now.words).parts)) + (c.past_bare-next.result.part - c.loop-part.part + 1)) + 2
-    ≤ 3 * parts_left (table_limits c.args.self.now.words) c.args.lows.now (c.past_bare-next.result.part + 1) + 3 * (c.past_bare-next.result.part + 2 - (table_limits c.args.self.now.words).parts)
-more c several = let l : Limits = table_limits c.args.self.now.words in let n = c.loop-part.part in let r = c.past_bare-next.result.part in let lows = c.args.lows.now in let count : l.parts ≡ c.args.self.now.places.limits.parts = ap (λ (z : Limits). z.parts) c.args.self.now.same in
-    let wide : l.rows ≡ c.args.self.now.places.limits.rows = ap (λ (z : Limits). z.rows) c.args.self.now.same in let rise = parts_rise l lows r (r + 1) (omega arith) in let before = c.loop-part-test.true in let up = c.past_bare-next.ensures.part.0 in
+more : (c : After-scan_part) → slice_index c.next_part-next.new.lows c.next_part-next.result.part ≡ slice_index c.args.lows.now c.next_part-next.result.part → parts_left (table_limits c.args.self.now.words) c.args.lows.now c.loop-part.part + (c.next_part-next.result.part - c.loop-part.part) ≤ parts_left (table_limits c.args.self.now.words) c.args.lows.now c.next_part-next.result.part
+    → ((3 * parts_left (table_limits c.args.self.now.words) c.args.lows.now c.loop-part.part + 3 * (c.loop-part.part + 1 - (table_limits c.args.self.now.words).parts)) + (3 * (c.next_part-next.result.part - c.loop-part.part) + 1)) + 2
+    ≤ 3 * parts_left (table_limits c.args.self.now.words) c.args.lows.now (c.next_part-next.result.part + 1) + 3 * (c.next_part-next.result.part + 2 - (table_limits c.args.self.now.words).parts)
+more c kept several = let l : Limits = table_limits c.args.self.now.words in let n = c.loop-part.part in let r = c.next_part-next.result.part in let lows = c.args.lows.now in let count : l.parts ≡ c.args.self.now.places.limits.parts = ap (λ (z : Limits). z.parts) c.args.self.now.same in
+    let wide : l.rows ≡ c.args.self.now.places.limits.rows = ap (λ (z : Limits). z.rows) c.args.self.now.same in let rise = parts_rise l lows r (r + 1) (omega arith) in let before = c.loop-part-test.true in let up = c.next_part-next.ensures.part.0 in
     elim c.else-lows-part-2.branch [
       | else-lows-part-2-via-then-lows-part-2+else-part-last-2 w ↦ (let last = w.if-part-last-2.false in omega arith)
-      | else-lows-part-2-via-else-lows-part-2 w ↦ (let one = parts_more l lows r (λ is. w.if-lows-part-2.false (c.loop-part.invariant.rest r up ∙ (is ∙ wide))) in omega arith)
+      | else-lows-part-2-via-else-lows-part-2 w ↦ (let one = parts_more l lows r (λ is. w.if-lows-part-2.false (kept ∙ (is ∙ wide))) in omega arith)
     ]
 
 -- what is made in the parts so far, and in this one up to row e
-lean : (c : After-scan_part) (ms : After-past_bare-next) (e end : ℕ) → c.past_bare-next.result.part * (table_limits c.args.self.now.words).rows ≤ end → e ≤ end → e ≤ c.past_bare-next.result.part * (table_limits c.args.self.now.words).rows + (table_limits c.args.self.now.words).rows
-    → parts_left (table_limits c.args.self.now.words) c.args.lows.now c.loop-part.part + (c.past_bare-next.result.part - c.loop-part.part) ≤ parts_left (table_limits c.args.self.now.words) c.args.lows.now c.past_bare-next.result.part
-    → Looked (table_limits c.args.self.now.words) (c.past_bare-next.result.part - c.loop-part.part + 1) (view_of c.loop-part.seat) (view_of c.past_bare-next.new.seat)
-    → IsLeanAt (table_limits c.args.self.now.words) c.args.who.stage 2 (c.past_bare-next.result.part * (table_limits c.args.self.now.words).rows + slice_index c.loop-part.lows c.past_bare-next.result.part) (e - (c.past_bare-next.result.part * (table_limits c.args.self.now.words).rows + slice_index c.loop-part.lows c.past_bare-next.result.part)) (view_of c.past_bare-next.new.seat) (view_of c.scan_part.new.seat)
-    → IsLeanIn (table_limits c.args.self.now.words) c.args.who.stage (3 * parts_left (table_limits c.args.self.now.words) c.args.lows.now (c.past_bare-next.result.part + 1) + 3 * (c.past_bare-next.result.part + 2 - (table_limits c.args.self.now.words).parts)) c.args.lows.now (c.past_bare-next.result.part + 1) end (view_of c.args.seat.now) (view_of c.scan_part.new.seat)
-lean c ms e end behind before inside several looks own = let l : Limits = table_limits c.args.self.now.words in let n = c.loop-part.part in let r = c.past_bare-next.result.part in let i = c.loop-part.invariant in let lows = c.args.lows.now in let up = c.past_bare-next.ensures.part.0 in
-    lean_part l c.args.who.stage ((3 * parts_left l lows n + 3 * (n + 1 - l.parts)) + (r - n + 1)) r 2 _ (slice_index c.loop-part.lows r) (part_rows l) end e lows _ _ _ (more c several) (i.rest r up) behind before inside
-    (lean_skip l c.args.who.stage (3 * parts_left l lows n + 3 * (n + 1 - l.parts)) n (r - n + 1) ((3 * parts_left l lows n + 3 * (n + 1 - l.parts)) + (r - n + 1)) r (part_rows l) lows _ _ _ _ (omega arith) up i.lean looks.walk) own
+lean : (c : After-scan_part) → slice_index c.next_part-next.new.lows c.next_part-next.result.part ≡ slice_index c.args.lows.now c.next_part-next.result.part → (e end : ℕ) → c.next_part-next.result.part * (table_limits c.args.self.now.words).rows ≤ end → e ≤ end → e ≤ c.next_part-next.result.part * (table_limits c.args.self.now.words).rows + (table_limits c.args.self.now.words).rows
+    → parts_left (table_limits c.args.self.now.words) c.args.lows.now c.loop-part.part + (c.next_part-next.result.part - c.loop-part.part) ≤ parts_left (table_limits c.args.self.now.words) c.args.lows.now c.next_part-next.result.part
+    → Looked (table_limits c.args.self.now.words) (3 * (c.next_part-next.result.part - c.loop-part.part) + 1) (view_of c.loop-part.seat) (view_of c.next_part-next.new.seat)
+    → IsLeanAt (table_limits c.args.self.now.words) c.args.who.stage 2 (c.next_part-next.result.part * (table_limits c.args.self.now.words).rows + slice_index c.next_part-next.new.lows c.next_part-next.result.part) (e - (c.next_part-next.result.part * (table_limits c.args.self.now.words).rows + slice_index c.next_part-next.new.lows c.next_part-next.result.part)) (view_of c.next_part-next.new.seat) (view_of c.scan_part.new.seat)
+    → IsLeanIn (table_limits c.args.self.now.words) c.args.who.stage (3 * parts_left (table_limits c.args.self.now.words) c.args.lows.now (c.next_part-next.result.part + 1) + 3 * (c.next_part-next.result.part + 2 - (table_limits c.args.self.now.words).parts)) c.args.lows.now (c.next_part-next.result.part + 1) end (view_of c.args.seat.now) (view_of c.scan_part.new.seat)
+lean c kept e end behind before inside several looks own = let l : Limits = table_limits c.args.self.now.words in let n = c.loop-part.part in let r = c.next_part-next.result.part in let i = c.loop-part.invariant in let lows = c.args.lows.now in let up = c.next_part-next.ensures.part.0 in
+    lean_part l c.args.who.stage ((3 * parts_left l lows n + 3 * (n + 1 - l.parts)) + (3 * (r - n) + 1)) r 2 _ (slice_index c.next_part-next.new.lows r) (part_rows l) end e lows _ _ _ (more c kept several) kept behind before inside
+    (lean_skip l c.args.who.stage (3 * parts_left l lows n + 3 * (n + 1 - l.parts)) n (3 * (r - n) + 1) ((3 * parts_left l lows n + 3 * (n + 1 - l.parts)) + (3 * (r - n) + 1)) r (part_rows l) lows _ _ _ _ (omega arith) up i.lean looks.walk) own
 
 pub returns-in-Some-clause-lean : goal.returns-in-Some-clause-lean
-returns-in-Some-clause-lean c = let l : Limits = table_limits c.args.self.now.words in let at = goal.at.returns-in-Some-clause-lean c in let bare = at.After-past_bare-next in let r = c.past_bare-next.result.part in let high = c.past_bare-next.ensures.part.1 in let not_end = c.if-part-limits.false in
+returns-in-Some-clause-lean c = let l : Limits = table_limits c.args.self.now.words in let at = goal.at.returns-in-Some-clause-lean c in let bare = at.After-next_part-next in let r = c.next_part-next.result.part in let high = c.next_part-next.ensures.part.1 in let not_end = c.if-part-limits.false in
     let count : l.parts ≡ c.args.self.now.places.limits.parts = ap (λ (z : Limits). z.parts) c.args.self.now.same in
     let id : ℕ = c.in-Some.taken.element.id in let low = c.in-Some.ensures.told.0.reach in let inside = c.in-Some.ensures.inside in let rise = parts_rise l c.args.lows.now (r + 1) l.parts (omega arith) in
     lean_parts l c.args.who.stage (3 * parts_left l c.args.lows.now (r + 1) + 3 * (r + 2 - l.parts)) (r + 1) (3 * (parts_left l c.args.lows.now l.parts + 1)) l.parts (id + 1) c.args.lows.now _ _ (omega arith) (omega arith)
-    (lean at.After-scan_part bare (id + 1) (id + 1) (omega arith) (omega arith) (omega arith) (left bare) (gone bare) c.in-Some.ensures.lean)
+    (lean at.After-scan_part (rest bare r (omega arith)) (id + 1) (id + 1) (omega arith) (omega arith) (omega arith) (left bare) (gone bare) c.in-Some.ensures.lean)
 
 pub returns-in-Some-clause-lows : goal.returns-in-Some-clause-lows
-returns-in-Some-clause-lows c = rises_then c.args.lows.now c.loop-part.lows c.scan_part.new.lows c.loop-part.invariant.rises c.scan_part.ensures.lows.0
+returns-in-Some-clause-lows c = rises_then c.args.lows.now c.loop-part.lows c.scan_part.new.lows c.loop-part.invariant.rises (rises_then c.loop-part.lows c.next_part-next.new.lows c.scan_part.new.lows c.next_part-next.ensures.rises c.scan_part.ensures.lows.0)
 
 pub returns-in-Some-clause-told : goal.returns-in-Some-clause-told
-returns-in-Some-clause-told c = let l : Limits = table_limits c.args.self.now.words in let s = try_steps in let P = PassedBy l c.args.who.stage in let at = (goal.at.returns-in-Some-clause-told c).After-past_bare-next in let n = c.loop-part.part in let r = c.past_bare-next.result.part in let i = c.loop-part.invariant in let lows = c.args.lows.now in
-    let count : l.parts ≡ c.args.self.now.places.limits.parts = ap (λ (z : Limits). z.parts) c.args.self.now.same in let t = c.in-Some.taken in let first = c.first_open-begin.result in let up = c.past_bare-next.ensures.part.0 in let high = c.past_bare-next.ensures.part.1 in let not_end = c.if-part-limits.false in let from = i.from in
-    let apart = scan_apart l lows s 3 n r up in let next = scan_next l lows s 3 r in let rise = scan_rises l lows s 3 (r + 1) l.parts (omega arith) in let k : ℕ = scan_steps l s 3 lows n + (r - n + 1) in let m : ℕ = 2 + (l.rows - slice_index lows r) * s in (
+returns-in-Some-clause-told c = let l : Limits = table_limits c.args.self.now.words in let s = try_steps in let P = PassedBy l c.args.who.stage in let at = (goal.at.returns-in-Some-clause-told c).After-next_part-next in let n = c.loop-part.part in let r = c.next_part-next.result.part in let i = c.loop-part.invariant in let lows = c.args.lows.now in
+    let count : l.parts ≡ c.args.self.now.places.limits.parts = ap (λ (z : Limits). z.parts) c.args.self.now.same in let t = c.in-Some.taken in let first = c.first_open-begin.result in let up = c.next_part-next.ensures.part.0 in let high = c.next_part-next.ensures.part.1 in let not_end = c.if-part-limits.false in let from = i.from in
+    let apart = scan_apart l lows s 3 n r up in let next = scan_next l lows s 3 r in let rise = scan_rises l lows s 3 (r + 1) l.parts (omega arith) in let k : ℕ = scan_steps l s 3 lows n + (3 * (r - n) + 1) in let m : ℕ = 2 + (l.rows - slice_index lows r) * s in (
       took_few l c.args.who.stage c.args.who.unit t.attempt t.element (k + m) (scan_steps l s 3 lows l.parts) 0 _ _ (omega arith)
           (finished_took l c.args.who.stage c.args.who.unit t.attempt t.element (k + m) first lows (view_of c.args.seat.now) (view_of c.scan_part.new.seat) c.args.who.valid.0.0 c.args.self.now.words.places.valid.rows.0 c.requires.remembers c.first_open-begin.ensures.finished
-          (took_then l c.args.who.stage c.args.who.unit t.attempt t.element k m (first * l.rows) (r * l.rows) (view_of c.args.seat.now) (view_of c.past_bare-next.new.seat) (view_of c.scan_part.new.seat) (mul-le-mul_right l.rows (omega arith))
+          (took_then l c.args.who.stage c.args.who.unit t.attempt t.element k m (first * l.rows) (r * l.rows) (view_of c.args.seat.now) (view_of c.next_part-next.new.seat) (view_of c.scan_part.new.seat) (mul-le-mul_right l.rows (omega arith))
           (begun_rows l P k first r _ _ (begun at))
-          (subst (λ z. Took l (2 + (l.rows - z) * s) (r * l.rows) c.args.who.stage c.args.who.unit (view_of c.past_bare-next.new.seat) (view_of c.scan_part.new.seat) t.element t.attempt) (i.rest r up) c.in-Some.ensures.told.0))),
+          (subst (λ z. Took l (2 + (l.rows - z) * s) (r * l.rows) c.args.who.stage c.args.who.unit (view_of c.next_part-next.new.seat) (view_of c.scan_part.new.seat) t.element t.attempt) (rest at r (omega arith)) c.in-Some.ensures.told.0))),
       c.in-Some.ensures.told.1,
     )
 
 pub returns-in-Some-clause-rests : goal.returns-in-Some-clause-rests
-returns-in-Some-clause-rests c = λ p inside came. let l : Limits = table_limits c.args.self.now.words in let at = (goal.at.returns-in-Some-clause-rests c).After-past_bare-next in let r = c.past_bare-next.result.part in let i = c.loop-part.invariant in let first = c.first_open-begin.result in let from = i.from in let up = c.past_bare-next.ensures.part.0 in
+returns-in-Some-clause-rests c = λ p inside came. let l : Limits = table_limits c.args.self.now.words in let at = (goal.at.returns-in-Some-clause-rests c).After-next_part-next in let r = c.next_part-next.result.part in let i = c.loop-part.invariant in let first = c.first_open-begin.result in let from = i.from in let up = c.next_part-next.ensures.part.0 in
     let near = part_before l.rows p r c.in-Some.taken.element.id c.in-Some.ensures.inside came in
     dite (dec_le first p)
-    (λ past. parts_on l c.args.who.stage first r _ _ (OfPart l (PassedBy l c.args.who.stage)) _ c.loop-part.lows c.scan_part.new.lows _ _ _ (begun at) c.in-Some.ensures.told.0.walk (rests at) c.scan_part.ensures.rests c.scan_part.ensures.lows.1 p past near)
-    (λ not. inl (c.scan_part.ensures.lows.1 p (λ is. absurd (omega arith)) ∙ i.done p (omega arith)))
+    (λ past. parts_on l c.args.who.stage first r _ _ (OfPart l (PassedBy l c.args.who.stage)) _ c.next_part-next.new.lows c.scan_part.new.lows _ _ _ (begun at) c.in-Some.ensures.told.0.walk (rests at) c.scan_part.ensures.rests c.scan_part.ensures.lows.1 p past near)
+    (λ not. inl (c.scan_part.ensures.lows.1 p (λ is. absurd (omega arith)) ∙ done at p (omega arith)))
 
 pub returns-clause-rests : goal.returns-clause-rests
 returns-clause-rests c = λ p inside came. let l : Limits = table_limits c.args.self.now.words in let i = c.loop-part.invariant in let first = c.first_open-begin.result in
@@ -202,29 +217,29 @@ returns-clause-rests c = λ p inside came. let l : Limits = table_limits c.args.
     dite (dec_le first p) (λ low. i.rests p low (omega arith)) (λ not. inl (i.done p (omega arith)))
 
 pub returns-in-Some-clause-inside : goal.returns-in-Some-clause-inside
-returns-in-Some-clause-inside c = let l : Limits = table_limits c.args.self.now.words in let r = c.past_bare-next.result.part in let high = c.past_bare-next.ensures.part.1 in let not_end = c.if-part-limits.false in
+returns-in-Some-clause-inside c = let l : Limits = table_limits c.args.self.now.words in let r = c.next_part-next.result.part in let high = c.next_part-next.ensures.part.1 in let not_end = c.if-part-limits.false in
     let count : l.parts ≡ c.args.self.now.places.limits.parts = ap (λ (z : Limits). z.parts) c.args.self.now.same in let all = rows_more r l.parts l.rows (omega arith) in let id = c.in-Some.ensures.inside in omega arith
 
 pub loop-part-preserved : goal.loop-part-preserved
-loop-part-preserved c = let l : Limits = table_limits c.args.self.now.words in let P = PassedBy l c.args.who.stage in let at = goal.at.loop-part-preserved c in let bare = at.After-past_bare-next in let n = c.loop-part.part in let r = c.past_bare-next.result.part in let s = try_steps in let W = part_widens l P (passed_widens l c.args.who.stage) in let i = c.loop-part.invariant in let lows = c.args.lows.now in
-    let count : l.parts ≡ c.args.self.now.places.limits.parts = ap (λ (z : Limits). z.parts) c.args.self.now.same in let up = c.past_bare-next.ensures.part.0 in let high = c.past_bare-next.ensures.part.1 in let not_end = c.if-part-limits.false in let from = i.from in
-    let k : ℕ = scan_steps l s 3 lows n + (r - n + 1) in let m : ℕ = 2 + (l.rows - slice_index lows r) * s in record {
+loop-part-preserved c = let l : Limits = table_limits c.args.self.now.words in let P = PassedBy l c.args.who.stage in let at = goal.at.loop-part-preserved c in let bare = at.After-next_part-next in let n = c.loop-part.part in let r = c.next_part-next.result.part in let s = try_steps in let W = part_widens l P (passed_widens l c.args.who.stage) in let i = c.loop-part.invariant in let lows = c.args.lows.now in
+    let count : l.parts ≡ c.args.self.now.places.limits.parts = ap (λ (z : Limits). z.parts) c.args.self.now.same in let up = c.next_part-next.ensures.part.0 in let high = c.next_part-next.ensures.part.1 in let not_end = c.if-part-limits.false in let from = i.from in
+    let k : ℕ = scan_steps l s 3 lows n + (3 * (r - n) + 1) in let m : ℕ = 2 + (l.rows - slice_index lows r) * s in record {
       same = search rules;
       remembers = c.scan_part.ensures.remembers;
       gaps = c.scan_part.ensures.gaps;
-      rises = rises_then lows c.loop-part.lows c.scan_part.new.lows i.rises c.scan_part.ensures.lows.0;
+      rises = rises_then lows c.loop-part.lows c.scan_part.new.lows i.rises (rises_then c.loop-part.lows c.next_part-next.new.lows c.scan_part.new.lows c.next_part-next.ensures.rises c.scan_part.ensures.lows.0);
       from = omega arith;
       top = omega arith;
-      rest = λ q low. c.scan_part.ensures.lows.1 q (λ is. absurd (omega arith)) ∙ i.rest q (omega arith);
-      done = λ q less. c.scan_part.ensures.lows.1 q (λ is. absurd (omega arith)) ∙ i.done q less;
-      rests = parts_on l c.args.who.stage c.first_open-begin.result r _ _ (OfPart l P) _ c.loop-part.lows c.scan_part.new.lows _ _ _ (begun bare) c.in_default.ensures.told.walk (rests bare) c.scan_part.ensures.rests c.scan_part.ensures.lows.1;
+      rest = λ q low. c.scan_part.ensures.lows.1 q (λ is. absurd (omega arith)) ∙ rest bare q (omega arith);
+      done = λ q less. c.scan_part.ensures.lows.1 q (λ is. absurd (omega arith)) ∙ done bare q less;
+      rests = parts_on l c.args.who.stage c.first_open-begin.result r _ _ (OfPart l P) _ c.next_part-next.new.lows c.scan_part.new.lows _ _ _ (begun bare) c.in_default.ensures.told.walk (rests bare) c.scan_part.ensures.rests c.scan_part.ensures.lows.1;
       lean = let top = rows_more r l.parts l.rows (omega arith) in let same : r + 2 - l.parts ≡ r + 1 + 1 - l.parts = omega arith in
           subst (λ z. IsLeanIn l c.args.who.stage (3 * parts_left l lows (r + 1) + 3 * z) lows (r + 1) (part_rows l) (view_of c.args.seat.now) (view_of c.scan_part.new.seat)) same
-          (lean at.After-scan_part bare (r * l.rows + l.rows) (part_rows l) (omega arith) (omega arith) (omega arith) (left bare) (gone bare) c.in_default.ensures.lean);
+          (lean at.After-scan_part (rest bare r (omega arith)) (r * l.rows + l.rows) (part_rows l) (omega arith) (omega arith) (omega arith) (left bare) (gone bare) c.in_default.ensures.lean);
       begun = begun_few l (OfPart l P) W (k + m) c.first_open-begin.result _ (r + 1) _ _ (let apart = scan_apart l lows s 3 n r up in let next = scan_next l lows s 3 r in omega arith)
           (begun_on l (OfPart l P) W k c.first_open-begin.result m r _ _ _ (begun bare) (r + 1) (omega arith)
-          (subst (λ z. Sought l (2 + (l.rows - z) * s) (EachRow (OfPart l P) r (r + 1)) (view_of c.past_bare-next.new.seat) (view_of c.scan_part.new.seat)) (i.rest r up)
-          (one_row l (OfPart l P) (2 + (l.rows - slice_index c.loop-part.lows r) * s) r _ _ c.in_default.ensures.told)));
+          (subst (λ z. Sought l (2 + (l.rows - z) * s) (EachRow (OfPart l P) r (r + 1)) (view_of c.next_part-next.new.seat) (view_of c.scan_part.new.seat)) (rest bare r (omega arith))
+          (one_row l (OfPart l P) (2 + (l.rows - slice_index c.next_part-next.new.lows r) * s) r _ _ c.in_default.ensures.told)));
     }
 
 pub returns-clause-told : goal.returns-clause-told
@@ -241,4 +256,4 @@ returns-clause-told c = let l : Limits = table_limits c.args.self.now.words in l
 pub returns-in-Some-clause-begins : goal.returns-in-Some-clause-begins
 returns-in-Some-clause-begins c = let l : Limits = table_limits c.args.self.now.words in let first = c.first_open-begin.ensures in
     behind_rises l c.args.who.stage c.first_open-begin.result c.args.lows.now c.scan_part.new.lows (view_of c.scan_part.new.seat) c.in-Some.ensures.told.0.walk.steady c.scan_part.ensures.remembers
-    (rises_then c.args.lows.now c.loop-part.lows c.scan_part.new.lows c.loop-part.invariant.rises c.scan_part.ensures.lows.0) (first.part, first.finished)
+    (rises_then c.args.lows.now c.loop-part.lows c.scan_part.new.lows c.loop-part.invariant.rises (rises_then c.loop-part.lows c.next_part-next.new.lows c.scan_part.new.lows c.next_part-next.ensures.rises c.scan_part.ensures.lows.0)) (first.part, first.finished)
