@@ -13,6 +13,9 @@ pub const HEAD_PRESENT: u64 = 1;
 /// The head of a row that was left behind empty, without bit 0: it never has an element.
 pub const HEAD_VOID: u64 = 2;
 
+/// Head, above bits 0 and 1, which tell an empty head and a void one from each other and from all others.
+pub const HEAD_KINDS: u64 = 1 << 2;
+
 /// Head, bits 1 to 4: the stage, 1 to 15.
 pub const HEAD_STAGE: u64 = 1 << 1;
 

@@ -12,8 +12,8 @@ ghost use Rattle.tp_rule.specs.Words.{pack_claim, claim_value, IsFitClaim};
 
 use crate::bits::{
     CLAIM_AGAIN, CLAIM_ATTEMPT, CLAIM_FREE, CLAIM_KILLED, CLAIM_ROUND, CLAIM_TAKEN, CLAIM_UNIT,
-    HEAD_BY, HEAD_EMPTY, HEAD_PRESENT, HEAD_ROOT, HEAD_STAGE, HEAD_VOID, MAX_ID, MAX_UNIT,
-    UNIT_ABORTED, UNIT_COMMITTED, UNIT_COUNT, UNIT_FIRST, UNIT_UNDECIDED,
+    HEAD_BY, HEAD_EMPTY, HEAD_KINDS, HEAD_PRESENT, HEAD_ROOT, HEAD_STAGE, HEAD_VOID, MAX_ID,
+    MAX_UNIT, UNIT_ABORTED, UNIT_COMMITTED, UNIT_COUNT, UNIT_FIRST, UNIT_UNDECIDED,
 };
 use tp_model::types::{MAX_ATTEMPTS, MAX_OUTPUTS, MAX_ROUNDS};
 
@@ -94,10 +94,12 @@ impl Head {
         ensures of_pack { (h : Head) → IsFitHead h → word ≡ pack_head h → result ≡ h }
         ensures to_pack { IsFitHead result × (word ≡ pack_head result) }
     {
-        if word == HEAD_EMPTY {
+        // Two bits tell which it is, so a look that asks no more takes no mask of the others.
+        let kind = word % HEAD_KINDS;
+        if kind == HEAD_EMPTY {
             return Head::Empty;
         }
-        if word == HEAD_VOID {
+        if kind == HEAD_VOID {
             return Head::Void;
         }
         let by = word / HEAD_BY;
