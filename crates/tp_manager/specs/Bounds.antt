@@ -1,5 +1,5 @@
 -- How many atomic steps the calls make at most. Each is what the call can need, and no more.
-use Rattle.std.specs.Prelude.{◌≡◌, ℕ, zero, suc, ◌+◌, ◌-◌, ◌*◌, ◌≤◌, ◌==◌, if◌then◌else◌, List}
+use Rattle.std.specs.Prelude.{◌≡◌, ℕ, zero, suc, ◌+◌, ◌-◌, ◌*◌, ◌≤◌, ◌==◌, if◌then◌else◌, Bool, List}
 use Rattle.std.specs.Prelude.{slice_index, sum_by}
 use Rattle.tp_model.specs.declared.types.Element.{Element}
 use Rattle.tp_model.specs.declared.types.Limits.{Limits}
@@ -40,6 +40,10 @@ commit_steps l k = room_steps l k + close_steps k
 -- the unit's word
 abbrev pub abort_steps : ℕ
 abort_steps = 1
+
+-- a look that is made or not
+abbrev pub looks_if : Bool → ℕ
+looks_if made = if made then 1 else 0
 
 -- whether an element is born in a row: its head, and the word of the unit that the head names
 abbrev pub birth_steps : ℕ

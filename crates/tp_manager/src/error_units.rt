@@ -21,7 +21,8 @@ const MOST_UNITS: u16 = 1024;
 /// What a pass remembers of units.
 #[derive(Clone, Copy)]
 pub(crate) struct UnitsSeen {
-    /// How many units of each part, from its first one on, are committed.
+    /// So many units of each part, from its first one on, are committed. The last one isn't counted, so that
+    /// one look at it is left.
     pub committed: [u16; MARKED_PARTS],
     /// Whether a unit is aborted: it stays so.
     pub aborted: bool,
@@ -38,8 +39,8 @@ fn earlier(a: u16, b: u16) -> u16
 impl Shared {
     /// Whether a look at one unit of a part shows that none of the part is aborted: the one that is `ahead`
     /// behind the first which isn't known to be committed. A pass takes its units in order: so where one is
-    /// undecided, no later one was taken. And a committed one tells how many right before it are. At most one
-    /// step.
+    /// undecided, no later one was taken. And a committed one tells how many right before it are: at the last
+    /// one that shows it too, and the next look at the part needs to be at no other. At most one step.
     #[inline(always)]
     fn shows_none_aborted(
         &self,
@@ -76,6 +77,9 @@ impl Shared {
                     return false;
                 }
                 if at + 1 == all {
+                    if at != count {
+                        units.committed[part as usize] = at;
+                    }
                     return true;
                 }
                 units.committed[part as usize] = at + 1;
@@ -95,7 +99,7 @@ impl Shared {
     }
 
     /// Whether at most so many looks show that none of the part is aborted. The first one is so far `ahead`;
-    /// the next ones are twice as far each time, and less far again where one tells nothing.
+    /// the next ones are four times as far each time, and half as far again where one tells nothing.
     #[inline(never)]
     fn none_aborted(
         &self,
@@ -127,7 +131,7 @@ impl Shared {
             }
             grows = grows && units.committed[part as usize] != before;
             ahead = if grows { next } else { ahead / 2 };
-            next = earlier(2 * next + 1, MOST_UNITS);
+            next = earlier(4 * next + 3, MOST_UNITS);
         }
         false
     }

@@ -1,9 +1,10 @@
 //! Parts whose rows are all of other stages: the last head of each tells it.
-ghost use Rattle.std.specs.Prelude.{◌≡◌, ◌⊎◌, ℕ, ◌+◌, ◌-◌, ◌*◌, ◌<◌, ◌≤◌, slice_index, true};
+ghost use Rattle.std.specs.Prelude.{◌≡◌, ◌⊎◌, ℕ, ◌+◌, ◌-◌, ◌*◌, ◌<◌, ◌≤◌, slice_index};
 ghost use Rattle.tp_model.specs.Steps.{IsServerStage};
 ghost use Rattle.tp_rule.specs.Views.{view_of, IsSameSeat};
 ghost use Rattle.tp_rule.specs.Tables.{table_limits};
 ghost use Rattle.tp_manager.specs.Shown.{NoneFalls};
+ghost use Rattle.tp_manager.specs.Bounds.{looks_if};
 ghost use Rattle.tp_manager.specs.CallSteps.{Acted, IsSteady, Looked};
 ghost use Rattle.tp_manager.specs.Marks.{Remembers, RestsAt, Rose};
 ghost use Rattle.tp_manager.specs.Scans.{Begun, OfPart, PassedBy};
@@ -29,9 +30,7 @@ impl Shared {
         ensures rose { (q : ℕ) → from ≤ q → q < result → let l = table_limits self.now.words in
             Rose stage (view_of seat.new) (q * l.rows + slice_index lows.now q) (q * l.rows + l.rows) }
         ensures few { let l = table_limits self.now.words in
-            Looked l (result - from) (view_of seat.old) (view_of seat.new)
-            ⊎ ((result < l.parts) × ¬ (slice_index lows.now result ≡ l.rows)
-            × Looked l (result - from + 1) (view_of seat.old) (view_of seat.new)) }
+            Looked l (result - from + 1) (view_of seat.old) (view_of seat.new) }
         ensures acted { ((result ≡ from) × (seat.new ≡ seat.old)) ⊎ Acted (table_limits self.now.words)
             (result - from + 1) (view_of seat.old) (view_of seat.new) }
     {
@@ -99,9 +98,7 @@ impl Shared {
         ensures rests { (q : ℕ) → from ≤ q → q < result → let l = table_limits self.now.words in
             RestsAt l stage q (slice_index lows.new q) (view_of seat.old) (view_of seat.new) }
         ensures few { let l = table_limits self.now.words in
-            Looked l (3 * (result - from)) (view_of seat.old) (view_of seat.new)
-            ⊎ ((result < l.parts) × ¬ (slice_index lows.old result ≡ l.rows)
-            × Looked l (3 * (result - from) + 1) (view_of seat.old) (view_of seat.new)) }
+            Looked l (3 * (result - from) + 1) (view_of seat.old) (view_of seat.new) }
         ensures told { let l = table_limits self.now.words in
             Begun l (OfPart l (PassedBy l stage)) (3 * (result - from) + 1) from result
             (view_of seat.old) (view_of seat.new) }
@@ -111,49 +108,43 @@ impl Shared {
         end
     }
 
-    /// The part at which a scan goes on: the first from `from` on that isn't bare, or that the pass knows
-    /// finished; or where the part before was `full` of elements of other stages, the first that isn't that.
-    /// At most three looks at each part before it, and one at it where it isn't known finished.
+    /// The first part from this one on that isn't full of elements of other stages, if its first row was found
+    /// to be of no use by its head and this is the first `tried`: else this part itself.
     #[inline(always)]
-    pub(crate) fn next_part(
+    pub(crate) fn past_full_once(
         &self,
         seat: &mut Seat,
         lows: &mut Lows,
-        from: u16,
+        from: NextPart,
         stage: u8,
-        full: bool,
-    ) -> NextPart
+        tried: &mut bool,
+    ) -> u16
         requires steady { IsSteady self.now.words seat.old }
         requires remembers { Remembers stage (view_of seat.old) lows.old }
-        requires from { from ≤ (table_limits self.now.words).parts }
+        requires from { from.part ≤ (table_limits self.now.words).parts }
         requires stage { IsServerStage stage }
         ensures same { IsSameSeat seat.old seat.new }
         ensures remembers { Remembers stage (view_of seat.new) lows.new }
-        ensures part { (from ≤ result.part) × (result.part ≤ (table_limits self.now.words).parts) }
-        ensures left { (q : ℕ) → from ≤ q → q < result.part
+        ensures part { (from.part ≤ result) × (result ≤ (table_limits self.now.words).parts) }
+        ensures left { (q : ℕ) → from.part ≤ q → q < result
             → ¬ (slice_index lows.old q ≡ (table_limits self.now.words).rows) }
-        ensures others { (q : ℕ) → (q < from) ⊎ (result.part ≤ q)
+        ensures others { (q : ℕ) → (q < from.part) ⊎ (result ≤ q)
             → slice_index lows.new q ≡ slice_index lows.old q }
         ensures rises { NoneFalls lows.old lows.new }
-        ensures rests { (q : ℕ) → from ≤ q → q < result.part → let l = table_limits self.now.words in
+        ensures rests { (q : ℕ) → from.part ≤ q → q < result → let l = table_limits self.now.words in
             RestsAt l stage q (slice_index lows.new q) (view_of seat.old) (view_of seat.new) }
-        ensures few { let l = table_limits self.now.words in
-            Looked l (3 * (result.part - from)) (view_of seat.old) (view_of seat.new)
-            ⊎ ((result.part < l.parts) × ¬ (slice_index lows.old result.part ≡ l.rows)
-            × Looked l (3 * (result.part - from) + 1) (view_of seat.old) (view_of seat.new)) }
+        ensures once { (looks_if tried.old ≤ looks_if tried.new)
+            × (looks_if tried.new ≤ looks_if tried.old + looks_if from.aside) }
+        ensures few { let n = 3 * (result - from.part) + (looks_if tried.new - looks_if tried.old) in
+            Looked (table_limits self.now.words) n (view_of seat.old) (view_of seat.new) }
         ensures told { let l = table_limits self.now.words in
-            Begun l (OfPart l (PassedBy l stage)) (3 * (result.part - from) + 1) from result.part
-            (view_of seat.old) (view_of seat.new) }
-        ensures aside { result.aside ≡ true → let l = table_limits self.now.words in
-            let n = slice_index lows.new result.part in
-            let row = result.part * l.rows + n in
-            (n < l.rows) × Rose stage (view_of seat.new) row (row + 1) }
+            let n = 3 * (result - from.part) + (looks_if tried.new - looks_if tried.old) in
+            Begun l (OfPart l (PassedBy l stage)) n from.part result (view_of seat.old) (view_of seat.new) }
     {
-        if full {
-            let part = self.past_full(seat, lows, from, stage);
-            NextPart { part, aside: false }
-        } else {
-            self.past_bare(seat, lows, from, stage)
+        if !from.aside || *tried {
+            return from.part;
         }
+        *tried = true;
+        self.past_full(seat, lows, from.part, stage)
     }
 }

@@ -6,7 +6,7 @@ ghost use Rattle.tp_rule.specs.Views.{seen_by, view_of, IsSameSeat};
 ghost use Rattle.tp_rule.specs.Tables.{table_limits};
 ghost use Rattle.tp_manager.specs.CallSteps.{IsSteady};
 ghost use Rattle.tp_manager.specs.BetweenCalls.{RemembersDone};
-ghost use Rattle.tp_manager.specs.Bounds.{try_steps};
+ghost use Rattle.tp_manager.specs.Bounds.{looks_if, try_steps};
 ghost use Rattle.tp_manager.specs.Leans.{scan_end, IsLeanAt};
 ghost use Rattle.tp_manager.specs.Marks.{AreOfStage, IsGap, Remembers, RemembersGaps};
 ghost use Rattle.tp_manager.specs.Marks.{RestsAt, RisesAt, Rose};
@@ -333,7 +333,7 @@ impl Shared {
             let n = part * l.rows + slice_index lows.old part in
             IsLeanAt l who.stage 2 n (end - n) (view_of seat.old) (view_of seat.new) }
         ensures told { let l = table_limits self.now.words in
-            let n = 2 + (l.rows - slice_index lows.old part) * try_steps in MatchOption result
+            let n = 2 + (l.rows - slice_index lows.old part) * try_steps - looks_if aside in MatchOption result
             (Sought l n (OfPart l (PassedBy l who.stage) part) (view_of seat.old) (view_of seat.new))
             (λ t. Took l n (part * l.rows) who.stage who.unit (view_of seat.old)
             (view_of seat.new) t.element t.attempt

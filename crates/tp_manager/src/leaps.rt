@@ -5,6 +5,7 @@ ghost use Rattle.tp_rule.specs.Views.{view_of, IsSameSeat};
 ghost use Rattle.tp_rule.specs.Tables.{table_limits};
 ghost use Rattle.tp_rule.specs.declared.packing.Head.TheVariants.{Filled};
 ghost use Rattle.tp_manager.specs.CallSteps.{Acted, IsSteady, Looked};
+ghost use Rattle.tp_manager.specs.Bounds.{looks_if};
 ghost use Rattle.tp_manager.specs.Marks.{Rose};
 
 use crate::manager::Shared;
@@ -85,7 +86,7 @@ impl Shared {
         requires known { Rose stage (view_of seat.old) first (first + 1) }
         requires stage { IsServerStage stage }
         ensures same { IsSameSeat seat.old seat.new }
-        ensures end { result ≤ end }
+        ensures end { (first < result) × (result ≤ end) }
         ensures rose { Rose stage (view_of seat.new) first result }
         ensures few { Looked (table_limits self.now.words) (result - first) (view_of seat.old)
             (view_of seat.new) }
@@ -133,7 +134,7 @@ impl Shared {
         requires known { aside ≡ true → (first < end) × Rose stage (view_of seat.old) first (first + 1) }
         requires stage { IsServerStage stage }
         ensures same { IsSameSeat seat.old seat.new }
-        ensures end { result ≤ end }
+        ensures end { (first + looks_if aside ≤ result) × (result ≤ end) }
         ensures rose { Rose stage (view_of seat.new) first result }
         ensures few { Looked (table_limits self.now.words) (result - first) (view_of seat.old)
             (view_of seat.new) }

@@ -246,13 +246,13 @@ impl Shared {
         *begins = begin;
         let last = limits.parts - 1;
         let mut part = begin;
-        let mut full = false;
+        let mut tried = false;
         while part < limits.parts {
             if lows[part as usize] == limits.rows && part != last {
                 part += 1;
                 continue;
             }
-            let next = self.next_part(seat, lows, part, stage, full);
+            let next = self.past_bare(seat, lows, part, stage);
             part = next.part;
             if part == limits.parts {
                 return None;
@@ -261,10 +261,14 @@ impl Shared {
                 part += 1;
                 continue;
             }
+            let end = self.past_full_once(seat, lows, next, stage, &mut tried);
+            if end != part {
+                part = end;
+                continue;
+            }
             if let Some(taken) = self.scan_part(seat, lows, gaps, part, next.aside, who) {
                 return Some(taken);
             }
-            full = next.aside && lows[part as usize] == limits.rows;
             part += 1;
         }
         None

@@ -326,6 +326,15 @@ module _ (l : Limits) where
     pub lean_skip : (k n m most r end : ℕ) (lows : List ℕ) (ms : List TraceEntry) (v w x : View) → k + m ≤ most → n ≤ r → IsLeanIn l stage k lows n end v w → Stepped l m ms w x → IsLeanIn l stage most lows r end v x
     lean_skip k n m most r end lows ms v w x le up a b = lean_then _ (λ p h. m) _ v w x (λ p q h begins after. let less = left_rises l lows (until end (try_steps_at stage p h)) n r up in omega arith) a (lean_made m ms w x b)
 
+    -- one of which is for a row that part r has left
+    pub lean_left : (k n m most r e end : ℕ) (lows : List ℕ) (ms : List TraceEntry) (v w x : View) → k + m ≤ most + 1 → n ≤ r → r < e → slice_index lows r < l.rows → r * l.rows + l.rows ≤ end
+        → IsLeanIn l stage k lows n end v w → Stepped l m ms w x → IsLeanIn l stage most lows e end v x
+    lean_left k n m most r e end lows ms v w x le up on some inside a b = lean_then _ (λ p h. m) _ v w x
+        (λ p q h begins after. let f = until end (try_steps_at stage p h) in let i : ℕ = r * l.rows + slice_index lows r in let own : ℕ = l.rows - slice_index lows r in
+        let less = left_rises l lows f n r up in let next = left_next l lows f r in let rest = left_rises l lows f (r + 1) e (omega arith) in
+        let each = sum_least (try_steps_at stage p h) (λ j. steps_some stage (claim_changes p j == claim_changes h j) (element_of h j)) i own in
+        let near = sum_near (try_steps_at stage p h) f i own (λ j low high. until_is end (try_steps_at stage p h) j (omega arith)) in omega arith) a (lean_made m ms w x b)
+
     -- some rows, with those before an end
     rows_until : (p q h : List Event) (i m end : ℕ) → IsPrefix p q → IsPrefix q h → i + m ≤ end ⊎ (m ≡ 0) → sum_rows (try_steps_at stage q h) i m ≤ sum_rows (until end (try_steps_at stage p h)) i m
     rows_until p q h i m end begins after le = let less = sum_most (try_steps_at stage q h) (try_steps_at stage p h) (λ r. steps_less stage p q h r begins after) i m in

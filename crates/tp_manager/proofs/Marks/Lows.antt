@@ -49,10 +49,10 @@ module _ (l : Limits) (lows : List ℕ) where
         subst (λ z. scan_steps l t k lows n + k * z ≤ scan_steps l t k lows (suc m)) (sym one) (omega arith))
         (λ not. let same : n ≡ suc m = omega arith in subst (λ z. scan_steps l t k lows z + k * (suc m - z) ≤ scan_steps l t k lows (suc m)) (sym same) (let none : suc m - suc m ≡ 0 = omega arith in subst (λ z. scan_steps l t k lows (suc m) + k * z ≤ scan_steps l t k lows (suc m)) (sym none) (omega arith)))
 
-    -- the first of which has rows left
-    pub scan_left : (n m : ℕ) → n < m → 1 ≤ (l.rows - slice_index lows n) * t → scan_steps l t k lows n + (k * (m - n) + 1) ≤ scan_steps l t k lows m
-    scan_left n m less some = let next = scan_next n in let rest = scan_apart (n + 1) m (omega arith) in let one : m - n ≡ suc (m - (n + 1)) = omega arith in let more : k * suc (m - (n + 1)) ≡ k * (m - (n + 1)) + k = omega arith in
-        subst (λ z. scan_steps l t k lows n + (k * z + 1) ≤ scan_steps l t k lows m) (sym one) (omega arith)
+    -- and the rows that the first of them has left
+    pub scan_left : (n m : ℕ) → n < m → scan_steps l t k lows n + (k * (m - n) + (l.rows - slice_index lows n) * t) ≤ scan_steps l t k lows m
+    scan_left n m less = let next = scan_next n in let rest = scan_apart (n + 1) m (omega arith) in let one : m - n ≡ suc (m - (n + 1)) = omega arith in let more : k * suc (m - (n + 1)) ≡ k * (m - (n + 1)) + k = omega arith in
+        subst (λ z. scan_steps l t k lows n + (k * z + (l.rows - slice_index lows n) * t) ≤ scan_steps l t k lows m) (sym one) (omega arith)
 
     module _ (inside : (p : ℕ) → p < l.parts → slice_index lows p ≤ l.rows) where
       sum_few : (n : ℕ) → n ≤ l.parts → low_sum lows n ≤ n * l.rows

@@ -6,7 +6,7 @@ use Rattle.tp_rule.specs.Views.{SeatShown, view_of}
 use Rattle.tp_rule.specs.Tables.{table_limits}
 use Rattle.tp_manager.specs.CallSteps.{Acted}
 use Rattle.tp_manager.specs.Marks.{Rose}
-use Rattle.tp_manager.proofs.Calls.CallSteps.{acted_few, acted_then, looked}
+use Rattle.tp_manager.proofs.Calls.CallSteps.{acted_few, acted_then, looked, looked_few}
 use Rattle.tp_manager.proofs.Marks.Raises.{goes_walked}
 use Rattle.tp_manager.proofs.Marks.Useless.{rose_later}
 use Rattle.tp_manager.proofs.manager.Shared.past_aside.Goals as goal
@@ -29,9 +29,11 @@ wide c = ap (λ (z : Limits). z.rows) c.args.self.now.same
 pub returns-then-not-tells_of_tail-clause-rose : goal.returns-then-not-tells_of_tail-clause-rose
 returns-then-not-tells_of_tail-clause-rose c = before (goal.at.returns-then-not-tells_of_tail-clause-rose c).After-tells_of_tail
 
+pub returns-then-low-limits-clause-few : goal.returns-then-low-limits-clause-few
+returns-then-low-limits-clause-few c = looked_few (table_limits c.args.self.now.words) _ _ _ _ (omega arith) c.loop-part.invariant.few
+
 pub returns-then-not-tells_of_tail-clause-few : goal.returns-then-not-tells_of_tail-clause-few
-returns-then-not-tells_of_tail-clause-few c = let l : Limits = table_limits c.args.self.now.words in let at = (goal.at.returns-then-not-tells_of_tail-clause-few c).After-tells_of_tail in let w = wide at in
-    inr (subst (λ (z : Limits). c.loop-part.part < z.parts) (sym c.args.self.now.same) c.loop-part-test.true, λ same. c.if-low-limits.false (same ∙ w), looked l _ _ _ (acted at))
+returns-then-not-tells_of_tail-clause-few c = looked (table_limits c.args.self.now.words) _ _ _ (acted (goal.at.returns-then-not-tells_of_tail-clause-few c).After-tells_of_tail)
 
 pub returns-then-not-tells_of_tail-clause-acted : goal.returns-then-not-tells_of_tail-clause-acted
 returns-then-not-tells_of_tail-clause-acted c = inr (acted (goal.at.returns-then-not-tells_of_tail-clause-acted c).After-tells_of_tail)
@@ -52,3 +54,7 @@ loop-part-preserved c = let l : Limits = table_limits c.args.self.now.words in l
 
 pub returns-clause-rose : goal.returns-clause-rose
 returns-clause-rose c = λ q low high. let past = c.loop-part-test.false in c.loop-part.invariant.rose q low (omega arith)
+
+pub returns-clause-few : goal.returns-clause-few
+returns-clause-few c = let past = c.loop-part-test.false in let fair : c.args.from ≤ c.args.self.now.places.limits.parts = subst (λ (z : Limits). c.args.from ≤ z.parts) c.args.self.now.same c.requires.from in let high = c.loop-part.auto.part-end fair in
+    looked_few (table_limits c.args.self.now.words) _ _ _ _ (omega arith) c.loop-part.invariant.few

@@ -10,8 +10,9 @@ use Rattle.tp_rule.specs.Words.{unit_value}
 use Rattle.tp_rule.specs.Tables.{table_limits}
 use Rattle.tp_rule.specs.Views.{seen_by, view_of}
 use Rattle.tp_manager.specs.CallSteps.{Acted}
+use Rattle.tp_manager.specs.Scans.{EachRow, Sought}
 use Rattle.tp_rule.specs.Rule.{IsCommitted}
-use Rattle.tp_manager.specs.UnitsSeen.{RemembersUnits}
+use Rattle.tp_manager.specs.UnitsSeen.{NoneAborted, RemembersUnits}
 use Rattle.tp_manager.proofs.Calls.CallSteps.{acted_by, looked, units_kept}
 use Rattle.tp_manager.proofs.Rows.UnitsSeen.{well_all, well_sought, well_until}
 use Rattle.tp_manager.proofs.manager.Shared.shows_none_aborted.Goals as goal
@@ -57,6 +58,16 @@ before c long w its less = dite (dec_le (next c) w)
     (λ past. c.load_unit_tail-found.ensures.before w less (omega arith))
     (λ not. known c w its (omega arith))
 
+-- so many of the part's first units are remembered
+stored : (c : After-load_unit_tail-found) (n : ℕ) → ((w : ℕ) → IsUnitOf (table_limits c.args.self.now.words) c.args.part w → w < c.args.part * c.args.self.now.places.limits.units + n → IsCommitted (seen_by c.load_unit_tail-found.new.seat) w)
+    → RemembersUnits (view_of c.load_unit_tail-found.new.seat) (slice_set c.args.units.now.committed c.args.part n)
+stored c n done = let xs = c.args.units.now.committed in let p : ℕ = c.args.part in let inside : p < length xs = search rules in λ d w its low. dite (ℕ_discrete d p)
+    (λ same. let k = c.args.self.now.places.limits in let is = lim c ∙ c.args.self.now.same in
+    let less : w < p * k.units + n = subst (λ z. w < p * k.units + z) (get_or-set_same xs p n 0 inside) (subst (λ (z : ℕ × Limits). w < z.0 * z.1.units + slice_index (slice_set xs p n) z.0) (λ j. (same j, is j)) low) in
+    let own_w : IsUnitOf (view_of c.load_unit_tail-found.new.seat).limits p w = subst (λ z. IsUnitOf (view_of c.load_unit_tail-found.new.seat).limits z w) same its in
+    done w (subst (λ (z : Limits). IsUnitOf z p w) (lim c) own_w) less)
+    (λ other. kept c d w its (subst (λ z. w < d * (view_of c.load_unit_tail-found.new.seat).limits.units + z) (get_or-set_other xs p d n 0 other) low))
+
 -- the unit is committed
 now : (c : In-Committed) (at : After-load_unit_tail-found) → IsCommitted (seen_by c.load_unit_tail-found.new.seat) (c.args.part * c.args.self.now.places.limits.units + c.earlier-at.result)
 now c at = (c.in-Committed.first, c.in-Committed.count, sym c.load_unit_tail-found.ensures.end ∙ ap unit_value c.in-Committed.is)
@@ -85,28 +96,40 @@ returns-then-found-at-clause-remembers c = kept (goal.at.returns-then-found-at-c
 pub returns-then-found-at-clause-looked : goal.returns-then-found-at-clause-looked
 returns-then-found-at-clause-looked c = looked _ 1 _ _ (acted (goal.at.returns-then-found-at-clause-looked c).After-load_unit_tail-found)
 
-pub returns-then-at-all-clause-remembers : goal.returns-then-at-all-clause-remembers
-returns-then-at-all-clause-remembers c = kept (goal.at.returns-then-at-all-clause-remembers c).After-load_unit_tail-found
+-- where it is the last one, all are
+shown : (c : After-load_unit_tail-found) → unit c ≤ next c + c.load_unit_tail-found.result.tail → c.earlier-at.result + 1 ≡ c.args.self.now.places.limits.units → IsCommitted (seen_by c.load_unit_tail-found.new.seat) (unit c)
+    → Sought (table_limits c.args.self.now.words) 1 (EachRow (NoneAborted (table_limits c.args.self.now.words)) c.args.part (c.args.part + 1)) (view_of c.args.seat.now) (view_of c.load_unit_tail-found.new.seat)
+shown c long last done = let l : Limits = table_limits c.args.self.now.words in let h = seen_by c.load_unit_tail-found.new.seat in let a = wide c in let m = first c in
+    well_sought l c.args.part _ _ (acted c) (well_all l h c.args.part (λ w its. dite (ℕ_discrete w (unit c))
+    (λ same. subst (IsCommitted h) (sym same) done)
+    (λ ne. let top = its.2 in before c long w its (omega arith))))
 
-pub returns-then-at-all-clause-looked : goal.returns-then-at-all-clause-looked
-returns-then-at-all-clause-looked c = looked _ 1 _ _ (acted (goal.at.returns-then-at-all-clause-looked c).After-load_unit_tail-found)
+pub returns-then-at-count-clause-remembers : goal.returns-then-at-count-clause-remembers
+returns-then-at-count-clause-remembers c = let at = (goal.at.returns-then-at-count-clause-remembers c).After-load_unit_tail-found in let long = c.if-found-at.false in let up = near at in
+    stored at c.earlier-at.result (λ w its less. before at (omega arith) w its less)
 
-pub returns-then-at-all-clause-none : goal.returns-then-at-all-clause-none
-returns-then-at-all-clause-none c = λ _. let l : Limits = table_limits c.args.self.now.words in let at = goal.at.returns-then-at-all-clause-none c in let h = seen_by c.load_unit_tail-found.new.seat in let low = near at.After-load_unit_tail-found in
-    let a = wide at.After-load_unit_tail-found in let m = first at.After-load_unit_tail-found in let last = c.if-at-all.true in let u : ℕ = unit at.After-load_unit_tail-found in let long = c.if-found-at.false in
-    well_sought l c.args.part _ _ (acted at.After-load_unit_tail-found) (well_all l h c.args.part (λ w its. dite (ℕ_discrete w u)
-    (λ same. subst (IsCommitted h) (sym same) (now at.In-Committed at.After-load_unit_tail-found))
-    (λ ne. let top = its.2 in before at.After-load_unit_tail-found (omega arith) w its (omega arith))))
+pub returns-then-at-count-clause-looked : goal.returns-then-at-count-clause-looked
+returns-then-at-count-clause-looked c = looked _ 1 _ _ (acted (goal.at.returns-then-at-count-clause-looked c).After-load_unit_tail-found)
+
+pub returns-then-at-count-clause-none : goal.returns-then-at-count-clause-none
+returns-then-at-count-clause-none c = λ _. let at = goal.at.returns-then-at-count-clause-none c in let found = at.After-load_unit_tail-found in let long = c.if-found-at.false in let up = near found in
+    shown found (omega arith) c.if-at-all.true (now at.In-Committed found)
+
+pub returns-else-at-count-clause-remembers : goal.returns-else-at-count-clause-remembers
+returns-else-at-count-clause-remembers c = kept (goal.at.returns-else-at-count-clause-remembers c).After-load_unit_tail-found
+
+pub returns-else-at-count-clause-looked : goal.returns-else-at-count-clause-looked
+returns-else-at-count-clause-looked c = looked _ 1 _ _ (acted (goal.at.returns-else-at-count-clause-looked c).After-load_unit_tail-found)
+
+pub returns-else-at-count-clause-none : goal.returns-else-at-count-clause-none
+returns-else-at-count-clause-none c = λ _. let at = goal.at.returns-else-at-count-clause-none c in let found = at.After-load_unit_tail-found in let long = c.if-found-at.false in let up = near found in
+    shown found (omega arith) c.if-at-all.true (now at.In-Committed found)
 
 pub returns-else-at-all-clause-looked : goal.returns-else-at-all-clause-looked
 returns-else-at-all-clause-looked c = looked _ 1 _ _ (acted (goal.at.returns-else-at-all-clause-looked c).After-load_unit_tail-found)
 
 pub returns-else-at-all-clause-remembers : goal.returns-else-at-all-clause-remembers
-returns-else-at-all-clause-remembers c = let at = goal.at.returns-else-at-all-clause-remembers c in let h = seen_by c.load_unit_tail-found.new.seat in let xs = c.args.units.now.committed in let p : ℕ = c.args.part in let n : ℕ = c.earlier-at.result in let long = c.if-found-at.false in let up = near at.After-load_unit_tail-found in
-    let inside : p < length xs = search rules in λ d w its low. dite (ℕ_discrete d p)
-    (λ same. let k = c.args.self.now.places.limits in let is = lim at.After-load_unit_tail-found ∙ c.args.self.now.same in
-    let less : w < p * k.units + (n + 1) = subst (λ z. w < p * k.units + z) (get_or-set_same xs p (n + 1) 0 inside) (subst (λ (z : ℕ × Limits). w < z.0 * z.1.units + slice_index (slice_set xs p (n + 1)) z.0) (λ j. (same j, is j)) low) in
-    let own_w : IsUnitOf (view_of c.load_unit_tail-found.new.seat).limits p w = subst (λ z. IsUnitOf (view_of c.load_unit_tail-found.new.seat).limits z w) same its in
-    dite (ℕ_discrete w (unit at.After-load_unit_tail-found)) (λ one. subst (IsCommitted h) (sym one) (now at.In-Committed at.After-load_unit_tail-found))
-    (λ ne. before at.After-load_unit_tail-found (omega arith) w (subst (λ (z : Limits). IsUnitOf z p w) (lim at.After-load_unit_tail-found) own_w) (omega arith)))
-    (λ other. kept at.After-load_unit_tail-found d w its (subst (λ z. w < d * (view_of c.load_unit_tail-found.new.seat).limits.units + z) (get_or-set_other xs p d (n + 1) 0 other) low))
+returns-else-at-all-clause-remembers c = let at = goal.at.returns-else-at-all-clause-remembers c in let found = at.After-load_unit_tail-found in let n : ℕ = c.earlier-at.result in let long = c.if-found-at.false in let up = near found in
+    stored found (n + 1) (λ w its less. dite (ℕ_discrete w (unit found))
+    (λ one. subst (IsCommitted (seen_by c.load_unit_tail-found.new.seat)) (sym one) (now at.In-Committed found))
+    (λ ne. before found (omega arith) w its (omega arith)))
