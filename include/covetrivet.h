@@ -38,9 +38,9 @@
 
 #define COVETRIVET_VERSION_MAJOR 0
 #define COVETRIVET_VERSION_MINOR 22
-#define COVETRIVET_VERSION_PATCH 0
+#define COVETRIVET_VERSION_PATCH 1
 /* 1000 times the major, plus the minor, then 1000 times that, plus the patch. */
-#define COVETRIVET_VERSION 22000
+#define COVETRIVET_VERSION 22001
 
 #ifdef __cplusplus
 extern "C" {

@@ -10,9 +10,9 @@ use std::mem::size_of;
 /// The version: 1,000 times the major, plus the minor, then 1,000 times that, plus the patch.
 #[unsafe(no_mangle)]
 pub extern "C" fn covetrivet_version() -> u32
-    ensures { result ≡ 22000 }
+    ensures { result ≡ 22001 }
 {
-    22_000
+    22_001
 }
 
 /// How many bytes a type that crosses takes, by its place in this list, and 0 behind it.

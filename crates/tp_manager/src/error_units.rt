@@ -28,6 +28,18 @@ pub(crate) struct UnitsSeen {
     pub aborted: bool,
 }
 
+/// How far behind the first unknown unit of a part with `all` units the last one was that was found committed,
+/// where so many were known `before` and so many are `now`. Of all but the last one it counts that one too.
+#[inline(always)]
+fn ran(before: u16, now: u16, all: u16) -> u16 {
+    let newly = now.saturating_sub(before);
+    if now.saturating_add(1) < all {
+        newly.saturating_sub(1)
+    } else {
+        newly
+    }
+}
+
 /// The earlier of two units.
 #[inline(always)]
 fn earlier(a: u16, b: u16) -> u16
@@ -155,6 +167,7 @@ impl Shared {
             return false;
         }
         let rows = self.places.limits.rows;
+        let all = self.places.limits.units;
         let mut ahead = 0;
         for part in 0..self.places.limits.parts {
             if self.shows_none_aborted(seat, units, part, 0) {
@@ -165,9 +178,7 @@ impl Shared {
             if !self.none_aborted(seat, units, part, left, ahead) {
                 return false;
             }
-            ahead = units.committed[part as usize]
-                .saturating_sub(before)
-                .saturating_sub(1);
+            ahead = ran(before, units.committed[part as usize], all);
         }
         true
     }
