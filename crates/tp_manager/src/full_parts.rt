@@ -1,5 +1,5 @@
 //! Parts whose rows are all of other stages: the last head of each tells it.
-ghost use Rattle.std.specs.Prelude.{◌≡◌, ◌⊎◌, ℕ, ◌+◌, ◌-◌, ◌*◌, ◌<◌, ◌≤◌, slice_index};
+ghost use Rattle.std.specs.Prelude.{◌≡◌, ◌⊎◌, ℕ, ◌+◌, ◌-◌, ◌*◌, ◌<◌, ◌≤◌, slice_index, true};
 ghost use Rattle.tp_model.specs.Steps.{IsServerStage};
 ghost use Rattle.tp_rule.specs.Views.{view_of, IsSameSeat};
 ghost use Rattle.tp_rule.specs.Tables.{table_limits};
@@ -79,10 +79,19 @@ impl Shared {
     }
 
     /// The first part from `from` on that isn't full of elements of other stages, or that the pass knows
-    /// finished, or else the number of parts. The marks of those before it are raised to their ends. All
-    /// looks at heads come before all raises, since a processor makes no look beside an exchange.
+    /// finished, or else the number of parts; and `from` where that was `tried` before. The marks of those
+    /// before it are raised to their ends. All looks at heads come before all raises, since a processor makes
+    /// no look beside an exchange.
+    #[cold]
     #[inline(never)]
-    fn past_full(&self, seat: &mut Seat, lows: &mut Lows, from: u16, stage: u8) -> u16
+    fn past_full(
+        &self,
+        seat: &mut Seat,
+        lows: &mut Lows,
+        from: u16,
+        stage: u8,
+        tried: &mut bool,
+    ) -> u16
         requires steady { IsSteady self.now.words seat.old }
         requires remembers { Remembers stage (view_of seat.old) lows.old }
         requires from { from ≤ (table_limits self.now.words).parts }
@@ -97,12 +106,17 @@ impl Shared {
         ensures rises { NoneFalls lows.old lows.new }
         ensures rests { (q : ℕ) → from ≤ q → q < result → let l = table_limits self.now.words in
             RestsAt l stage q (slice_index lows.new q) (view_of seat.old) (view_of seat.new) }
-        ensures few { let l = table_limits self.now.words in
-            Looked l (3 * (result - from) + 1) (view_of seat.old) (view_of seat.new) }
+        ensures once { tried.new ≡ true }
+        ensures few { let n = 3 * (result - from) + (looks_if tried.new - looks_if tried.old) in
+            Looked (table_limits self.now.words) n (view_of seat.old) (view_of seat.new) }
         ensures told { let l = table_limits self.now.words in
-            Begun l (OfPart l (PassedBy l stage)) (3 * (result - from) + 1) from result
-            (view_of seat.old) (view_of seat.new) }
+            let n = 3 * (result - from) + (looks_if tried.new - looks_if tried.old) in
+            Begun l (OfPart l (PassedBy l stage)) n from result (view_of seat.old) (view_of seat.new) }
     {
+        if *tried {
+            return from;
+        }
+        *tried = true;
         let end = self.past_aside(seat, lows, from, stage);
         self.finish_parts(seat, lows, from, end, stage);
         end
@@ -141,10 +155,10 @@ impl Shared {
             let n = 3 * (result - from.part) + (looks_if tried.new - looks_if tried.old) in
             Begun l (OfPart l (PassedBy l stage)) n from.part result (view_of seat.old) (view_of seat.new) }
     {
-        if !from.aside || *tried {
-            return from.part;
+        if from.aside {
+            self.past_full(seat, lows, from.part, stage, tried)
+        } else {
+            from.part
         }
-        *tried = true;
-        self.past_full(seat, lows, from.part, stage)
     }
 }

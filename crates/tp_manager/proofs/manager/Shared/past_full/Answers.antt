@@ -1,9 +1,10 @@
-use Rattle.std.proofs.Common.{⊎_elim, inl, inr, ap, ◌∙◌, rules, arith}
+use Rattle.std.proofs.Common.{◌≡◌, ⊎_elim, inl, inr, ap, ◌∙◌, rules, arith}
 use Rattle.tp_model.specs.declared.types.Limits.{Limits}
 use Rattle.tp_rule.specs.Views.{SeatShown, view_of}
 use Rattle.tp_rule.specs.Tables.{table_limits}
 use Rattle.tp_manager.proofs.Calls.CallSteps.{acted_few, acted_then, looked_few, looked_then, remembers_kind}
 use Rattle.tp_manager.proofs.Claims.Behind.{finished_sought}
+use Rattle.tp_manager.specs.Bounds.{looks_if}
 use Rattle.tp_manager.proofs.manager.Shared.past_full.Goals as goal
 
 pub finish_parts-requires-clause-steady : goal.finish_parts-requires-clause-steady
@@ -19,10 +20,10 @@ pub returns-clause-rests : goal.returns-clause-rests
 returns-clause-rests c = λ q low high. inl (c.finish_parts.ensures.finished q low high)
 
 pub returns-clause-few : goal.returns-clause-few
-returns-clause-few c = let l : Limits = table_limits c.args.self.now.words in let up = c.past_aside-end.ensures.part.0 in looked_few l _ _ _ _ (omega arith) (looked_then l _ _ _ _ _ c.past_aside-end.ensures.few c.finish_parts.ensures.few)
+returns-clause-few c = let l : Limits = table_limits c.args.self.now.words in let first : looks_if c.args.tried.now ≡ 0 = ap looks_if c.if-tried.false in let up = c.past_aside-end.ensures.part.0 in looked_few l _ _ _ _ (omega arith) (looked_then l _ _ _ _ _ c.past_aside-end.ensures.few c.finish_parts.ensures.few)
 
 pub returns-clause-told : goal.returns-clause-told
-returns-clause-told c = let l : Limits = table_limits c.args.self.now.words in let up = c.past_aside-end.ensures.part.0 in ⊎_elim
+returns-clause-told c = let l : Limits = table_limits c.args.self.now.words in let first : looks_if c.args.tried.now ≡ 0 = ap looks_if c.if-tried.false in let up = c.past_aside-end.ensures.part.0 in ⊎_elim
     (λ t. inl (t.0, ap (λ (z : SeatShown). view_of z) (c.finish_parts.ensures.none t.0 ∙ t.1)))
     (λ a. inr (finished_sought l c.args.stage _ c.args.from c.past_aside-end.result c.finish_parts.new.lows _ _ c.requires.stage.0 c.args.self.now.words.places.valid.rows.0 c.finish_parts.ensures.remembers c.finish_parts.ensures.finished
     (acted_few l _ _ _ _ (omega arith) (acted_then l _ _ _ _ _ a c.finish_parts.ensures.few)))) c.past_aside-end.ensures.acted
