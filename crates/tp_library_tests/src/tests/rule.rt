@@ -1,5 +1,6 @@
 //! Seats that step in turn.
 ghost use Rattle.std.specs.Prelude.{◌≡◌, ◌+◌, ◌-◌, ◌*◌, ◌<◌, ◌≤◌, [], length, true, IfSome, Some, None};
+ghost use mathlib.Core.List.{IsPrefix};
 ghost use Rattle.tp_model.specs.declared.trace.StepKind.TheVariants as kinds;
 ghost use Rattle.tp_model.specs.declared.types.Element.{Element};
 ghost use Rattle.tp_model.specs.History.{Aborted, element_of, end_of, first_id};
@@ -80,28 +81,29 @@ fn submit(words: &Words, seat: &mut Seat, row: u32, body: Body, tail: u16)
     words.publish(seat, row, 1, tail);
 }
 
-/// Whether the row has a client's element of stage 1 with root 0.
-fn shows_request(words: &Words, seat: &mut Seat, row: u32) -> bool
+/// Whether the row has a client's element of stage 1 with this root.
+fn shows_request(words: &Words, seat: &mut Seat, row: u32, root: u16) -> bool
     requires own { IsSeatOf words.now seat.old }
     requires one { IsPassOf words.now seat.old }
     requires row { row < rows_of (table_limits words.now) }
     ensures same { IsSameSeat seat.old seat.new }
     ensures one { IsPassOf words.now seat.new }
     ensures looked { hand_of seat.new ≡ noted kinds.Load (seen_by seat.new) (hand_of seat.old) }
+    ensures later { IsPrefix (seen_by seat.old) (seen_by seat.new) }
     ensures there { result ≡ true
         → (x : Element) × (element_of (seen_by seat.new) row ≡ Some x)
-        × IsServerStage x.stage × (x.root ≡ 0) }
+        × IsServerStage x.stage × (x.root ≡ root) }
 {
     let head = words.load_head(seat, row);
     head == Head::Filled {
         stage: 1,
-        root: 0,
+        root,
         by: None,
     }
 }
 
-/// Claims the element of the row with the pass's next unit, where it was never taken.
-fn claim(words: &Words, seat: &mut Seat, row: u32, unit: u16) -> bool
+/// Claims the element of the row, which has this root, with the pass's next unit, where it was never taken.
+fn claim(words: &Words, seat: &mut Seat, row: u32, root: u16, unit: u16) -> bool
     requires own { IsSeatOf words.now seat.old }
     requires one { IsPassOf words.now seat.old }
     requires row { row < rows_of (table_limits words.now) }
@@ -115,10 +117,12 @@ fn claim(words: &Words, seat: &mut Seat, row: u32, unit: u16) -> bool
     ensures body { (hand_of seat.new).next_body ≡ (hand_of seat.old).next_body }
     ensures passed { (hand_of seat.new).passed_to ≡ (hand_of seat.old).passed_to }
     ensures won { result ≡ true → (hand_of seat.new).open_unit ≡ Some unit }
-    ensures work { result ≡ true → (work : IsOwnWork (view_of seat.new) unit) × (work.item.root ≡ 0) }
+    ensures work { result ≡ true → (work : IsOwnWork (view_of seat.new) unit) × (work.item.root ≡ root) }
+    ensures claimed { result ≡ true → (hand_of seat.new).claimed ≡ (hand_of seat.old).claimed + 1 }
+    ensures later { IsPrefix (seen_by seat.old) (seen_by seat.new) }
 {
     words.choose_unit(seat, unit);
-    if !shows_request(words, seat, row) {
+    if !shows_request(words, seat, row, root) {
         return false;
     }
     match words.claim_exchange(seat, row, FoundClaim::of(Claim::Free), 1, unit) {
@@ -156,7 +160,7 @@ fn output_born_at_exchange(rt: HostRuntime) {
     let mut server = pass(&words, &mut keeper, 0);
     let mut reader = pass(&words, &mut keeper, 1);
     submit(&words, &mut server, 0, [0, 9, 8, 7], 0);
-    if !claim(&words, &mut server, 0, 0) {
+    if !claim(&words, &mut server, 0, 0, 0) {
         assert!(rt; false);
         return;
     }
@@ -204,6 +208,33 @@ fn head_tells_its_tail(rt: HostRuntime) {
     assert!(rt; words.load_tail(&mut reader, 0).tail == 0);
 }
 
+#[test]
+fn unit_tells_its_tail(rt: HostRuntime) {
+    let (words, mut keeper) = small(&rt);
+    let mut server = pass(&words, &mut keeper, 0);
+    let mut reader = pass(&words, &mut keeper, 1);
+    submit(&words, &mut server, 0, [0, 9, 8, 7], 0);
+    submit(&words, &mut server, 1, [0, 9, 8, 7], 1);
+    if !claim(&words, &mut server, 0, 0, 0) {
+        assert!(rt; false);
+        return;
+    }
+    if !words.commit_exchange(&mut server, 0, 0, 0, 0) {
+        assert!(rt; false);
+        return;
+    }
+    if !claim(&words, &mut server, 1, 1, 1) {
+        assert!(rt; false);
+        return;
+    }
+    assert!(rt; words.commit_exchange(&mut server, 1, 0, 0, 1));
+
+    let found = words.load_unit_tail(&mut reader, 1);
+    assert!(rt; found.tail == 1);
+    assert!(rt; found.tells == UnitWord::Committed { first: 0, count: 0 });
+    assert!(rt; words.load_unit_tail(&mut reader, 0).tail == 0);
+}
+
 /// Whether the row has a client's element of stage 1, and the unit was aborted.
 fn shows_aborted(words: &Words, seat: &mut Seat, row: u32, unit: u16) -> bool
     requires own { IsSeatOf words.now seat.old }
@@ -216,7 +247,7 @@ fn shows_aborted(words: &Words, seat: &mut Seat, row: u32, unit: u16) -> bool
     ensures work { result ≡ true → HasWork (seen_by seat.new) row }
     ensures aborted { result ≡ true → end_of (seen_by seat.new) unit ≡ Some Aborted }
 {
-    if !shows_request(words, seat, row) {
+    if !shows_request(words, seat, row, 0) {
         return false;
     }
     words.load_unit(seat, unit) == UnitWord::Aborted
@@ -307,7 +338,7 @@ fn stale_kill_exchange(rt: HostRuntime) {
     let mut first = pass(&words, &mut keeper, 1);
     let mut second = pass(&words, &mut keeper, 2);
     submit(&words, &mut killer, 0, [0, 9, 8, 7], 0);
-    assert!(rt; claim(&words, &mut first, 0, 2));
+    assert!(rt; claim(&words, &mut first, 0, 0, 2));
     assert!(rt; abort_holder(&words, &mut killer, 0, 2));
     assert!(rt; claim_again(&words, &mut second, 0, 2, 4));
     let second_claim = Claim::Taken {
