@@ -1,6 +1,7 @@
 //! The shared words: their making, and how seats are cut in two and joined.
-ghost use Rattle.std.specs.Prelude.{◌≡◌, IfOk};
+ghost use Rattle.std.specs.Prelude.{◌≡◌, IfOk, replicate};
 ghost use Rattle.tp_rule.specs.Places.{size_of};
+ghost use Rattle.tp_rule.specs.declared.words.TheConstants.{MOST_WORDS};
 ghost use Rattle.tp_rule.specs.Views.{first_view, no_seat, view_of, HasPass, IsSameSeat};
 ghost use Rattle.tp_rule.specs.Doors.{id_of, key_of};
 ghost use Rattle.tp_rule.specs.Steps.{handed_on, handed_out, kept, parted, joined, SeatsMeet};
@@ -9,6 +10,21 @@ use crate::places::Places;
 use crate::plays::{HandOut, Part, Together};
 use crate::seat::{Seat, SharedTable};
 use std::alloc::{AllocError, Global};
+
+/// How many words a table has at most: those of 10,240 rows and 32,768 units, the marks, and one more.
+const MOST_WORDS: usize = 94_849;
+
+/// So many words, all 0: a table begins as a copy of the first of them. LLVM clears the table instead, and
+/// leaves them out of the program.
+const NO_WORDS: [u64; MOST_WORDS] = [0; MOST_WORDS];
+
+/// Those words.
+#[inline(always)]
+fn no_words() -> &'static [u64]
+    ensures { result.now ≡ replicate MOST_WORDS 0 }
+{
+    &NO_WORDS
+}
 
 /// The words that all passes share. Every step is a method that takes `&self` and the seat that makes it, so
 /// the words can lie behind a shared reference while many threads step.
@@ -34,8 +50,7 @@ impl Words {
         ensures view { IfOk result (λ made. view_of made.1 ≡ first_view places.limits) }
     {
         let limits = places.limits;
-        let words = vec![in alloc; 0u64; places.size()]?;
-        let (table, seat) = SharedTable::new(alloc, words.as_slice(), &limits)?;
+        let (table, seat) = SharedTable::new(alloc, &no_words()[..places.size()], &limits)?;
         Ok((Words { table, places }, seat))
     }
 
