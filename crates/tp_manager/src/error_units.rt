@@ -89,6 +89,7 @@ impl Shared {
                     return false;
                 }
                 if at + 1 == all {
+                    // So many are known already where the look is at the first unknown one.
                     if at != count {
                         units.committed[part as usize] = at;
                     }

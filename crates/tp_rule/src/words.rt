@@ -6,13 +6,21 @@ ghost use Rattle.tp_rule.specs.Views.{first_view, no_seat, view_of, HasPass, IsS
 ghost use Rattle.tp_rule.specs.Doors.{id_of, key_of};
 ghost use Rattle.tp_rule.specs.Steps.{handed_on, handed_out, kept, parted, joined, SeatsMeet};
 
-use crate::places::Places;
+use crate::places::{MARK_KINDS, MARK_LINE, Places, ROW_WORDS};
 use crate::plays::{HandOut, Part, Together};
 use crate::seat::{Seat, SharedTable};
 use std::alloc::{AllocError, Global};
+use tp_model::types::{BLOCK_ROWS, MAX_BLOCKS, MAX_PART_ROWS, MAX_PASSES, MAX_UNITS};
 
-/// How many words a table has at most: those of 10,240 rows and 32,768 units, the marks, and one more.
-const MOST_WORDS: usize = 94_849;
+/// How many rows a table has at most: 10,240.
+const MOST_ROWS: usize = MAX_PASSES as usize * MAX_PART_ROWS as usize
+    + BLOCK_ROWS as usize * MAX_BLOCKS as usize;
+
+/// How many words it has at most: those of its rows and units, the marks, and the counter of drawn blocks.
+const MOST_WORDS: usize = ROW_WORDS * MOST_ROWS
+    + MAX_PASSES as usize * MAX_UNITS as usize
+    + MARK_LINE * MARK_KINDS
+    + 1;
 
 /// So many words, all 0: a table begins as a copy of the first of them. LLVM clears the table instead, and
 /// leaves them out of the program.

@@ -5,7 +5,7 @@ use Rattle.std.proofs.lemmas.List.Sums.{fold-append, sum_by-append, sum_by-cons}
 use Rattle.std.specs.List.{fold}
 use mathlib.Core.List.{IsPrefix}
 use mathlib.Core.Logic.{dite}
-use native.Mathlib.Decide.{dec_le, ℕ_discrete}
+use native.Mathlib.Decide.{dec_le}
 use Rattle.tp_model.specs.declared.types.Element.{Element}
 use Rattle.tp_model.specs.declared.types.Limits.{Limits}
 use Rattle.tp_model.specs.declared.event.Event.{Event}
@@ -17,7 +17,7 @@ use Rattle.tp_model.specs.Steps.{part_rows, rows_of}
 use Rattle.tp_model.proofs.Later.{births_inside}
 use Rattle.tp_model.specs.Words.{AgainWord, ClaimWord, FreeWord, TakenWord, claim_word, claim_word_after, kill_word, round_in}
 use Rattle.tp_model.proofs.Bridges.{begins_refl, begins_trans, found_later}
-use Rattle.tp_model.proofs.Lists.{if_other, if_same}
+use Rattle.tp_model.proofs.Lists.{if_same}
 use Rattle.tp_rule.specs.declared.packing.Head.{Head}
 use Rattle.tp_rule.specs.declared.packing.Head.TheVariants.{Empty}
 use Rattle.tp_rule.specs.Words.{head_of}
@@ -163,11 +163,6 @@ pub sum_least : (f : ℕ → ℕ) → ((i : ℕ) → 1 ≤ f i) → (i n : ℕ) 
 sum_least f some i zero = omega arith
 sum_least f some i (suc n) = let rest = sum_least f some i n in let one = some (i + n) in omega arith
 
--- and so a claim has a step for each
-some_steps : (stage : ℕ) (same : Bool) (o : Option Element) → 1 ≤ try_steps_of stage same o
-some_steps stage same None = omega arith
-some_steps stage same (Some x) = dite (ℕ_discrete x.stage stage) (λ e. let is = if_same x.stage stage (own_steps same) 1 e in omega arith) (λ ne. let is = if_other x.stage stage (own_steps same) 1 ne in omega arith)
-
 -- rows before an end
 
 pub until_is : (end : ℕ) (f : ℕ → ℕ) (i : ℕ) → i < end → f i ≤ until end f i
@@ -293,7 +288,7 @@ module _ (l : Limits) where
     -- no more steps than there are rows
     pub lean_rows : (k i m : ℕ) (ms : List TraceEntry) (v w : View) → k ≤ m → Stepped l k ms v w → IsLeanAt l stage 0 i m v w
     lean_rows k i m ms v w le a = lean_few (λ p h. k) _ v w
-        (λ p h. let all = sum_least (try_steps_at stage p h) (λ j. some_steps stage (claim_changes p j == claim_changes h j) (element_of h j)) i m in omega arith) (lean_made k ms v w a)
+        (λ p h. let all = sum_least (try_steps_at stage p h) (λ j. steps_some stage (claim_changes p j == claim_changes h j) (element_of h j)) i m in omega arith) (lean_made k ms v w a)
 
     -- at no row, whichever that would be
     pub lean_zero : (k i j m : ℕ) (v w : View) → m ≡ 0 → IsLeanAt l stage k i m v w → IsLeanAt l stage k j 0 v w
