@@ -8,6 +8,7 @@ pub mod CallSteps
 pub mod BetweenCalls
 pub mod Marks
 pub mod Scans
+pub mod PastParts
 pub mod Leans
 pub mod Drafts
 pub mod Looks

@@ -6,8 +6,8 @@ ghost use Rattle.tp_rule.specs.Tables.{table_limits};
 ghost use Rattle.tp_manager.specs.Shown.{NoneFalls};
 ghost use Rattle.tp_manager.specs.Bounds.{looks_if};
 ghost use Rattle.tp_manager.specs.CallSteps.{Acted, IsSteady, Looked};
-ghost use Rattle.tp_manager.specs.Marks.{Remembers, RestsAt, Rose};
-ghost use Rattle.tp_manager.specs.Scans.{Begun, OfPart, PassedBy};
+ghost use Rattle.tp_manager.specs.Marks.{Remembers, Rose};
+ghost use Rattle.tp_manager.specs.PastParts.{GoesBy};
 
 use crate::manager::Shared;
 use crate::marking::Lows;
@@ -98,20 +98,10 @@ impl Shared {
         requires stage { IsServerStage stage }
         ensures same { IsSameSeat seat.old seat.new }
         ensures remembers { Remembers stage (view_of seat.new) lows.new }
-        ensures part { (from ≤ result) × (result ≤ (table_limits self.now.words).parts) }
-        ensures left { (q : ℕ) → from ≤ q → q < result
-            → ¬ (slice_index lows.old q ≡ (table_limits self.now.words).rows) }
-        ensures others { (q : ℕ) → (q < from) ⊎ (result ≤ q)
-            → slice_index lows.new q ≡ slice_index lows.old q }
-        ensures rises { NoneFalls lows.old lows.new }
-        ensures rests { (q : ℕ) → from ≤ q → q < result → let l = table_limits self.now.words in
-            RestsAt l stage q (slice_index lows.new q) (view_of seat.old) (view_of seat.new) }
         ensures once { tried.new ≡ true }
-        ensures few { let n = 3 * (result - from) + (looks_if tried.new - looks_if tried.old) in
-            Looked (table_limits self.now.words) n (view_of seat.old) (view_of seat.new) }
-        ensures told { let l = table_limits self.now.words in
-            let n = 3 * (result - from) + (looks_if tried.new - looks_if tried.old) in
-            Begun l (OfPart l (PassedBy l stage)) n from result (view_of seat.old) (view_of seat.new) }
+        ensures goes { let n = 3 * (result - from) + (looks_if tried.new - looks_if tried.old) in
+            GoesBy (table_limits self.now.words) stage from result n lows.old lows.new
+            (view_of seat.old) (view_of seat.new) }
     {
         if *tried {
             return from;
@@ -139,21 +129,11 @@ impl Shared {
         requires stage { IsServerStage stage }
         ensures same { IsSameSeat seat.old seat.new }
         ensures remembers { Remembers stage (view_of seat.new) lows.new }
-        ensures part { (from.part ≤ result) × (result ≤ (table_limits self.now.words).parts) }
-        ensures left { (q : ℕ) → from.part ≤ q → q < result
-            → ¬ (slice_index lows.old q ≡ (table_limits self.now.words).rows) }
-        ensures others { (q : ℕ) → (q < from.part) ⊎ (result ≤ q)
-            → slice_index lows.new q ≡ slice_index lows.old q }
-        ensures rises { NoneFalls lows.old lows.new }
-        ensures rests { (q : ℕ) → from.part ≤ q → q < result → let l = table_limits self.now.words in
-            RestsAt l stage q (slice_index lows.new q) (view_of seat.old) (view_of seat.new) }
         ensures once { (looks_if tried.old ≤ looks_if tried.new)
             × (looks_if tried.new ≤ looks_if tried.old + looks_if from.aside) }
-        ensures few { let n = 3 * (result - from.part) + (looks_if tried.new - looks_if tried.old) in
-            Looked (table_limits self.now.words) n (view_of seat.old) (view_of seat.new) }
-        ensures told { let l = table_limits self.now.words in
-            let n = 3 * (result - from.part) + (looks_if tried.new - looks_if tried.old) in
-            Begun l (OfPart l (PassedBy l stage)) n from.part result (view_of seat.old) (view_of seat.new) }
+        ensures goes { let n = 3 * (result - from.part) + (looks_if tried.new - looks_if tried.old) in
+            GoesBy (table_limits self.now.words) stage from.part result n lows.old lows.new
+            (view_of seat.old) (view_of seat.new) }
     {
         if from.aside {
             self.past_full(seat, lows, from.part, stage, tried)

@@ -11,13 +11,14 @@ use Rattle.tp_model.specs.Steps.{rows_of}
 use Rattle.tp_model.proofs.Bridges.{begins_refl, begins_trans}
 use Rattle.tp_rule.specs.declared.view.View.{View}
 use Rattle.tp_rule.specs.Views.{hand}
+use Rattle.tp_manager.specs.PastParts.{GoesBy}
 use Rattle.tp_manager.specs.CallSteps.{Acted, Looked, Steady, with_trace}
 use Rattle.tp_manager.specs.Marks.{AreOfStage, IsGap, Remembers, RemembersGaps, Rose, gap_in}
 use Rattle.tp_manager.proofs.Claims.Runs.{of_both, of_none}
 use Rattle.tp_manager.specs.Scans.{Begun, EachRow, NoneBehind, OfPart, PassedBy, Sought, Took}
 use Rattle.tp_manager.specs.Spares.{Passed}
 use Rattle.tp_manager.specs.declared.seeker.Taken.{Taken}
-use Rattle.tp_manager.proofs.Calls.CallSteps.{looked_begins, looked_few, looked_then, sought_by, sought_few, walked_then}
+use Rattle.tp_manager.proofs.Calls.CallSteps.{looked_begins, looked_few, looked_none, looked_then, sought_by, sought_few, walked_then}
 use Rattle.tp_manager.proofs.Calls.Points.{has_more, opening_kept}
 use Rattle.tp_manager.proofs.Claims.Circles.{sought_less}
 use Rattle.tp_manager.proofs.Claims.Spares.{sought_passed}
@@ -198,6 +199,18 @@ finished_sought l stage n first end lows v w server some remembers finished a = 
     let all = finished p low high in let under = low_remembered l stage w p lows a.walk.steady remembers (omega (arith, all, some)) in
     (λ i from below. passed_widens l stage i (opening_of v.seen a.marks) w.seen w.seen w.seen a.walk.closes (begins_refl w.seen)
     (over_passed l stage w.seen p (slice_index lows p) i server under.1 from (omega (arith, below, all)))))
+
+-- a claim that goes by none
+pub nothing_past : (l : Limits) (stage from n : ℕ) (lows : List ℕ) (v : View) → from ≤ l.parts → Steady l v → GoesBy l stage from from n lows lows v v
+nothing_past l stage from n lows v inside s = record {
+  part = (omega arith, inside);
+  left = λ q low high. absurd (omega arith);
+  others = λ q out. refl;
+  rises = λ p. omega arith;
+  rests = λ q low high. absurd (omega arith);
+  few = looked_few l 0 n v v (omega arith) (looked_none l v s);
+  told = inl (refl, refl);
+}
 
 -- a part that the pass knows finished is passed by without a look
 pub finished_on : (l : Limits) (stage n first part : ℕ) (lows : List ℕ) (v w : View) → 1 ≤ stage → 1 ≤ l.rows → Remembers stage w lows → slice_index lows part ≡ l.rows

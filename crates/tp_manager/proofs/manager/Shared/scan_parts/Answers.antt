@@ -60,14 +60,14 @@ made c = looks_if c.past_full_once-end.new.tried - looks_if c.loop-part.tried
 
 further : (c : After-past_full_once-end) (k : ℕ) → Looked (table_limits c.args.self.now.words) k (view_of c.loop-part.seat) (view_of c.past_bare-next.new.seat)
     → Looked (table_limits c.args.self.now.words) (k + (3 * (c.past_full_once-end.result - c.past_bare-next.result.part) + made c)) (view_of c.loop-part.seat) (view_of c.past_full_once-end.new.seat)
-further c k a = looked_then (table_limits c.args.self.now.words) k _ _ _ _ a c.past_full_once-end.ensures.few
+further c k a = looked_then (table_limits c.args.self.now.words) k _ _ _ _ a c.past_full_once-end.ensures.goes.few
 
 -- the parts up to the one at which the scan goes on
 begun_more : (c : After-past_full_once-end) → Begun (table_limits c.args.self.now.words) (OfPart (table_limits c.args.self.now.words) (PassedBy (table_limits c.args.self.now.words) c.args.who.stage)) (scan_steps (table_limits c.args.self.now.words) try_steps 3 c.args.lows.now c.loop-part.part + (c.past_bare-next.result.part - c.loop-part.part + 1)) c.first_open-begin.result c.past_bare-next.result.part (view_of c.args.seat.now) (view_of c.past_bare-next.new.seat)
     → let l : Limits = table_limits c.args.self.now.words in Begun l (OfPart l (PassedBy l c.args.who.stage))
     (scan_steps l try_steps 3 c.args.lows.now c.loop-part.part + (c.past_bare-next.result.part - c.loop-part.part + 1) + (3 * (c.past_full_once-end.result - c.past_bare-next.result.part) + made c)) c.first_open-begin.result c.past_full_once-end.result (view_of c.args.seat.now) (view_of c.past_full_once-end.new.seat)
 begun_more c bare = let l : Limits = table_limits c.args.self.now.words in let P = PassedBy l c.args.who.stage in let from = c.loop-part.invariant.from in let up = c.past_bare-next.ensures.part.0 in
-    begun_both l (OfPart l P) (part_widens l P (passed_widens l c.args.who.stage)) _ _ c.first_open-begin.result c.past_bare-next.result.part c.past_full_once-end.result _ _ _ (omega arith) bare c.past_full_once-end.ensures.told
+    begun_both l (OfPart l P) (part_widens l P (passed_widens l c.args.who.stage)) _ _ c.first_open-begin.result c.past_bare-next.result.part c.past_full_once-end.result _ _ _ (omega arith) bare c.past_full_once-end.ensures.goes.told
 
 begun_here : (c : After-past_full_once-end) → Begun (table_limits c.args.self.now.words) (OfPart (table_limits c.args.self.now.words) (PassedBy (table_limits c.args.self.now.words) c.args.who.stage)) (scan_steps (table_limits c.args.self.now.words) try_steps 3 c.args.lows.now c.loop-part.part + (c.past_bare-next.result.part - c.loop-part.part + 1)) c.first_open-begin.result c.past_bare-next.result.part (view_of c.args.seat.now) (view_of c.past_bare-next.new.seat) → c.past_full_once-end.result ≡ c.past_bare-next.result.part
     → let l : Limits = table_limits c.args.self.now.words in Begun l (OfPart l (PassedBy l c.args.who.stage))
@@ -79,16 +79,16 @@ rests_more : (c : After-past_full_once-end) → Begun (table_limits c.args.self.
     → ((q : ℕ) → c.first_open-begin.result ≤ q → q < c.past_bare-next.result.part → RestsAt (table_limits c.args.self.now.words) c.args.who.stage q (slice_index c.loop-part.lows q) (view_of c.args.seat.now) (view_of c.past_bare-next.new.seat))
     → (q : ℕ) → c.first_open-begin.result ≤ q → q < c.past_full_once-end.result → RestsAt (table_limits c.args.self.now.words) c.args.who.stage q (slice_index c.past_full_once-end.new.lows q) (view_of c.args.seat.now) (view_of c.past_full_once-end.new.seat)
 rests_more c bare old = let l : Limits = table_limits c.args.self.now.words in let r = c.past_bare-next.result.part in
-    parts_both l c.args.who.stage c.first_open-begin.result r c.past_full_once-end.result _ _ (OfPart l (PassedBy l c.args.who.stage)) _ c.past_full_once-end.new.lows _ _ _ bare c.past_full_once-end.ensures.few.walk
-    (λ q low high. subst (λ z. RestsAt l c.args.who.stage q z (view_of c.args.seat.now) (view_of c.past_bare-next.new.seat)) (sym (c.past_full_once-end.ensures.others q (inl high))) (old q low high)) c.past_full_once-end.ensures.rests
+    parts_both l c.args.who.stage c.first_open-begin.result r c.past_full_once-end.result _ _ (OfPart l (PassedBy l c.args.who.stage)) _ c.past_full_once-end.new.lows _ _ _ bare c.past_full_once-end.ensures.goes.few.walk
+    (λ q low high. subst (λ z. RestsAt l c.args.who.stage q z (view_of c.args.seat.now) (view_of c.past_bare-next.new.seat)) (sym (c.past_full_once-end.ensures.goes.others q (inl high))) (old q low high)) c.past_full_once-end.ensures.goes.rests
 
 -- no mark from that part on is remembered anew
 rest_more : (c : After-past_full_once-end) (q : ℕ) → c.past_full_once-end.result ≤ q → slice_index c.past_full_once-end.new.lows q ≡ slice_index c.args.lows.now q
-rest_more c q low = let a = c.past_bare-next.ensures.part.0 in let b = c.past_full_once-end.ensures.part.0 in c.past_full_once-end.ensures.others q (inr low) ∙ c.loop-part.invariant.rest q (omega arith)
+rest_more c q low = let a = c.past_bare-next.ensures.part.0 in let b = c.past_full_once-end.ensures.goes.part.0 in c.past_full_once-end.ensures.goes.others q (inr low) ∙ c.loop-part.invariant.rest q (omega arith)
 
 -- and those before the first that was looked at are finished still
 done_more : (c : After-past_full_once-end) (q : ℕ) → q < c.first_open-begin.result → slice_index c.past_full_once-end.new.lows q ≡ (table_limits c.args.self.now.words).rows
-done_more c q less = let a = c.past_bare-next.ensures.part.0 in let from = c.loop-part.invariant.from in c.past_full_once-end.ensures.others q (inl (omega arith)) ∙ c.loop-part.invariant.done q less
+done_more c q less = let a = c.past_bare-next.ensures.part.0 in let from = c.loop-part.invariant.from in c.past_full_once-end.ensures.goes.others q (inl (omega arith)) ∙ c.loop-part.invariant.done q less
 
 pub loop-part-init : goal.loop-part-init
 loop-part-init c = record {
@@ -189,15 +189,15 @@ past_full_once-end-requires-clause-remembers c = remembers_kind c.args.who.stage
 pub loop-part-preserved-then-end-part : goal.loop-part-preserved-then-end-part
 loop-part-preserved-then-end-part c = let l : Limits = table_limits c.args.self.now.words in let P = PassedBy l c.args.who.stage in let at = goal.at.loop-part-preserved-then-end-part c in let bare = at.After-past_bare-next in let once = at.After-past_full_once-end in
     let n = c.loop-part.part in let r = c.past_bare-next.result.part in let e = c.past_full_once-end.result in let s = try_steps in let i = c.loop-part.invariant in let lows = c.args.lows.now in let count : l.parts ≡ c.args.self.now.places.limits.parts = ap (λ (z : Limits). z.parts) c.args.self.now.same in
-    let up = c.past_bare-next.ensures.part.0 in let on = c.past_full_once-end.ensures.part.0 in let high = c.past_full_once-end.ensures.part.1 in let from = i.from in let further_on : r < e = (let other = c.if-end-part.true in omega arith) in
-    let has_rows : slice_index lows r ≢ l.rows = (λ same. c.past_full_once-end.ensures.left r (omega arith) further_on (i.rest r up ∙ same)) in
+    let up = c.past_bare-next.ensures.part.0 in let on = c.past_full_once-end.ensures.goes.part.0 in let high = c.past_full_once-end.ensures.goes.part.1 in let from = i.from in let further_on : r < e = (let other = c.if-end-part.true in omega arith) in
+    let has_rows : slice_index lows r ≢ l.rows = (λ same. c.past_full_once-end.ensures.goes.left r (omega arith) further_on (i.rest r up ∙ same)) in
     let st = c.requires.steady.steady in let inside = lows_inside l lows c.args.who.stage (view_of c.args.seat.now) st.pass.1 st.known c.requires.remembers r (omega arith) in
     let some = at_least (l.rows - slice_index lows r) (omega arith) in let first = left bare in let once_more = c.past_full_once-end.ensures.once.0 in
-    let rest = parts_all l lows r e on (λ q low less same. c.past_full_once-end.ensures.left q low less (i.rest q (omega arith) ∙ same)) in record {
+    let rest = parts_all l lows r e on (λ q low less same. c.past_full_once-end.ensures.goes.left q low less (i.rest q (omega arith) ∙ same)) in record {
       same = search rules;
       remembers = c.past_full_once-end.ensures.remembers;
       gaps = gaps_kind c.args.who.stage c.loop-part.gaps _ _ _ _ _ (further once _ (gone bare)).walk i.gaps;
-      rises = rises_then lows c.loop-part.lows c.past_full_once-end.new.lows i.rises c.past_full_once-end.ensures.rises;
+      rises = rises_then lows c.loop-part.lows c.past_full_once-end.new.lows i.rises c.past_full_once-end.ensures.goes.rises;
       from = omega arith;
       top = omega arith;
       rest = rest_more once;
@@ -215,13 +215,13 @@ scan_part-requires-clause-gaps c = let at = goal.at.scan_part-requires-clause-ga
 
 pub scan_part-requires-clause-aside : goal.scan_part-requires-clause-aside
 scan_part-requires-clause-aside c = λ yes. let at = goal.at.scan_part-requires-clause-aside c in let l : Limits = table_limits c.args.self.now.words in let r = c.past_bare-next.result.part in let a = c.past_bare-next.ensures.aside yes in let low = slice_index c.loop-part.lows r in
-    let same : low ≡ slice_index c.past_full_once-end.new.lows r = sym (c.past_full_once-end.ensures.others r (inr (let is = c.if-end-part.false in omega arith))) in
+    let same : low ≡ slice_index c.past_full_once-end.new.lows r = sym (c.past_full_once-end.ensures.goes.others r (inr (let is = c.if-end-part.false in omega arith))) in
     subst (λ n. (n < l.rows) × Rose c.args.who.stage (view_of c.past_full_once-end.new.seat) (r * l.rows + n) (r * l.rows + n + 1)) same
-    (a.0, rose_later l c.args.who.stage (view_of c.past_bare-next.new.seat) (view_of c.past_full_once-end.new.seat) _ _ (goes_walked l _ _ _ _ (gone at.After-past_bare-next).walk.steady.pass.1 c.past_full_once-end.ensures.few.walk) a.1)
+    (a.0, rose_later l c.args.who.stage (view_of c.past_bare-next.new.seat) (view_of c.past_full_once-end.new.seat) _ _ (goes_walked l _ _ _ _ (gone at.After-past_bare-next).walk.steady.pass.1 c.past_full_once-end.ensures.goes.few.walk) a.1)
 
 pub scan_part-requires-clause-done : goal.scan_part-requires-clause-done
 scan_part-requires-clause-done c = let at = goal.at.scan_part-requires-clause-done c in let l : Limits = table_limits c.args.self.now.words in
-    done_walked _ _ _ _ _ c.args.who.done c.requires.steady.steady.pass.1 (looked_then l _ _ _ _ _ (all at.After-past_bare-next) c.past_full_once-end.ensures.few).walk c.requires.done
+    done_walked _ _ _ _ _ c.args.who.done c.requires.steady.steady.pass.1 (looked_then l _ _ _ _ _ (all at.After-past_bare-next) c.past_full_once-end.ensures.goes.few).walk c.requires.done
 
 -- the part has rows left, or it is the last one
 enough : (c : After-scan_part) → c.past_full_once-end.result ≡ c.past_bare-next.result.part
@@ -252,7 +252,7 @@ lean : (c : After-scan_part) (e end : ℕ) → c.past_bare-next.result.part * (t
     → IsLeanIn (table_limits c.args.self.now.words) c.args.who.stage (3 * parts_left (table_limits c.args.self.now.words) c.args.lows.now (c.past_bare-next.result.part + 1) + 2 * (c.past_bare-next.result.part + 2 - (table_limits c.args.self.now.words).parts) + looks_if c.past_full_once-end.new.tried) c.args.lows.now (c.past_bare-next.result.part + 1) end (view_of c.args.seat.now) (view_of c.scan_part.new.seat)
 lean c e end behind before inside is several kept still own = let l : Limits = table_limits c.args.self.now.words in let n = c.loop-part.part in let r = c.past_bare-next.result.part in let i = c.loop-part.invariant in let lows = c.args.lows.now in let up = c.past_bare-next.ensures.part.0 in
     let t = enough c is several kept in let spent = looks_if c.past_full_once-end.new.tried - looks_if c.loop-part.tried in
-    let both : Looked l (t.0 + spent) (view_of c.loop-part.seat) (view_of c.past_full_once-end.new.seat) = looked_few l _ _ _ _ (omega arith) (looked_then l t.0 _ _ _ _ t.1 c.past_full_once-end.ensures.few) in
+    let both : Looked l (t.0 + spent) (view_of c.loop-part.seat) (view_of c.past_full_once-end.new.seat) = looked_few l _ _ _ _ (omega arith) (looked_then l t.0 _ _ _ _ t.1 c.past_full_once-end.ensures.goes.few) in
     lean_part l c.args.who.stage ((3 * parts_left l lows n + 2 * (n + 1 - l.parts) + looks_if c.loop-part.tried) + t.0 + spent) r 2 _ (slice_index c.past_full_once-end.new.lows r) (part_rows l) end e lows _ _ _ t.2 still behind before inside
     (lean_skip l c.args.who.stage (3 * parts_left l lows n + 2 * (n + 1 - l.parts) + looks_if c.loop-part.tried) n (t.0 + spent) ((3 * parts_left l lows n + 2 * (n + 1 - l.parts) + looks_if c.loop-part.tried) + t.0 + spent) r (part_rows l) lows _ _ _ _ (omega arith) up i.lean both.walk) own
 
@@ -264,7 +264,7 @@ returns-in-Some-clause-lean c = let l : Limits = table_limits c.args.self.now.wo
     (lean at.After-scan_part (id + 1) (id + 1) (omega arith) (omega arith) (omega arith) is (left bare) (c.loop-part.invariant.rest r c.past_bare-next.ensures.part.0) (rest_more at.After-past_full_once-end r (omega arith)) c.in-Some.ensures.lean)
 
 pub returns-in-Some-clause-lows : goal.returns-in-Some-clause-lows
-returns-in-Some-clause-lows c = rises_then c.args.lows.now c.loop-part.lows c.scan_part.new.lows c.loop-part.invariant.rises (rises_then c.loop-part.lows c.past_full_once-end.new.lows c.scan_part.new.lows c.past_full_once-end.ensures.rises c.scan_part.ensures.lows.0)
+returns-in-Some-clause-lows c = rises_then c.args.lows.now c.loop-part.lows c.scan_part.new.lows c.loop-part.invariant.rises (rises_then c.loop-part.lows c.past_full_once-end.new.lows c.scan_part.new.lows c.past_full_once-end.ensures.goes.rises c.scan_part.ensures.lows.0)
 
 pub returns-in-Some-clause-told : goal.returns-in-Some-clause-told
 returns-in-Some-clause-told c = let l : Limits = table_limits c.args.self.now.words in let s = try_steps in let P = PassedBy l c.args.who.stage in let at = (goal.at.returns-in-Some-clause-told c).After-past_full_once-end in let bare = (goal.at.returns-in-Some-clause-told c).After-past_bare-next in let n = c.loop-part.part in let r = c.past_bare-next.result.part in let i = c.loop-part.invariant in let lows = c.args.lows.now in
@@ -302,7 +302,7 @@ loop-part-preserved c = let l : Limits = table_limits c.args.self.now.words in l
       same = search rules;
       remembers = c.scan_part.ensures.remembers;
       gaps = c.scan_part.ensures.gaps;
-      rises = rises_then lows c.loop-part.lows c.scan_part.new.lows i.rises (rises_then c.loop-part.lows c.past_full_once-end.new.lows c.scan_part.new.lows c.past_full_once-end.ensures.rises c.scan_part.ensures.lows.0);
+      rises = rises_then lows c.loop-part.lows c.scan_part.new.lows i.rises (rises_then c.loop-part.lows c.past_full_once-end.new.lows c.scan_part.new.lows c.past_full_once-end.ensures.goes.rises c.scan_part.ensures.lows.0);
       from = omega arith;
       top = omega arith;
       rest = λ q low. c.scan_part.ensures.lows.1 q (λ same. absurd (omega arith)) ∙ rest_more once q (omega arith);
@@ -331,4 +331,4 @@ returns-clause-told c = let l : Limits = table_limits c.args.self.now.words in l
 pub returns-in-Some-clause-begins : goal.returns-in-Some-clause-begins
 returns-in-Some-clause-begins c = let l : Limits = table_limits c.args.self.now.words in let first = c.first_open-begin.ensures in
     behind_rises l c.args.who.stage c.first_open-begin.result c.args.lows.now c.scan_part.new.lows (view_of c.scan_part.new.seat) c.in-Some.ensures.told.0.walk.steady c.scan_part.ensures.remembers
-    (rises_then c.args.lows.now c.loop-part.lows c.scan_part.new.lows c.loop-part.invariant.rises (rises_then c.loop-part.lows c.past_full_once-end.new.lows c.scan_part.new.lows c.past_full_once-end.ensures.rises c.scan_part.ensures.lows.0)) (first.part, first.finished)
+    (rises_then c.args.lows.now c.loop-part.lows c.scan_part.new.lows c.loop-part.invariant.rises (rises_then c.loop-part.lows c.past_full_once-end.new.lows c.scan_part.new.lows c.past_full_once-end.ensures.goes.rises c.scan_part.ensures.lows.0)) (first.part, first.finished)
