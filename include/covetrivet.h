@@ -4,43 +4,50 @@
  * one of a stage into a unit of work, and commits that with up to four outputs, or aborts it. docs/C.md
  * lists the duties that stay the caller's. In short:
  *
- * - A handle is zeros (COVETRIVET_CLOSED) before it is opened, and is never copied while it is open. The
- *   library owns what it leads to, until the handle is closed, handed back or given up.
+ * - A handle is zeros (COVETRIVET_CLOSED) before it is opened, and is never copied while it is open
+ *   (covetrivet_move moves it). The library owns what it leads to, until it is closed, handed back or given up.
  * - One thread at a time uses a handle. It may go to another thread over a lock, a thread's start or join,
  *   or a sequentially consistent atomic. Different callers of one manager act at the same time.
- * - No pointer is null, and no two of one call overlap. This page tests the first, and answers
- *   COVETRIVET_NULL. Where COVETRIVET_UNTESTED is defined before it, the library is called as it is, and
- *   tests neither.
+ * - No pointer is null, and no two of one call overlap.
+ * - A caller comes home to its own manager, and two that meet are of one.
+ *
+ * This page tests these, and answers a code: covetrivet_tested.h says what, and when. Where COVETRIVET_UNTESTED
+ * is defined before it, the library is called as it is, and tests none of them.
+ *
  * - What a call writes, it writes where it answers COVETRIVET_OK, and nowhere else.
  *
  * What becomes of an element:
  *
  * - It waits until a claim takes it into a unit of work, which holds it then. A commit consumes it. An abort, a
  *   release, or a commit that answers FULL is an attempt that failed: the element waits again, and after
- *   `attempts` of these it is parked. A requeue gives it as many anew, three times at most.
+ *   `attempts` of these it is parked. A requeue gives it as many anew, three times at most. A commit that answers
+ *   LOST or FULL_LOST is none: another caller had ended that attempt, by a release, or had killed the element.
  * - A kill, a cancel, and of a reply a collect, kills it. What is consumed or killed stays so.
  * - A client's element is the root of its family: of itself, and of all outputs that units made of it, and of
  *   these.
  *
- * No call waits: who finds IDLE or NONE asks again later. Rows and units of work are used once, and what is
- * finished gives none back. So FULL of a submit or a commit, and NO_UNIT of a claim, mean that it is time for
- * covetrivet_roll_over: each thread hands its caller back, one of them rolls over, and each opens one again. Who
- * has a unit of work open needn't end it before: it opens the caller of the same number, which has it in hand.
+ * No call waits: who finds IDLE or NONE asks again later, or sleeps by covetrivet_wait.h until something is there.
  *
- * Each function answers one of the codes below, but for covetrivet_close and covetrivet_give_up, and for
- * covetrivet_version and covetrivet_size. Each may be called in any state of its handles: what it cannot do has
- * a code. Memory is taken by make, open and roll_over alone. */
+ * Rows and units of work are used once, and what is finished gives none back. So FULL, FULL_LOST and NO_UNIT mean
+ * that it is time for covetrivet_roll_over: each thread hands its caller back, one of them rolls over, and each
+ * opens one again. Who has a unit of work open needn't end it before: it opens the caller of the same number, which
+ * has it in hand.
+ *
+ * Each function answers one of the codes below, but for covetrivet_version, covetrivet_size and covetrivet_name.
+ * Each may be called in any state of its handles: what it cannot do has a code. Memory is taken by make, open and
+ * roll_over alone. */
 #ifndef COVETRIVET_H
 #define COVETRIVET_H
 
 #include <stddef.h>
 #include <stdint.h>
+#include <string.h>
 
 #define COVETRIVET_VERSION_MAJOR 0
-#define COVETRIVET_VERSION_MINOR 22
-#define COVETRIVET_VERSION_PATCH 1
+#define COVETRIVET_VERSION_MINOR 23
+#define COVETRIVET_VERSION_PATCH 0
 /* 1000 times the major, plus the minor, then 1000 times that, plus the patch. */
-#define COVETRIVET_VERSION 22001
+#define COVETRIVET_VERSION 23000
 
 #ifdef __cplusplus
 extern "C" {
@@ -48,11 +55,39 @@ extern "C" {
 
 /* ---- what crosses ---- */
 
+/* The library uses `at` of a handle, and nothing else of it. What follows is for the tests of this page. */
+#define COVETRIVET_MOST_CALLERS 32
+
+/* What is called where something may have come to wait in a stage, 1 to 15, or with 0 in any. covetrivet_wait.h has
+ * one that wakes threads and loops of events. */
+typedef struct covetrivet_bell {
+  void (*ring)(struct covetrivet_bell *bell, unsigned stage);
+} covetrivet_bell;
+
 /* A manager, with the callers that nobody has. */
-typedef struct covetrivet_manager { void *at; } covetrivet_manager;
-/* A caller. It goes on where its manager was given up. Each call writes to its handle, so what follows in it,
- * which nothing uses, keeps the handles of several threads from sharing a line of the cache in an array. */
-typedef struct covetrivet_caller { void *at; uint64_t apart[15]; } covetrivet_caller;
+typedef struct covetrivet_manager {
+  void *at;
+  uint32_t kind;
+  uint8_t in_use;
+  uint64_t mark; /* its own number among all handles */
+  covetrivet_bell *bell;
+  /* what the open callers lead to, by number, and the marks of their handles */
+  struct { void *at; uint64_t mark; } lent[COVETRIVET_MOST_CALLERS];
+} covetrivet_manager;
+
+/* A caller. It goes on where its manager was given up. Each call writes to its handle, so `apart`, which nothing
+ * uses, keeps the handles of several threads from sharing a line of the cache in an array. */
+typedef struct covetrivet_caller {
+  void *at;
+  uint32_t kind;
+  uint16_t number;
+  uint8_t in_use;
+  uint8_t stage;     /* of what it claimed last; 0 where that isn't known */
+  uint64_t of, mark; /* the marks of its manager, and its own */
+  struct covetrivet_caller *self;
+  covetrivet_bell *bell;
+  uint64_t apart[10];
+} covetrivet_caller;
 /* What a handle is before it is opened. */
 #ifdef __cplusplus
 #define COVETRIVET_CLOSED { }
@@ -156,7 +191,7 @@ enum {
   COVETRIVET_NOT_THERE = 7,      /* no such element was born */
   COVETRIVET_WAS_CONSUMED = 8,   /* a unit that took the element has committed */
   COVETRIVET_ALREADY_KILLED = 9, /* it was killed before, or collected */
-  COVETRIVET_FULL = 10,          /* no row and no spare block is left; of a commit: its unit is aborted */
+  COVETRIVET_FULL = 10,          /* no row and no spare block is left; of a commit: it has aborted its unit */
   COVETRIVET_NOT_PARKED = 11,
   COVETRIVET_NO_ROUND = 12,      /* it is parked, and has had its three further rounds */
   COVETRIVET_NOT_HELD = 13,
@@ -171,7 +206,15 @@ enum {
   COVETRIVET_BAD_DRAFT = 22,     /* a draft's stage is not 1 to 15 */
   COVETRIVET_NOT_ALL = 23,       /* a caller is not at home */
   COVETRIVET_UNEQUAL = 24,       /* an error of the library; it came in no test */
-  COVETRIVET_NULL = 25           /* a pointer is null (of the functions of this page) */
+  COVETRIVET_FULL_LOST = 26      /* as FULL of a commit, but another caller had aborted its unit, as for LOST */
+};
+/* And those of this page's own tests. Nothing has changed then. */
+enum {
+  COVETRIVET_NULL = 25,          /* a pointer is null */
+  COVETRIVET_IN_USE = 27,        /* another call uses a handle, or this one uses it twice */
+  COVETRIVET_WRONG_HANDLE = 28,  /* a manager's handle is given for a caller's, the other way, or what is none */
+  COVETRIVET_OTHER_MANAGER = 29, /* the caller is of another manager */
+  COVETRIVET_COPIED_HANDLE = 30  /* the handle is a copy of one that is open, or was moved otherwise than by move */
 };
 
 /* ---- managers and callers ---- */
@@ -180,8 +223,9 @@ enum {
  * BAD_LIMITS, NO_MEMORY, OPEN_HANDLE. */
 uint32_t covetrivet_make(const covetrivet_limits *limits, covetrivet_manager *manager);
 
-/* Gives up a manager: its handle is closed, and the callers at home are gone. The others go on. */
-void covetrivet_give_up(covetrivet_manager *manager);
+/* Gives up a manager: its handle is closed, and the callers at home are gone. The others go on. OK also where it
+ * is closed. */
+uint32_t covetrivet_give_up(covetrivet_manager *manager);
 
 /* Opens a caller: the one at home with the least number. Its handle is closed before. NO_PART, NO_MEMORY (no
  * caller is lost), CLOSED_HANDLE of the manager, OPEN_HANDLE of the caller. */
@@ -190,14 +234,15 @@ uint32_t covetrivet_open(covetrivet_manager *manager, covetrivet_caller *caller)
 /* The same, of the caller with this number. NO_PART where it isn't at home. */
 uint32_t covetrivet_open_number(covetrivet_manager *manager, uint16_t number, covetrivet_caller *caller);
 
-/* Hands a caller back: it is at home again, in any order, and its handle is closed. It must be of this
- * manager, which nothing tests. NO_MEMORY only where it is not. A unit of work that it has open stays so, and
- * whoever opens the caller next has it. */
+/* Hands a caller back: it is at home again, in any order, and its handle is closed. A unit of work that it has
+ * open stays so, and whoever opens the caller next has it. CLOSED_HANDLE; OTHER_MANAGER. (NO_MEMORY only where the
+ * library is called as it is, with a caller of another manager.) */
 uint32_t covetrivet_hand_back(covetrivet_manager *manager, covetrivet_caller *caller);
 
-/* Closes a caller for good: its rows and units of work are lost, and account, gather and roll_over answer
- * NOT_ALL from then on. Its open unit of work stays open; another caller can release its element. */
-void covetrivet_close(covetrivet_caller *caller);
+/* The same in any state of both handles, for ends of every kind. OK where the caller is closed. Where the manager
+ * is, since it was given up, the caller is gone for good, with the rest of it. (A caller whose handle was lost is
+ * brought home by covetrivet_adopt, of covetrivet_tested.h.) */
+uint32_t covetrivet_close(covetrivet_manager *manager, covetrivet_caller *caller);
 
 /* The limits that the manager was made with, and how many elements it has room for, at most 10,240. */
 uint32_t covetrivet_get_limits(covetrivet_manager *manager, covetrivet_limits *limits);
@@ -285,8 +330,8 @@ uint32_t covetrivet_claim_id(covetrivet_caller *caller, uint32_t id, covetrivet_
 uint32_t covetrivet_abort(covetrivet_caller *caller);
 
 /* Commits the open unit of work: in one step its element is consumed and the drafts are born, in rows of this
- * caller. At most four, and `drafts` may be null where there is none. LOST, which uses up the drafts' rows, and
- * FULL, after which none is open; NO_OPEN, TOO_MANY, BAD_DRAFT, which change nothing. */
+ * caller. At most four, and `drafts` may be null where there is none. LOST, which uses up the drafts' rows, FULL
+ * and FULL_LOST, which use none: none is open after them. NO_OPEN, TOO_MANY, BAD_DRAFT, which change nothing. */
 uint32_t covetrivet_commit(covetrivet_caller *caller, const covetrivet_draft *drafts, size_t count,
                            covetrivet_born *born);
 
@@ -302,13 +347,14 @@ uint32_t covetrivet_has_open(covetrivet_caller *caller, uint8_t *is_open);
 uint32_t covetrivet_low(covetrivet_caller *caller, uint8_t stage, uint16_t part, uint16_t *low);
 uint32_t covetrivet_seen_blocks(covetrivet_caller *caller, uint16_t *blocks);
 
-/* Two callers show each other what they have seen. They must be of one manager, which nothing tests. */
+/* Two callers show each other what they have seen. OTHER_MANAGER, IN_USE of one with itself. */
 uint32_t covetrivet_meet(covetrivet_caller *first, covetrivet_caller *second);
 
 /* ---- the library itself, and tests of null ---- */
 
 /* The version of the library, as COVETRIVET_VERSION; and the size of each type that crosses, by its place in
- * the list above, from covetrivet_limits (0) to covetrivet_moved (10); 0 behind it. */
+ * the list above, from covetrivet_limits (0) to covetrivet_moved (10); what the library uses of a manager's and of
+ * a caller's handle (11, 12); 0 behind it. */
 uint32_t covetrivet_version(void);
 size_t covetrivet_size(uint32_t type);
 
@@ -318,17 +364,63 @@ size_t covetrivet_size(uint32_t type);
 
 /* ---- in several calls ---- */
 
-/* A rollover into a manager with the same limits, which writes what it carried over: the first `room` of
- * `count`. */
-static inline uint32_t covetrivet_succeed(covetrivet_manager *manager, covetrivet_moved *moved, size_t room,
-                                          size_t *count) {
-  covetrivet_limits limits = { 0, 0, 0, 0, 0 };
+/* The name of a code, as "NOT_ALL"; "?" of what is none. */
+static inline const char *covetrivet_name(uint32_t code) {
+  static const char *const names[] = {
+    "OK", "CLOSED_HANDLE", "OPEN_HANDLE", "NO_MEMORY", "BAD_LIMITS", "NO_PART", "BAD_STAGE", "NOT_THERE",
+    "WAS_CONSUMED", "ALREADY_KILLED", "FULL", "NOT_PARKED", "NO_ROUND", "NOT_HELD", "NOT_WAITING", "NO_UNIT", "IDLE",
+    "LOST", "NONE", "BUSY", "NO_OPEN", "TOO_MANY", "BAD_DRAFT", "NOT_ALL", "UNEQUAL", "NULL", "FULL_LOST", "IN_USE",
+    "WRONG_HANDLE", "OTHER_MANAGER", "COPIED_HANDLE" };
+  return code < sizeof names / sizeof *names ? names[code] : "?";
+}
+
+/* Moves an open handle, which nothing uses, to where it is to be used from now on. The other is closed then. */
+static inline void covetrivet_move(covetrivet_caller *from, covetrivet_caller *to) {
+  const covetrivet_caller closed = COVETRIVET_CLOSED;
+  *to = *from;
+  if (to->self == from) to->self = to;
+  *from = closed;
+}
+
+/* A rollover into a manager with these limits, or with the same where it is null, which writes what it carried over:
+ * the first `room` of `count`. */
+static inline uint32_t covetrivet_succeed(covetrivet_manager *manager, const covetrivet_limits *limits,
+                                          covetrivet_moved *moved, size_t room, size_t *count) {
+  covetrivet_limits same = { 0, 0, 0, 0, 0 };
   size_t place;
-  uint32_t code = covetrivet_get_limits(manager, &limits);
-  if (code == COVETRIVET_OK) code = covetrivet_roll_over(manager, &limits, count);
+  uint32_t code = limits ? (uint32_t)COVETRIVET_OK : covetrivet_get_limits(manager, &same);
+  if (code == COVETRIVET_OK) code = covetrivet_roll_over(manager, limits ? limits : &same, count);
   if (code != COVETRIVET_OK) return code;
   for (place = 0; place < room && place < *count; place++)
     if ((code = covetrivet_moved_at(manager, place, &moved[place])) != COVETRIVET_OK) return code;
+  return COVETRIVET_OK;
+}
+
+/* How many elements of each stage, 1 to 15, and with 0 of all stages, one caller finds of each kind of status, by a
+ * read of each id below the capacity, while the others act: each as it stood at a point of the call, and not all at
+ * one. It takes a millisecond at most. (covetrivet_account, with all callers at home, is of one history.) */
+static inline uint32_t covetrivet_depths(covetrivet_caller *caller, uint32_t capacity,
+                                         covetrivet_counts depths[16]) {
+  covetrivet_look look;
+  uint32_t id, code;
+  size_t k;
+  for (k = 0; k < 16; k++) {
+    const covetrivet_counts none = { 0, 0, 0, 0, 0 };
+    depths[k] = none;
+  }
+  for (id = 0; id < capacity; id++) {
+    code = covetrivet_read(caller, id, &look);
+    if (code == COVETRIVET_NOT_THERE) continue;
+    if (code != COVETRIVET_OK) return code;
+    for (k = 0; k < 2; k++) {
+      covetrivet_counts *of = &depths[k ? look.element.stage : 0];
+      of->waiting += look.status.kind == COVETRIVET_WAITING;
+      of->held += look.status.kind == COVETRIVET_HELD;
+      of->consumed += look.status.kind == COVETRIVET_CONSUMED;
+      of->parked += look.status.kind == COVETRIVET_PARKED;
+      of->killed += look.status.kind == COVETRIVET_KILLED;
+    }
+  }
   return COVETRIVET_OK;
 }
 

@@ -17,6 +17,9 @@ TYPES = {
     "BornOut": "born", "ReleasedOut": "released", "RoomOut": "left", "CountsOut": "counts", "MovedOut": "moved",
 }
 
+# The handles that follow them, of which the library uses the first word.
+HANDLES = ("manager", "caller")
+
 
 def read(path):
     with open(path, encoding="utf-8") as it:
@@ -51,7 +54,11 @@ def program():
         lines.append(f'_Static_assert(sizeof(covetrivet_{of}) == {size}, "covetrivet_{of}");')
         lines += [f'_Static_assert(offsetof(covetrivet_{of}, {field}) == {at}, "covetrivet_{of}.{field}");' for field, at in offsets.items()]
         runs.append(f'  if (covetrivet_size({place}) != sizeof(covetrivet_{of})) return puts("covetrivet_{of}"), 1;')
-    return "\n".join([*lines, "int main(void) {", *runs, f"  return covetrivet_size({len(TYPES)}) != 0;", "}", ""])
+    for place, of in enumerate(HANDLES, len(TYPES)):
+        lines.append(f'_Static_assert(offsetof(covetrivet_{of}, at) == 0, "covetrivet_{of}.at");')
+        runs.append(f'  if (covetrivet_size({place}) != sizeof(void *)) return puts("covetrivet_{of}"), 1;')
+    lines.append('_Static_assert(sizeof(covetrivet_caller) == 128, "two lines of the cache");')
+    return "\n".join([*lines, "int main(void) {", *runs, f"  return covetrivet_size({len(TYPES) + len(HANDLES)}) != 0;", "}", ""])
 
 
 def exports():

@@ -26,7 +26,7 @@ static void make(uint16_t parts, uint8_t attempts) {
     if (covetrivet_open(&manager, &callers[k])) exit(1);
 }
 static void drop(void) {
-  for (int k = 0; k < MOST; k++) covetrivet_close(&callers[k]);
+  for (int k = 0; k < MOST; k++) covetrivet_close(&manager, &callers[k]);
   covetrivet_give_up(&manager);
 }
 

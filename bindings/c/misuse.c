@@ -66,13 +66,14 @@ static void handles(void) {
   SO(small == 0);
   ANSWERS(COVETRIVET_OK, covetrivet_hand_back(&manager, &a));
   ANSWERS(COVETRIVET_OK, covetrivet_hand_back(&manager, &c));
-  /* a closed caller is lost to the account */
+  /* a closed caller is at home */
   ANSWERS(COVETRIVET_OK, covetrivet_open(&manager, &c));
-  covetrivet_close(&c);
-  covetrivet_close(&c);
-  ANSWERS(COVETRIVET_NOT_ALL, covetrivet_account(&manager, 0, &counts));
-  covetrivet_give_up(&manager);
-  covetrivet_give_up(&manager);
+  ANSWERS(COVETRIVET_OK, covetrivet_close(&manager, &c));
+  ANSWERS(COVETRIVET_OK, covetrivet_close(&manager, &c));
+  ANSWERS(COVETRIVET_OK, covetrivet_account(&manager, 0, &counts));
+  ANSWERS(COVETRIVET_OK, covetrivet_give_up(&manager));
+  ANSWERS(COVETRIVET_OK, covetrivet_give_up(&manager));
+  ANSWERS(COVETRIVET_OK, covetrivet_close(&manager, &c));
   for (count = 0; count < 9; count++) {
     covetrivet_limits bad = limits;
     if (count == 0) bad.parts = 0;
@@ -102,6 +103,7 @@ static void units(void) {
   covetrivet_look look;
   covetrivet_left left;
   uint32_t id;
+  uint16_t low;
   uint8_t byte;
   int k;
 
@@ -185,15 +187,18 @@ static void units(void) {
   ANSWERS(COVETRIVET_ALREADY_KILLED, covetrivet_collect(&me, 1, &element));
   ANSWERS(COVETRIVET_OK, covetrivet_read(&me, 0, &look));
   SO(look.status.kind == COVETRIVET_CONSUMED && look.status.unit == 2);
+  ANSWERS(COVETRIVET_BAD_STAGE, covetrivet_low(&me, 255, 0, &low));
+  ANSWERS(COVETRIVET_BAD_STAGE, covetrivet_low(&me, 16, 0, &low));
+  ANSWERS(COVETRIVET_OK, covetrivet_low(&me, 15, 0, &low));
   covetrivet_give_up(&manager); /* the caller goes on */
   ANSWERS(COVETRIVET_OK, covetrivet_read(&me, 1, &look));
   SO(look.status.kind == COVETRIVET_KILLED);
-  covetrivet_close(&me);
+  ANSWERS(COVETRIVET_OK, covetrivet_close(&manager, &me));
 }
 
 /* Of three callers one holds an element, one has lost its own to a kill, and one holds nothing. */
 static void in_hand(void) {
-  covetrivet_limits limits = { 3, 4, 8, 0, 3 }, fewer = { 1, 8, 8, 0, 3 };
+  covetrivet_limits limits = { 3, 4, 8, 0, 3 }, fewer = { 1, 8, 8, 0, 3 }, wider = { 4, 8, 8, 0, 3 };
   covetrivet_manager manager = COVETRIVET_CLOSED;
   covetrivet_caller callers[3] = { COVETRIVET_CLOSED, COVETRIVET_CLOSED, COVETRIVET_CLOSED };
   const uint64_t one[4] = { 1, 0, 0, 0 }, two[4] = { 2, 0, 0, 0 };
@@ -238,7 +243,55 @@ static void in_hand(void) {
   ANSWERS(COVETRIVET_OK, covetrivet_commit(&callers[1], &draft, 1, &born));
   ANSWERS(COVETRIVET_OK, covetrivet_reply(&callers[0], moved.new_root, 0, &kept));
   SO(kept == born.first && born.count == 1);
-  for (k = 0; k < 3; k++) covetrivet_close(&callers[k]);
+  for (k = 0; k < 3; k++) ANSWERS(COVETRIVET_OK, covetrivet_close(&manager, &callers[k]));
+  ANSWERS(COVETRIVET_OK, covetrivet_succeed(&manager, &wider, &moved, 1, &count));
+  SO(count == 1 && moved.old_id == kept && moved.holder == COVETRIVET_NOBODY);
+  ANSWERS(COVETRIVET_OK, covetrivet_get_limits(&manager, &fewer));
+  SO(fewer.parts == 4);
+  ANSWERS(COVETRIVET_OK, covetrivet_succeed(&manager, NULL, &moved, 0, &count));
+  covetrivet_give_up(&manager);
+}
+
+/* Without rows a commit that has aborted its unit is told apart from one whose unit another caller had aborted. */
+static void full_or_lost(void) {
+  covetrivet_limits limits = { 2, 2, 8, 0, 7 };
+  covetrivet_manager manager = COVETRIVET_CLOSED;
+  covetrivet_caller a = COVETRIVET_CLOSED, b = COVETRIVET_CLOSED;
+  const uint64_t body[4] = { 1, 0, 0, 0 };
+  covetrivet_draft drafts[3] = { { { 0, 0, 0, 0 }, 2 }, { { 0, 0, 0, 0 }, 2 }, { { 0, 0, 0, 0 }, 2 } };
+  covetrivet_work work;
+  covetrivet_born born = { 77, 77 };
+  covetrivet_released released;
+  covetrivet_look look;
+  uint32_t id;
+  uint8_t byte;
+
+  ANSWERS(COVETRIVET_OK, covetrivet_make(&limits, &manager));
+  ANSWERS(COVETRIVET_OK, covetrivet_open(&manager, &a));
+  ANSWERS(COVETRIVET_OK, covetrivet_open(&manager, &b));
+  ANSWERS(COVETRIVET_OK, covetrivet_submit(&a, 1, body, &id));
+  ANSWERS(COVETRIVET_OK, covetrivet_claim(&b, 1, &work));
+  ANSWERS(COVETRIVET_FULL, covetrivet_commit(&b, drafts, 3, &born));
+  ANSWERS(COVETRIVET_OK, covetrivet_read(&a, id, &look));
+  SO(look.status.kind == COVETRIVET_WAITING && look.status.attempts == 1);
+  ANSWERS(COVETRIVET_OK, covetrivet_claim(&b, 1, &work));
+  ANSWERS(COVETRIVET_OK, covetrivet_release(&a, id, &released));
+  ANSWERS(COVETRIVET_OK, covetrivet_claim(&a, 1, &work));
+  ANSWERS(COVETRIVET_FULL_LOST, covetrivet_commit(&b, drafts, 3, &born));
+  ANSWERS(COVETRIVET_NO_OPEN, covetrivet_commit(&b, drafts, 3, &born));
+  ANSWERS(COVETRIVET_OK, covetrivet_read(&b, id, &look));
+  SO(look.status.kind == COVETRIVET_HELD && look.status.unit == work.unit && look.status.attempts == 3);
+  ANSWERS(COVETRIVET_OK, covetrivet_abort(&a));
+  ANSWERS(COVETRIVET_OK, covetrivet_claim(&b, 1, &work));
+  ANSWERS(COVETRIVET_OK, covetrivet_cancel(&a, id, &id));
+  ANSWERS(COVETRIVET_FULL_LOST, covetrivet_commit(&b, drafts, 3, &born));
+  SO(born.first == 77 && born.count == 77);
+  ANSWERS(COVETRIVET_OK, covetrivet_submit(&a, 1, body, &id));
+  ANSWERS(COVETRIVET_OK, covetrivet_claim(&b, 1, &work));
+  ANSWERS(COVETRIVET_OK, covetrivet_kill(&a, id, &byte));
+  ANSWERS(COVETRIVET_LOST, covetrivet_commit(&b, drafts, 2, &born));
+  ANSWERS(COVETRIVET_OK, covetrivet_close(&manager, &a));
+  ANSWERS(COVETRIVET_OK, covetrivet_close(&manager, &b));
   covetrivet_give_up(&manager);
 }
 
@@ -266,9 +319,10 @@ static void nulls(void) {
   ANSWERS(COVETRIVET_OK, covetrivet_claim(&me, 1, &work));
   ANSWERS(COVETRIVET_OK, covetrivet_commit(&me, NULL, 0, &born));
   SO(born.first == 0 && born.count == 0);
-  covetrivet_close(NULL);
-  covetrivet_close(&me);
-  covetrivet_give_up(NULL);
+  ANSWERS(COVETRIVET_NULL, covetrivet_close(&manager, NULL));
+  ANSWERS(COVETRIVET_NULL, covetrivet_close(NULL, &me));
+  ANSWERS(COVETRIVET_OK, covetrivet_close(&manager, &me));
+  ANSWERS(COVETRIVET_NULL, covetrivet_give_up(NULL));
   covetrivet_give_up(&manager);
 }
 
@@ -276,6 +330,7 @@ int main(void) {
   handles();
   units();
   in_hand();
+  full_or_lost();
   nulls();
   SO(covetrivet_version() == COVETRIVET_VERSION);
   puts("misuse: each has its code");

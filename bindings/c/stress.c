@@ -39,7 +39,8 @@ static void commit(covetrivet_caller *me, unsigned *state, uint32_t held, int *b
   drafts[1].stage = (uint8_t)(1 + pick(state, 3));
   code = covetrivet_commit(me, drafts, count, &born);
   SO((code == COVETRIVET_NO_OPEN) == !*busy);
-  SO(code == COVETRIVET_OK || code == COVETRIVET_LOST || code == COVETRIVET_FULL || code == COVETRIVET_NO_OPEN);
+  SO(code == COVETRIVET_OK || code == COVETRIVET_LOST || code == COVETRIVET_FULL || code == COVETRIVET_FULL_LOST
+     || code == COVETRIVET_NO_OPEN);
   *busy = 0;
   if (code != COVETRIVET_OK) return;
   SO(born.count == count);
@@ -167,7 +168,7 @@ static int roll(covetrivet_manager *manager, const covetrivet_look *alive, size_
   size_t found, k;
   uint32_t id;
   uint8_t is_open;
-  const uint32_t code = covetrivet_succeed(manager, moved, IDS, &found);
+  const uint32_t code = covetrivet_succeed(manager, NULL, moved, IDS, &found);
   if (code == COVETRIVET_FULL) return 0;
   ANSWERS(COVETRIVET_OK, code);
   SO(found == count);
@@ -224,7 +225,7 @@ int main(int argc, char **argv) {
   const int rounds = argc > 1 ? atoi(argv[1]) : 100;
   const unsigned first = argc > 2 ? (unsigned)atoi(argv[2]) : 1;
   static covetrivet_look alive[IDS];
-  covetrivet_counts by_stage[16];
+  covetrivet_counts by_stage[16], depths[16];
   covetrivet_manager manager = COVETRIVET_CLOSED;
   int round, k;
   fresh(&manager);
@@ -239,12 +240,14 @@ int main(int argc, char **argv) {
     for (k = 0; k < IDS; k++) after += told[k] & BORN;
     made += after - before;
     count = read_all(alive, by_stage);
+    ANSWERS(COVETRIVET_OK, covetrivet_depths(&callers[0], IDS, depths));
+    for (k = 1; k <= COVETRIVET_REPLIES; k++) same_counts(&by_stage[k], &depths[k]);
     for (k = 0; k < THREADS; k++)
       ANSWERS(COVETRIVET_OK, covetrivet_hand_back(&manager, &callers[(k + round) % THREADS]));
     account(&manager, by_stage);
     if (count > MANY || !roll(&manager, alive, count)) fresh(&manager);
   }
-  for (k = 0; k < THREADS; k++) covetrivet_close(&callers[k]);
+  for (k = 0; k < THREADS; k++) ANSWERS(COVETRIVET_OK, covetrivet_close(&manager, &callers[k]));
   covetrivet_give_up(&manager);
   SO((rollovers > 0 && in_hand > 0) || rounds < 10);
   printf("stress: %d managers, %ld elements made, %ld carried over, %ld of them in hand, by %ld rollovers: all as was told\n",

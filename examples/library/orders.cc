@@ -21,18 +21,19 @@ void must(const char *what, std::uint32_t code) {
   if (code != COVETRIVET_OK) throw std::runtime_error(std::string(what) + ": code " + std::to_string(code));
 }
 
-// A caller: it moves, and is never copied.
+// A caller, which comes home in the end: it moves, and is never copied. Its manager's handle is there as long as it
+// is, and one thread at a time ends callers.
 class Caller {
 public:
-  explicit Caller(covetrivet_manager &manager) { must("open", covetrivet_open(&manager, &handle)); }
-  Caller(Caller &&other) noexcept : handle(other.handle) { other.handle.at = nullptr; }
+  explicit Caller(covetrivet_manager &manager) : home(manager) { must("open", covetrivet_open(&home, &handle)); }
+  Caller(Caller &&other) noexcept : home(other.home) { covetrivet_move(&other.handle, &handle); }
   Caller(const Caller &) = delete;
   Caller &operator=(const Caller &) = delete;
-  ~Caller() { covetrivet_close(&handle); }
-  void hand_back(covetrivet_manager &manager) { must("hand back", covetrivet_hand_back(&manager, &handle)); }
+  ~Caller() { covetrivet_close(&home, &handle); }
   covetrivet_caller *operator&() { return &handle; }
 
 private:
+  covetrivet_manager &home;
   covetrivet_caller handle = COVETRIVET_CLOSED;
 };
 
@@ -86,12 +87,8 @@ std::pair<int, int> submit_and_collect(Caller &client) {
   return { shipped_orders, declined };
 }
 
-} // namespace
-
-int main() {
-  const covetrivet_limits limits = { 4, 256, 1024, 0, 3 };
-  covetrivet_manager manager = COVETRIVET_CLOSED;
-  must("make", covetrivet_make(&limits, &manager));
+// One client and three servers, whose callers are at home again behind this.
+std::pair<int, int> run(covetrivet_manager &manager) {
   Caller client(manager);
   std::vector<Caller> servers;
   std::vector<std::thread> threads;
@@ -102,8 +99,16 @@ int main() {
   const auto counted = submit_and_collect(client);
   closing = true;
   for (auto &it : threads) it.join();
-  for (auto &it : servers) it.hand_back(manager);
-  client.hand_back(manager);
+  return counted;
+}
+
+} // namespace
+
+int main() {
+  const covetrivet_limits limits = { 4, 256, 1024, 0, 3 };
+  covetrivet_manager manager = COVETRIVET_CLOSED;
+  must("make", covetrivet_make(&limits, &manager));
+  const auto counted = run(manager);
   covetrivet_counts counts;
   must("account", covetrivet_account(&manager, 0, &counts));
   std::printf("%d orders: %d shipped, %d declined\n", orders, counted.first, counted.second);

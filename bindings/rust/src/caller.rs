@@ -1,19 +1,21 @@
 //! One thread's way to act on a manager.
 
 use crate::error::{told, Error};
+use crate::manager::{lock, Home};
 use crate::sys::{self, Handle};
 use crate::types::{Body, Element, Look, Released, Room, Status};
 use crate::work::Work;
+use std::sync::Arc;
 
 /// One thread's way to act on a manager. It may go to another thread, and goes on where its manager was given up.
 ///
-/// A caller that is dropped is lost to the account and to rollovers: hand it back by
-/// [`Manager::hand_back`](crate::Manager::hand_back). So lend it to a function that may return early, as by `?`.
+/// Dropped, it is at home again, as by [`Manager::hand_back`](crate::Manager::hand_back): also where its thread
+/// panics, or a function returns early, as by `?`. One that is forgotten is lost to the account and to rollovers.
 // Each call writes to the handle: callers of several threads that lie side by side share no line of the cache.
 #[repr(align(128))]
 pub struct Caller {
     pub(crate) handle: Handle,
-    pub(crate) manager: u64,
+    pub(crate) home: Home,
     // (how many units of work each caller of its manager begins at most)
     units: u16,
 }
@@ -42,8 +44,8 @@ fn found<T: Default>(none: u32, call: impl FnOnce(&mut T) -> u32) -> Result<Opti
 // What threads call most is inlined into other crates: else the copies of its answer cost some 5 nanoseconds.
 impl Caller {
     #[inline]
-    pub(crate) fn of(handle: Handle, manager: u64, units: u16) -> Caller {
-        Caller { handle, manager, units }
+    pub(crate) fn of(handle: Handle, home: Home, units: u16) -> Caller {
+        Caller { handle, home, units }
     }
 
     /// Puts an element into the queue of a stage, 1 to 14. Its id. `BadStage`, `Full`.
@@ -191,7 +193,7 @@ impl Caller {
 
     /// The two show each other what they have seen. `OtherManager` where they are of two managers.
     pub fn meet(&mut self, other: &mut Caller) -> Result<(), Error> {
-        if self.manager != other.manager {
+        if !Arc::ptr_eq(&self.home, &other.home) {
             return Err(Error::OtherManager);
         }
         // (both are of one manager, as is asked for)
@@ -201,6 +203,9 @@ impl Caller {
 
 impl Drop for Caller {
     fn drop(&mut self) {
-        unsafe { sys::covetrivet_close(&mut self.handle) }
+        // (one that was handed back has nothing to close)
+        if !self.handle.is_closed() {
+            unsafe { sys::covetrivet_close(&mut lock(&self.home), &mut self.handle) };
+        }
     }
 }

@@ -20,8 +20,10 @@ pub enum Error {
     Consumed,
     /// The element was killed or collected before. A refused kill may have aborted units of work.
     AlreadyKilled,
-    /// No row and no spare block is left. After a commit the unit of work is aborted.
+    /// No row and no spare block is left. A commit has aborted its unit of work: the element waits again, or is parked.
     Full,
+    /// As `Full` of a commit, but another caller had aborted the unit of work before, as for `Lost`.
+    FullLost,
     /// The element isn't parked.
     NotParked,
     /// The element is parked, and has had its three further rounds.
@@ -75,6 +77,7 @@ impl Error {
             22 => Error::BadDraft,
             23 => Error::NotAll,
             24 => Error::Unequal,
+            26 => Error::FullLost,
             other => Error::Unknown(other),
         }
     }
@@ -91,6 +94,7 @@ impl fmt::Display for Error {
             Error::Consumed => "the element was consumed",
             Error::AlreadyKilled => "the element was killed before",
             Error::Full => "no row is left",
+            Error::FullLost => "no row is left, and another caller had aborted the unit of work",
             Error::NotParked => "the element is not parked",
             Error::NoRound => "the element has had all its rounds",
             Error::NotHeld => "no unit of work holds the element",

@@ -4,17 +4,21 @@ use crate::caller::Caller;
 use crate::error::{told, Error};
 use crate::sys::{self, Handle};
 use crate::types::{Account, Counts, Limits, Moved};
-use std::sync::atomic::{AtomicU64, Ordering};
-use std::sync::{Mutex, MutexGuard, PoisonError};
+use std::sync::{Arc, Mutex, MutexGuard, PoisonError};
 
-static NEXT: AtomicU64 = AtomicU64::new(0);
+/// What a manager shares with its callers, so that those which are dropped come home.
+pub(crate) type Home = Arc<Mutex<Handle>>;
+
+pub(crate) fn lock(home: &Home) -> MutexGuard<'_, Handle> {
+    // (no call of the library unwinds, so a poisoned lock says nothing of the handle)
+    home.lock().unwrap_or_else(PoisonError::into_inner)
+}
 
 /// A manager. It may be shared by threads: its own calls take a lock, those of its [`Caller`]s take none.
 ///
 /// Dropped, it is given up with the callers at home; open ones go on.
 pub struct Manager {
-    handle: Mutex<Handle>,
-    id: u64,
+    home: Home,
 }
 
 impl Manager {
@@ -24,14 +28,12 @@ impl Manager {
         // SAFETY: both are references, and the handle is closed.
         told(unsafe { sys::covetrivet_make(&limits, &mut handle) }, ())?;
         Ok(Manager {
-            handle: Mutex::new(handle),
-            id: NEXT.fetch_add(1, Ordering::Relaxed),
+            home: Arc::new(Mutex::new(handle)),
         })
     }
 
     fn handle(&self) -> MutexGuard<'_, Handle> {
-        // (no call of the library unwinds, so a poisoned lock says nothing of the handle)
-        self.handle.lock().unwrap_or_else(PoisonError::into_inner)
+        lock(&self.home)
     }
 
     /// Opens the caller at home with the least number. `NoPart`, `NoMemory`.
@@ -39,7 +41,7 @@ impl Manager {
         let mut caller = Handle::closed();
         // SAFETY: the lock is held, and the caller's handle is closed.
         told(unsafe { sys::covetrivet_open(&mut self.handle(), &mut caller) }, ())?;
-        Ok(Caller::of(caller, self.id, self.limits().units))
+        Ok(Caller::of(caller, Arc::clone(&self.home), self.limits().units))
     }
 
     /// Opens the caller with this number. What it held before a rollover it has in hand: see
@@ -48,21 +50,19 @@ impl Manager {
         let mut caller = Handle::closed();
         // SAFETY: as above.
         told(unsafe { sys::covetrivet_open_number(&mut self.handle(), number, &mut caller) }, ())?;
-        Ok(Caller::of(caller, self.id, self.limits().units))
+        Ok(Caller::of(caller, Arc::clone(&self.home), self.limits().units))
     }
 
     /// Takes a caller home again, in any order. It comes back where it is of another manager (`OtherManager`).
     // (a caller fills two lines of the cache, and seldom comes back)
     #[allow(clippy::result_large_err)]
     pub fn hand_back(&self, mut caller: Caller) -> Result<(), (Caller, Error)> {
-        if caller.manager != self.id {
+        if !Arc::ptr_eq(&caller.home, &self.home) {
             return Err((caller, Error::OtherManager));
         }
         // SAFETY: the caller is of this manager, as is asked for.
-        match told(unsafe { sys::covetrivet_hand_back(&mut self.handle(), &mut caller.handle) }, ()) {
-            Ok(()) => Ok(()),
-            Err(error) => Err((caller, error)),
-        }
+        let code = unsafe { sys::covetrivet_hand_back(&mut self.handle(), &mut caller.handle) };
+        told(code, ()).map_err(|error| (caller, error))
     }
 
     /// The limits that the manager was made with.
@@ -133,7 +133,7 @@ impl Manager {
 
 impl Drop for Manager {
     fn drop(&mut self) {
-        // SAFETY: nobody else has the handle.
-        unsafe { sys::covetrivet_give_up(&mut self.handle()) }
+        // SAFETY: the lock is held.
+        unsafe { sys::covetrivet_give_up(&mut self.handle()) };
     }
 }

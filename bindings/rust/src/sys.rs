@@ -15,6 +15,10 @@ impl Handle {
     pub const fn closed() -> Handle {
         Handle { at: null_mut() }
     }
+
+    pub fn is_closed(&self) -> bool {
+        self.at.is_null()
+    }
 }
 
 // SAFETY: `Send` is proved of what a handle leads to (`CallerHandle` and `HomeHandle` of crates/covetrivet_c).
@@ -66,11 +70,11 @@ extern "C" {
     fn covetrivet_size(of: u32) -> usize;
 
     pub fn covetrivet_make(limits: &Limits, manager: &mut Handle) -> u32;
-    pub fn covetrivet_give_up(manager: &mut Handle);
+    pub fn covetrivet_give_up(manager: &mut Handle) -> u32;
     pub fn covetrivet_open(manager: &mut Handle, caller: &mut Handle) -> u32;
     pub fn covetrivet_open_number(manager: &mut Handle, number: u16, caller: &mut Handle) -> u32;
     pub fn covetrivet_hand_back(manager: &mut Handle, caller: &mut Handle) -> u32;
-    pub fn covetrivet_close(caller: &mut Handle);
+    pub fn covetrivet_close(manager: &mut Handle, caller: &mut Handle) -> u32;
     pub fn covetrivet_get_limits(manager: &mut Handle, limits: &mut Limits) -> u32;
     pub fn covetrivet_capacity(manager: &mut Handle, capacity: &mut u32) -> u32;
     pub fn covetrivet_account(manager: &mut Handle, stage: u8, counts: &mut Counts) -> u32;
@@ -130,9 +134,11 @@ mod tests {
             size_of::<Room>(),
             size_of::<Counts>(),
             size_of::<Moved>(),
+            size_of::<Handle>(),
+            size_of::<Handle>(),
         ];
         // SAFETY: it takes a number.
-        let there = (0..12).map(|of| unsafe { covetrivet_size(of) });
+        let there = (0..14).map(|of| unsafe { covetrivet_size(of) });
         assert!(there.eq(here.into_iter().chain([0])));
     }
 }

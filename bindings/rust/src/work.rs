@@ -3,7 +3,7 @@
 use crate::caller::Caller;
 use crate::error::{told, Error};
 use crate::sys;
-use crate::types::{Draft, Element};
+use crate::types::{Body, Draft, Element, Look, Room};
 use std::ops::Range;
 
 /// A unit of work that holds an element. Dropped, it is aborted: the element waits again, or is parked.
@@ -51,15 +51,9 @@ impl<'a> Work<'a> {
         self.attempt
     }
 
-    /// The caller, for what it may do meanwhile: submit, read, look, requeue. The rest answers `Busy`, but
-    /// [`Caller::abort`] ends this work.
-    #[inline]
-    pub fn caller(&mut self) -> &mut Caller {
-        self.caller
-    }
-
-    /// Consumes the element and makes these outputs, at most four, in one step. Their ids. Refused as `Lost` or `Full`
-    /// it is over: after `Full` the element waits again or is parked. Refused as `TooMany` or `BadDraft` it is dropped,
+    /// Consumes the element and makes these outputs, at most four, in one step. Their ids. Refused as `Lost`, `Full` or
+    /// `FullLost` it is over: `Full` aborted it, so that the element waits again or is parked; else another caller had,
+    /// and what became of the element is its doing. Refused as `TooMany` or `BadDraft` it is dropped,
     /// and so aborted.
     #[inline]
     pub fn commit(mut self, drafts: &[Draft]) -> Result<Range<u32>, Error> {
@@ -94,5 +88,52 @@ impl Drop for Work<'_> {
             // (where another caller was quicker it is aborted too)
             let _ = self.caller.abort();
         }
+    }
+}
+
+/// What its caller may do meanwhile: the rest would be refused as `Busy`. (The caller itself isn't lent, since another
+/// could be put into its place.)
+impl Work<'_> {
+    /// As [`Caller::submit`].
+    #[inline]
+    pub fn submit(&mut self, stage: u8, body: Body) -> Result<u32, Error> {
+        self.caller.submit(stage, body)
+    }
+
+    /// As [`Caller::read`].
+    #[inline]
+    pub fn read(&mut self, id: u32) -> Result<Look, Error> {
+        self.caller.read(id)
+    }
+
+    /// As [`Caller::rounds`].
+    pub fn rounds(&mut self, id: u32) -> Result<u8, Error> {
+        self.caller.rounds(id)
+    }
+
+    /// As [`Caller::requeue`].
+    pub fn requeue(&mut self, id: u32) -> Result<u8, Error> {
+        self.caller.requeue(id)
+    }
+
+    /// As [`Caller::reply`].
+    #[inline]
+    pub fn reply(&mut self, root: u32, from: u32) -> Option<u32> {
+        self.caller.reply(root, from)
+    }
+
+    /// As [`Caller::next_error`].
+    pub fn next_error(&mut self, from: u32) -> Option<u32> {
+        self.caller.next_error(from)
+    }
+
+    /// As [`Caller::family`].
+    pub fn family(&mut self, root: u32, from: u32) -> Option<Look> {
+        self.caller.family(root, from)
+    }
+
+    /// As [`Caller::room`].
+    pub fn room(&mut self) -> Room {
+        self.caller.room()
     }
 }

@@ -47,9 +47,15 @@ fn one_element_goes_through() {
     let mut work = server.claim(3).unwrap().unwrap();
     assert_eq!((work.element().id, work.element().body, work.attempt()), (root, [1, 2, 3, 4], 1));
     assert_eq!(work.element().by, None);
-    assert!(work.caller().has_open());
-    assert_eq!(work.caller().claim(3).err(), Some(Error::Busy));
-    assert_eq!(work.caller().kill(root), Err(Error::Busy));
+    let other = work.submit(5, [0; 4]).unwrap();
+    assert_eq!((work.read(other).unwrap().status, work.rounds(other)), (Status::Waiting { attempts: 0 }, Ok(0)));
+    assert_eq!((work.reply(root, 0), work.next_error(0), work.room().units), (None, None, 7));
+    assert_eq!((work.family(root, 0).unwrap().element.id, work.requeue(other)), (root, Err(Error::NotParked)));
+    work.leave();
+    assert!(server.has_open());
+    assert_eq!(server.claim(3).err(), Some(Error::Busy));
+    assert_eq!(server.kill(root), Err(Error::Busy));
+    let work = server.in_hand(root).unwrap().unwrap();
     assert_eq!(client.read(root).unwrap().status, Status::Held { unit: work.unit(), attempt: 1 });
     let born = work.commit(&[Draft::reply([9, 0, 0, 0]), Draft::new(4, [8, 0, 0, 0])]).unwrap();
     assert_eq!(born.len(), 2);
@@ -60,6 +66,7 @@ fn one_element_goes_through() {
     assert_eq!(client.family(root, root + 1).unwrap().element.root, root);
     assert_eq!(client.cancel(root), Ok(1));
     assert_eq!(client.cancel(77), Err(Error::NotThere));
+    assert_eq!(client.kill(other), Ok(0));
     assert_eq!(client.meet(&mut server), Ok(()));
     assert_eq!(client.room().rows, 3);
     manager.hand_back(server).ok().unwrap();
@@ -67,7 +74,7 @@ fn one_element_goes_through() {
     manager.hand_back(client).ok().unwrap();
     manager.gather().unwrap();
     let account = manager.account().unwrap();
-    assert_eq!((account.total.consumed, account.total.killed, account.total.waiting), (1, 2, 0));
+    assert_eq!((account.total.consumed, account.total.killed, account.total.waiting), (1, 3, 0));
     assert_eq!((account.stages[2].consumed, account.stages[3].killed, account.stages[14].killed), (1, 1, 1));
 }
 
@@ -94,6 +101,20 @@ fn dropped_work_is_aborted() {
 }
 
 #[test]
+fn full_is_told_apart_from_a_loss() {
+    let manager = Manager::new(Limits { parts: 2, rows: 1, units: 8, spare: 0, attempts: 7 }).unwrap();
+    let (mut a, mut b) = (manager.open().unwrap(), manager.open().unwrap());
+    let id = a.submit(1, [0; 4]).unwrap();
+    let drafts = [Draft::new(2, [0; 4]); 2];
+    assert_eq!(b.claim(1).unwrap().unwrap().commit(&drafts), Err(Error::Full));
+    assert_eq!(a.read(id).unwrap().status, Status::Waiting { attempts: 1 });
+    let work = b.claim(1).unwrap().unwrap();
+    a.kill(id).unwrap();
+    assert_eq!(work.commit(&drafts), Err(Error::FullLost));
+    assert_eq!(a.read(id).unwrap().status, Status::Killed);
+}
+
+#[test]
 fn another_managers_caller_comes_back() {
     let (one, two) = (Manager::new(SMALL).unwrap(), Manager::new(SMALL).unwrap());
     let (mut a, mut b) = (one.open().unwrap(), two.open().unwrap());
@@ -103,6 +124,29 @@ fn another_managers_caller_comes_back() {
     two.hand_back(b).ok().unwrap();
     drop(one);
     assert_eq!(a.submit(1, [0; 4]), Ok(0));
+}
+
+#[test]
+fn dropped_callers_come_home() {
+    let manager = Manager::new(SMALL).unwrap();
+    let id = {
+        let mut early = manager.open().unwrap();
+        let id = early.submit(1, [0; 4]).unwrap();
+        early.claim(1).unwrap().unwrap().leave();
+        id
+    };
+    let lost = thread::scope(|scope| {
+        scope.spawn(|| {
+            let _caller = manager.open_number(1).unwrap();
+            panic!("as it should: its caller comes home");
+        }).join()
+    });
+    assert!(lost.is_err());
+    assert_eq!(manager.account().unwrap().total.held, 1);
+    let mut again = manager.open_number(0).unwrap();
+    assert_eq!(again.in_hand(id).unwrap().unwrap().commit(&[]), Ok(0..0));
+    drop(manager);
+    drop(again);
 }
 
 #[test]

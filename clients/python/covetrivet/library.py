@@ -28,14 +28,14 @@ from covetrivet import library_shapes as shapes
 from covetrivet.answers import Counts, Draft, Look, Released, Reply
 from covetrivet.faults import NoLibrary
 from covetrivet.library_answers import (
-    IDLE, NONE, REFUSALS, Account, BadDraft, ClosedHandle, Limits, NoPart, NotAll, OpenHandle, OtherManager,
-    RolledOver, Room, TooMany,
+    IDLE, NONE, REFUSALS, Account, BadDraft, ClosedHandle, FullLost, Limits, NoPart, NotAll, OpenHandle,
+    OtherManager, RolledOver, Room, TooMany,
 )  # fmt: skip
-from covetrivet.refusals import Full, Lost, Refusal
+from covetrivet.refusals import Full, Lost, NoneOpen, Refusal
 
 __all__ = [
-    "REPLIES", "Account", "BadDraft", "Caller", "ClosedHandle", "Counts", "Draft", "Limits", "Look",
-    "Manager", "NoLibrary", "NoPart", "NotAll", "OpenHandle", "OtherManager", "Released", "Reply",
+    "REPLIES", "Account", "BadDraft", "Caller", "ClosedHandle", "Counts", "Draft", "FullLost", "Limits",
+    "Look", "Manager", "NoLibrary", "NoPart", "NotAll", "OpenHandle", "OtherManager", "Released", "Reply",
     "RolledOver", "Room", "TooMany", "Work",
 ]  # fmt: skip
 
@@ -111,7 +111,7 @@ class Manager(Handle):
             raise OtherManager("hand_back")
         with caller._lock:
             self._ask("hand_back", caller._handle)
-            caller._unit = None
+            caller._mark = None
 
     def limits(self) -> Limits:
         """The limits that the manager has."""
@@ -169,8 +169,8 @@ class Manager(Handle):
 
 
 class Caller(Handle):
-    """A way to act on a manager, by `manager.open()`. Used as a context it is handed back in the end. One
-    that nothing holds any more is closed.
+    """A way to act on a manager, by `manager.open()`. Used as a context it is handed back in the end. So is
+    one that nothing holds any more.
 
     Each call may be refused as ClosedHandle. An element of an id that was never born is NotThere.
     """
@@ -178,8 +178,8 @@ class Caller(Handle):
     def __init__(self, manager: Manager) -> None:
         super().__init__()
         self.manager = manager
-        # (the unit of work that is open: that of a Work which isn't ended)
-        self._unit: int | None = None
+        # (what the Work has whose unit is open)
+        self._mark: object | None = None
 
     # ---- of a client
 
@@ -273,7 +273,7 @@ class Caller(Handle):
             is_its = it.status.unit // self.manager.limits().units == self.number()
             if it.status.kind != shapes.HELD or not is_its or not self.has_open():
                 return None
-            return Work(self, shapes.CWork(it.element, it.status.unit, it.status.attempts))
+            return Work(self, shapes.CWork(it.element, it.status.unit, it.status.attempts), self._mark)
 
     def _claim(self, call: str, stage: int) -> Work | None:
         with self._lock:
@@ -281,8 +281,9 @@ class Caller(Handle):
             return None if it is None else Work(self, it)
 
     def commit(self, *drafts: Draft) -> range:
-        """Commits the open unit with these outputs, at most four. Their ids. Lost, Full: the unit is ended.
-        NoneOpen, TooMany, BadDraft: nothing has changed.
+        """Commits the open unit with these outputs, at most four. Their ids. Lost, Full, FullLost: the unit
+        is ended, by Full as an attempt that failed, and else by another caller, whose doing it is what became
+        of the element. NoneOpen, TooMany, BadDraft: nothing has changed.
         """
         out = (shapes.CDraft * max(1, len(drafts)))()
         for at, draft in zip(out, drafts):
@@ -294,9 +295,9 @@ class Caller(Handle):
             try:
                 born = self._ask("commit", out, len(drafts))
             except (Lost, Full):
-                self._unit = None
+                self._mark = None
                 raise
-            self._unit = None
+            self._mark = None
         return range(born.first, born.first + born.count)
 
     def abort(self) -> None:
@@ -304,7 +305,7 @@ class Caller(Handle):
         had aborted it.
         """
         with self._lock:
-            self._unit = None
+            self._mark = None
             self._ask("abort")
 
     # ---- of a caller alone, and of two
@@ -342,12 +343,12 @@ class Caller(Handle):
             self._ask("meet", other._handle)
 
     def close(self) -> None:
-        """Closes it for good: with it the account and rollovers are lost to the manager. Another caller can
-        release what it holds.
+        """Takes it home, as `hand_back` does, in any state: where it was handed back, or its manager is
+        closed too.
         """
-        with self._lock:
-            self._unit = None
-            self._library.close(self._handle)
+        with self._lock, self.manager._lock:
+            self._mark = None
+            refuse("close", self._library.close(self.manager._handle, self._handle))
 
     def __enter__(self) -> Caller:
         return self
@@ -355,23 +356,23 @@ class Caller(Handle):
     def __exit__(
         self, kind: type[BaseException] | None, fault: BaseException | None, trace: TracebackType | None
     ) -> None:
-        try:
-            self.manager.hand_back(self)
-        except ClosedHandle:
-            # It has been handed back or closed, or its manager is.
-            pass
+        self.close()
 
     def __del__(self) -> None:
-        if hasattr(self, "_library"):
-            self._library.close(self._handle)
+        # (in a forked process a thread that isn't there may hold the manager's lock)
+        if hasattr(self, "_mark") and self.manager._lock.acquire(timeout=1):
+            try:
+                self.close()
+            finally:
+                self.manager._lock.release()
 
 
 class Work:
     """An open unit of work and the element that it holds. Used as a context it is aborted in the end unless
-    it was committed.
+    it was committed. One that isn't open any more ends no other: its calls are refused as NoneOpen.
     """
 
-    def __init__(self, caller: Caller, it: shapes.CWork) -> None:
+    def __init__(self, caller: Caller, it: shapes.CWork, mark: object | None = None) -> None:
         self.caller = caller
         self.element: int = it.element.id
         self.stage: int = it.element.stage
@@ -379,20 +380,31 @@ class Work:
         self.words = shapes.words_of(it.element)
         self.unit: int = it.unit
         self.attempt: int = it.attempt
-        caller._unit = self.unit
+        # (its own: a later unit may have the same number, behind a rollover)
+        self._mark = caller._mark = mark or object()
 
     @property
     def is_open(self) -> bool:
-        """Whether it was neither committed nor aborted by its caller. Another one may have aborted it."""
-        return self.caller._unit == self.unit
+        """Whether it was neither committed nor aborted by its caller, nor left as that was handed back.
+        Another one may have aborted it.
+        """
+        return self.caller._mark is self._mark
 
     def commit(self, *drafts: Draft) -> range:
         """Consumes the element and makes these outputs, as Caller.commit does."""
-        return self.caller.commit(*drafts)
+        with self.caller._lock:
+            self._must_be_open("commit")
+            return self.caller.commit(*drafts)
 
     def abort(self) -> None:
         """Gives it up, as Caller.abort does."""
-        self.caller.abort()
+        with self.caller._lock:
+            self._must_be_open("abort")
+            self.caller.abort()
+
+    def _must_be_open(self, call: str) -> None:
+        if not self.is_open:
+            raise NoneOpen(call)
 
     def __enter__(self) -> Work:
         return self

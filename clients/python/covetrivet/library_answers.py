@@ -28,6 +28,10 @@ class BadDraft(Refusal):
     """An output's stage isn't 1 to 15, or a word isn't 0 to 2^64 - 1."""
 
 
+class FullLost(refusals.Full):
+    """As Full of a commit, but another caller had aborted the unit before, as for Lost."""
+
+
 class NotAll(Refusal):
     """Not all callers are at home."""
 
@@ -72,6 +76,7 @@ REFUSALS: dict[int, type[Refusal]] = {
     22: BadDraft,
     23: NotAll,
     24: refusals.Unequal,
+    26: FullLost,
 }
 
 

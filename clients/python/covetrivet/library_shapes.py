@@ -87,6 +87,8 @@ class CMoved(ctypes.Structure):
 # Their sizes are told by the library, by their places here.
 SHAPES: list[type[ctypes.Structure]] = [
     CLimits, CElement, CWork, CStatus, CLook, CDraft, CBorn, CReleased, CLeft, CCounts, CMoved,
+    # (a manager's handle, and a caller's)
+    CHandle, CHandle,
 ]  # fmt: skip
 
 
@@ -149,8 +151,8 @@ class Library:
 
     calls: dict[str, Callable[..., int]]
     make: Callable[[CLimits, CHandle], int]
-    give_up: Callable[[CHandle], None]
-    close: Callable[[CHandle], None]
+    give_up: Callable[[CHandle], int]
+    close: Callable[[CHandle, CHandle], int]
 
 
 def fitting(call: str, kind: Any, value: Any) -> Any:
@@ -248,6 +250,6 @@ def load(path: str) -> Library:
         calls[name].argtypes = [POINTER(CHandle), *takes, *([POINTER(writes)] if writes else [])]
         calls[name].restype = c_uint32
     make.argtypes, make.restype = [POINTER(CLimits), POINTER(CHandle)], c_uint32
-    for ends in (give_up, close):
-        ends.argtypes, ends.restype = [POINTER(CHandle)], None
+    give_up.argtypes, give_up.restype = [POINTER(CHandle)], c_uint32
+    close.argtypes, close.restype = [POINTER(CHandle)] * 2, c_uint32
     return Library(calls, make, give_up, close)

@@ -5,6 +5,7 @@ What needs the shared object is skipped where none is named and none was made. t
 from __future__ import annotations
 
 import ctypes.util
+import gc
 import os
 import re
 import subprocess
@@ -20,8 +21,8 @@ from unittest import mock
 
 from covetrivet import answers, library, library_shapes, refusals
 from covetrivet.library import (
-    BadDraft, Caller, ClosedHandle, Counts, Draft, Limits, Look, Manager, NoLibrary, NoPart, NotAll,
-    OtherManager, Released, Reply, Room, TooMany, Work,
+    BadDraft, Caller, ClosedHandle, Counts, Draft, FullLost, Limits, Look, Manager, NoLibrary, NoPart,
+    NotAll, OtherManager, Released, Reply, Room, TooMany, Work,
 )  # fmt: skip
 
 
@@ -182,6 +183,19 @@ class Calls(unittest.TestCase):
         self.assertRaises(ClosedHandle, one.open)
         self.assertEqual(me.requeue(root), 2)
 
+    def test_full_or_lost(self) -> None:
+        with Manager(parts=2, rows=1) as manager, manager.open() as me, manager.open() as server:
+            element = me.submit(1)
+            with worked(server.claim(1)) as work, self.assertRaises(refusals.Full) as caught:
+                work.commit(Draft(2), Draft(2))
+            self.assertNotIsInstance(caught.exception, FullLost)
+            self.assertEqual(me.read(element).status, "waiting 1")
+            with worked(server.claim(1)) as work:
+                me.kill(element)
+                self.assertRaises(FullLost, work.commit, Draft(2), Draft(2))
+                self.assertFalse(work.is_open)
+            self.assertEqual(me.read(element).status, "killed")
+
     def test_numbers_that_do_not_fit(self) -> None:
         """What ctypes would cut off: the stage 257 would be 1, and the id 2^32 would be 0."""
         with Manager(parts=1) as manager, manager.open() as me:
@@ -231,10 +245,51 @@ class Calls(unittest.TestCase):
             with me.claim_id(root):
                 me.close()
             self.assertRaises(ClosedHandle, me.read, root)
-        with manager.open() as other:
-            self.assertRaises(NoPart, manager.open)
-            self.assertEqual(other.release(root).attempt, 1)
+            me.close()
+        # it is at home, with what it had in hand
+        self.assertEqual(manager.account().total, Counts(0, 1, 0, 0, 0))
+        with manager.open(0) as me:
+            self.assertEqual(worked(me.in_hand(root)).commit(), range(0))
+
+    def test_callers_that_are_lost(self) -> None:
+        manager = Manager(parts=2)
+        caller = manager.open()
+        root = caller.submit(1)
+        work = caller.claim_id(root)
         self.assertRaises(NotAll, manager.account)
+        del caller, work
+        gc.collect()
+        self.assertEqual(manager.account().total, Counts(0, 1, 0, 0, 0))
+
+        def loses() -> None:
+            lost = manager.open(1)
+            lost.submit(1)
+
+        run_all([threading.Thread(target=loses)])
+        gc.collect()
+        self.assertEqual(manager.account().total, Counts(1, 1, 0, 0, 0))
+        self.assertEqual(len(manager.rollover().moved), 2)
+
+    def test_work_that_is_over(self) -> None:
+        """It ends no later unit, not even one of the same number."""
+        with Manager(parts=1, units=8) as manager:
+            with manager.open() as me:
+                first, second = me.submit(1), me.submit(1)
+                early = me.claim_id(first)
+                early.commit()
+                late = me.claim_id(second)
+                self.assertRaises(refusals.NoneOpen, early.commit)
+                self.assertRaises(refusals.NoneOpen, early.abort)
+                self.assertTrue(late.is_open)
+            moved = manager.rollover().moved
+            with manager.open() as me:
+                again = worked(me.in_hand(moved[second]))
+                self.assertEqual((again.unit, late.unit), (0, 1))
+                for old in early, late:
+                    self.assertRaises(refusals.NoneOpen, old.abort)
+                self.assertTrue(worked(me.in_hand(moved[second])).is_open and again.is_open)
+                again.commit()
+                self.assertEqual(me.read(moved[second]).status, "consumed 0")
 
     def test_managers_that_are_closed(self) -> None:
         with Manager(parts=2, units=8) as manager, manager.open() as me, manager.open() as other:
@@ -243,8 +298,10 @@ class Calls(unittest.TestCase):
             self.assertEqual(other.claim_id(root).words, (5, 0, 0, 0))
             self.assertRaises(ClosedHandle, manager.hand_back, me)
             self.assertRaises(ClosedHandle, manager.capacity)
-        # (the first has units 0 to 7)
-        self.assertEqual(me.read(root).status, "held 8 1")
+            # (the first has units 0 to 7)
+            self.assertEqual(me.read(root).status, "held 8 1")
+        # nothing is there that it could come home to
+        self.assertRaises(ClosedHandle, me.read, root)
 
     def test_rollover(self) -> None:
         with Manager(parts=2, rows=8, units=8, attempts=2) as manager:

@@ -63,3 +63,4 @@ unrolled h k news faults.NoPart fresh long some why = absurd why
 unrolled h k news faults.NotAll fresh long some why = absurd why
 unrolled h k news faults.Unequal fresh long some why = λ limits.
     subst (λ n. WouldNotFit (home_limits h) h.passes.items n (start k)) long (why limits fresh)
+unrolled h k news faults.FullLost fresh long some why = absurd why

@@ -32,3 +32,4 @@ unmade h l faults.Nothing why = absurd why
 unmade h l faults.NoPart why = absurd why
 unmade h l faults.NotAll why = absurd why
 unmade h l faults.Unequal why = absurd why
+unmade h l faults.FullLost why = absurd why

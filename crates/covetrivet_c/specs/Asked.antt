@@ -1,15 +1,11 @@
 -- What every call is said to be: asked of the manager, within its steps, or not asked, and then nothing has
 -- changed.
-use Rattle.std.specs.Prelude.{◌≡◌, ◌<◌, ℕ, List, length, None, IsSome, Result, Ok, Err}
-use Rattle.std.specs.List.{All}
+use Rattle.std.specs.Prelude.{◌≡◌, ◌<◌, ℕ, None, IsSome, Result, Ok, Err}
 use Rattle.tp_model.specs.Steps.{IsServerStage, rows_of}
 use Rattle.tp_model.specs.declared.types.Limits.{Limits}
 use Rattle.tp_model.specs.declared.types.Refusal.{Refusal}
-use Rattle.tp_model.specs.declared.types.TheConstants.{MAX_OUTPUTS}
 use Rattle.tp_manager.specs.Shown.{PassShown}
 use Rattle.tp_manager.specs.Calls.{Follows, HasLooked, IsQuiet}
-use Rattle.covetrivet_c.specs.declared.shapes.DraftIn.{DraftIn}
-use Rattle.covetrivet_c.specs.Shapes.{IsDraftIn}
 use Rattle.covetrivet_c.specs.declared.fault.Fault.{Fault}
 use Rattle.covetrivet_c.specs.declared.fault.Fault.TheVariants as faults
 
@@ -64,10 +60,3 @@ abbrev pub IsNoClaim : ℕ → PassShown → Fault → Type 0
 IsNoClaim stage pass faults.BadStage = ¬ IsServerStage stage
 IsNoClaim stage pass faults.Busy = IsServerStage stage × IsSome pass.open_unit
 IsNoClaim stage pass other = ⊥
-
--- there are too many drafts, or one is of no stage, or the pass has no unit open
-abbrev pub IsNoCommit : List DraftIn → PassShown → Fault → Type 0
-IsNoCommit drafts pass faults.TooMany = MAX_OUTPUTS < length drafts
-IsNoCommit drafts pass faults.BadDraft = ¬ All IsDraftIn drafts
-IsNoCommit drafts pass faults.NoOpen = pass.open_unit ≡ None
-IsNoCommit drafts pass other = ⊥

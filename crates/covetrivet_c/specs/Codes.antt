@@ -20,7 +20,7 @@ refusal_code refusals.NotWaiting = 14
 refusal_code refusals.NoUnit = 15
 
 -- 0 is for what was asked, 1 for a handle that leads to nothing, 2 for one that is to be opened and isn't
--- closed
+-- closed; the header has 25, and those from 27 on
 abbrev pub code_of : Fault → ℕ
 code_of (faults.Refused r) = refusal_code r
 code_of faults.NoPart = 5
@@ -34,3 +34,4 @@ code_of faults.TooMany = 21
 code_of faults.BadDraft = 22
 code_of faults.NotAll = 23
 code_of faults.Unequal = 24
+code_of faults.FullLost = 26

@@ -1,5 +1,5 @@
 -- What making, opening, closing and handing back answer.
-use Rattle.std.specs.Prelude.{◌≡◌, ℕ, ◌+◌, List, Option, Some, None}
+use Rattle.std.specs.Prelude.{◌≡◌, ◌<◌, ◌≤◌, ℕ, ◌+◌, List, Option, Some, None}
 use Rattle.std.specs.Arc.{arc_value}
 use Rattle.tp_model.specs.Steps.{rows_of}
 use Rattle.tp_model.specs.declared.types.Limits.{Limits}
@@ -12,7 +12,8 @@ use Rattle.covetrivet_c.specs.declared.home.Home.{Home}
 use Rattle.covetrivet_c.specs.declared.shapes.RoomOut.{RoomOut}
 use Rattle.covetrivet_c.specs.Callers.{caller_limits}
 use Rattle.covetrivet_c.specs.Codes.{code_of}
-use Rattle.tp_manager.specs.Shown.{PassShown}
+use Rattle.tp_manager.specs.Shown.{PassShown, low_of}
+use Rattle.tp_model.specs.declared.types.TheConstants.{REPLY_STAGE}
 use Rattle.covetrivet_c.specs.Homes.{IsNewHome, IsNumberUnlent, IsUnlent, IsUnmade, LendsFirst, LendsNumber}
 use Rattle.covetrivet_c.specs.Homes.{TakesHome, home_limits}
 
@@ -66,6 +67,11 @@ HandsBack (Some h) (Some h') None c' code = (code ≡ 1) × (h' ≡ h) × (c' �
 HandsBack (Some h) None c c' code = ⊥
 HandsBack None h' c c' code = (code ≡ 1) × (h' ≡ None) × (c' ≡ c)
 
+-- The caller's handle leads to nothing. Where both led somewhere the pass is at home, as by handing it back.
+abbrev pub Closes : Option Home → Option Home → Option Caller → Option Caller → ℕ → Type 0
+Closes (Some h) h' (Some c) c' code = HandsBack (Some h) h' (Some c) c' code
+Closes h h' c c' code = (code ≡ 0) × (h' ≡ h) × (c' ≡ None)
+
 -- what is written is this of the manager, which stays as it is
 abbrev pub ShowsHome : {Y : Type 0} → (Home → Y) → Option Home → Option Home → ℕ → Y → Y → Type 0
 ShowsHome shape (Some h) is code old new = (is ≡ Some h) × (code ≡ 0) × (new ≡ shape h)
@@ -78,6 +84,13 @@ capacity_of h = rows_of (home_limits h)
 -- what is left to the pass
 abbrev pub IsRoom : Caller → RoomOut → Type 0
 IsRoom c room = (room.rows ≡ c.pass.left) × (claims_in c.pass.mine + room.units ≡ (caller_limits c).units)
+
+-- the mark of a part that is about a stage; BAD_STAGE beyond the last one
+abbrev pub ShowsLow : ℕ → ℕ → Option Caller → Option Caller → ℕ → ℕ → ℕ → Type 0
+ShowsLow stage part (Some c) is code old new = (is ≡ Some c)
+    × (stage ≤ REPLY_STAGE → (code ≡ 0) × (new ≡ low_of c.pass stage part))
+    × (REPLY_STAGE < stage → (code ≡ 6) × (new ≡ old))
+ShowsLow stage part None is code old new = (is ≡ None) × (code ≡ 1) × (new ≡ old)
 
 -- both, where they are open, are of one manager
 abbrev pub IsOneManager : Option Caller → Option Caller → Type 0

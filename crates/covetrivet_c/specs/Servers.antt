@@ -1,28 +1,31 @@
 -- What the calls of a server answer, over the limits, the pass before and after, and the answer.
-use Rattle.std.specs.Prelude.{◌≡◌, ◌<◌, ℕ, IfSome, List, MatchResult, None, Result, Ok, Err, length, map}
+use Rattle.std.specs.Prelude.{◌≡◌, ◌<◌, ℕ, IfSome, List, None, Result, Ok, Err, length, map}
+use Rattle.std.specs.List.{All}
 use Rattle.tp_model.specs.declared.types.Limits.{Limits}
 use Rattle.tp_model.specs.declared.types.Work.{Work}
 use Rattle.tp_model.specs.declared.types.Claimed.{Claimed}
 use Rattle.tp_model.specs.declared.types.Claimed.TheVariants as claimeds
+use Rattle.tp_model.specs.declared.types.Ended.{Ended}
 use Rattle.tp_model.specs.declared.types.Ended.TheVariants as endeds
 use Rattle.tp_model.specs.declared.types.Outcome.{Outcome}
 use Rattle.tp_model.specs.declared.types.Outcome.TheVariants as outcomes
 use Rattle.tp_model.specs.declared.types.Refusal.TheVariants as refusals
+use Rattle.tp_model.specs.declared.types.TheConstants.{MAX_OUTPUTS}
 use Rattle.tp_model.specs.Drafts.{DraftView}
 use Rattle.tp_manager.specs.Shown.{PassShown, marks_of}
 use Rattle.tp_manager.specs.Bounds.{abort_steps, claim_id_steps, claim_next_steps, claim_next_steps_left}
 use Rattle.tp_manager.specs.Bounds.{claim_steps, claim_steps_left, commit_steps}
-use Rattle.tp_manager.specs.Calls.{AnswersAbort, Claims, ClaimsNext, Follows, HasEnded, Settles, claims_in}
+use Rattle.tp_manager.specs.Calls.{AnswersAbort, Claims, ClaimsNext, Follows, HasEnded, SettlesApart}
+use Rattle.tp_manager.specs.Calls.{claims_in}
 use Rattle.tp_manager.specs.Given.{ClaimIdFails, TakesId}
 use Rattle.tp_manager.specs.Raises.{RaisesMarks}
 use Rattle.covetrivet_c.specs.declared.shapes.BornOut.{BornOut}
 use Rattle.covetrivet_c.specs.declared.shapes.DraftIn.{DraftIn}
 use Rattle.covetrivet_c.specs.declared.fault.Fault.{Fault}
 use Rattle.covetrivet_c.specs.declared.fault.Fault.TheVariants as faults
-use Rattle.covetrivet_c.specs.Asked.{ManagerAsked, GoesSteps, IsBusy, IsNoClaim, IsNoCommit, LooksAtId}
+use Rattle.covetrivet_c.specs.Asked.{ManagerAsked, GoesSteps, IsBusy, IsNoClaim, LooksAtId}
 use Rattle.covetrivet_c.specs.Asked.{StaysFree}
-use Rattle.covetrivet_c.specs.Codes.{code_of, refusal_code}
-use Rattle.covetrivet_c.specs.Shapes.{draft_given}
+use Rattle.covetrivet_c.specs.Shapes.{IsDraftIn, draft_given}
 
 -- the claim's answer, as the manager gives it
 abbrev pub Claiming : (Claimed → Type 0) → ℕ → PassShown → PassShown → Result Work Fault → Type 0
@@ -62,20 +65,24 @@ AbortSays l old new (Err faults.Lost) =
 AbortSays l old new (Err faults.NoOpen) = (new ≡ old) × (old.open_unit ≡ None)
 AbortSays l old new (Err other) = ⊥
 
--- a commit of these drafts
-abbrev pub CommitsDrafts : Limits → List DraftView → PassShown → PassShown → Outcome → Type 0
-CommitsDrafts l drafts old new it =
-    EndsOpenUnit (commit_steps l (length drafts)) old new × Settles drafts old new it
+-- a commit of these drafts, as the manager gives it
+abbrev pub CommitsDrafts : List DraftView → Limits → PassShown → PassShown → Result Outcome Ended → Type 0
+CommitsDrafts drafts l old new it =
+    EndsOpenUnit (commit_steps l (length drafts)) old new × SettlesApart drafts old new it
+
+-- and told: FULL where this call aborted the unit, FULL_LOST where another caller had
+abbrev pub CommitTold : List DraftView → Limits → PassShown → PassShown → Result BornOut Fault → Type 0
+CommitTold drafts l old new (Ok born) =
+    CommitsDrafts drafts l old new (Ok (outcomes.Committed born.first born.count))
+CommitTold drafts l old new (Err faults.Lost) = CommitsDrafts drafts l old new (Ok outcomes.Lost)
+CommitTold drafts l old new (Err (faults.Refused refusals.Full)) =
+    CommitsDrafts drafts l old new (Err endeds.Aborted)
+CommitTold drafts l old new (Err faults.FullLost) = CommitsDrafts drafts l old new (Err endeds.AlreadyAborted)
+CommitTold drafts l old new (Err faults.NoOpen) = (new ≡ old) × (old.open_unit ≡ None)
+CommitTold drafts l old new (Err other) = ⊥
 
 -- `commit`
-abbrev pub CommitSays : List DraftIn → Limits → PassShown → PassShown → Result Outcome Fault → Type 0
-CommitSays drafts l old new r = MatchResult r (CommitsDrafts l (map draft_given drafts) old new)
-    (λ f. (new ≡ old) × IsNoCommit drafts old f)
-
--- how the code, and the ids that are written, tell it
-abbrev pub TellsOutcome : Result Outcome Fault → ℕ → BornOut → BornOut → Type 0
-TellsOutcome (Ok (outcomes.Committed first count)) code old new =
-    (code ≡ 0) × (new ≡ record { first = first; count = count })
-TellsOutcome (Ok outcomes.Lost) code old new = (code ≡ code_of faults.Lost) × (new ≡ old)
-TellsOutcome (Ok outcomes.Full) code old new = (code ≡ refusal_code refusals.Full) × (new ≡ old)
-TellsOutcome (Err f) code old new = (code ≡ code_of f) × (new ≡ old)
+abbrev pub CommitSays : List DraftIn → Limits → PassShown → PassShown → Result BornOut Fault → Type 0
+CommitSays drafts l old new (Err faults.TooMany) = (new ≡ old) × (MAX_OUTPUTS < length drafts)
+CommitSays drafts l old new (Err faults.BadDraft) = (new ≡ old) × ¬ All IsDraftIn drafts
+CommitSays drafts l old new other = CommitTold (map draft_given drafts) l old new other

@@ -1,5 +1,5 @@
 -- What crosses between the library and C.
-use Rattle.std.specs.Prelude.{ℕ, ◌≤◌, Option, Some, None}
+use Rattle.std.specs.Prelude.{ℕ, ◌≤◌, List, [], ◌∷◌, Option, Some, None}
 use Rattle.tp_model.specs.Drafts.{DraftView}
 use Rattle.tp_model.specs.declared.types.TheConstants.{REPLY_STAGE}
 use Rattle.covetrivet_c.specs.declared.shapes.DraftIn.{DraftIn}
@@ -82,3 +82,7 @@ moved_shape m = record {
   new_root = m.new_root;
   holder = number_code m.holder;
 }
+
+-- how many bytes each type that crosses takes, and of a handle what the library uses, in the order that C knows
+abbrev pub sizes : List ℕ
+sizes = 10 ∷ 48 ∷ 56 ∷ 4 ∷ 56 ∷ 40 ∷ 8 ∷ 4 ∷ 4 ∷ 20 ∷ 20 ∷ 8 ∷ 8 ∷ []

@@ -74,3 +74,6 @@ pub const NOT_ALL: u32 = 23;
 
 /// What stands in the new manager isn't what is alive in the old one.
 pub const UNEQUAL: u32 = 24;
+
+/// There is no row left for the drafts, and another caller had aborted the unit of work.
+pub const FULL_LOST: u32 = 26;

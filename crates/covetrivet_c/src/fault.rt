@@ -3,8 +3,8 @@ ghost use Rattle.std.specs.Prelude.{◌≡◌};
 ghost use Rattle.covetrivet_c.specs.Codes.{code_of, refusal_code};
 
 use crate::codes::{
-    ALREADY_KILLED, BAD_DRAFT, BAD_LIMITS, BAD_STAGE, BUSY, CONSUMED, FULL, IDLE, LOST, NO_MEMORY,
-    NO_OPEN, NO_PART, NO_ROUND, NO_UNIT, NONE, NOT_ALL, NOT_HELD, NOT_PARKED, NOT_THERE,
+    ALREADY_KILLED, BAD_DRAFT, BAD_LIMITS, BAD_STAGE, BUSY, CONSUMED, FULL, FULL_LOST, IDLE, LOST,
+    NO_MEMORY, NO_OPEN, NO_PART, NO_ROUND, NO_UNIT, NONE, NOT_ALL, NOT_HELD, NOT_PARKED, NOT_THERE,
     NOT_WAITING, TOO_MANY, UNEQUAL,
 };
 use tp_model::types::Refusal;
@@ -36,6 +36,8 @@ pub enum Fault {
     NotAll,
     /// What stands in the new manager isn't what is alive in the old one.
     Unequal,
+    /// There is no row left for the drafts, and another caller had aborted the unit of work.
+    FullLost,
 }
 
 /// The number of a refusal.
@@ -76,6 +78,7 @@ impl Fault {
             Fault::NoPart => NO_PART,
             Fault::NotAll => NOT_ALL,
             Fault::Unequal => UNEQUAL,
+            Fault::FullLost => FULL_LOST,
         }
     }
 }

@@ -1,14 +1,14 @@
 //! What C asks of a caller alone, and of two.
 ghost use Rattle.std.specs.Prelude.{◌≡◌};
-ghost use Rattle.tp_manager.specs.Shown.{low_of};
-ghost use Rattle.covetrivet_c.specs.Makes.{IsOneManager, IsRoom, Meeting};
+ghost use Rattle.covetrivet_c.specs.Makes.{IsOneManager, IsRoom, Meeting, ShowsLow};
 ghost use Rattle.covetrivet_c.specs.Callers.{open_code};
 ghost use Rattle.covetrivet_c.specs.Told.{ShowsOfCaller};
 
 use crate::caller_handle::CallerHandle;
-use crate::codes::{CLOSED, OK};
+use crate::codes::{BAD_STAGE, CLOSED, OK};
 use crate::shapes::RoomOut;
 use std::alloc::Global;
+use tp_model::types::REPLY_STAGE;
 
 /// Writes how many rows and units of work are left to the pass, spare blocks aside.
 #[unsafe(no_mangle)]
@@ -50,7 +50,8 @@ pub extern "C" fn covetrivet_number(
     OK
 }
 
-/// Writes the mark of a part that is about a stage, as the pass last loaded or set it.
+/// Writes the mark of a part that is about a stage, 1 to 15, or with 0 about all, as the pass last loaded or
+/// set it.
 #[unsafe(no_mangle)]
 pub extern "C" fn covetrivet_low(
     alloc: Global,
@@ -59,14 +60,16 @@ pub extern "C" fn covetrivet_low(
     part: u16,
     low: &mut u16,
 ) -> u32
-    ensures answer { ShowsOfCaller (λ c n. n ≡ low_of c.pass stage part)
-        caller.old.held caller.new.held result low.old low.new }
+    ensures answer { ShowsLow stage part caller.old.held caller.new.held result low.old low.new }
 {
     let Some(inner) = caller.lift(alloc) else {
         return CLOSED;
     };
     let found = inner.pass.low(stage, part);
     caller.set(inner);
+    if stage > REPLY_STAGE {
+        return BAD_STAGE;
+    }
     *low = found;
     OK
 }

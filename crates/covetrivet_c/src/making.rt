@@ -1,10 +1,12 @@
 //! What C calls to make, open, close and hand back.
-ghost use Rattle.std.specs.Prelude.{◌≡◌, None};
-ghost use Rattle.covetrivet_c.specs.Makes.{HandsBack, IsOfHome, MakesHome, OpensCaller, OpensNumber};
+ghost use Rattle.std.specs.Prelude.{◌≡◌, None, Some};
+ghost use Rattle.covetrivet_c.specs.Makes.{Closes, HandsBack, IsOfHome, MakesHome, OpensCaller, OpensNumber};
+ghost use Rattle.std.specs.Arc.{arc_value};
 ghost use Rattle.covetrivet_c.specs.Makes.{ShowsHome, capacity_of};
 ghost use Rattle.covetrivet_c.specs.Homes.{home_limits};
 ghost use Rattle.covetrivet_c.specs.Shapes.{limits_in, limits_shape};
 
+use crate::caller::Caller;
 use crate::caller_handle::CallerHandle;
 use crate::codes::{CLOSED, NO_MEMORY, OK, OPEN};
 use crate::home::Home;
@@ -36,10 +38,12 @@ pub extern "C" fn covetrivet_make(
 
 /// Gives up a manager, with the passes that are at home. Its callers go on.
 #[unsafe(no_mangle)]
-pub extern "C" fn covetrivet_give_up(alloc: Global, manager: &mut HomeHandle)
+pub extern "C" fn covetrivet_give_up(alloc: Global, manager: &mut HomeHandle) -> u32
     ensures closed { manager.new.held ≡ None }
+    ensures code { result ≡ 0 }
 {
     let _ = manager.lift(alloc);
+    OK
 }
 
 /// Opens a caller with the first pass that is at home. Its handle leads to nothing before.
@@ -98,13 +102,48 @@ pub extern "C" fn covetrivet_open_number(
     }
 }
 
-/// Closes a caller, and gives up its pass. Its open unit of work stays open: the element stays held, and
-/// another caller can release it.
-#[unsafe(no_mangle)]
-pub extern "C" fn covetrivet_close(alloc: Global, caller: &mut CallerHandle)
-    ensures closed { caller.new.held ≡ None }
+/// A caller of this manager is at home, where there is room for it, which is so of one of its own.
+fn bring_home(
+    mut home: Box<Home, Global>,
+    inner: Box<Caller, Global>,
+    manager: &mut HomeHandle,
+    caller: &mut CallerHandle,
+) -> u32
+    requires of { arc_value inner.value.manager ≡ arc_value home.value.manager }
+    requires closed { caller.old.held ≡ None }
+    ensures answer { HandsBack (Some home.value) manager.new.held (Some inner.value) caller.new.held result }
 {
-    let _ = caller.lift(alloc);
+    match home.hand_back(inner) {
+        Ok(()) => {
+            manager.set(home);
+            OK
+        }
+        Err(inner) => {
+            caller.set(inner);
+            manager.set(home);
+            NO_MEMORY
+        }
+    }
+}
+
+/// Closes a caller, in any state of both handles. Where the manager's leads to its manager the pass is at home
+/// again, with what it has in hand. Where that was given up, the pass is too.
+#[unsafe(no_mangle)]
+pub extern "C" fn covetrivet_close(
+    alloc: Global,
+    manager: &mut HomeHandle,
+    caller: &mut CallerHandle,
+) -> u32
+    requires of { IsOfHome manager.old.held caller.old.held }
+    ensures answer { Closes manager.old.held manager.new.held caller.old.held caller.new.held result }
+{
+    let Some(inner) = caller.lift(alloc) else {
+        return OK;
+    };
+    match manager.lift(alloc) {
+        Some(home) => bring_home(home, inner, manager, caller),
+        None => OK,
+    }
 }
 
 /// Hands a caller of this manager back: its pass is at home, and its handle leads to nothing.
@@ -117,24 +156,14 @@ pub extern "C" fn covetrivet_hand_back(
     requires of { IsOfHome manager.old.held caller.old.held }
     ensures answer { HandsBack manager.old.held manager.new.held caller.old.held caller.new.held result }
 {
-    let Some(mut home) = manager.lift(alloc) else {
+    let Some(home) = manager.lift(alloc) else {
         return CLOSED;
     };
     let Some(inner) = caller.lift(alloc) else {
         manager.set(home);
         return CLOSED;
     };
-    match home.hand_back(inner) {
-        Ok(()) => {
-            manager.set(home);
-            OK
-        }
-        Err(inner) => {
-            caller.set(inner);
-            manager.set(home);
-            NO_MEMORY
-        }
-    }
+    bring_home(home, inner, manager, caller)
 }
 
 /// Writes the limits that the manager was made with.

@@ -1,17 +1,12 @@
 //! What C calls as a server.
-ghost use Rattle.std.specs.Prelude.{◌≡◌, Result};
-ghost use Rattle.tp_model.specs.declared.types.Outcome.{Outcome};
-ghost use Rattle.covetrivet_c.specs.declared.fault.Fault.{Fault};
-ghost use Rattle.covetrivet_c.specs.Callers.{caller_limits};
 ghost use Rattle.covetrivet_c.specs.Servers.{AbortSays, ClaimIdSays, ClaimNextSays, ClaimSays, CommitSays};
-ghost use Rattle.covetrivet_c.specs.Servers.{TellsOutcome};
 ghost use Rattle.covetrivet_c.specs.Shapes.{work_shape};
-ghost use Rattle.covetrivet_c.specs.Told.{AnswersByCode, Ends, Through};
+ghost use Rattle.covetrivet_c.specs.Told.{AnswersByCode, Ends};
 
 use crate::caller_handle::CallerHandle;
 use crate::codes::CLOSED;
 use crate::shapes::{BornOut, DraftIn, WorkOut};
-use crate::telling::{tell_commit, tell_end, tell_work};
+use crate::telling::{tell, tell_end, tell_work};
 use std::alloc::Global;
 
 /// Takes the first element of a stage, 1 to 14, that waits, and writes it.
@@ -92,14 +87,13 @@ pub extern "C" fn covetrivet_commit(
     drafts: &[DraftIn],
     born: &mut BornOut,
 ) -> u32
-    ensures answer { Through caller.old.held caller.new.held result
-        (λ old new. (r : Result Outcome Fault) × TellsOutcome r result born.old born.new
-        × CommitSays drafts.now (caller_limits old) old.pass new.pass r) (born.new ≡ born.old) }
+    ensures answer { AnswersByCode (λ b. b) (CommitSays drafts.now)
+        caller.old.held caller.new.held result born.old born.new }
 {
     let Some(mut inner) = caller.lift(alloc) else {
         return CLOSED;
     };
     let answer = inner.commit(drafts);
     caller.set(inner);
-    tell_commit(answer, born)
+    tell(answer, born)
 }

@@ -1,17 +1,15 @@
 //! The calls of a server.
 use crate::caller::Caller;
 use crate::fault::Fault;
-use crate::shapes::{DraftIn, draft_in};
+use crate::shapes::{BornOut, DraftIn, draft_in};
 use tp_model::types::{Claimed, Draft, Ended, MAX_STAGE, Outcome, Refusal, Work};
 
 impl Caller {
-    ghost use Rattle.std.specs.Prelude.{◌≡◌, ◌≤◌, MatchResult, None, length};
+    ghost use Rattle.std.specs.Prelude.{◌≡◌, ◌≤◌, length};
     ghost use Rattle.tp_model.specs.declared.types.TheConstants.{MAX_OUTPUTS};
-    ghost use Rattle.covetrivet_c.specs.declared.fault.Fault.TheVariants as faults;
     ghost use Rattle.covetrivet_c.specs.Callers.{caller_limits};
     ghost use Rattle.covetrivet_c.specs.Servers.{AbortSays, ClaimIdSays, ClaimNextSays, ClaimSays};
-    ghost use Rattle.covetrivet_c.specs.Servers.{CommitSays};
-    ghost use Rattle.covetrivet_c.specs.Servers.{CommitsDrafts};
+    ghost use Rattle.covetrivet_c.specs.Servers.{CommitSays, CommitTold};
 
     /// Takes the first element of a stage, 1 to 14, that waits.
     pub fn claim(&mut self, stage: u8) -> Result<Work, Fault>
@@ -78,21 +76,25 @@ impl Caller {
     }
 
     /// Commits the open unit of work with these drafts, at most four.
-    fn commit_drafts(&mut self, drafts: &[Draft]) -> Result<Outcome, Fault>
+    fn commit_drafts(&mut self, drafts: &[Draft]) -> Result<BornOut, Fault>
         requires few { length drafts.now ≤ MAX_OUTPUTS }
         ensures manager { self.new.manager ≡ self.old.manager }
-        ensures answer { MatchResult result
-            (CommitsDrafts (caller_limits self.old) drafts.now self.old.pass self.new.pass)
-            (λ f. (self.new.pass ≡ self.old.pass) × (f ≡ faults.NoOpen) × (self.old.pass.open_unit ≡ None)) }
+        ensures answer { CommitTold drafts.now (caller_limits self.old) self.old.pass self.new.pass result }
     {
         if !self.pass.has_open() {
             return Err(Fault::NoOpen);
         }
-        Ok(self.manager.commit(&mut self.pass, drafts))
+        match self.manager.commit_apart(&mut self.pass, drafts) {
+            Ok(Outcome::Committed { first, count }) => Ok(BornOut { first, count }),
+            Ok(Outcome::Lost) => Err(Fault::Lost),
+            Ok(Outcome::Full) => unreachable!(),
+            Err(Ended::Aborted) => Err(Fault::Refused(Refusal::Full)),
+            Err(Ended::AlreadyAborted) => Err(Fault::FullLost),
+        }
     }
 
-    /// Commits the open unit of work with these drafts.
-    pub fn commit(&mut self, drafts: &[DraftIn]) -> Result<Outcome, Fault>
+    /// Commits the open unit of work with these drafts. Which outputs are born.
+    pub fn commit(&mut self, drafts: &[DraftIn]) -> Result<BornOut, Fault>
         ensures manager { self.new.manager ≡ self.old.manager }
         ensures answer { CommitSays drafts.now (caller_limits self.old) self.old.pass self.new.pass result }
     {

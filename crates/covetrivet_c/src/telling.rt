@@ -1,17 +1,16 @@
 //! Answers as C gets them: a code, and what is written where it is 0.
 ghost use Rattle.std.specs.Prelude.{◌≡◌};
-ghost use Rattle.covetrivet_c.specs.Servers.{TellsOutcome};
 ghost use Rattle.covetrivet_c.specs.Shapes.{counts_shape, element_shape, look_shape, moved_shape};
 ghost use Rattle.covetrivet_c.specs.Shapes.{released_shape, work_shape};
 ghost use Rattle.covetrivet_c.specs.Told.{TellsByCode, TellsEnd};
 
-use crate::codes::{FULL, LOST, OK};
+use crate::codes::OK;
 use crate::fault::Fault;
 use crate::shapes::{
-    BornOut, CountsOut, ElementOut, LookOut, MovedOut, ReleasedOut, WorkOut, counts_out,
-    element_out, look_out, moved_out, released_out, work_out,
+    CountsOut, ElementOut, LookOut, MovedOut, ReleasedOut, WorkOut, counts_out, element_out,
+    look_out, moved_out, released_out, work_out,
 };
-use tp_model::types::{Counts, Element, Look, Outcome, Released, Work};
+use tp_model::types::{Counts, Element, Look, Released, Work};
 use tp_rollover::Moved;
 
 /// Writes an answer that crosses as it is.
@@ -75,21 +74,6 @@ pub(crate) fn tell_work(answer: Result<Work, Fault>, out: &mut WorkOut) -> u32
             *out = work_out(&work);
             OK
         }
-        Err(fault) => fault.code(),
-    }
-}
-
-/// Writes which outputs are born.
-pub(crate) fn tell_commit(answer: Result<Outcome, Fault>, born: &mut BornOut) -> u32
-    ensures { TellsOutcome answer result born.old born.new }
-{
-    match answer {
-        Ok(Outcome::Committed { first, count }) => {
-            *born = BornOut { first, count };
-            OK
-        }
-        Ok(Outcome::Lost) => LOST,
-        Ok(Outcome::Full) => FULL,
         Err(fault) => fault.code(),
     }
 }

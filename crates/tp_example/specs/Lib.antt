@@ -1,3 +1,4 @@
 pub mod Sales
 pub mod Shop
 pub mod Quotes
+pub mod Handover

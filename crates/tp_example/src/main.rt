@@ -5,28 +5,57 @@
 ghost use Rattle.std.specs.Prelude.{◌≡◌, None};
 ghost use Rattle.tp_manager.specs.Shown.{IsOf};
 
+mod handover;
 mod quotes;
 mod sales;
 mod stock;
 
+use handover::hand_over;
 use quotes::{Prices, Quotes};
 use sales::sell;
 use std::process::ExitCode;
+use std::thread::Threads;
 use stock::Stock;
 use tp_desk::Desk;
 use tp_manager::{Keeper, Manager, Pass};
-use tp_model::types::Limits;
+use tp_model::types::{Claimed, Limits};
 use tp_server::{OwnServer, Server};
 use tp_workers::ProgramFault;
 
 fn main(rt: HostRuntime) -> ExitCode {
-    match trade(&rt) {
+    let done = match trade(&rt) {
+        Ok(()) => trade_from_afar(&rt),
+        Err(trouble) => Err(trouble),
+    };
+    match done {
         Ok(()) => ExitCode::SUCCESS,
         Err(trouble) => {
             let _ = eprintln!(&rt; "{trouble:?}");
             ExitCode::FAILURE
         }
     }
+}
+
+/// One order from another thread, which the shop finds by its receipt.
+fn trade_from_afar<R: AllocGlobal + Print + Threads + Sync>(rt: &R) -> Result<(), ProgramFault> {
+    let limits = Limits {
+        parts: 2,
+        rows: 1,
+        units: 1,
+        attempts: 1,
+        spare: 0,
+    };
+    let (manager, mut keeper) = Keeper::new(rt.alloc(), limits)?;
+    let mut client = keeper.pass(&manager)?;
+    let mut shop = keeper.pass(&manager)?;
+    let order = [0, 1, 75, 3];
+    let (sent, answer) = hand_over(rt, rt.alloc(), &manager, &mut client, &mut shop, order)?;
+    match answer {
+        Some(Claimed::Work(work)) => println!(rt; "order {} from another thread", work.element.id)?,
+        Some(_) => println!(rt; "nothing to do")?,
+        None => println!(rt; "no receipt, sent: {sent}")?,
+    }
+    Ok(())
 }
 
 /// A day of the shop, with a client's pass and one for the shop's server.

@@ -5,6 +5,9 @@ pub mod Follows
 pub mod Makes
 pub mod Gains
 pub mod Passes
+pub mod Receipts
+pub mod Observed
+pub mod Waits
 pub mod Unseen
 pub mod Fresh
 pub mod Upwards

@@ -285,6 +285,13 @@ meet_steps = 3
 abbrev pub met_steps : ℕ
 met_steps = 1
 
+-- a receipt: a load that cuts it off. Who follows it joins it, and looks
+abbrev pub receipt_steps : ℕ
+receipt_steps = 1
+
+abbrev pub follow_steps : ℕ
+follow_steps = 2
+
 -- n passes look together: the first meets each other one, and then all others at once
 abbrev pub lead_steps : ℕ → ℕ
 lead_steps n = meet_steps * n
@@ -341,6 +348,7 @@ pub record RoundBounds (l : Limits) : Type 0 where
   pub family : (n : ℕ) → family_look_steps l n ≤ 2 * n + 2 * changes l.attempts + 11
   pub next_error : next_error_steps l ≤ rows_of l * 7 + 3 * l.parts + 3 * drawn_steps l.spare
   pub meet : meet_steps ≤ 3
+  pub follow : receipt_steps + follow_steps ≤ 3
   pub gather : (n : ℕ) → 1 ≤ n → n ≤ l.parts → gather_steps l n + 1 ≡ 5 * n + 2 * l.parts
   pub account : AreLimits l → (n : ℕ) → n ≤ l.parts
       → account_steps l n ≤ rows_of l * (2 * changes l.attempts + 10) + 2 * l.parts

@@ -1,6 +1,7 @@
 -- What the calls answer, and what they leave. In each definition `old` is what the pass shows before the
 -- call, and `new` what it shows after it.
 use Rattle.std.specs.Prelude.{◌≡◌, ℕ, ◌+◌, ◌*◌, ◌<◌, ◌≤◌, ◌⊎◌, List, [], ◌∷◌, ◌++◌, length, drop, Some, None}
+use Rattle.std.specs.Prelude.{Result, Ok, Err}
 use mathlib.Core.List.{IsPrefix}
 use Rattle.tp_model.specs.declared.types.Element.{Element}
 use Rattle.tp_model.specs.declared.types.Limits.{Limits}
@@ -253,6 +254,13 @@ Settles drafts old new outcomes.Lost = (u : ℕ) × Closes u old new × (row : �
     × UsesRows (length drafts) row old new
     × Loses u old new
 Settles drafts old new (outcomes.Committed first count) = Commits first count drafts old new
+
+-- and one that tells of Full what the unit had come to
+abbrev pub SettlesApart : List DraftView → PassShown → PassShown → Result Outcome Ended → Type 0
+SettlesApart drafts old new (Ok outcomes.Full) = ⊥
+SettlesApart drafts old new (Ok outcome) = Settles drafts old new outcome
+SettlesApart drafts old new (Err ended) = (old.left < length drafts) × (new.seen_blocks ≡ old.limits.spare)
+    × AnswersAbort old new ended
 
 -- the event is an Abort by pass c, between two histories, of a unit that held element i where the Abort
 -- stands

@@ -14,6 +14,8 @@ pub mod Drafts
 pub mod Looks
 pub mod Kills
 pub mod Requeues
+pub mod Receipts
+pub mod Observed
 pub mod Releases
 pub mod Given
 pub mod Meetings

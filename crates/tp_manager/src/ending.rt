@@ -3,7 +3,7 @@ ghost use Rattle.tp_model.specs.declared.types.TheConstants.{MAX_OUTPUTS};
 ghost use Rattle.std.specs.Prelude.{◌≡◌, ◌≤◌, None, IfSome, IsSome, length};
 ghost use Rattle.tp_manager.specs.Shown.{IsOf};
 ghost use Rattle.tp_manager.specs.Bounds.{abort_steps, close_steps, commit_steps};
-ghost use Rattle.tp_manager.specs.Calls.{AnswersAbort, Follows, HasEnded, Settles};
+ghost use Rattle.tp_manager.specs.Calls.{AnswersAbort, Follows, HasEnded, Settles, SettlesApart};
 
 use crate::manager::{Manager, Pass};
 use crate::streak::Streak;
@@ -90,10 +90,11 @@ impl Manager {
     /// drafts are born, with ids one after another. They use the next rows of the pass. Where too few are
     /// left to it, it draws a spare block for them; where enough are, no step is about spare blocks (`lean`).
     ///
-    /// `Full` where no block is left to draw: the unit is aborted, and no row is used. `Lost` where another
-    /// caller had aborted the unit: the rows of the drafts are used up. Whatever the answer, the pass has no
-    /// unit open any more.
+    /// `Full` where no block is left to draw: no row is used, and the unit is over. Either this call aborted
+    /// it, or another caller had: `commit_apart` tells which. `Lost` where another caller had aborted it: the
+    /// rows of the drafts are used up. Whatever the answer, the pass has no unit open any more.
     #[inline(always)]
+    #[tactic(auto, using(crate::proofs::Rows::Rooms::settles_with, crate::proofs::Rows::Rooms::settles_full))]
     pub fn commit(&self, pass: &mut Pass, drafts: &[Draft]) -> Outcome
         requires own { IsOf self.now pass.old }
         requires busy { IsSome pass.old.open_unit }
@@ -107,10 +108,32 @@ impl Manager {
         ensures ended { IfSome pass.old.open_unit (HasEnded pass.new.seen) }
         ensures answer { Settles drafts.now pass.old pass.new result }
     {
-        if self.has_room(pass, drafts.len() as u16) {
-            return self.close(pass, drafts);
+        match self.commit_apart(pass, drafts) {
+            Ok(outcome) => outcome,
+            Err(_) => Outcome::Full,
         }
-        self.abort(pass);
-        Outcome::Full
+    }
+
+    /// The same, but where no block is left to draw (`Err`) with what the unit had come to. Where this call
+    /// aborted it, its element waits again or is parked (`Aborted`). Where another caller had aborted it, what
+    /// became of the element is that caller's doing (`AlreadyAborted`).
+    #[inline(always)]
+    pub fn commit_apart(&self, pass: &mut Pass, drafts: &[Draft]) -> Result<Outcome, Ended>
+        requires own { IsOf self.now pass.old }
+        requires busy { IsSome pass.old.open_unit }
+        requires few { length drafts.now ≤ MAX_OUTPUTS }
+        ensures own { IsOf self.now pass.new }
+        ensures turn { pass.new.from ≡ pass.old.from }
+        ensures follows { Follows (commit_steps self.now.limits (length drafts.now)) pass.old pass.new }
+        ensures lean { length drafts.now ≤ pass.old.left
+            → Follows (close_steps (length drafts.now)) pass.old pass.new }
+        ensures free { pass.new.open_unit ≡ None }
+        ensures ended { IfSome pass.old.open_unit (HasEnded pass.new.seen) }
+        ensures answer { SettlesApart drafts.now pass.old pass.new result }
+    {
+        if self.has_room(pass, drafts.len() as u16) {
+            return Ok(self.close(pass, drafts));
+        }
+        Err(self.abort(pass))
     }
 }

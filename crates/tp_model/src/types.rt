@@ -158,8 +158,8 @@ pub enum Outcome {
     Committed { first: u32, count: u8 },
     /// Another caller had aborted the unit of work: none of it is seen. The rows of its drafts stay unused.
     Lost,
-    /// The pass has too few rows left for the outputs, and no spare block is left: the unit of work is
-    /// aborted.
+    /// The pass has too few rows left for the outputs, and no spare block is left: the unit of work is over.
+    /// This commit aborted it, or another caller had before, by a release, a kill or a cancel.
     Full,
 }
 

@@ -25,6 +25,7 @@ pub mod Deciding
 pub mod Killing
 pub mod Requeueing
 pub mod Meetings
+pub mod Receipts
 pub mod Raising
 pub mod Drawing
 pub mod Voiding

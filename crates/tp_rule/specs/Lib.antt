@@ -2,6 +2,7 @@ pub mod Words
 pub mod Places
 pub mod Doors
 pub mod Plays
+pub mod Receipts
 pub mod Rule
 pub mod Steps
 pub mod Tables

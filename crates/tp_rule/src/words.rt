@@ -3,6 +3,7 @@ ghost use Rattle.std.specs.Prelude.{◌≡◌, IfOk, replicate};
 ghost use Rattle.tp_rule.specs.Places.{size_of};
 ghost use Rattle.tp_rule.specs.declared.words.TheConstants.{MOST_WORDS};
 ghost use Rattle.tp_rule.specs.Views.{first_view, no_seat, view_of, HasPass, IsSameSeat};
+ghost use Rattle.tp_rule.specs.Receipts.{IsReceipt, SeatFollows, SeatLeaves};
 ghost use Rattle.tp_rule.specs.Doors.{id_of, key_of};
 ghost use Rattle.tp_rule.specs.Steps.{handed_on, handed_out, kept, parted, joined, SeatsMeet};
 
@@ -112,5 +113,31 @@ impl Words {
         self.join(seat, other);
         self.load(seat, 0);
         *other = self.part(seat);
+    }
+
+    /// The pass leaves a receipt: a seat that stands for no pass, and has seen what the pass has. This costs
+    /// a load by the pass.
+    pub fn leave(&self, seat: &mut Seat) -> Seat
+        requires own { IsSeatOf self.now seat.old }
+        requires one { IsPassOf self.now seat.old }
+        ensures same { IsSameSeat seat.old seat.new }
+        ensures at_table { IsSeatOf self.now result }
+        ensures leaves { SeatLeaves (view_of seat.old) (view_of seat.new) (view_of result) }
+    {
+        self.part(seat)
+    }
+
+    /// The pass follows a receipt, by a join and a load: it has then seen a legal history, which begins with
+    /// what the pass that left the receipt had seen by then.
+    pub fn follow(&self, seat: &mut Seat, receipt: Seat)
+        requires own { IsSeatOf self.now seat.old × IsSeatOf self.now receipt }
+        requires one { IsPassOf self.now seat.old }
+        requires receipt { IsReceipt (view_of receipt) }
+        ensures same { IsSameSeat seat.old seat.new }
+        ensures follows { SeatFollows (view_of seat.old) (view_of receipt) (view_of seat.new) }
+    {
+        let mut left = receipt;
+        self.join(seat, &mut left);
+        self.load(seat, 0);
     }
 }

@@ -1,6 +1,9 @@
 -- Calls that first look for room for rows.
-use Rattle.std.proofs.Common.{◌≡◌, ℕ, ◌+◌, ◌<◌, ◌≤◌, List, [], ◌∷◌, ◌++◌, length, sym, refl, ap, ◌∙◌, subst, inr, ⊎_elim, arith}
+use Rattle.std.proofs.Common.{◌≡◌, ℕ, ◌+◌, ◌<◌, ◌≤◌, List, [], ◌∷◌, ◌++◌, length, sym, refl, ap, ◌∙◌, subst, inl, inr, ⊎_elim, arith}
+use Rattle.std.proofs.Common.{Ok, Err}
 use Rattle.tp_model.specs.Drafts.{DraftView}
+use Rattle.tp_model.specs.declared.types.Ended.{Ended}
+use Rattle.tp_model.specs.declared.types.Ended.TheVariants as endeds
 use Rattle.tp_model.specs.declared.types.Limits.{Limits}
 use Rattle.tp_model.specs.declared.types.Outcome.{Outcome}
 use Rattle.tp_model.specs.declared.types.Outcome.TheVariants as outcomes
@@ -11,7 +14,7 @@ use Rattle.tp_rule.specs.Views.{hand}
 use Rattle.tp_rule.specs.declared.view.Hand.{Hand}
 use Rattle.tp_rule.specs.declared.view.View.{View}
 use Rattle.tp_manager.specs.Bounds.{room_steps}
-use Rattle.tp_manager.specs.Calls.{Follows, Settles, UsesRows}
+use Rattle.tp_manager.specs.Calls.{Follows, Settles, SettlesApart, UsesRows}
 use Rattle.tp_manager.specs.Draws.{HasRoom, on_block}
 use Rattle.tp_manager.specs.Shown.{PassShown, Spot, shown}
 use Rattle.tp_manager.specs.CallSteps.{Tried}
@@ -119,3 +122,21 @@ module _ (l : Limits) (p m q : PassShown) where
         first_is = r.first_is;
         count_is = r.count_is;
       }
+
+  -- with room for its drafts it isn't Full
+  pub room_settles_apart : (ds : List DraftView) (o : Outcome) → length ds ≤ 4 → HasRoom l (length ds) p m → m.seen_blocks ≤ q.seen_blocks → Settles ds m q o → SettlesApart ds p q (Ok o)
+  room_settles_apart ds outcomes.Full few room up s = absurd (⊎_elim
+      (λ t. let r = subst (λ z. Settles ds z q outcomes.Full) t.1 s in let less = r.0 in let room = t.0 in omega arith)
+      (λ t. let r = subst (λ z. Settles ds z q outcomes.Full) t.2 s in let less = r.0 in omega arith) room)
+  room_settles_apart ds outcomes.Lost few room up s = room_settles ds outcomes.Lost few room up s
+  room_settles_apart ds (outcomes.Committed first count) few room up s = room_settles ds (outcomes.Committed first count) few room up s
+
+-- what tells of Full what the unit had come to, tells the rest as a commit does
+pub settles_with : (p q : PassShown) (ds : List DraftView) (o : Outcome) → SettlesApart ds p q (Ok o) → Settles ds p q o
+settles_with p q ds outcomes.Full s = absurd s
+settles_with p q ds outcomes.Lost s = s
+settles_with p q ds (outcomes.Committed first count) s = s
+
+pub settles_full : (p q : PassShown) (ds : List DraftView) (e : Ended) → SettlesApart ds p q (Err e) → Settles ds p q outcomes.Full
+settles_full p q ds endeds.Aborted s = (s.0, s.1, (s.2.0, s.2.1, s.2.2, inl s.2.3))
+settles_full p q ds endeds.AlreadyAborted s = (s.0, s.1, (s.2.0, s.2.1, s.2.2, inr s.2.3))

@@ -33,6 +33,7 @@ returns c = record {
     family = search rules;
     next_error = listing_round l;
     meet = search rules;
+    follow = search rules;
     gather = gather_round l;
     account = account_round l;
   };

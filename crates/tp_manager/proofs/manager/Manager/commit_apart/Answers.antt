@@ -1,8 +1,8 @@
 use Rattle.std.proofs.Common.{◌+◌, length, arith}
 use Rattle.tp_manager.specs.Bounds.{abort_steps, close_steps, commit_steps, draw_steps}
 use Rattle.tp_manager.proofs.Calls.Follows.{follows_then, follows_within}
-use Rattle.tp_manager.proofs.Rows.Rooms.{room_follows, room_left, room_settles}
-use Rattle.tp_manager.proofs.manager.Manager.commit.Goals as goal
+use Rattle.tp_manager.proofs.Rows.Rooms.{room_follows, room_left, room_settles_apart}
+use Rattle.tp_manager.proofs.manager.Manager.commit_apart.Goals as goal
 
 pub returns-then-has_room-clause-follows : goal.returns-then-has_room-clause-follows
 returns-then-has_room-clause-follows c = let k = length c.args.drafts.now in
@@ -10,7 +10,7 @@ returns-then-has_room-clause-follows c = let k = length c.args.drafts.now in
 
 pub returns-then-has_room-clause-answer : goal.returns-then-has_room-clause-answer
 returns-then-has_room-clause-answer c =
-    room_settles c.args.self.now.limits c.args.pass.now c.has_room.new.pass c.close.new.pass c.args.drafts.now c.close.result c.requires.few (c.has_room.ensures.yes c.if-has_room.true) c.close.ensures.follows.drawn c.close.ensures.answer
+    room_settles_apart c.args.self.now.limits c.args.pass.now c.has_room.new.pass c.close.new.pass c.args.drafts.now c.close.result c.requires.few (c.has_room.ensures.yes c.if-has_room.true) c.close.ensures.follows.drawn c.close.ensures.answer
 
 pub returns-clause-follows : goal.returns-clause-follows
 returns-clause-follows c = let l = c.args.self.now.limits in let k = length c.args.drafts.now in

@@ -1,0 +1,3 @@
+module covetrivet
+
+go 1.19

@@ -1,0 +1,16 @@
+pub mod Accounts
+pub mod Calls
+pub mod Cancels
+pub mod Changes
+pub mod Counting
+pub mod Elements
+pub mod Ends
+pub mod Indexes
+pub mod Indexing
+pub mod Lasting
+pub mod Modelled
+pub mod Progress
+pub mod Runs
+pub mod Shelves
+pub mod Soundness
+pub mod State

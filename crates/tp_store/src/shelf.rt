@@ -1,0 +1,185 @@
+//! The elements of a store, by their ids, with all indexes.
+ghost use Rattle.std.specs.Prelude.{◌≡◌, [], true, Some, None, IfSome, OnOk, OnErr};
+ghost use Rattle.tp_store.specs.Elements.{alive_of, element_at, family_of, first_in, owned_of, put, queue_of};
+ghost use Rattle.tp_store.specs.Elements.{groups_of, reply_of, without};
+ghost use Rattle.tp_store.specs.Indexing.{gains_any};
+ghost use Rattle.tp_store.specs.Shelves.{groups_at, AreSorted, IsFoundBy, IsPutAt, IsThere};
+
+use crate::element::{Element, Groups, NO_GROUPS};
+use crate::index::Index;
+use crate::indexes::Indexes;
+use std::alloc::{AllocError, Global};
+use std::collections::BTreeMap;
+use std::marker::Model;
+
+/// The elements by their ids. What stands in a group is found without a walk over the others.
+#[derive(Drop)]
+pub(crate) struct Shelf {
+    elements: BTreeMap<u64, Element>,
+    indexes: Indexes,
+}
+
+impl Model for Shelf {
+    ghost use Rattle.tp_store.specs.Elements.{Entry};
+    ghost use Rattle.std.specs.Prelude.{List};
+    ghost use Rattle.tp_store.specs.Shelves.{AreIndexed};
+
+    ghost Value = { List Entry };
+
+    ghost view = { λ s. s.elements.entries };
+
+    ghost invariant = { λ s. AreIndexed s.elements.entries s.indexes };
+}
+
+impl Shelf {
+    /// A shelf with nothing on it.
+    pub(crate) fn new(alloc: Global) -> Shelf
+        ensures { result ≡ [] }
+    {
+        Shelf {
+            elements: BTreeMap::new(alloc),
+            indexes: Indexes::new(alloc),
+        }
+    }
+
+    /// The element with this id.
+    pub(crate) fn get(&self, id: u64) -> Option<Element>
+        ensures { result ≡ element_at id self.now }
+    {
+        match self.elements.get(&id) {
+            Some(element) => Some(*element),
+            None => None,
+        }
+    }
+
+    /// An element more, at an id that had none.
+    pub(crate) fn insert(&mut self, id: u64, element: Element) -> Result<(), AllocError>
+        requires unborn { element_at id self.old ≡ None }
+        ensures ok { OnOk result (self.new ≡ put id element self.old) }
+        ensures at { OnOk result (IsPutAt id (Some element) self.old self.new) }
+        ensures err { OnErr result (self.new ≡ self.old) }
+    {
+        let to = element.groups();
+        match self.indexes.enter(id, &NO_GROUPS, &to) {
+            Ok(()) => {}
+            Err(refused) => return Err(refused),
+        }
+        match self.elements.insert(id, element) {
+            Ok(_) => {
+                self.indexes.leave(id, &NO_GROUPS, &to);
+                Ok(())
+            }
+            Err(_) => {
+                self.indexes.leave(id, &to, &NO_GROUPS);
+                Err(AllocError)
+            }
+        }
+    }
+
+    /// The element with this id, which was the first one, is the second from now on. Memory is wanted only
+    /// where it comes into a group that it wasn't in.
+    pub(crate) fn replace(
+        &mut self,
+        id: u64,
+        before: &Element,
+        after: Element,
+    ) -> Result<(), AllocError>
+        requires there { element_at id self.old ≡ Some before.now }
+        ensures ok { OnOk result (self.new ≡ put id after self.old) }
+        ensures at { OnOk result (IsPutAt id (Some after) self.old self.new) }
+        ensures err { OnErr result (self.new ≡ self.old) }
+        ensures needed { OnErr result (gains_any (groups_of before.now) (groups_of after) ≡ true) }
+    {
+        let from = before.groups();
+        let to = after.groups();
+        match self.indexes.enter(id, &from, &to) {
+            Ok(()) => {}
+            Err(refused) => return Err(refused),
+        }
+        if let Some(element) = self.elements.get_mut(&id) {
+            *element = after;
+        }
+        self.indexes.leave(id, &from, &to);
+        Ok(())
+    }
+
+    /// The element with this id is forgotten.
+    pub(crate) fn remove(&mut self, id: u64)
+        ensures without { self.new ≡ without id self.old }
+        ensures at { IsPutAt id None self.old self.new }
+    {
+        let before = groups_at(&self.elements, id);
+        let _ = self.elements.remove(&id);
+        self.indexes.leave(id, &before, &NO_GROUPS);
+    }
+
+    /// The first one from this id on that waits in this stage; in queue 0, that is parked.
+    pub(crate) fn first_queued(&self, queue: u64, from: u64) -> Option<(u64, Element)>
+        ensures first { result ≡ first_in queue_of queue from self.now }
+        ensures there { IfSome result (IsThere self.now) }
+    {
+        found(&self.elements, &self.indexes.queues, queue, from)
+    }
+
+    /// The first reply to this request from this id on that waits.
+    pub(crate) fn first_reply(&self, root: u64, from: u64) -> Option<(u64, Element)>
+        ensures first { result ≡ first_in reply_of root from self.now }
+        ensures there { IfSome result (IsThere self.now) }
+    {
+        found(&self.elements, &self.indexes.replies, root, from)
+    }
+
+    /// The first reply to a request of this owner from this id on that waits.
+    pub(crate) fn first_owned(&self, owner: u64, from: u64) -> Option<(u64, Element)>
+        ensures first { result ≡ first_in owned_of owner from self.now }
+        ensures there { IfSome result (IsThere self.now) }
+    {
+        found(&self.elements, &self.indexes.owned, owner, from)
+    }
+
+    /// The first element of this request from this id on.
+    pub(crate) fn first_member(&self, root: u64, from: u64) -> Option<(u64, Element)>
+        ensures first { result ≡ first_in family_of root from self.now }
+        ensures there { IfSome result (IsThere self.now) }
+    {
+        found(&self.elements, &self.indexes.families, root, from)
+    }
+
+    /// The first element of this request from this id on, on which work may go on.
+    pub(crate) fn first_alive(&self, root: u64, from: u64) -> Option<(u64, Element)>
+        ensures first { result ≡ first_in alive_of root from self.now }
+        ensures there { IfSome result (IsThere self.now) }
+        ensures sorted { AreSorted self.now }
+    {
+        found(&self.elements, &self.indexes.alive, root, from)
+    }
+}
+
+/// The groups that the element with this id stands in.
+fn groups_at(elements: &BTreeMap<u64, Element>, id: u64) -> Groups
+    ensures { result ≡ groups_at (element_at id elements.now.entries) }
+{
+    match elements.get(&id) {
+        Some(element) => element.groups(),
+        None => NO_GROUPS,
+    }
+}
+
+/// The first element of a group from this id on, by an index.
+fn found(
+    elements: &BTreeMap<u64, Element>,
+    index: &Index,
+    group: u64,
+    from: u64,
+) -> Option<(u64, Element)>
+    ensures first { IsFoundBy elements.now.entries index.now group from result }
+    ensures there { IfSome result (IsThere elements.now.entries) }
+{
+    let Some(id) = index.first(group, from) else {
+        return None;
+    };
+    match elements.get(&id) {
+        Some(element) => Some((id, *element)),
+        None => None,
+    }
+}
