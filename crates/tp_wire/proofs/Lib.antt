@@ -1,0 +1,4 @@
+pub mod HeardLemmas
+pub mod ReadingLemmas
+pub mod SpendLemmas
+pub mod ToldLemmas
