@@ -1,0 +1,16 @@
+//! The texts of a session's answers, each of them one line.
+#![tactic(auto)]
+
+mod answer;
+mod elements;
+mod notes;
+mod overviews;
+mod refusals;
+mod stand_in;
+mod told;
+
+pub use answer::{Answer, line};
+pub use notes::{ReceivedAs, SentAs};
+pub use overviews::{Depth, Holder};
+pub use stand_in::{ClientNote, LineFault, Name, UnitEnd};
+pub use told::{HandTold, Told};
