@@ -1,7 +1,7 @@
 -- The texts of answers, and the lines of a session's output.
 use Rattle.std.specs.Prelude.{◌≡◌, ℕ, List, codes, decimal, map}
-use Rattle.tp_answers.specs.StandIn.{◌<>◌, line_fault_text}
-use Rattle.tp_answers.specs.declared.stand_in.LineFault.{LineFault}
+use Rattle.tp_script.specs.Fault.{◌<>◌, line_fault_text}
+use Rattle.tp_script.specs.declared.fault.LineFault.{LineFault}
 use Rattle.tp_answers.specs.declared.answer.Answer.{Answer}
 use Rattle.tp_answers.specs.declared.answer.Answer.TheVariants as answer
 use Rattle.tp_answers.specs.ElementTexts.{cancelled_text, collected_text, errors_text, family_text, killed_text}

@@ -6,7 +6,7 @@ use Rattle.tp_store.specs.Elements.{Entry}
 use Rattle.tp_store.specs.declared.element.Element.{Element}
 use Rattle.tp_store.specs.declared.element.Status.{Status}
 use Rattle.tp_store.specs.declared.element.Status.TheVariants as status
-use Rattle.tp_answers.specs.StandIn.{◌<>◌}
+use Rattle.tp_script.specs.Fault.{◌<>◌}
 
 -- ---- what calls did to one
 

@@ -1,4 +1,3 @@
-pub mod StandIn
 pub mod Refusals
 pub mod ToldTexts
 pub mod NoteTexts

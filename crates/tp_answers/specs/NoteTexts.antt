@@ -1,9 +1,10 @@
 -- What clients and workers that may crash are told: their sends and receives, and what is noted of them.
 use Rattle.std.specs.Prelude.{ℕ, ◌==◌, if◌then◌else◌, List, [], Option, Some, None, codes, decimal}
-use Rattle.tp_answers.specs.StandIn.{◌<>◌, NameView}
-use Rattle.tp_answers.specs.declared.stand_in.ClientNote.{ClientNote}
-use Rattle.tp_answers.specs.declared.stand_in.UnitEnd.{UnitEnd}
-use Rattle.tp_answers.specs.declared.stand_in.UnitEnd.TheVariants as end
+use Rattle.tp_script.specs.Fault.{◌<>◌}
+use Rattle.tp_lines.specs.Names.{NameView}
+use Rattle.tp_lines.specs.declared.line.ClientNote.{ClientNote}
+use Rattle.tp_lines.specs.declared.line.UnitEnd.{UnitEnd}
+use Rattle.tp_lines.specs.declared.line.UnitEnd.TheVariants as end
 use Rattle.tp_answers.specs.declared.notes.ReceivedAs.{ReceivedAs}
 use Rattle.tp_answers.specs.declared.notes.ReceivedAs.TheVariants as received
 use Rattle.tp_answers.specs.declared.notes.SentAs.{SentAs}

@@ -3,7 +3,8 @@ use Rattle.std.specs.Prelude.{ℕ, ◌+◌, ◌==◌, ◌&&◌, Bool, if◌then�
 use Rattle.std.specs.Prelude.{codes, decimal}
 use Rattle.std.specs.List.{flat_map}
 use Rattle.tp_store.specs.declared.counts.Counts.{Counts}
-use Rattle.tp_answers.specs.StandIn.{◌<>◌, NameView}
+use Rattle.tp_script.specs.Fault.{◌<>◌}
+use Rattle.tp_lines.specs.Names.{NameView}
 use Rattle.tp_answers.specs.declared.overviews.Depth.{Depth}
 use Rattle.tp_answers.specs.declared.overviews.Holder.{Holder}
 

@@ -2,7 +2,7 @@
 use Rattle.std.specs.Prelude.{ℕ, List, codes, decimal}
 use Rattle.tp_store.specs.declared.answers.Refusal.{Refusal}
 use Rattle.tp_store.specs.declared.answers.Refusal.TheVariants as refusal
-use Rattle.tp_answers.specs.StandIn.{◌<>◌}
+use Rattle.tp_script.specs.Fault.{◌<>◌}
 
 -- why a call was refused
 abbrev pub refusal_name : Refusal → List ℕ

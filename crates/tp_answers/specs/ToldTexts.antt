@@ -1,7 +1,8 @@
 -- What a server or a worker is told.
 use Rattle.std.specs.Prelude.{ℕ, List, codes, decimal, slice_index}
 use Rattle.tp_server.specs.Names.{declined_name}
-use Rattle.tp_answers.specs.StandIn.{◌<>◌, NameView}
+use Rattle.tp_script.specs.Fault.{◌<>◌}
+use Rattle.tp_lines.specs.Names.{NameView}
 use Rattle.tp_answers.specs.declared.told.HandTold.{HandTold}
 use Rattle.tp_answers.specs.declared.told.HandTold.TheVariants as hand
 use Rattle.tp_answers.specs.declared.told.Told.{Told}

@@ -6,11 +6,9 @@ mod elements;
 mod notes;
 mod overviews;
 mod refusals;
-mod stand_in;
 mod told;
 
 pub use answer::{Answer, line};
 pub use notes::{ReceivedAs, SentAs};
 pub use overviews::{Depth, Holder};
-pub use stand_in::{ClientNote, LineFault, Name, UnitEnd};
 pub use told::{HandTold, Told};

@@ -6,7 +6,7 @@ ghost use Rattle.tp_answers.specs.NoteTexts.{last_received_text, last_sent_text,
 ghost use Rattle.tp_answers.specs.NoteTexts.{received_as_text, received_text, registered_text, sent_as_text};
 ghost use Rattle.tp_answers.specs.NoteTexts.{sent_text};
 
-use crate::stand_in::{ClientNote, Name, UnitEnd};
+use tp_lines::{ClientNote, Name, UnitEnd};
 use crate::told::HandTold;
 use std::fmt;
 use tp_model::types::Body;

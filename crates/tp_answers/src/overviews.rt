@@ -4,7 +4,7 @@ ghost use Rattle.std.specs.Fmt.{WritesOnOk};
 ghost use Rattle.tp_answers.specs.OverviewTexts.{account_text, balance_text, counts_text, depth_text};
 ghost use Rattle.tp_answers.specs.OverviewTexts.{depths_text, final_text, holder_text, holder_view, holds_text};
 
-use crate::stand_in::Name;
+use tp_lines::Name;
 use std::fmt;
 use tp_store::counts::Counts;
 

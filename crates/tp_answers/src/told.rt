@@ -4,7 +4,7 @@ ghost use Rattle.std.specs.Fmt.{WritesOnOk};
 ghost use Rattle.tp_answers.specs.ToldTexts.{hand_text, joined_text, left_text, named_text, told_text};
 
 use crate::refusals::refusal_name;
-use crate::stand_in::Name;
+use tp_lines::Name;
 use std::fmt;
 use tp_model::types::Body;
 use tp_server::Declined;
