@@ -1,5 +1,6 @@
 -- The names of servers, workers and clients.
-use Rattle.std.specs.Prelude.{ℕ, ◌==◌, ◌&&◌, ◌||◌, nat_le, Bool, true, false, List, [], ◌∷◌, length}
+use Rattle.std.specs.Prelude.{ℕ, ◌==◌, ◌&&◌, ◌||◌, nat_le, Bool, true, false, List, [], ◌∷◌, length, Option, Some, None}
+use Rattle.std.specs.Prelude.{if◌then◌else◌}
 use Rattle.std.specs.List.{list_all}
 use Rattle.std.specs.Ordering.{nat_cmp}
 use Rattle.std.specs.Cmp.Lexicographic.{slice_cmp}
@@ -30,3 +31,7 @@ is_name w = begins_with_letter w && (nat_le (length w) MAX_NAME && list_all is_i
 -- names are in the order of their letters
 abbrev pub name_cmp : NameView → NameView → Ordering
 name_cmp a b = slice_cmp nat_cmp a.letters b.letters
+
+-- the name that a word is, if it is one
+abbrev pub name_of : List ℕ → Option NameView
+name_of w = if is_name w then Some (record { letters = w }) else None

@@ -1,0 +1,8 @@
+use Rattle.std.proofs.Common.{take, ◌++◌}
+use Rattle.std.specs.Prelude.{codes, decimal}
+use Rattle.std.specs.List.{flat_map}
+use Rattle.std.specs.Fmt.{HasWritten, IsPlainFormatter}
+use Rattle.tp_answers.proofs.elements.each_id.Given as goal
+
+abbrev pub invariant-loop-element : goal.invariant-loop-element
+invariant-loop-element g l = IsPlainFormatter l.initial.f → HasWritten g.W.Write.write_str_gives l.initial.f (flat_map (λ e. codes " " ++ decimal e.0) (take l.element-index l.elements)) l.f

@@ -1,0 +1,6 @@
+pub mod Refusals
+pub mod ToldTexts
+pub mod NoteTexts
+pub mod ElementTexts
+pub mod OverviewTexts
+pub mod Answer
