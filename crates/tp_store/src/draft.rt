@@ -3,9 +3,9 @@ ghost use Rattle.std.specs.Prelude.{◌≡◌, ◌≤◌, ◌↔◌, IsSome, IfS
 ghost use Rattle.tp_model.specs.Drafts.{DraftView};
 ghost use Rattle.tp_store.specs.declared.element.TheConstants.{LAST_STAGE};
 
-use crate::element::LAST_STAGE;
+use crate::element::{LAST_STAGE, REPLY_STAGE};
 use std::marker::Model;
-use tp_model::types::Body;
+use tp_model::types::{BODY_WORDS, Body};
 
 /// A request, or an output of a unit of work, before it is born. Its stage is 1 to 999.
 #[derive(Clone, Copy, Debug, PartialEq, Eq)]
@@ -58,5 +58,20 @@ impl Draft {
         ensures { result ≡ self.now.body }
     {
         self.body
+    }
+}
+
+/// A reply of zeros. It only fills unused places.
+impl Default for Draft {
+    ghost use Rattle.std.specs.Prelude.{[], ◌∷◌};
+    ghost use Rattle.tp_store.specs.declared.element.TheConstants.{REPLY_STAGE};
+
+    ghost is_default = { λ d. d ≡ record { stage = REPLY_STAGE; body = 0 ∷ 0 ∷ 0 ∷ 0 ∷ [] } };
+
+    fn default() -> Draft {
+        Draft {
+            body: [0; BODY_WORDS],
+            stage: REPLY_STAGE,
+        }
     }
 }

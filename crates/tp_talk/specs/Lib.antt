@@ -1,13 +1,6 @@
 pub mod State
-pub mod Roles
-pub mod Said
 pub mod Hands
 pub mod Servers
 pub mod Drains
 pub mod Workers
-pub mod Requests
-pub mod Clients
-pub mod Heads
-pub mod Dumps
-pub mod Session
 pub mod Acted

@@ -1,6 +1,5 @@
 //! What a server or a worker has in hand.
 ghost use Rattle.std.specs.Prelude.{◌≡◌};
-ghost use Rattle.tp_store.specs.Elements.{element_at};
 ghost use Rattle.tp_talk.specs.Hands.{attempt_in, hand_of, held_of, hand_told};
 
 use tp_answers::HandTold;

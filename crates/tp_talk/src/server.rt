@@ -1,12 +1,15 @@
 //! Built-in servers: registers, a recipe, and what is in hand. Registers change by commits alone.
-ghost use Rattle.std.specs.Prelude.{◌≡◌, ◌++◌, [], length, map, IfOk, OnOk, OnErr};
-ghost use Rattle.std.specs.Prelude.{slice_get, slice_index_or};
+ghost use Rattle.std.specs.Prelude.{◌≡◌, ◌<◌, ◌≤◌, Ok, Err, length, IfErr, IfOk, OnOk, slice_set};
+ghost use Rattle.tp_answers.specs.declared.told.Told.TheVariants as told;
+ghost use Rattle.tp_server.specs.Effect.{key_in};
+ghost use Rattle.tp_server.specs.declared.order.Order.TheVariants.{LeastFirst};
+ghost use Rattle.tp_store.specs.Calls.{Does};
 ghost use Rattle.tp_store.specs.Elements.{element_at};
 ghost use Rattle.tp_talk.specs.Acted.{Serves};
 ghost use Rattle.tp_talk.specs.Drains.{takes_part};
-ghost use Rattle.tp_talk.specs.Servers.{abort_by, claim_by, cleared, commit_by, commit_effect, declined, drop_by};
-ghost use Rattle.tp_talk.specs.Servers.{effect_on, gives_outputs, goes_on, holding, if_free, if_held, prepare_by};
-ghost use Rattle.tp_talk.specs.Servers.{for_recipe, server_acts, server_does, settle_with, take_by, turn_by};
+ghost use Rattle.tp_talk.specs.Servers.{abort_by, claim_by, claim_in_order, cleared, commit_by, declined, drop_by};
+ghost use Rattle.tp_talk.specs.Servers.{effect_on, for_recipe, goes_on, holding, if_free, if_held, is_other_stage};
+ghost use Rattle.tp_talk.specs.Servers.{prepare_by, server_does, settle_with, take_by, turn_by};
 
 use crate::hand::Hand;
 use arrayvec::ArrayVec;
@@ -386,143 +389,5 @@ impl Server {
         self.clear();
         self.is_dropped = true;
         Ok(Told::Dropped)
-    }
-}
-
-impl Server {
-    /// A server with registers of 0.
-    pub(crate) fn new(line: ServerLine) -> Server
-        ensures { result ≡ new_server line }
-    {
-        let ServerLine { name, kind, recipe } = line;
-        match Registers::new(recipe.registers) {
-            Some(registers) => Server {
-                name,
-                kind,
-                recipe,
-                registers,
-                hand: None,
-                is_prepared: false,
-                is_dropped: false,
-                from: 0,
-            },
-            None => unreachable!(),
-        }
-    }
-
-    /// Its name.
-    pub(crate) fn name(&self) -> &Name
-        ensures { result.now ≡ self.now.name }
-    {
-        &self.name
-    }
-
-    /// What it has in hand.
-    pub(crate) fn hand(&self) -> Option<Hand>
-        ensures { result ≡ self.now.hand }
-    {
-        self.hand
-    }
-
-    /// The register with this number, if it has it.
-    pub(crate) fn register(&self, k: u64) -> Option<u64>
-        ensures { result ≡ slice_get self.now.registers k }
-    {
-        self.registers.get(k)
-    }
-
-    /// All registers.
-    pub(crate) fn registers(&self) -> &[u64]
-        ensures { result.now ≡ self.now.registers }
-    {
-        self.registers.as_slice()
-    }
-
-    /// Register k holds this.
-    pub(crate) fn set_start(&mut self, k: u64, value: u64) -> Result<(), LineError>
-        ensures { Changes result self.new self.old (with_start k value self.old) }
-    {
-        if k >= u64::from(self.registers.len()) {
-            return Err(LineError::Fault(LineFault::BadRecipe));
-        }
-        self.registers.set(k, value);
-        Ok(())
-    }
-
-    /// Its work is prepared.
-    pub(crate) fn set_prepared(&mut self) -> Result<(), LineError>
-        ensures { Changes result self.new self.old (with_prepared self.old) }
-    {
-        if self.hand.is_none() {
-            return Err(LineError::Fault(LineFault::BadName));
-        }
-        self.is_prepared = true;
-        Ok(())
-    }
-
-    /// It was dropped.
-    pub(crate) fn set_dropped(&mut self) -> Result<(), LineError>
-        ensures { Changes result self.new self.old (with_drop self.old) }
-    {
-        if self.hand.is_some() {
-            return Err(LineError::Fault(LineFault::BadName));
-        }
-        self.is_dropped = true;
-        Ok(())
-    }
-
-    /// It has this in hand.
-    pub(crate) fn set_hand(&mut self, hand: Hand) -> Result<(), LineError>
-        ensures { Changes result self.new self.old (server_has hand self.old) }
-    {
-        if self.hand.is_some() {
-            return Err(LineError::Fault(LineFault::BadName));
-        }
-        self.hand = Some(hand);
-        Ok(())
-    }
-
-    /// `next` goes on here.
-    pub(crate) fn set_from(&mut self, id: u64) -> Result<(), LineError>
-        ensures { Changes result self.new self.old (server_from id self.old) }
-    {
-        self.from = id;
-        Ok(())
-    }
-
-    /// The line that makes it.
-    pub(crate) fn line(&self) -> Result<ServerLine, AllocError>
-        ensures { IfOk result (λ line. line ≡ record {
-          name = self.now.name;
-          kind = self.now.kind;
-          recipe = self.now.recipe;
-        }) }
-    {
-        Ok(ServerLine {
-            name: self.name.copy(),
-            kind: self.kind,
-            recipe: self.recipe.clone()?,
-        })
-    }
-
-    /// Whether its work is prepared.
-    pub(crate) fn is_prepared(&self) -> bool
-        ensures { result ≡ self.now.is_prepared }
-    {
-        self.is_prepared
-    }
-
-    /// Whether it was dropped.
-    pub(crate) fn is_dropped(&self) -> bool
-        ensures { result ≡ self.now.is_dropped }
-    {
-        self.is_dropped
-    }
-
-    /// Where `next` goes on.
-    pub(crate) fn from(&self) -> u64
-        ensures { result ≡ self.now.from }
-    {
-        self.from
     }
 }

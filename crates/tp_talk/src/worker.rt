@@ -1,7 +1,7 @@
 //! Workers outside of the program: what they have in hand, and how their last units ended.
-ghost use Rattle.std.specs.Prelude.{◌≡◌, ◌≤◌, length};
-ghost use Rattle.tp_talk.specs.Workers.{aborts, claims, claims_next, commits, took, worker_does};
-ghost use Rattle.tp_talk.specs.Workers.{is_of_server, takes_id};
+ghost use Rattle.std.specs.Prelude.{◌≡◌, false};
+ghost use Rattle.tp_talk.specs.Workers.{aborts, claims, claims_next, commits, if_idle, is_of_server, takes_id};
+ghost use Rattle.tp_talk.specs.Workers.{took, worker_does};
 ghost use Rattle.tp_talk.specs.Acted.{Works};
 
 use crate::hand::Hand;
