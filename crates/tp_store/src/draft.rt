@@ -3,9 +3,9 @@ ghost use Rattle.std.specs.Prelude.{◌≡◌, ◌≤◌, ◌↔◌, IsSome, IfS
 ghost use Rattle.tp_model.specs.Drafts.{DraftView};
 ghost use Rattle.tp_store.specs.declared.element.TheConstants.{LAST_STAGE};
 
-use crate::element::LAST_STAGE;
+use crate::element::{LAST_STAGE, REPLY_STAGE};
 use std::marker::Model;
-use tp_model::types::Body;
+use tp_model::types::{BODY_WORDS, Body};
 
 /// A request, or an output of a unit of work, before it is born. Its stage is 1 to 999.
 #[derive(Clone, Copy, Debug, PartialEq, Eq)]
@@ -27,6 +27,21 @@ impl Model for Draft {
     ghost invariant = { λ d. (1 ≤ d.stage) × (d.stage ≤ LAST_STAGE) × IsBody d.body };
 
     ghost inverse = { λ d. record { stage = d.stage; body = d.body } };
+}
+
+/// The draft that fills unused places: a reply with a body of zeros.
+impl Default for Draft {
+    ghost use Rattle.std.specs.Prelude.{[], ◌∷◌};
+    ghost use Rattle.tp_store.specs.declared.element.TheConstants.{REPLY_STAGE};
+
+    ghost is_default = { λ d. d ≡ record { stage = REPLY_STAGE; body = 0 ∷ 0 ∷ 0 ∷ 0 ∷ [] } };
+
+    fn default() -> Draft {
+        Draft {
+            stage: REPLY_STAGE,
+            body: [0; BODY_WORDS],
+        }
+    }
 }
 
 impl Draft {
