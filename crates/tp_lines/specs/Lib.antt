@@ -1,1 +1,12 @@
 pub mod Names
+pub mod Lines
+pub mod Keyword
+pub mod Words
+pub mod Servers
+pub mod Statuses
+pub mod Ends
+pub mod Heads
+pub mod Drafts
+pub mod Commands
+pub mod Grammar
+pub mod Reading

@@ -1,8 +1,22 @@
 //! What the lines of a session say: their grammar, and the texts of those that a dump has.
 #![tactic(auto)]
 
+mod bodies;
+mod clients;
+mod commands;
+mod drafts;
+mod elements;
+mod ends;
+mod grammar;
+mod heads;
+mod keyword;
 mod line;
 mod name;
+mod servers;
+mod statuses;
+mod text;
+mod words;
 
+pub use grammar::{MAX_LINE, read_line};
 pub use line::{Act, ClientNote, Command, HeadLine, Line, ServerLine, UnitEnd};
 pub use name::{MAX_NAME, Name};

@@ -1,9 +1,7 @@
 //! What a line says: something of the head, or a command.
-ghost use Rattle.std.specs.Prelude.{◌≡◌, Ok};
-ghost use Rattle.tp_server.specs.Check.{check_of};
-
 use crate::name::Name;
 use arrayvec::ArrayVec;
+use std::marker::Model;
 use tp_model::types::Body;
 use tp_script::Kind;
 use tp_server::{Order, Recipe};
@@ -16,7 +14,19 @@ pub struct ServerLine {
     pub name: Name,
     pub kind: Kind,
     pub recipe: Recipe,
-    ghost checked: { check_of recipe ≡ Ok tt },
+}
+
+/// The recipe has no fault.
+impl Model for ServerLine {
+    ghost use Rattle.std.specs.Prelude.{◌≡◌, Ok};
+    ghost use Rattle.tp_server.specs.Check.{check_of};
+    ghost use Rattle.tp_lines.specs.Lines.{ServerLineView};
+
+    ghost Value = { ServerLineView };
+
+    ghost view = { λ s. record { name = s.name; kind = s.kind; recipe = s.recipe } };
+
+    ghost invariant = { λ s. check_of s.recipe ≡ Ok tt };
 }
 
 /// What is noted of a client that may crash. Without a send or a receive its numbers are 0.

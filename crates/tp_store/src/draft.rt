@@ -29,6 +29,21 @@ impl Model for Draft {
     ghost inverse = { λ d. record { stage = d.stage; body = d.body } };
 }
 
+/// The draft that fills unused places: a reply with a body of zeros.
+impl Default for Draft {
+    ghost use Rattle.std.specs.Prelude.{[], ◌∷◌};
+    ghost use Rattle.tp_store.specs.declared.element.TheConstants.{REPLY_STAGE};
+
+    ghost is_default = { λ d. d ≡ record { stage = REPLY_STAGE; body = 0 ∷ 0 ∷ 0 ∷ 0 ∷ [] } };
+
+    fn default() -> Draft {
+        Draft {
+            stage: REPLY_STAGE,
+            body: [0; BODY_WORDS],
+        }
+    }
+}
+
 impl Draft {
     ghost use Rattle.tp_store.specs.declared.element.TheConstants.{LAST_STAGE};
 
