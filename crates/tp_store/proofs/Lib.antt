@@ -21,3 +21,5 @@ pub mod Wholes
 pub mod Keeping
 pub mod Newborn
 pub mod Striking
+pub mod Listed
+pub mod Restored

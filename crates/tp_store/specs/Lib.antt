@@ -8,8 +8,10 @@ pub mod Ends
 pub mod Indexes
 pub mod Indexing
 pub mod Lasting
+pub mod Listing
 pub mod Modelled
 pub mod Progress
+pub mod Restoring
 pub mod Runs
 pub mod Shelves
 pub mod Soundness

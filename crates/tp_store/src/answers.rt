@@ -26,6 +26,8 @@ pub enum Refusal {
     NotHeld,
     /// The element doesn't wait: it is held, parked, consumed or killed.
     NotWaiting,
+    /// What is told contradicts what is there, or itself.
+    Unsound,
 }
 
 /// What a claim hands out: an element, and the unit of work that holds it from now on.

@@ -1,6 +1,7 @@
 //! How many elements of each kind there are, in all and by stage.
-ghost use Rattle.std.specs.Prelude.{◌≡◌, IfOk, slice_get};
-ghost use Rattle.tp_store.specs.Counting.{counted, less, more, no_tally, tallied, tallied_births};
+ghost use Rattle.std.specs.Prelude.{◌≡◌, IfOk, slice_get, true, ◌+◌, ◌-◌};
+ghost use Rattle.tp_store.specs.Counting.{counted, less, more, no_counts, no_tally, tallied, tallied_births};
+ghost use Rattle.tp_store.specs.Restoring.{counts_of, is_rise, is_settling, settled, with_settled};
 
 use crate::draft::Draft;
 use crate::element::{LAST_STAGE, Status};
@@ -50,6 +51,16 @@ impl Counts {
             Status::Parked { .. } => self.parked = self.parked.saturating_sub(1),
             Status::Killed => self.killed = self.killed.saturating_sub(1),
         }
+    }
+
+    /// The same, where so many were ever consumed and killed.
+    fn settled(&self, consumed: u64, killed: u64) -> Counts
+        ensures { result ≡ settled consumed killed self.now }
+    {
+        let mut counts = *self;
+        counts.consumed = consumed;
+        counts.killed = killed;
+        counts
     }
 
     /// One that had the first status, if it was there, has the second.
@@ -117,6 +128,41 @@ impl Tally {
         }
     }
 
+    /// The counts of a stage, and none where there is no such stage.
+    fn counts_of(&self, stage: u16) -> Counts
+        ensures { result ≡ counts_of stage self.now }
+    {
+        match self.stage(stage) {
+            Some(counts) => counts,
+            None => NO_COUNTS,
+        }
+    }
+
+    /// Whether so many of a stage may ever have been consumed and killed.
+    pub(crate) fn is_settling(&self, stage: u16, consumed: u64, killed: u64) -> bool
+        ensures { result ≡ is_settling stage consumed killed self.now }
+    {
+        let counts = self.counts_of(stage);
+        is_rise(counts.consumed, consumed, self.total.consumed)
+            && is_rise(counts.killed, killed, self.total.killed)
+    }
+
+    /// So many of a stage were ever consumed and killed, and as many more of all.
+    pub(crate) fn settle(&mut self, stage: u16, consumed: u64, killed: u64)
+        requires settling { is_settling stage consumed killed self.old ≡ true }
+        ensures { self.new ≡ with_settled stage consumed killed self.old }
+    {
+        let before = self.counts_of(stage);
+        self.total = self.total.settled(
+            risen(before.consumed, consumed, self.total.consumed),
+            risen(before.killed, killed, self.total.killed),
+        );
+        let at = usize::from(stage);
+        if at < self.stages.len() {
+            self.stages[at] = before.settled(consumed, killed);
+        }
+    }
+
     /// These are born, and wait.
     pub(crate) fn count_births(&mut self, drafts: &[Draft])
         ensures { self.new ≡ tallied_births drafts.now self.old }
@@ -127,4 +173,22 @@ impl Tally {
         self.count(draft.stage(), &None, &Status::Waiting { attempts: 0 });
         self.count_births(others);
     }
+}
+
+/// Whether a count may go up to this one, and the count of all by as much.
+fn is_rise(from: u64, to: u64, all: u64) -> bool
+    ensures { result ≡ is_rise from to all }
+{
+    match to.checked_sub(from) {
+        Some(more) => all.checked_add(more).is_some(),
+        None => false,
+    }
+}
+
+/// The count of all, where one goes up to this.
+fn risen(from: u64, to: u64, all: u64) -> u64
+    requires rise { is_rise from to all ≡ true }
+    ensures { result ≡ all + (to - from) }
+{
+    all + (to - from)
 }

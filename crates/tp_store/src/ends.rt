@@ -5,6 +5,7 @@ ghost use Rattle.tp_store.specs.Ends.{ended_in, forget, forget_one};
 ghost use Rattle.tp_store.specs.Shelves.{IsFewer};
 ghost use Rattle.tp_store.specs.declared.ends.TheConstants.{FORGET_STEPS};
 
+use crate::group::Group;
 use crate::shelf::Shelf;
 use std::collections::VecDeque;
 
@@ -43,7 +44,7 @@ fn forget_one(shelf: &mut Shelf, ended: &mut VecDeque<u64>, keep: u64)
     let Some(root) = ended.front().copied() else {
         return;
     };
-    match shelf.first_member(root, 0) {
+    match shelf.first(Group::Family(root), 0) {
         Some((id, _)) => shelf.remove(id),
         None => {
             let _ = ended.pop_front();

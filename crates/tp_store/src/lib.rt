@@ -8,6 +8,7 @@ pub mod counts;
 pub mod draft;
 pub mod element;
 mod ends;
+pub mod group;
 mod index;
 mod indexes;
 pub mod laws;

@@ -1,11 +1,13 @@
 //! The elements of a store, by their ids, with all indexes.
 ghost use Rattle.std.specs.Prelude.{◌≡◌, [], true, Some, None, IfSome, OnOk, OnErr};
-ghost use Rattle.tp_store.specs.Elements.{alive_of, element_at, family_of, first_in, owned_of, put, queue_of};
-ghost use Rattle.tp_store.specs.Elements.{groups_of, reply_of, without};
+ghost use Rattle.tp_store.specs.Elements.{alive_of, element_at, first_in, groups_of, put, without};
+ghost use Rattle.tp_store.specs.Listing.{first_of};
+ghost use Rattle.tp_store.specs.declared.group.Group.TheVariants.{All};
 ghost use Rattle.tp_store.specs.Indexing.{gains_any};
 ghost use Rattle.tp_store.specs.Shelves.{groups_at, AreSorted, IsFoundBy, IsPutAt, IsThere};
 
 use crate::element::{Element, Groups, NO_GROUPS};
+use crate::group::Group;
 use crate::index::Index;
 use crate::indexes::Indexes;
 use std::alloc::{AllocError, Global};
@@ -113,36 +115,24 @@ impl Shelf {
         self.indexes.leave(id, &before, &NO_GROUPS);
     }
 
-    /// The first one from this id on that waits in this stage; in queue 0, that is parked.
-    pub(crate) fn first_queued(&self, queue: u64, from: u64) -> Option<(u64, Element)>
-        ensures first { result ≡ first_in queue_of queue from self.now }
+    /// The first element of a group from this id on.
+    pub(crate) fn first(&self, group: Group, from: u64) -> Option<(u64, Element)>
+        ensures first { result ≡ first_of group from self.now }
         ensures there { IfSome result (IsThere self.now) }
+        ensures sorted { AreSorted self.now }
     {
-        found(&self.elements, &self.indexes.queues, queue, from)
-    }
-
-    /// The first reply to this request from this id on that waits.
-    pub(crate) fn first_reply(&self, root: u64, from: u64) -> Option<(u64, Element)>
-        ensures first { result ≡ first_in reply_of root from self.now }
-        ensures there { IfSome result (IsThere self.now) }
-    {
-        found(&self.elements, &self.indexes.replies, root, from)
-    }
-
-    /// The first reply to a request of this owner from this id on that waits.
-    pub(crate) fn first_owned(&self, owner: u64, from: u64) -> Option<(u64, Element)>
-        ensures first { result ≡ first_in owned_of owner from self.now }
-        ensures there { IfSome result (IsThere self.now) }
-    {
-        found(&self.elements, &self.indexes.owned, owner, from)
-    }
-
-    /// The first element of this request from this id on.
-    pub(crate) fn first_member(&self, root: u64, from: u64) -> Option<(u64, Element)>
-        ensures first { result ≡ first_in family_of root from self.now }
-        ensures there { IfSome result (IsThere self.now) }
-    {
-        found(&self.elements, &self.indexes.families, root, from)
+        match group {
+            Group::Queue(queue) => found(
+                &self.elements,
+                &self.indexes.queues,
+                u64::from(queue),
+                from,
+            ),
+            Group::Replies(root) => found(&self.elements, &self.indexes.replies, root, from),
+            Group::Owned(owner) => found(&self.elements, &self.indexes.owned, owner, from),
+            Group::Family(root) => found(&self.elements, &self.indexes.families, root, from),
+            Group::All => first_from(&self.elements, from),
+        }
     }
 
     /// The first element of this request from this id on, on which work may go on.
@@ -162,6 +152,17 @@ fn groups_at(elements: &BTreeMap<u64, Element>, id: u64) -> Groups
     match elements.get(&id) {
         Some(element) => element.groups(),
         None => NO_GROUPS,
+    }
+}
+
+/// The first of all elements from this id on.
+fn first_from(elements: &BTreeMap<u64, Element>, from: u64) -> Option<(u64, Element)>
+    ensures first { result ≡ first_of All from elements.now.entries }
+    ensures there { IfSome result (IsThere elements.now.entries) }
+{
+    match elements.range(from..).next() {
+        Some((id, element)) => Some((*id, *element)),
+        None => None,
     }
 }
 

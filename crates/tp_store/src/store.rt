@@ -14,6 +14,9 @@ ghost use Rattle.tp_store.specs.Indexing.{gains_any};
 ghost use Rattle.tp_store.specs.State.{start, swept, with_births, with_change, with_limits};
 ghost use Rattle.tp_store.specs.declared.answers.Refusal.TheVariants.{NoMemory, NoNumber};
 
+mod looks;
+mod restoring;
+
 use crate::answers::{Cancelled, Ended, Killed, Outcome, Refusal, Released, Work};
 use crate::births::{Origin, bear};
 use crate::cancels::kill_open;
@@ -21,6 +24,7 @@ use crate::counts::{Counts, Tally};
 use crate::draft::Draft;
 use crate::element::{Element, LAST_STAGE, MAX_ROUNDS, REPLY_STAGE, Status};
 use crate::ends::{forget, note_end};
+use crate::group::Group;
 use crate::shelf::Shelf;
 use std::alloc::{AllocError, Global};
 use std::collections::VecDeque;
@@ -141,7 +145,7 @@ impl Store {
         if !is_server_stage(stage) {
             return Err(Refusal::BadStage);
         }
-        let found = self.shelf.first_queued(u64::from(stage), 0);
+        let found = self.shelf.first(Group::Queue(stage), 0);
         self.claim_first(&found)
     }
 
@@ -154,9 +158,9 @@ impl Store {
         if !is_server_stage(stage) {
             return Err(Refusal::BadStage);
         }
-        let found = match self.shelf.first_queued(u64::from(stage), from) {
+        let found = match self.shelf.first(Group::Queue(stage), from) {
             Some(found) => Some(found),
-            None => self.shelf.first_queued(u64::from(stage), 0),
+            None => self.shelf.first(Group::Queue(stage), 0),
         };
         self.claim_first(&found)
     }
@@ -461,63 +465,6 @@ impl Store {
             attempt,
             element: held,
         })
-    }
-
-    /// The element with this id.
-    pub fn get(&self, id: u64) -> Option<Element>
-        ensures { result ≡ element_at id self.now.elements }
-    {
-        self.shelf.get(id)
-    }
-
-    /// The first element from this id on that waits in this stage; in queue 0, the error queue, the first
-    /// one that is parked.
-    pub fn first_queued(&self, queue: u16, from: u64) -> Option<(u64, Element)>
-        ensures { result ≡ first_in queue_of queue from self.now.elements }
-    {
-        self.shelf.first_queued(u64::from(queue), from)
-    }
-
-    /// The first reply to this request from this id on that waits.
-    pub fn first_reply(&self, root: u64, from: u64) -> Option<(u64, Element)>
-        ensures { result ≡ first_in reply_of root from self.now.elements }
-    {
-        self.shelf.first_reply(root, from)
-    }
-
-    /// The first reply to a request of this owner from this id on that waits.
-    pub fn first_owned(&self, owner: u64, from: u64) -> Option<(u64, Element)>
-        ensures { result ≡ first_in owned_of owner from self.now.elements }
-    {
-        self.shelf.first_owned(owner, from)
-    }
-
-    /// The first element of this request from this id on.
-    pub fn first_member(&self, root: u64, from: u64) -> Option<(u64, Element)>
-        ensures { result ≡ first_in family_of root from self.now.elements }
-    {
-        self.shelf.first_member(root, from)
-    }
-
-    /// How many elements there were of each kind since the store was made, forgotten ones too.
-    pub fn total(&self) -> Counts
-        ensures { result ≡ self.now.tally.total }
-    {
-        self.tally.total()
-    }
-
-    /// The same of one stage; `None` where it isn't 0 to 999.
-    pub fn stage_total(&self, stage: u16) -> Option<Counts>
-        ensures { result ≡ slice_get self.now.tally.stages stage }
-    {
-        self.tally.stage(stage)
-    }
-
-    /// The limits.
-    pub fn limits(&self) -> Limits
-        ensures { result ≡ self.now.limits }
-    {
-        self.limits
     }
 
     /// Other limits hold from now on. What waits, is held or is parked stands as it did.

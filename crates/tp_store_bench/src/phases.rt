@@ -4,6 +4,7 @@ use std::io;
 use std::time::Clock;
 use tp_store::answers::Outcome;
 use tp_store::draft::Draft;
+use tp_store::group::Group;
 use tp_store::store::{Limits, Store};
 
 /// Each limit that isn't measured is as wide as can be.
@@ -97,7 +98,7 @@ fn aborts(store: &mut Store, stage: u16, count: u64) -> u64 {
 fn collects(store: &mut Store, count: u64) -> u64 {
     let mut taken = 0u64;
     for _ in 0..count {
-        if let Some((id, _)) = store.first_queued(15, 0) {
+        if let Some((id, _)) = store.first(Group::Queue(15), 0) {
             if store.collect(id).is_ok() {
                 taken = taken.wrapping_add(1);
             }

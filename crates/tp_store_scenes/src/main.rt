@@ -5,6 +5,7 @@
 use std::fmt::Debug;
 use std::io;
 use tp_store::draft::Draft;
+use tp_store::group::Group;
 use tp_store::store::{Limits, Store};
 
 /// Three elements may be alive, one request is kept, and there are two attempts.
@@ -76,7 +77,7 @@ fn attempts(rt: &HostRuntime, store: &mut Store) -> io::Result<()> {
     tell(rt, "release 1", &store.release(1))?;
     tell(rt, "release 1", &store.release(1))?;
     tell(rt, "release 9", &store.release(9))?;
-    tell(rt, "parked", &id_of(store.first_queued(0, 0)))?;
+    tell(rt, "parked", &id_of(store.first(Group::Queue(0), 0)))?;
     for _ in 0..3u8 {
         tell(rt, "requeue 1", &store.requeue(1))?;
         for _ in 0..2u8 {
@@ -104,12 +105,16 @@ fn ends(rt: &HostRuntime, store: &mut Store) -> io::Result<()> {
     tell(rt, "kill 0", &store.kill(0))?;
     tell(rt, "kill 9", &store.kill(9))?;
     tell(rt, "get 1", &store.get(1).is_some())?;
-    tell(rt, "reply to 0", &id_of(store.first_reply(0, 0)))?;
+    tell(rt, "reply to 0", &id_of(store.first(Group::Replies(0), 0)))?;
     tell(rt, "collect 3", &store.collect(3))?;
     tell(rt, "collect 9", &store.collect(9))?;
     tell(rt, "collect 4", &store.collect(4).is_ok())?;
     tell(rt, "collect 4", &store.collect(4))?;
-    tell(rt, "family of 0 from 1", &id_of(store.first_member(0, 1)))?;
+    tell(
+        rt,
+        "family of 0 from 1",
+        &id_of(store.first(Group::Family(0), 1)),
+    )?;
     tell(rt, "cancel 3", &store.cancel(3))?;
     tell(rt, "cancel 9", &store.cancel(9))?;
     tell(rt, "cancel 0", &store.cancel(0))?;
@@ -136,17 +141,17 @@ fn owners(rt: &HostRuntime, store: &mut Store) -> io::Result<()> {
         "submit 1 for 7",
         &store.submit(1, [0, 0, 0, 0], Some(7)),
     )?;
-    tell(rt, "owned by 7", &id_of(store.first_owned(7, 0)))?;
+    tell(rt, "owned by 7", &id_of(store.first(Group::Owned(7), 0)))?;
     if let (Some(outputs), Ok(work)) = (outputs(), store.take(5)) {
         tell(rt, "commit 5", &store.commit(5, work.unit, &outputs))?;
     }
-    tell(rt, "owned by 7", &id_of(store.first_owned(7, 0)))?;
-    tell(rt, "owned by 8", &id_of(store.first_owned(8, 0)))?;
+    tell(rt, "owned by 7", &id_of(store.first(Group::Owned(7), 0)))?;
+    tell(rt, "owned by 8", &id_of(store.first(Group::Owned(8), 0)))?;
     // With one attempt what is given up is parked.
     if let Ok(work) = store.take(6) {
         tell(rt, "abort 6", &store.abort(6, work.unit))?;
     }
-    tell(rt, "parked", &id_of(store.first_queued(0, 0)))?;
+    tell(rt, "parked", &id_of(store.first(Group::Queue(0), 0)))?;
     tell(rt, "kill 6", &store.kill(6))?;
     tell(rt, "get 5", &store.get(5).is_some())?;
     tell(rt, "kill 7", &store.kill(7))?;
