@@ -4,9 +4,9 @@ use Rattle.tp_script.specs.Fault.{◌<>◌, line_fault_text}
 use Rattle.tp_script.specs.declared.fault.LineFault.{LineFault}
 use Rattle.tp_answers.specs.declared.answer.Answer.{Answer}
 use Rattle.tp_answers.specs.declared.answer.Answer.TheVariants as answer
-use Rattle.tp_answers.specs.ElementTexts.{cancelled_text, collected_text, errors_text, family_text, killed_text}
-use Rattle.tp_answers.specs.ElementTexts.{list_text, read_text, released_text, replies_text, requeued_text}
-use Rattle.tp_answers.specs.ElementTexts.{submitted_text}
+use Rattle.tp_answers.specs.ElementTexts.{cancelled_text, collected_text, errors_text, family_text}
+use Rattle.tp_answers.specs.ElementTexts.{killed_text, list_text, read_text, released_text, replies_text}
+use Rattle.tp_answers.specs.ElementTexts.{requeued_text, submitted_text}
 use Rattle.tp_answers.specs.NoteTexts.{forgotten_text, last_client_text, last_worker_text, received_text}
 use Rattle.tp_answers.specs.NoteTexts.{registered_text, sent_text}
 use Rattle.tp_answers.specs.OverviewTexts.{account_text, balance_text, counts_text, depths_text, final_text}
@@ -34,7 +34,8 @@ restored_text many = codes "restored " <> decimal many
 
 -- a faulty line, by its number among all lines
 abbrev pub refused_line_text : ℕ → LineFault → List ℕ
-refused_line_text number fault = codes "refused line " <> decimal number <> codes ": " <> line_fault_text fault
+refused_line_text number fault =
+    codes "refused line " <> decimal number <> codes ": " <> line_fault_text fault
 
 -- ---- all of them
 

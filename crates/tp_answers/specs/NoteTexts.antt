@@ -50,12 +50,13 @@ last_sent_text c = codes "sent " <> decimal c.sent
 
 -- how many receives took a reply, and which one the last of them took, where there was one
 abbrev pub last_received_text : ClientNote → List ℕ
-last_received_text c = codes " received " <> decimal c.received
+last_received_text c = codes "received " <> decimal c.received
     <> (if c.received == 0 then [] else codes " " <> whole_reply_text c.reply c.root c.body)
 
 -- what is noted of a client
 abbrev pub last_client_text : NameView → ClientNote → List ℕ
-last_client_text name c = (codes "last " <> name.letters <> codes " ") <> last_sent_text c <> last_received_text c
+last_client_text name c =
+    (codes "last " <> name.letters <> codes " ") <> last_sent_text c <> codes " " <> last_received_text c
 
 -- ---- workers
 

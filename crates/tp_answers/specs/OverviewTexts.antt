@@ -51,7 +51,8 @@ sum_text k sum = codes "sum " <> decimal k <> codes " " <> decimal sum
 
 -- the registers of a server at the end
 abbrev pub final_text : NameView → List ℕ → List ℕ
-final_text name registers = (codes "final " <> name.letters) <> flat_map (λ v. codes " " <> decimal v) registers
+final_text name registers =
+    (codes "final " <> name.letters) <> flat_map (λ v. codes " " <> decimal v) registers
 
 -- ---- who holds what
 

@@ -3,15 +3,17 @@ ghost use Rattle.std.specs.Prelude.{◌≡◌, IfOk, Some, string_bytes};
 ghost use Rattle.tp_answers.specs.Answer.{IsLine, answer_text, line};
 
 use crate::elements::{collected, errors, family, list, read, replies};
-use crate::notes::{ReceivedAs, SentAs, forgotten, last_client, last_worker, received, registered, sent};
+use crate::notes::{
+    ReceivedAs, SentAs, forgotten, last_client, last_worker, received, registered, sent,
+};
 use crate::overviews::{Depth, Holder, account, balance, counts, depths, holds, last};
 use crate::refusals::refusal;
-use tp_lines::{ClientNote, Name, UnitEnd};
-use tp_script::LineFault;
 use crate::told::{HandTold, Told, joined, left, named};
 use std::alloc::{AllocError, Global};
 use std::fmt;
 use std::string::String;
+use tp_lines::{ClientNote, Name, UnitEnd};
+use tp_script::LineFault;
 use tp_store::answers::Refusal;
 use tp_store::counts::Counts;
 use tp_store::element::Element;
@@ -20,11 +22,16 @@ use tp_store::element::Element;
 #[derive(Clone, Copy)]
 pub enum Answer<'a> {
     /// The submitted element has this id.
-    Submitted { id: u64 },
+    Submitted {
+        id: u64,
+    },
     /// The store refused the call.
     Refused(Refusal),
     /// What the server or the worker of this name is told.
-    Named { name: &'a Name, told: Told },
+    Named {
+        name: &'a Name,
+        told: Told,
+    },
     /// The replies to the request of this root.
     Replies {
         root: u64,
@@ -36,20 +43,36 @@ pub enum Answer<'a> {
         replies: &'a [(u64, Element)],
     },
     /// The element is killed, and this many units that held it were aborted.
-    Killed { id: u64, aborted: u8 },
+    Killed {
+        id: u64,
+        aborted: u8,
+    },
     /// The request of this root is cancelled, and this many elements were killed.
-    Cancelled { root: u64, killed: u64 },
+    Cancelled {
+        root: u64,
+        killed: u64,
+    },
     /// The parked element was given this round.
-    Requeued { id: u64, round: u8 },
+    Requeued {
+        id: u64,
+        round: u8,
+    },
     /// The unit of work that held the element in this attempt is aborted.
-    Released { id: u64, unit: u64, attempt: u8 },
+    Released {
+        id: u64,
+        unit: u64,
+        attempt: u8,
+    },
     /// The elements of the request of this root.
     Family {
         root: u64,
         members: &'a [(u64, Element)],
     },
     /// The element with this id.
-    Read { id: u64, element: Element },
+    Read {
+        id: u64,
+        element: Element,
+    },
     /// The parked elements.
     Errors(&'a [(u64, Element)]),
     /// Elements that wait in this stage.
@@ -64,7 +87,10 @@ pub enum Answer<'a> {
         value: Option<u64>,
     },
     /// The sum of register `k` over the servers.
-    Sum { k: u64, sum: u128 },
+    Sum {
+        k: u64,
+        sum: u128,
+    },
     /// How many elements have each status.
     Count(Counts),
     /// How many elements of each stage wait, are held and are parked.
@@ -85,11 +111,18 @@ pub enum Answer<'a> {
         registers: &'a [u64],
     },
     /// A worker of this name has come.
-    Joined { name: &'a Name },
+    Joined {
+        name: &'a Name,
+    },
     /// The worker of this name has left, and is told this of what it had in hand.
-    Left { name: &'a Name, told: Told },
+    Left {
+        name: &'a Name,
+        told: Told,
+    },
     /// Notes are kept of the client of this name.
-    Registered { name: &'a Name },
+    Registered {
+        name: &'a Name,
+    },
     /// What became of the client's send of this number.
     Sent {
         name: &'a Name,
@@ -114,13 +147,20 @@ pub enum Answer<'a> {
         end: Option<UnitEnd>,
     },
     /// Nothing is noted of the client of this name any more.
-    Forgotten { name: &'a Name },
+    Forgotten {
+        name: &'a Name,
+    },
     /// Who has taken what.
     Holds(&'a [Holder<'a>]),
     /// So many elements are alive again.
-    Restored { many: u64 },
+    Restored {
+        many: u64,
+    },
     /// The line of this number has this fault, and nothing was done.
-    RefusedLine { line: u64, fault: LineFault },
+    RefusedLine {
+        line: u64,
+        fault: LineFault,
+    },
 }
 
 impl fmt::Display for Answer<'_> {

@@ -2,10 +2,10 @@
 ghost use Rattle.std.specs.Prelude.{◌≡◌};
 ghost use Rattle.std.specs.Fmt.{WritesOnOk};
 ghost use Rattle.std.specs.List.{flat_map};
-ghost use Rattle.tp_answers.specs.ElementTexts.{collected_text, errors_text, family_text, ids_text, is_short};
-ghost use Rattle.tp_answers.specs.ElementTexts.{list_text, maker_text, member_text, more_words_text};
-ghost use Rattle.tp_answers.specs.ElementTexts.{element_text, read_text, replies_text, reply_text, state_text};
-ghost use Rattle.tp_answers.specs.ElementTexts.{status_text};
+ghost use Rattle.tp_answers.specs.ElementTexts.{collected_text, element_text, errors_text, family_text};
+ghost use Rattle.tp_answers.specs.ElementTexts.{ids_text, is_short, list_text, maker_text, member_text};
+ghost use Rattle.tp_answers.specs.ElementTexts.{more_words_text, read_text, replies_text, reply_text};
+ghost use Rattle.tp_answers.specs.ElementTexts.{state_text, status_text};
 
 use std::fmt;
 use tp_model::types::Body;
@@ -54,11 +54,7 @@ fn more_words<W: fmt::Write>(f: &mut fmt::Formatter<W>, body: &Body) -> fmt::Res
 
 // An element that is read, up to who made it.
 #[tactic(auto, unfolding(crate::specs::ElementTexts::element_text))]
-fn element<W: fmt::Write>(
-    f: &mut fmt::Formatter<W>,
-    id: u64,
-    element: &Element,
-) -> fmt::Result
+fn element<W: fmt::Write>(f: &mut fmt::Formatter<W>, id: u64, element: &Element) -> fmt::Result
     ensures { WritesOnOk W.write_str_gives f.old result (element_text id element.now) f.new }
 {
     let Element { stage, root, .. } = *element;

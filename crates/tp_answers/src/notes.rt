@@ -3,12 +3,12 @@ ghost use Rattle.std.specs.Prelude.{◌≡◌, Some};
 ghost use Rattle.std.specs.Fmt.{WritesOnOk};
 ghost use Rattle.tp_answers.specs.NoteTexts.{end_text, forgotten_text, last_client_text};
 ghost use Rattle.tp_answers.specs.NoteTexts.{last_received_text, last_sent_text, last_worker_text};
-ghost use Rattle.tp_answers.specs.NoteTexts.{received_as_text, received_text, registered_text, sent_as_text};
-ghost use Rattle.tp_answers.specs.NoteTexts.{sent_text};
+ghost use Rattle.tp_answers.specs.NoteTexts.{received_as_text, received_text, registered_text};
+ghost use Rattle.tp_answers.specs.NoteTexts.{sent_as_text, sent_text};
 
-use tp_lines::{ClientNote, Name, UnitEnd};
 use crate::told::HandTold;
 use std::fmt;
+use tp_lines::{ClientNote, Name, UnitEnd};
 use tp_model::types::Body;
 
 /// What became of a client's receive.
@@ -82,9 +82,9 @@ fn last_received<W: fmt::Write>(f: &mut fmt::Formatter<W>, note: &ClientNote) ->
     } = *note;
     let [w0, w1, w2, w3] = body;
     if received == 0 {
-        write!(f, " received {received}")
+        write!(f, "received {received}")
     } else {
-        write!(f, " received {received} {reply} {root} {w0}:{w1}:{w2}:{w3}")
+        write!(f, "received {received} {reply} {root} {w0}:{w1}:{w2}:{w3}")
     }
 }
 
@@ -99,6 +99,7 @@ pub(crate) fn last_client<W: fmt::Write>(
     let client = name.as_str();
     write!(f, "last {client} ")?;
     last_sent(f, note)?;
+    write!(f, " ")?;
     last_received(f, note)
 }
 

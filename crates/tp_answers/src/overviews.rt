@@ -2,10 +2,11 @@
 ghost use Rattle.std.specs.Prelude.{◌≡◌, map};
 ghost use Rattle.std.specs.Fmt.{WritesOnOk};
 ghost use Rattle.tp_answers.specs.OverviewTexts.{account_text, balance_text, counts_text, depth_text};
-ghost use Rattle.tp_answers.specs.OverviewTexts.{depths_text, final_text, holder_text, holder_view, holds_text};
+ghost use Rattle.tp_answers.specs.OverviewTexts.{depths_text, final_text, holder_text, holder_view};
+ghost use Rattle.tp_answers.specs.OverviewTexts.{holds_text};
 
-use tp_lines::Name;
 use std::fmt;
+use tp_lines::Name;
 use tp_store::counts::Counts;
 
 /// How many elements of a stage wait, are held and are parked.
@@ -135,10 +136,7 @@ fn one_holder<W: fmt::Write>(f: &mut fmt::Formatter<W>, holder: &Holder<'_>) -> 
 }
 
 /// Who has taken what.
-pub(crate) fn holds<W: fmt::Write>(
-    f: &mut fmt::Formatter<W>,
-    holders: &[Holder<'_>],
-) -> fmt::Result
+pub(crate) fn holds<W: fmt::Write>(f: &mut fmt::Formatter<W>, holders: &[Holder<'_>]) -> fmt::Result
     ensures { WritesOnOk W.write_str_gives f.old result (holds_text (map holder_view holders.now)) f.new }
 {
     write!(f, "holds")?;

@@ -4,8 +4,8 @@ ghost use Rattle.std.specs.Fmt.{WritesOnOk};
 ghost use Rattle.tp_answers.specs.ToldTexts.{hand_text, joined_text, left_text, named_text, told_text};
 
 use crate::refusals::refusal_name;
-use tp_lines::Name;
 use std::fmt;
+use tp_lines::Name;
 use tp_model::types::Body;
 use tp_server::Declined;
 use tp_store::answers::Refusal;
@@ -20,7 +20,11 @@ pub enum Told {
     /// It has taken nothing.
     NoneOpen,
     /// A new unit of work of a server took the element, as the `attempt`-th to do so in its round.
-    Work { id: u64, unit: u64, attempt: u8 },
+    Work {
+        id: u64,
+        unit: u64,
+        attempt: u8,
+    },
     /// The same of a worker, with the element's root and its words.
     Took {
         id: u64,
@@ -30,7 +34,10 @@ pub enum Told {
         body: Body,
     },
     /// The element was not taken, for this reason.
-    NotTaken { id: u64, why: Refusal },
+    NotTaken {
+        id: u64,
+        why: Refusal,
+    },
     /// The unit of work committed, and so many outputs were born, with ids from `first` on.
     Done {
         id: u64,
@@ -39,13 +46,22 @@ pub enum Told {
         count: u64,
     },
     /// Another caller had aborted the unit of work.
-    Lost { id: u64 },
+    Lost {
+        id: u64,
+    },
     /// The server declined the element, for this reason, and its unit is aborted.
-    Declined { id: u64, why: Declined },
+    Declined {
+        id: u64,
+        why: Declined,
+    },
     /// The unit that held the element is aborted.
-    Aborted { id: u64 },
+    Aborted {
+        id: u64,
+    },
     /// Another caller had aborted the unit that is to be aborted.
-    Already { id: u64 },
+    Already {
+        id: u64,
+    },
     /// The work is prepared.
     Ready,
     /// The server's desk is dropped.
@@ -62,7 +78,10 @@ impl fmt::Display for Told {
             Told::Idle => write!(f, "idle"),
             Told::Busy => write!(f, "busy"),
             Told::NoneOpen => write!(f, "none"),
-            Told::Work { id, unit, attempt } => write!(f, "work {id} unit {unit} attempt {attempt}"),
+            Told::Work { id, unit, attempt } => write!(
+                f,
+                "work {id} unit {unit} attempt {attempt}"
+            ),
             Told::Took {
                 id,
                 unit,
@@ -103,7 +122,9 @@ pub enum HandTold {
     /// Nothing.
     Nothing,
     /// This element, but another caller has aborted the unit that took it.
-    Lost { id: u64 },
+    Lost {
+        id: u64,
+    },
     /// This element, which its unit of work took as the `attempt`-th of its round.
     Open {
         id: u64,
@@ -159,11 +180,7 @@ pub(crate) fn joined<W: fmt::Write>(f: &mut fmt::Formatter<W>, name: &Name) -> f
 }
 
 /// The worker of this name has left, and is told this.
-pub(crate) fn left<W: fmt::Write>(
-    f: &mut fmt::Formatter<W>,
-    name: &Name,
-    told: Told,
-) -> fmt::Result
+pub(crate) fn left<W: fmt::Write>(f: &mut fmt::Formatter<W>, name: &Name, told: Told) -> fmt::Result
     ensures { WritesOnOk W.write_str_gives f.old result (left_text name.now told) f.new }
 {
     let letters = name.as_str();
