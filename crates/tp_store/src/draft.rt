@@ -75,18 +75,3 @@ impl Draft {
         self.body
     }
 }
-
-/// A reply of zeros. It only fills unused places.
-impl Default for Draft {
-    ghost use Rattle.std.specs.Prelude.{[], ◌∷◌};
-    ghost use Rattle.tp_store.specs.declared.element.TheConstants.{REPLY_STAGE};
-
-    ghost is_default = { λ d. d ≡ record { stage = REPLY_STAGE; body = 0 ∷ 0 ∷ 0 ∷ 0 ∷ [] } };
-
-    fn default() -> Draft {
-        Draft {
-            body: [0; BODY_WORDS],
-            stage: REPLY_STAGE,
-        }
-    }
-}
