@@ -17,6 +17,7 @@ refusal_name refusal.NotParked = codes "NotParked"
 refusal_name refusal.NoRound = codes "NoRound"
 refusal_name refusal.NotHeld = codes "NotHeld"
 refusal_name refusal.NotWaiting = codes "NotWaiting"
+refusal_name refusal.Unsound = codes "Unsound"
 
 -- the number of that reason
 abbrev pub refusal_number : Refusal → ℕ
@@ -31,6 +32,7 @@ refusal_number refusal.NotParked = 8
 refusal_number refusal.NoRound = 9
 refusal_number refusal.NotWaiting = 10
 refusal_number refusal.NotHeld = 12
+refusal_number refusal.Unsound = 14
 
 -- a refused call
 abbrev pub refusal_text : Refusal → List ℕ

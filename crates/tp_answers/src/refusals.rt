@@ -22,6 +22,7 @@ pub(crate) fn refusal_name<W: fmt::Write>(f: &mut fmt::Formatter<W>, why: Refusa
         Refusal::NoRound => write!(f, "NoRound"),
         Refusal::NotHeld => write!(f, "NotHeld"),
         Refusal::NotWaiting => write!(f, "NotWaiting"),
+        Refusal::Unsound => write!(f, "Unsound"),
     }
 }
 
@@ -41,6 +42,7 @@ fn refusal_number(why: Refusal) -> u8
         Refusal::NoRound => 9,
         Refusal::NotWaiting => 10,
         Refusal::NotHeld => 12,
+        Refusal::Unsound => 14,
     }
 }
 
