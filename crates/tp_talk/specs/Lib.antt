@@ -1,6 +1,13 @@
 pub mod State
+pub mod Roles
+pub mod Said
 pub mod Hands
 pub mod Servers
 pub mod Drains
 pub mod Workers
+pub mod Requests
+pub mod Clients
+pub mod Heads
+pub mod Session
 pub mod Acted
+pub mod Conversed

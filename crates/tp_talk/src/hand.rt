@@ -66,12 +66,15 @@ pub(crate) fn hand_told(hand: Option<Hand>, store: &Store) -> HandTold
     };
     match hand.held(store) {
         None => HandTold::Lost { id: hand.id },
-        Some(element) => HandTold::Open {
-            id: hand.id,
-            unit: hand.unit,
-            attempt: attempt_in(element.status),
-            root: element.root,
-            body: element.body,
-        },
+        Some(element) => {
+            let body = element.body;
+            HandTold::Open {
+                id: hand.id,
+                unit: hand.unit,
+                attempt: attempt_in(element.status),
+                root: element.root,
+                body,
+            }
+        }
     }
 }

@@ -1,9 +1,19 @@
 //! A session: lines of text, each answered by a line of text, over a store of one thread.
 #![tactic(auto)]
 
+mod acts;
+mod clients;
+mod conversing;
 mod drains;
 mod hand;
+mod heads;
 mod phase;
+mod requests;
 mod server;
+mod server_acts;
+mod session;
 mod standing;
 mod worker;
+
+pub use conversing::{attend, converse, converse_to_end};
+pub use session::Session;

@@ -10,6 +10,7 @@ use tp_answers::Told;
 use tp_lines::{Act, UnitEnd};
 use tp_store::answers::{Ended, Outcome, Refusal, Work};
 use tp_store::draft::Draft;
+use tp_store::element::Element;
 use tp_store::store::Store;
 
 /// A worker: which stage it takes from, and how it stands.
@@ -29,12 +30,13 @@ pub struct Worker {
 fn took(work: &Work) -> Told
     ensures { result ≡ took work.now }
 {
+    let Element { root, body, .. } = work.element;
     Told::Took {
         id: work.id,
         unit: work.unit,
         attempt: work.attempt,
-        root: work.element.root,
-        body: work.element.body,
+        root,
+        body,
     }
 }
 

@@ -1,0 +1,215 @@
+//! A session: what there is between two lines, and what a line does.
+ghost use Rattle.std.specs.Prelude.{◌≡◌, IfOk, string_bytes};
+ghost use Rattle.tp_lines.specs.Grammar.{line_said};
+ghost use Rattle.tp_talk.specs.Heads.{head_set};
+ghost use Rattle.tp_talk.specs.Said.{Says};
+ghost use Rattle.tp_talk.specs.Session.{command_step, does, finals, head_step, is_in_order, late_step, line_step};
+ghost use Rattle.tp_talk.specs.Session.{quietly, read_step_of, said_step};
+ghost use Rattle.tp_talk.specs.State.{begin};
+
+use crate::phase::Phase;
+use crate::server::Server;
+use crate::worker::Worker;
+use std::alloc::{AllocError, Global};
+use std::collections::BTreeMap;
+use std::marker::Model;
+use std::string::String;
+use tp_answers::{Answer, line};
+use tp_lines::{ClientNote, Command, HeadLine, Line, Name, read_line};
+use tp_script::{LineError, LineFault};
+use tp_store::store::{Limits, Store};
+
+/// Elements, servers, workers and clients.
+#[derive(Drop)]
+pub struct Session {
+    pub(crate) store: Store,
+    pub(crate) servers: Vec<Server>,
+    pub(crate) workers: BTreeMap<Name, Worker>,
+    pub(crate) clients: BTreeMap<Name, ClientNote>,
+    pub(crate) owners: u64,
+    pub(crate) phase: Phase,
+}
+
+impl Model for Session {
+    ghost use Rattle.tp_talk.specs.State.{SessionState};
+
+    ghost Value = { SessionState };
+
+    ghost view = { λ s. record {
+      store = s.store;
+      servers = s.servers.items;
+      workers = s.workers.entries;
+      clients = s.clients.entries;
+      owners = s.owners;
+      phase = s.phase;
+    } };
+}
+
+impl Session {
+    /// A session before its first line.
+    pub fn new(alloc: Global) -> Result<Session, AllocError>
+        ensures { IfOk result (λ s. s ≡ begin) }
+    {
+        let limits = Limits {
+            most: u64::MAX,
+            keep: 1_000,
+            attempts: 3,
+        };
+        let store = Store::new(alloc, limits)?;
+        Ok(Session {
+            store,
+            servers: Vec::new(alloc),
+            workers: BTreeMap::new(alloc),
+            clients: BTreeMap::new(alloc),
+            owners: 0,
+            phase: Phase::InHead,
+        })
+    }
+}
+
+impl Session {
+    /// Has done what a line asks for.
+    fn perform(&mut self, alloc: Global, command: &Command) -> Result<String, LineError>
+        ensures { Says string_bytes result self.new self.old (does command.now self.old) }
+    {
+        match command {
+            Command::Submit { stage, body } => self.submit(alloc, *stage, *body),
+            Command::Kill { id } => self.kill(alloc, *id),
+            Command::Cancel { root } => self.cancel(alloc, *root),
+            Command::Requeue { id } => self.requeue(alloc, *id),
+            Command::Release { id } => self.release(alloc, *id),
+            Command::Read { id } => self.read(alloc, *id),
+            Command::Reply { root } => self.replies(alloc, *root),
+            Command::Collect { root } => self.collect(alloc, *root),
+            Command::Family { root } => self.family(alloc, *root),
+            Command::Errors => self.errors(alloc),
+            Command::Count => self.count(alloc),
+            Command::Depth => self.depth(alloc),
+            Command::List { stage, from } => self.list(alloc, *stage, *from),
+            Command::Account => self.account(alloc),
+            Command::Holds => self.holds(alloc),
+            Command::Dump => unreachable!(),
+            Command::Restore => unreachable!(),
+            Command::Drain(order) => self.drain(alloc, *order),
+            Command::Sum { k } => self.sum(alloc, *k),
+            Command::Balance { name, k } => self.balance(alloc, name, *k),
+            Command::Act { name, act } => self.act(alloc, name, act),
+            Command::Leave { name } => self.leave(alloc, name),
+            Command::Send {
+                name,
+                number,
+                stage,
+                body,
+            } => self.send(alloc, name, *number, *stage, *body),
+            Command::Receive { name, number, root } => self.receive(alloc, name, *number, *root),
+            Command::Last { name } => self.last(alloc, name),
+            Command::Forget { name } => self.forget(alloc, name),
+        }
+    }
+
+    /// Whether a command may come now.
+    fn is_in_order(&self, command: &Command) -> bool
+        ensures { result ≡ is_in_order self.now.phase command.now }
+    {
+        let is_restore = matches!(command, Command::Restore);
+        match self.phase {
+            Phase::InHead => true,
+            Phase::Restoring => is_restore,
+            Phase::Begun => !is_restore,
+        }
+    }
+
+    /// Has a command done, which ends the head.
+    fn command(&mut self, alloc: Global, command: &Command) -> Result<String, LineError>
+        ensures { Says string_bytes result self.new self.old (command_step command.now self.old) }
+    {
+        if !self.is_in_order(command) {
+            return Err(LineError::Fault(LineFault::Order));
+        }
+        let text = self.perform(alloc, command)?;
+        self.phase = Phase::Begun;
+        Ok(text)
+    }
+
+    /// Has done what a line of a head says behind it: workers and clients alone come there.
+    fn late(&mut self, alloc: Global, line: HeadLine) -> Result<String, LineError>
+        ensures { Says string_bytes result self.new self.old (late_step line self.old) }
+    {
+        match line {
+            HeadLine::Worker { name, stage } => self.join(alloc, &name, stage),
+            HeadLine::Register { name } => self.register_line(alloc, &name),
+            _ => Err(LineError::Fault(LineFault::Order)),
+        }
+    }
+
+    /// Has done what a line of a head says.
+    fn head(&mut self, alloc: Global, line: HeadLine) -> Result<String, LineError>
+        ensures { Says string_bytes result self.new self.old (head_step self.old.phase line self.old) }
+    {
+        match self.phase {
+            Phase::Begun => self.late(alloc, line),
+            Phase::InHead => self.set_quietly(alloc, line),
+            Phase::Restoring => self.set_quietly(alloc, line),
+        }
+    }
+
+    /// Sets what a line of the head says, which has no answer.
+    fn set_quietly(&mut self, alloc: Global, line: HeadLine) -> Result<String, LineError>
+        ensures { Says string_bytes result self.new self.old (quietly (head_set line self.old)) }
+    {
+        self.set_in_head(alloc, line)?;
+        Ok(String::new(alloc))
+    }
+
+    /// Has done what a line says.
+    fn say(&mut self, alloc: Global, line: Line) -> Result<String, LineError>
+        ensures { Says string_bytes result self.new self.old (said_step line self.old) }
+    {
+        match line {
+            Line::Nothing => Ok(String::new(alloc)),
+            Line::Head(line) => self.head(alloc, line),
+            Line::Do(command) => self.command(alloc, &command),
+        }
+    }
+
+    /// Reads a line, and has done what it says.
+    fn read_and_say(&mut self, alloc: Global, bytes: &[u8]) -> Result<String, LineError>
+        ensures { Says string_bytes result self.new self.old (read_step_of (line_said bytes.now) self.old) }
+    {
+        let line = read_line(alloc, bytes)?;
+        self.say(alloc, line)
+    }
+
+    /// Answers a line, the `number`-th of all, with no more than the line's end behind it; an empty text where
+    /// it has no answer. It fails where memory or numbers run out.
+    pub fn answer(&mut self, alloc: Global, number: u64, bytes: &[u8]) -> Result<String, AllocError>
+        ensures { IfOk result (λ text. (string_bytes text, self.new)
+            ≡ line_step number bytes.now self.old) }
+    {
+        match self.read_and_say(alloc, bytes) {
+            Ok(text) => Ok(text),
+            Err(LineError::NoMemory) => Err(AllocError),
+            Err(LineError::Fault(fault)) => line(
+                alloc,
+                Answer::RefusedLine {
+                    line: number,
+                    fault,
+                },
+            ),
+        }
+    }
+
+    /// The final lines: the registers of each server.
+    pub fn finals(&self, alloc: Global) -> Result<String, AllocError>
+        ensures { IfOk result (λ text. string_bytes text ≡ finals self.now) }
+    {
+        let mut text = String::new(alloc);
+        for server in &self.servers {
+            let name = server.name();
+            let registers = server.registers();
+            let one = line(alloc, Answer::Final { name, registers })?;
+            text.push_str(one.as_str())?;
+        }
+        Ok(text)
+    }
+}
