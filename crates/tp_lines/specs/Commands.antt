@@ -9,7 +9,7 @@ use Rattle.tp_script.specs.declared.fault.LineFault.{LineFault}
 use Rattle.tp_script.specs.declared.fault.LineFault.TheVariants.{Syntax}
 use Rattle.tp_script.specs.Commands.{SubmitWords, list_words, submit_body, submit_words}
 use Rattle.tp_script.specs.Drafts.{is_draft}
-use Rattle.tp_script.specs.LineWords.{◌>>=◌, require, no_word, two, three, ordinal_at}
+use Rattle.tp_script.specs.LineWords.{◌>>=◌, require, no_word, ordinal_at}
 use Rattle.tp_lines.specs.declared.keyword.Alone.{Alone}
 use Rattle.tp_lines.specs.declared.keyword.Alone.TheVariants as alone
 use Rattle.tp_lines.specs.declared.keyword.Deed.{Deed}

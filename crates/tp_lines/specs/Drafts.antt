@@ -1,5 +1,5 @@
 -- The outputs of a worker's commit, as its line says them.
-use Rattle.std.specs.Prelude.{ℕ, List, [], ◌∷◌, ◌==◌, Result, Ok, Err}
+use Rattle.std.specs.Prelude.{ℕ, List, [], ◌∷◌, ◌==◌, Result, Ok}
 use Rattle.std.specs.List.{slice_split}
 use Rattle.tp_model.specs.Drafts.{DraftView}
 use Rattle.tp_script.specs.declared.fault.LineFault.{LineFault}

@@ -1,5 +1,5 @@
 -- How a worker's last unit of work ended, as an `ended` line says it.
-use Rattle.std.specs.Prelude.{ℕ, List, [], ◌∷◌, length, ◌==◌, codes, Result, Ok, Err, if◌then◌else◌}
+use Rattle.std.specs.Prelude.{ℕ, List, ◌∷◌, length, ◌==◌, codes, Result, Ok, Err, if◌then◌else◌}
 use Rattle.std.specs.Str.{bytes_eq}
 use Rattle.tp_script.specs.declared.fault.LineFault.{LineFault}
 use Rattle.tp_script.specs.declared.fault.LineFault.TheVariants.{Syntax}

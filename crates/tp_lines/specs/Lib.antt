@@ -10,3 +10,4 @@ pub mod Drafts
 pub mod Commands
 pub mod Grammar
 pub mod Reading
+pub mod HeadTexts

@@ -3,7 +3,7 @@ use Rattle.std.specs.Prelude.{ℕ, List, is_ok, Result, Ok}
 use Rattle.tp_script.specs.declared.fault.LineFault.{LineFault}
 use Rattle.tp_script.specs.declared.fault.LineFault.TheVariants.{BadRecipe}
 use Rattle.tp_script.specs.LineWords.{◌>>=◌, require}
-use Rattle.tp_script.specs.ServerLines.{Shape, recipe_at, shape_at}
+use Rattle.tp_script.specs.ServerLines.{recipe_at, shape_at}
 use Rattle.tp_server.specs.Check.{check_of}
 use Rattle.tp_lines.specs.Lines.{ServerLineView}
 use Rattle.tp_lines.specs.Words.{name_at}

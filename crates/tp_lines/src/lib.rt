@@ -15,6 +15,7 @@ mod name;
 mod servers;
 mod statuses;
 mod text;
+mod texts;
 mod words;
 
 pub use grammar::{MAX_LINE, read_line};
