@@ -1,5 +1,5 @@
 -- A store that is built again from what was told of it, one thing after another.
-use Rattle.std.specs.Prelude.{ℕ, ◌+◌, ◌-◌, ◌^◌, ◌==◌, ◌&&◌, nat_le, nat_lt, Bool, true, is_none, if◌then◌else◌, Option, None, Some, Result, Ok, Err, [], ◌∷◌, ◌++◌, length, slice_index_or, slice_set}
+use Rattle.std.specs.Prelude.{ℕ, ◌+◌, ◌-◌, ◌^◌, ◌==◌, ◌&&◌, nat_le, nat_lt, Bool, true, is_none, if◌then◌else◌, Option, None, Some, Result, Ok, Err, List, [], ◌∷◌, ◌++◌, length, slice_index_or, slice_set}
 use Rattle.tp_store.specs.declared.element.TheConstants.{LAST_STAGE, MAX_ROUNDS, REPLY_STAGE}
 use Rattle.tp_store.specs.declared.element.Element.{Element}
 use Rattle.tp_store.specs.declared.element.Status.{Status}
@@ -8,12 +8,14 @@ use Rattle.tp_store.specs.declared.answers.Refusal.{Refusal}
 use Rattle.tp_store.specs.declared.answers.Refusal.TheVariants.{Unsound}
 use Rattle.tp_store.specs.declared.counts.Counts.{Counts}
 use Rattle.tp_store.specs.declared.group.Group.TheVariants.{All}
+use Rattle.tp_store.specs.declared.store.Limits.{Limits}
 use Rattle.tp_store.specs.Counting.{TallyView, no_counts, tallied}
 use Rattle.tp_store.specs.Elements.{put}
 use Rattle.tp_store.specs.Ends.{is_over}
 use Rattle.tp_store.specs.Listing.{first_of}
-use Rattle.tp_store.specs.Soundness.{is_for_reply, unit_in}
-use Rattle.tp_store.specs.State.{State}
+use Rattle.tp_store.specs.Runs.{Call, run}
+use Rattle.tp_store.specs.Soundness.{IsSound, is_for_reply, unit_in}
+use Rattle.tp_store.specs.State.{State, start}
 
 -- what is told changes the store to this where it is sound, and is refused where it isn't
 abbrev pub if_sound : Bool → State → State → Result (Unit {0}) Refusal × State
@@ -110,3 +112,33 @@ with_settled stage consumed killed t = record {
 abbrev pub set_settled_of : ℕ → ℕ → ℕ → State → Result (Unit {0}) Refusal × State
 set_settled_of stage consumed killed s = if_sound (is_stage stage && is_settling stage consumed killed s.tally)
     (record s { tally = with_settled stage consumed killed s.tally }) s
+
+-- ---- what is told
+
+-- one thing that is told
+pub data Told : Type 0 where
+  Numbers : ℕ → ℕ → Told
+  Back : ℕ → Element → Told
+  Over : ℕ → Told
+  Settled : ℕ → ℕ → ℕ → Told
+
+-- what it leaves
+abbrev pub taken_back : Told → State → State
+taken_back (Numbers next units) s = (set_numbers_of next units s).1
+taken_back (Back id e) s = (put_back_of id e s).1
+taken_back (Over root) s = (put_over_of root s).1
+taken_back (Settled stage consumed killed) s = (set_settled_of stage consumed killed s).1
+
+-- what these leave, one after another
+abbrev pub all_back : List Told → State → State
+all_back [] s = s
+all_back (told ∷ others) s = all_back others (taken_back told s)
+
+-- whatever is told, a sound store stays sound
+abbrev pub StaysSound : Type 0
+StaysSound = (told : Told) (s : State) → IsSound s → IsSound (taken_back told s)
+
+-- and so is one that is built of it, and each run of calls behind
+abbrev pub RestoredIsSound : Type 0
+RestoredIsSound = (limits : Limits) (told : List Told) (calls : List Call)
+    → IsSound (run calls (all_back told (start limits)))

@@ -8,6 +8,7 @@ ghost use Rattle.tp_store.specs.Modelled.{FamiliesAreTrees, HaveRoom, RunsAreHis
 ghost use Rattle.tp_store.specs.Progress.{AbortsHeld, ClaimsFirst, CollectsReplies, CommitsHeld, HandsOut};
 ghost use Rattle.tp_store.specs.Progress.{KillsAlive};
 ghost use Rattle.tp_store.specs.Progress.{NeverIdle, OutputsWait, RequeuesParked, SubmitsWait, TakesWaiting};
+ghost use Rattle.tp_store.specs.Restoring.{RestoredIsSound, StaysSound};
 
 /// A claim of a stage in which an element waits is never idle: it hands out the one with the least id.
 pub fn claims_never_idle()
@@ -66,4 +67,11 @@ pub fn families_are_trees()
 /// are, in all and in each stage.
 pub fn accounts_hold()
     ensures { AccountsHold }
+{}
+
+/// Whatever is told, a sound store stays sound, and one that is built of it alone is sound, behind each run of
+/// calls too.
+pub fn takes_back_soundly()
+    ensures stays { StaysSound }
+    ensures restored { RestoredIsSound }
 {}

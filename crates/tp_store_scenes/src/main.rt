@@ -2,6 +2,8 @@
 //! hand.
 #![tactic(auto)]
 
+mod restoring;
+
 use std::fmt::Debug;
 use std::io;
 use tp_store::draft::Draft;
@@ -24,7 +26,8 @@ fn main(rt: HostRuntime) -> io::Result<()> {
     attempts(&rt, &mut store)?;
     ends(&rt, &mut store)?;
     owners(&rt, &mut store)?;
-    counts(&rt, &store)
+    counts(&rt, &store)?;
+    restoring::restores(&rt)
 }
 
 fn tell<T: Debug>(rt: &HostRuntime, call: &str, answer: &T) -> io::Result<()> {
