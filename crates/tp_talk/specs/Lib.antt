@@ -8,6 +8,7 @@ pub mod Workers
 pub mod Requests
 pub mod Clients
 pub mod Heads
+pub mod Dumps
 pub mod Session
 pub mod Acted
 pub mod Conversed

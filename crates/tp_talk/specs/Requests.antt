@@ -1,9 +1,8 @@
 -- The commands that name no server, worker or client.
-use Rattle.std.specs.Prelude.{ℕ, zero, suc, ◌-◌, ◌^◌, ◌==◌, if◌then◌else◌, List, [], ◌∷◌, ◌++◌}
-use Rattle.std.specs.Prelude.{Option, Some, None, Ok, slice_index_or}
+use Rattle.std.specs.Prelude.{ℕ, zero, suc, ◌+◌, ◌-◌, ◌^◌, ◌==◌, if◌then◌else◌, List, [], ◌∷◌, ◌++◌}
+use Rattle.std.specs.Prelude.{Option, Some, None, Ok, slice_get}
 use Rattle.std.specs.List.{fold}
 use Rattle.tp_store.specs.Calls.{cancel_of, collect_of, kill_of, release_of, requeue_of, submit_of}
-use Rattle.tp_store.specs.Counting.{no_counts}
 use Rattle.tp_store.specs.Elements.{Entry, element_at}
 use Rattle.tp_store.specs.Listing.{listed}
 use Rattle.tp_store.specs.declared.group.Group.{Group}
@@ -90,14 +89,15 @@ account_step s =
     else just (answer_text answer.Busy) s
 
 -- how many of a stage wait, are held and are parked
-abbrev pub depth_of : ℕ → Counts → Depth
-depth_of stage c = record { stage = stage; waiting = c.waiting; held = c.held; parked = c.parked }
+abbrev pub depth_of : ℕ → Option Counts → Depth
+depth_of stage None = record { stage = stage; waiting = 0; held = 0; parked = 0 }
+depth_of stage (Some c) = record { stage = stage; waiting = c.waiting; held = c.held; parked = c.parked }
 
 -- those of the stages below this one
 abbrev pub depths_below : ℕ → State → List Depth
 depths_below zero s = []
 depths_below (suc stage) s =
-    depths_below stage s ++ depth_of stage (slice_index_or s.tally.stages stage no_counts) ∷ []
+    depths_below stage s ++ depth_of stage (slice_get s.tally.stages stage) ∷ []
 
 abbrev pub depth_step : SessionState → Step
 depth_step s = just (depths_text (depths_below (LAST_STAGE + 1) s.store)) s

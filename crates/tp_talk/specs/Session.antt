@@ -4,7 +4,7 @@ use Rattle.std.specs.Prelude.{Option, Some, None, Result, Ok, Err, slice_get, sl
 use Rattle.std.specs.List.{flat_map, sum_by}
 use Rattle.tp_script.specs.declared.fault.LineFault.{LineFault}
 use Rattle.tp_script.specs.declared.fault.LineFault.TheVariants.{BadName, Order, Syntax}
-use Rattle.tp_server.specs.declared.order.Order.{Order}
+use Rattle.tp_server.specs.declared.order.Order.{Order as Turns}
 use Rattle.tp_lines.specs.Grammar.{line_said}
 use Rattle.tp_lines.specs.Names.{NameView}
 use Rattle.tp_lines.specs.declared.line.Act.{Act}
@@ -26,6 +26,7 @@ use Rattle.tp_store.specs.declared.element.Element.{Element}
 use Rattle.tp_talk.specs.declared.hand.Hand.{Hand}
 use Rattle.tp_talk.specs.Clients.{forget_step, last_by, of_client, receive_step, register_step, send_step}
 use Rattle.tp_talk.specs.Drains.{Round, rounds}
+use Rattle.tp_talk.specs.Dumps.{dump_lines, dump_text}
 use Rattle.tp_talk.specs.Hands.{attempt_in, hand_told, held_of}
 use Rattle.tp_talk.specs.Heads.{head_set, worker_set}
 use Rattle.tp_talk.specs.Requests.{account_step, cancel_step, collect_step, count_step, depth_step, errors_step}
@@ -109,7 +110,7 @@ drained_text false = answer_text answer.Drained
 abbrev pub drained : Round → SessionState → Step
 drained r s = Ok (line (drained_text r.took), record s { servers = r.servers; store = r.store })
 
-abbrev pub drain_step : Order → SessionState → Step
+abbrev pub drain_step : Turns → SessionState → Step
 drain_step order s = drained (rounds order MAX_ROUNDS_OF_DRAIN s.servers s.store) s
 
 -- who has what in hand, and in which attempt, where its unit holds it still
@@ -150,7 +151,7 @@ does commands.Depth s = depth_step s
 does (commands.List stage from) s = list_step stage from s
 does commands.Account s = account_step s
 does commands.Holds s = holds_step s
-does commands.Dump s = Err Order
+does commands.Dump s = Ok (dump_text (dump_lines s), s)
 does commands.Restore s = just (answer_text (answer.Restored (alive_in s.store))) s
 does (commands.Drain order) s = drain_step order s
 does (commands.Sum k) s = sum_step k s

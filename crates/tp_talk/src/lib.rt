@@ -5,6 +5,7 @@ mod acts;
 mod clients;
 mod conversing;
 mod drains;
+mod dumps;
 mod hand;
 mod heads;
 mod phase;

@@ -1,9 +1,8 @@
 //! The commands that name no server, worker or client.
-ghost use Rattle.std.specs.Prelude.{◌≡◌, ◌+◌, IfErr, IfOk, OnOk, slice_index_or, string_bytes};
+ghost use Rattle.std.specs.Prelude.{◌≡◌, ◌+◌, IfErr, IfOk, OnOk, slice_get, string_bytes};
 ghost use Rattle.tp_answers.specs.Answer.{answer_text, line};
 ghost use Rattle.tp_answers.specs.declared.answer.Answer.TheVariants as answer;
 ghost use Rattle.tp_script.specs.declared.fault.LineError.TheVariants.{NoMemory};
-ghost use Rattle.tp_store.specs.Counting.{no_counts};
 ghost use Rattle.tp_talk.specs.Requests.{account_step, all_of, cancel_step, collect_step, count_step, depth_of};
 ghost use Rattle.tp_talk.specs.Requests.{depth_step, depths_below, errors_step, family_step, kill_step, list_step};
 ghost use Rattle.tp_talk.specs.Requests.{read_step, release_step, reply_step, requeue_step, submit_step};
@@ -242,7 +241,7 @@ fn take_replies(store: &mut Store, replies: &[(u64, Element)]) -> Result<(), All
 
 /// How deep a stage is.
 fn depth(store: &Store, stage: u16) -> Depth
-    ensures { result ≡ depth_of stage (slice_index_or store.now.tally.stages stage no_counts) }
+    ensures { result ≡ depth_of stage (slice_get store.now.tally.stages stage) }
 {
     let Some(counts) = store.stage_total(stage) else {
         return Depth {
@@ -265,7 +264,7 @@ fn depths(alloc: Global, store: &Store) -> Result<Vec<Depth>, AllocError>
     ensures { IfOk result (λ depths. depths.items ≡ depths_below (LAST_STAGE + 1) store.now) }
 {
     let mut depths = Vec::new(alloc);
-    for stage in 0..=LAST_STAGE {
+    for stage in 0..LAST_STAGE + 1 {
         depths.push(depth(store, stage))?;
     }
     Ok(depths)
