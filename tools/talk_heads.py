@@ -157,7 +157,8 @@ class Head:
         counts, all_of = self.store.counts(stage), self.store.total()
         for it, many in told.items():
             must(counts[it] <= many and all_of[it] + many - counts[it] <= LARGEST, "BadNumber")
-        counts.update(told)
+        for it, many in told.items():
+            counts[it] = many
 
     def set_hand(self, name, id, unit):
         must(id < self.store.next and unit < self.store.units, "BadNumber")
