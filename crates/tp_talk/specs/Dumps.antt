@@ -79,7 +79,7 @@ settled_lines stage (Some c) =
     if c.consumed == 0 && c.killed == 0 then [] else head.Settled stage c.consumed c.killed ∷ []
 
 -- those of the stages below this one
-abbrev pub settled_below : ℕ → List Counts → List HeadLine
+unfoldable pub settled_below : ℕ → List Counts → List HeadLine
 settled_below zero counts = []
 settled_below (suc stage) counts =
     settled_below stage counts ++ settled_lines stage (slice_get counts stage)

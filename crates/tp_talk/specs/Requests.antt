@@ -94,7 +94,7 @@ depth_of stage None = record { stage = stage; waiting = 0; held = 0; parked = 0 
 depth_of stage (Some c) = record { stage = stage; waiting = c.waiting; held = c.held; parked = c.parked }
 
 -- those of the stages below this one
-abbrev pub depths_below : ℕ → State → List Depth
+unfoldable pub depths_below : ℕ → State → List Depth
 depths_below zero s = []
 depths_below (suc stage) s =
     depths_below stage s ++ depth_of stage (slice_get s.tally.stages stage) ∷ []

@@ -9,7 +9,7 @@ use Rattle.tp_store.specs.declared.answers.Refusal.{Refusal}
 use Rattle.tp_answers.specs.Answer.{answer_text, line}
 use Rattle.tp_answers.specs.declared.answer.Answer.{Answer}
 use Rattle.tp_answers.specs.declared.answer.Answer.TheVariants as answer
-use Rattle.tp_talk.specs.State.{ServerView, SessionState, with_store}
+use Rattle.tp_talk.specs.State.{SessionState, with_store}
 
 -- a text, and the session behind it; or the fault of the line, which changes nothing
 abbrev pub Step : Type 0
@@ -39,9 +39,3 @@ abbrev pub Sets : Result (Unit {0}) LineError → SessionState → SessionState 
 Sets (Ok done) new old set = set ≡ Ok new
 Sets (Err errors.NoMemory) new old set = Unit {0}
 Sets (Err (errors.Fault fault)) new old set = (set ≡ Err fault) × (new ≡ old)
-
--- the same of a server
-abbrev pub Changes : Result (Unit {0}) LineError → ServerView → ServerView → Result ServerView LineFault → Type 0
-Changes (Ok done) new old changed = changed ≡ Ok new
-Changes (Err errors.NoMemory) new old changed = Unit {0}
-Changes (Err (errors.Fault fault)) new old changed = (changed ≡ Err fault) × (new ≡ old)

@@ -118,16 +118,16 @@ abbrev pub attempt_of : Option Element → Option ℕ
 attempt_of None = None
 attempt_of (Some e) = Some (attempt_in e.status)
 
-abbrev pub holders : NameView → Option Hand → State → List HolderView
-holders name None s = []
-holders name (Some h) s =
+abbrev pub hand_holders : NameView → Option Hand → State → List HolderView
+hand_holders name None s = []
+hand_holders name (Some h) s =
     record { name = name; id = h.id; unit = h.unit; attempt = attempt_of (held_of h s) } ∷ []
 
 abbrev pub server_holders : State → ServerView → List HolderView
-server_holders s v = holders v.name v.hand s
+server_holders s v = hand_holders v.name v.hand s
 
 abbrev pub worker_holders : State → NameView × Worker → List HolderView
-worker_holders s (name, w) = holders name w.hand s
+worker_holders s (name, w) = hand_holders name w.hand s
 
 abbrev pub holds_step : SessionState → Step
 holds_step s = just (holds_text (flat_map (server_holders s.store) s.servers

@@ -1,19 +1,23 @@
 //! What servers and workers do, and what is told of them.
-ghost use Rattle.std.specs.Prelude.{◌≡◌, ◌++◌, OnOk, Some, map, string_bytes};
+ghost use Rattle.std.specs.Prelude.{◌≡◌, ◌++◌, IfSome, OnOk, Some, map, string_bytes};
+ghost use Rattle.std.specs.List.{flat_map, sum_by};
 ghost use Rattle.tp_answers.specs.OverviewTexts.{holder_view};
 ghost use Rattle.tp_talk.specs.Roles.{server_at, with_worker, worker_at};
 ghost use Rattle.tp_talk.specs.Said.{Says};
-ghost use Rattle.tp_talk.specs.Session.{act_by, act_step, at_server, balance_at, drain_step, holders, holds_step};
-ghost use Rattle.tp_talk.specs.Session.{last_as, leave_by, sum_step};
+ghost use Rattle.tp_talk.specs.Session.{act_by, act_step, at_server, balance_at, drain_step, holds_step};
+ghost use Rattle.tp_talk.specs.Session.{hand_holders, last_as, leave_by, register_or_zero, server_holders, sum_step};
+ghost use Rattle.tp_talk.specs.Session.{worker_holders};
 ghost use Rattle.tp_talk.specs.Servers.{gives_outputs};
 ghost use Rattle.tp_talk.specs.Workers.{is_of_server};
 
 use crate::drains::drain;
 use crate::hand::{Hand, attempt_in, hand_told};
 use crate::requests::told;
+use crate::server::Server;
 use crate::session::Session;
 use crate::worker::Worker;
 use std::alloc::{AllocError, Global};
+use std::collections::BTreeMap;
 use std::string::String;
 use tp_answers::{Answer, Holder};
 use tp_lines::{Act, Name};
@@ -204,13 +208,10 @@ impl Session {
     pub(crate) fn sum(&self, alloc: Global, k: u64) -> Result<String, LineError>
         ensures { Says string_bytes result self.now self.now (sum_step k self.now) }
     {
-        let mut sum: u128 = 0;
-        for server in &self.servers {
-            if let Some(value) = server.register(k) {
-                sum += u128::from(value);
-            }
+        match sum_of(self.servers.as_slice(), k) {
+            Some(sum) => told(alloc, Answer::Sum { k, sum }),
+            None => Err(LineError::NoMemory),
         }
-        told(alloc, Answer::Sum { k, sum })
     }
 
     /// `drain`, `drain next`
@@ -229,17 +230,13 @@ impl Session {
         ensures { Says string_bytes result self.now self.now (holds_step self.now) }
     {
         let mut holders = Vec::new(alloc);
-        for server in &self.servers {
-            match add_holder(&mut holders, server.name(), server.hand(), &self.store) {
-                Ok(()) => {}
-                Err(_) => return Err(LineError::NoMemory),
-            }
+        match add_servers(&mut holders, self.servers.as_slice(), &self.store) {
+            Ok(()) => {}
+            Err(_) => return Err(LineError::NoMemory),
         }
-        for (name, worker) in &self.workers {
-            match add_holder(&mut holders, name, worker.hand, &self.store) {
-                Ok(()) => {}
-                Err(_) => return Err(LineError::NoMemory),
-            }
+        match add_workers(&mut holders, &self.workers, &self.store) {
+            Ok(()) => {}
+            Err(_) => return Err(LineError::NoMemory),
         }
         told(alloc, Answer::Holds(holders.as_slice()))
     }
@@ -253,7 +250,7 @@ fn add_holder<'a>(
     store: &Store,
 ) -> Result<(), AllocError>
     ensures { OnOk result (map holder_view holders.new.items
-        ≡ map holder_view holders.old.items ++ holders name.now hand store.now) }
+        ≡ map holder_view holders.old.items ++ hand_holders name.now hand store.now) }
 {
     let Some(hand) = hand else {
         return Ok(());
@@ -271,5 +268,64 @@ fn add_holder<'a>(
     match holders.push(holder) {
         Ok(()) => Ok(()),
         Err(_) => Err(AllocError),
+    }
+}
+
+/// Adds what servers have in hand.
+fn add_servers<'a>(
+    holders: &mut Vec<Holder<'a>>,
+    servers: &'a [Server],
+    store: &Store,
+) -> Result<(), AllocError>
+    ensures { OnOk result (map holder_view holders.new.items
+        ≡ map holder_view holders.old.items ++ flat_map (server_holders store.now) servers.now) }
+{
+    for server in servers {
+        match add_holder(holders, server.name(), server.hand(), store) {
+            Ok(()) => {}
+            Err(_) => return Err(AllocError),
+        }
+    }
+    Ok(())
+}
+
+/// Adds what workers have in hand.
+fn add_workers<'a>(
+    holders: &mut Vec<Holder<'a>>,
+    workers: &'a BTreeMap<Name, Worker>,
+    store: &Store,
+) -> Result<(), AllocError>
+    ensures { OnOk result (map holder_view holders.new.items
+        ≡ map holder_view holders.old.items ++ flat_map (worker_holders store.now) workers.now.entries) }
+{
+    for (name, worker) in workers {
+        match add_holder(holders, name, worker.hand, store) {
+            Ok(()) => {}
+            Err(_) => return Err(AllocError),
+        }
+    }
+    Ok(())
+}
+
+/// Register k of a server; 0 where it has no such register.
+fn register_or_zero(server: &Server, k: u64) -> u64
+    ensures { result ≡ register_or_zero k server.now }
+{
+    match server.register(k) {
+        Some(value) => value,
+        None => 0,
+    }
+}
+
+/// The sum of register k over servers, if 128 bits have it.
+fn sum_of(servers: &[Server], k: u64) -> Option<u128>
+    ensures { IfSome result (λ sum. sum ≡ sum_by (register_or_zero k) servers.now) }
+{
+    let Some((first, others)) = servers.split_first() else {
+        return Some(0);
+    };
+    match sum_of(others, k) {
+        Some(sum) => u128::from(register_or_zero(first, k)).checked_add(sum),
+        None => None,
     }
 }

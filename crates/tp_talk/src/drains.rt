@@ -48,6 +48,7 @@ fn round(servers: &mut [Server], store: &mut Store, order: Order) -> Result<bool
 }
 
 /// Rounds, one after another, until nothing is taken in one: whether something was taken in the last one.
+#[tactic(auto, unfolding(crate::specs::Drains::rounds))]
 pub(crate) fn drain(
     servers: &mut [Server],
     store: &mut Store,

@@ -171,21 +171,24 @@ impl Dump {
         self.add(alloc, &HeadLine::Start { name, k, value })
     }
 
-    /// The registers of a server.
+    /// The registers of a server from this one on.
     fn add_starts(
         &mut self,
         alloc: Global,
         name: &Name,
+        k: u64,
         registers: &[u64],
     ) -> Result<(), AllocError>
-        ensures { OnOk result (self.new ≡ and_lines (start_lines name.now 0 registers.now) self.old) }
+        ensures { OnOk result (self.new ≡ and_lines (start_lines name.now k registers.now) self.old) }
     {
-        let mut k = 0;
-        for value in registers {
-            self.add_start(alloc, name, k, *value)?;
-            k += 1;
+        let Some((value, others)) = registers.split_first() else {
+            return Ok(());
+        };
+        self.add_start(alloc, name, k, *value)?;
+        match k.checked_add(1) {
+            Some(next) => self.add_starts(alloc, name, next, others),
+            None => Err(AllocError),
         }
-        Ok(())
     }
 
     /// A server.
@@ -194,7 +197,7 @@ impl Dump {
     {
         let name = server.name();
         self.add(alloc, &HeadLine::Server(server.line()?))?;
-        self.add_starts(alloc, name, server.registers())?;
+        self.add_starts(alloc, name, 0, server.registers())?;
         self.add_from(alloc, name, server.from())?;
         self.add_hand(alloc, name, server.hand())?;
         self.add_prepared(alloc, name, server.is_prepared())?;
@@ -324,6 +327,7 @@ impl Dump {
     }
 
     /// Those of all stages.
+    #[tactic(auto, unfolding(crate::specs::Dumps::settled_below))]
     fn add_all_settled(&mut self, alloc: Global, store: &Store) -> Result<(), AllocError>
         ensures { OnOk result (self.new
             ≡ and_lines (settled_below (LAST_STAGE + 1) store.now.tally.stages) self.old) }

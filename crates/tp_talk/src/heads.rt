@@ -1,9 +1,10 @@
 //! What the lines of a head set.
 ghost use Rattle.std.specs.Prelude.{◌≡◌, Ok, Some, string_bytes};
+ghost use Rattle.tp_store.specs.Restoring.{put_back_of, put_over_of, set_settled_of};
 ghost use Rattle.tp_talk.specs.Heads.{attempts_set, awaits_restore, client_set, ended_as, from_set, hand_set};
 ghost use Rattle.tp_talk.specs.Heads.{has_hand, head_set, keep_set, most_set, numbers_set, register_set};
-ghost use Rattle.tp_talk.specs.Heads.{server_changed, server_from, server_has, server_set, set, with_drop};
-ghost use Rattle.tp_talk.specs.Heads.{with_prepared, with_start, worker_set};
+ghost use Rattle.tp_talk.specs.Heads.{server_changed, server_from, server_has, server_set, set, told_back};
+ghost use Rattle.tp_talk.specs.Heads.{with_drop, with_prepared, with_start, worker_set};
 ghost use Rattle.tp_talk.specs.Roles.{with_worker, worker_at};
 ghost use Rattle.tp_talk.specs.Said.{Says, Sets};
 ghost use Rattle.tp_talk.specs.Session.{join_by};
@@ -20,6 +21,7 @@ use tp_answers::Answer;
 use tp_lines::{ClientNote, HeadLine, Name, ServerLine, UnitEnd};
 use tp_script::{LineError, LineFault, MAX_SERVERS};
 use tp_store::answers::Refusal;
+use tp_store::element::Element;
 
 /// A name that isn't there, or is there already.
 const BAD_NAME: LineError = LineError::Fault(LineFault::BadName);
@@ -40,16 +42,6 @@ fn awaits_restore(line: &HeadLine) -> bool
         HeadLine::Worker { .. } => false,
         HeadLine::Register { .. } => false,
         _ => true,
-    }
-}
-
-/// What the store was told back: the fault of the line where that contradicts what is there.
-fn told_back(told: Result<(), Refusal>) -> Result<(), LineError> {
-    match told {
-        Ok(()) => Ok(()),
-        Err(Refusal::NoMemory) => Err(LineError::NoMemory),
-        Err(Refusal::NoNumber) => Err(LineError::NoMemory),
-        Err(_) => Err(BAD_NUMBER),
     }
 }
 
@@ -83,13 +75,13 @@ impl Session {
                 units,
                 owners,
             } => self.set_numbers(next, units, owners),
-            HeadLine::Element { id, element } => told_back(self.store.put_back(id, element)),
-            HeadLine::Over { root } => told_back(self.store.put_over(root)),
+            HeadLine::Element { id, element } => self.set_element(id, element),
+            HeadLine::Over { root } => self.set_over(root),
             HeadLine::Settled {
                 stage,
                 consumed,
                 killed,
-            } => told_back(self.store.set_settled(stage, consumed, killed)),
+            } => self.set_settled(stage, consumed, killed),
             HeadLine::Hand { name, id, unit } => self.set_hand(&name, Hand { id, unit }),
             HeadLine::Prepared { name } => self.set_prepared(&name),
             HeadLine::Dropped { name } => self.set_dropped(&name),
@@ -154,7 +146,11 @@ impl Session {
         let Some(place) = self.server_at(name) else {
             return Err(BAD_NAME);
         };
-        self.servers[place].set_start(k, value)
+        if !self.servers[place].has_register(k) {
+            return Err(LineError::Fault(LineFault::BadRecipe));
+        }
+        self.servers[place].begin(k, value);
+        Ok(())
     }
 
     /// `prepared NAME`
@@ -164,7 +160,11 @@ impl Session {
         let Some(place) = self.server_at(name) else {
             return Err(BAD_NAME);
         };
-        self.servers[place].set_prepared()
+        if self.servers[place].hand().is_none() {
+            return Err(BAD_NAME);
+        }
+        self.servers[place].mark_prepared();
+        Ok(())
     }
 
     /// `dropped NAME`
@@ -174,7 +174,11 @@ impl Session {
         let Some(place) = self.server_at(name) else {
             return Err(BAD_NAME);
         };
-        self.servers[place].set_dropped()
+        if self.servers[place].hand().is_some() {
+            return Err(BAD_NAME);
+        }
+        self.servers[place].mark_dropped();
+        Ok(())
     }
 
     /// `worker NAME STAGE`
@@ -268,7 +272,11 @@ impl Session {
         let Some(place) = self.server_at(name) else {
             return Err(BAD_NAME);
         };
-        self.servers[place].set_hand(hand)
+        if self.servers[place].hand().is_some() {
+            return Err(BAD_NAME);
+        }
+        self.servers[place].put_in_hand(hand);
+        Ok(())
     }
 
     /// `from NAME ID`
@@ -292,7 +300,8 @@ impl Session {
         let Some(place) = self.server_at(name) else {
             return Err(BAD_NAME);
         };
-        self.servers[place].set_from(id)
+        self.servers[place].go_from(id);
+        Ok(())
     }
 
     /// `register NAME`
@@ -336,6 +345,43 @@ impl Session {
                 self.owners = owners;
                 Ok(())
             }
+            Err(Refusal::NoMemory) => Err(LineError::NoMemory),
+            Err(Refusal::NoNumber) => Err(LineError::NoMemory),
+            Err(_) => Err(BAD_NUMBER),
+        }
+    }
+
+    /// `element ID ..`
+    fn set_element(&mut self, id: u64, element: Element) -> Result<(), LineError>
+        ensures { Sets result self.new self.old (told_back (put_back_of id element self.old.store) self.old) }
+    {
+        match self.store.put_back(id, element) {
+            Ok(()) => Ok(()),
+            Err(Refusal::NoMemory) => Err(LineError::NoMemory),
+            Err(Refusal::NoNumber) => Err(LineError::NoMemory),
+            Err(_) => Err(BAD_NUMBER),
+        }
+    }
+
+    /// `over ROOT`
+    fn set_over(&mut self, root: u64) -> Result<(), LineError>
+        ensures { Sets result self.new self.old (told_back (put_over_of root self.old.store) self.old) }
+    {
+        match self.store.put_over(root) {
+            Ok(()) => Ok(()),
+            Err(Refusal::NoMemory) => Err(LineError::NoMemory),
+            Err(Refusal::NoNumber) => Err(LineError::NoMemory),
+            Err(_) => Err(BAD_NUMBER),
+        }
+    }
+
+    /// `settled STAGE CONSUMED KILLED`
+    fn set_settled(&mut self, stage: u16, consumed: u64, killed: u64) -> Result<(), LineError>
+        ensures { Sets result self.new self.old
+            (told_back (set_settled_of stage consumed killed self.old.store) self.old) }
+    {
+        match self.store.set_settled(stage, consumed, killed) {
+            Ok(()) => Ok(()),
             Err(Refusal::NoMemory) => Err(LineError::NoMemory),
             Err(Refusal::NoNumber) => Err(LineError::NoMemory),
             Err(_) => Err(BAD_NUMBER),

@@ -260,6 +260,7 @@ fn depth(store: &Store, stage: u16) -> Depth
 }
 
 /// How deep each stage is.
+#[tactic(auto, unfolding(crate::specs::Requests::depths_below))]
 fn depths(alloc: Global, store: &Store) -> Result<Vec<Depth>, AllocError>
     ensures { IfOk result (λ depths. depths.items ≡ depths_below (LAST_STAGE + 1) store.now) }
 {

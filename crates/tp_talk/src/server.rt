@@ -1,14 +1,13 @@
 //! Built-in servers: registers, a recipe, and what is in hand.
-ghost use Rattle.std.specs.Prelude.{◌≡◌, IfOk, slice_get};
+ghost use Rattle.std.specs.Prelude.{◌≡◌, ◌<◌, IfOk, Some, length, nat_lt, slice_get, slice_set, true};
 ghost use Rattle.tp_talk.specs.Drains.{takes_part};
-ghost use Rattle.tp_talk.specs.Heads.{new_server, server_from, server_has, with_drop, with_prepared, with_start};
-ghost use Rattle.tp_talk.specs.Said.{Changes};
+ghost use Rattle.tp_talk.specs.Heads.{new_server};
 
 use crate::hand::Hand;
 use std::alloc::AllocError;
 use std::marker::Model;
 use tp_lines::{Name, ServerLine};
-use tp_script::{Kind, LineError, LineFault};
+use tp_script::Kind;
 use tp_server::{Recipe, Registers};
 
 /// A built-in server.
@@ -94,56 +93,47 @@ impl Server {
         self.registers.as_slice()
     }
 
-    /// Register k holds this.
-    pub(crate) fn set_start(&mut self, k: u64, value: u64) -> Result<(), LineError>
-        ensures { Changes result self.new self.old (with_start k value self.old) }
+    /// Whether it has register k.
+    pub(crate) fn has_register(&self, k: u64) -> bool
+        ensures { result ≡ nat_lt k (length self.now.registers) }
     {
-        if k >= u64::from(self.registers.len()) {
-            return Err(LineError::Fault(LineFault::BadRecipe));
-        }
+        k < u64::from(self.registers.len())
+    }
+
+    /// Register k holds this.
+    pub(crate) fn begin(&mut self, k: u64, value: u64)
+        requires { k < length self.old.registers }
+        ensures { self.new ≡ record self.old { registers = slice_set self.old.registers k value } }
+    {
         self.registers.set(k, value);
-        Ok(())
     }
 
     /// Its work is prepared.
-    pub(crate) fn set_prepared(&mut self) -> Result<(), LineError>
-        ensures { Changes result self.new self.old (with_prepared self.old) }
+    pub(crate) fn mark_prepared(&mut self)
+        ensures { self.new ≡ record self.old { is_prepared = true } }
     {
-        if self.hand.is_none() {
-            return Err(LineError::Fault(LineFault::BadName));
-        }
         self.is_prepared = true;
-        Ok(())
     }
 
     /// It was dropped.
-    pub(crate) fn set_dropped(&mut self) -> Result<(), LineError>
-        ensures { Changes result self.new self.old (with_drop self.old) }
+    pub(crate) fn mark_dropped(&mut self)
+        ensures { self.new ≡ record self.old { is_dropped = true } }
     {
-        if self.hand.is_some() {
-            return Err(LineError::Fault(LineFault::BadName));
-        }
         self.is_dropped = true;
-        Ok(())
     }
 
     /// It has this in hand.
-    pub(crate) fn set_hand(&mut self, hand: Hand) -> Result<(), LineError>
-        ensures { Changes result self.new self.old (server_has hand self.old) }
+    pub(crate) fn put_in_hand(&mut self, hand: Hand)
+        ensures { self.new ≡ record self.old { hand = Some hand } }
     {
-        if self.hand.is_some() {
-            return Err(LineError::Fault(LineFault::BadName));
-        }
         self.hand = Some(hand);
-        Ok(())
     }
 
     /// `next` goes on here.
-    pub(crate) fn set_from(&mut self, id: u64) -> Result<(), LineError>
-        ensures { Changes result self.new self.old (server_from id self.old) }
+    pub(crate) fn go_from(&mut self, id: u64)
+        ensures { self.new ≡ record self.old { from = id } }
     {
         self.from = id;
-        Ok(())
     }
 
     /// The line that makes it.

@@ -1,0 +1,3 @@
+pub mod AttendLemmas
+pub mod ConverseLemmas
+pub mod DumpLemmas
