@@ -8,11 +8,12 @@ CLIENTS = ["shop", "bar", "inn_2", "ann"]
 EDGES = [0, 1, 2, 3, 4, 7, 8, 15, 64, 65, 255, 256, 999, 1000, 65535, 65536, LARGEST - 1, LARGEST, LARGEST + 1]
 # How often each kind of line comes; those that aren't here come once.
 WEIGHTS = {
-    "submit": 9, "claim": 7, "next": 4, "take": 4, "commit": 9, "abort": 4, "turn": 4, "prepare": 2, "kill": 3, "requeue": 3, "release": 2,
-    "send": 4, "receive": 5, "collect": 2, "read": 3, "family": 2, "worker": 2, "register": 2, "faulty": 5,
+    "submit": 10, "claim": 9, "next": 4, "take": 3, "commit": 14, "abort": 4, "turn": 5, "prepare": 4, "kill": 1.5, "requeue": 3,
+    "release": 2, "send": 6, "receive": 9, "collect": 1, "read": 3, "family": 2, "register": 2, "faulty": 4, "drop": 0.15, "forget": 0.2,
+    "leave": 0.4, "cancel": 0.7, "drain": 0.3, "drain next": 0.3, "restore": 0.1, "max": 0.1, "last": 2,
 }
 PLAIN = ("errors", "count", "depth", "account", "holds", "dump", "restore", "drain", "drain next", "", "# nothing")
-KINDS = [*PLAIN, *WEIGHTS, "cancel", "reply", "list", "drop", "sum", "balance", "leave", "last", "forget", "max"]
+KINDS = sorted({*PLAIN, *WEIGHTS, "reply", "list", "sum", "balance", "worker"})
 
 
 class Lines:
@@ -42,7 +43,7 @@ class Lines:
                        for _ in range(random.randrange(4))]
             lines.append(" ".join([f"server s{k} {random.choice(('eager', 'lazy'))} {stage} {random.randrange(1, 4)} {act}", *outputs]))
             lines.append(f"start s{k} {random.randrange(3)} {random.choice((0, 4, 20, LARGEST))}")
-        lines += [f"worker {it} {random.randrange(1, 5)}" for it in random.sample(NAMES, random.randrange(5))]
+        lines += [f"worker {it} {random.randrange(1, 5)}" for it in random.sample(NAMES, random.randrange(1, 5))]
         lines += [f"register {it}" for it in random.sample(CLIENTS, random.randrange(4))]
         return lines
 
@@ -57,14 +58,16 @@ class Lines:
         return self.pick(found[-12:], self.random.choice((0, self.talk.store.next, 1, LARGEST)))
 
     def worker(self, is_held=None):
-        found = [it for it, w in [*self.talk.workers.items(), *self.talk.servers.items()] if is_held in (None, w.hand is not None)]
-        return self.pick(found, self.random.choice((*NAMES, "s0", "shop", "nobody")))
+        everyone = {**self.talk.workers, **self.talk.servers}
+        found = [it for it, w in everyone.items() if is_held in (None, w.hand is not None)]
+        return self.pick(found or everyone, self.random.choice((*NAMES, "s0", "shop", "nobody")))
 
     def client(self):
         return self.pick(self.talk.clients, self.random.choice((*CLIENTS, "s0")))
 
     def make_submit(self, kind):
-        return f"submit {self.random.choice((1, 1, 2, 3, 4, 5, 15, 0))} {' '.join(map(str, self.body()))}"
+        stages = [it.stage for it in [*self.talk.workers.values(), *self.talk.servers.values()]]
+        return f"submit {self.pick(stages, self.random.choice((1, 2, 5, 15, 0)))} {' '.join(map(str, self.body()))}"
 
     def make_commit(self, kind):
         name, drafts = self.worker(True), []
