@@ -1,9 +1,11 @@
 -- The lines of a dump: what there is, told as the lines of a head.
-use Rattle.std.specs.Prelude.{ℕ, zero, suc, ◌+◌, ◌==◌, Bool, true, false, ◌&&◌, if◌then◌else◌, List, [], ◌∷◌, ◌++◌}
+use Rattle.std.specs.Prelude.{ℕ, zero, suc, ◌+◌, ◌-◌, ◌^◌, ◌==◌, Bool, true, false, ◌&&◌, if◌then◌else◌, List, [], ◌∷◌, ◌++◌}
 use Rattle.std.specs.Prelude.{Option, Some, None, codes, decimal, length, map, slice_get}
 use Rattle.std.specs.List.{flat_map}
 use Rattle.tp_script.specs.Fault.{◌<>◌}
 use Rattle.tp_store.specs.Elements.{Entry}
+use Rattle.tp_store.specs.Listing.{listed}
+use Rattle.tp_store.specs.declared.group.Group.TheVariants.{All}
 use Rattle.tp_store.specs.State.{State}
 use Rattle.tp_store.specs.declared.counts.Counts.{Counts}
 use Rattle.tp_store.specs.declared.element.TheConstants.{LAST_STAGE}
@@ -44,11 +46,15 @@ abbrev pub dropped_lines : NameView → Bool → List HeadLine
 dropped_lines name false = []
 dropped_lines name true = head.Dropped name ∷ []
 
+-- how it stands
+abbrev pub standing_lines : ServerView → List HeadLine
+standing_lines v = from_lines v.name v.from ++ hand_lines v.name v.hand
+    ++ prepared_lines v.name v.is_prepared ++ dropped_lines v.name v.is_dropped
+
 abbrev pub server_lines : ServerView → List HeadLine
 server_lines v =
     head.Server (record { name = v.name; kind = v.kind; recipe = v.recipe })
-    ∷ (start_lines v.name 0 v.registers ++ from_lines v.name v.from ++ hand_lines v.name v.hand
-    ++ prepared_lines v.name v.is_prepared ++ dropped_lines v.name v.is_dropped)
+    ∷ (start_lines v.name 0 v.registers ++ standing_lines v)
 
 -- ---- workers and clients
 
@@ -92,14 +98,23 @@ first_lines s =
     head.Limit s.store.limits.attempts ∷ head.Max s.store.limits.most ∷ head.Keep s.store.limits.keep
     ∷ head.Numbers s.store.next s.store.units s.owners ∷ []
 
+-- all elements; no more than could be counted
+abbrev pub element_lines : State → List HeadLine
+element_lines s = map element_line (listed All 0 (2 ^ 64 - 1) s.elements)
+
 abbrev pub store_lines : State → List HeadLine
 store_lines s =
-    map element_line s.elements ++ map over_line s.ended ++ settled_below (LAST_STAGE + 1) s.tally.stages
+    element_lines s ++ (map over_line s.ended ++ settled_below (LAST_STAGE + 1) s.tally.stages)
+
+-- what there is beside the settings
+abbrev pub other_lines : List ServerView → List (NameView × Worker) → List (NameView × ClientNote) → State
+    → List HeadLine
+other_lines servers workers clients store =
+    flat_map server_lines servers ++ (flat_map worker_lines workers ++ (map client_line clients
+    ++ store_lines store))
 
 abbrev pub dump_lines : SessionState → List HeadLine
-dump_lines s =
-    first_lines s ++ flat_map server_lines s.servers ++ flat_map worker_lines s.workers
-    ++ map client_line s.clients ++ store_lines s.store
+dump_lines s = first_lines s ++ other_lines s.servers s.workers s.clients s.store
 
 -- a line of a dump stands behind `> `
 abbrev pub dumped : HeadLine → List ℕ

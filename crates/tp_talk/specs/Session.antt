@@ -1,6 +1,6 @@
 -- A whole session, computed of its lines.
 use Rattle.std.specs.Prelude.{ℕ, ◌+◌, ◌||◌, Bool, true, false, is_some, if◌then◌else◌, List, [], ◌∷◌, ◌++◌}
-use Rattle.std.specs.Prelude.{Option, Some, None, Result, Ok, Err, slice_get, slice_index_or, slice_set}
+use Rattle.std.specs.Prelude.{Option, Some, None, Result, Ok, Err, slice_get, slice_set}
 use Rattle.std.specs.List.{flat_map, sum_by}
 use Rattle.tp_script.specs.declared.fault.LineFault.{LineFault}
 use Rattle.tp_script.specs.declared.fault.LineFault.TheVariants.{BadName, Order, Syntax}
@@ -95,8 +95,12 @@ balance_at k None s = Err BadName
 balance_at k (Some place) s = balance_by k (slice_get s.servers place) s
 
 -- the sum of register k over the servers that have it
+abbrev pub or_zero : Option ℕ → ℕ
+or_zero None = 0
+or_zero (Some value) = value
+
 abbrev pub register_or_zero : ℕ → ServerView → ℕ
-register_or_zero k v = slice_index_or v.registers k 0
+register_or_zero k v = or_zero (slice_get v.registers k)
 
 abbrev pub sum_step : ℕ → SessionState → Step
 sum_step k s = just (answer_text (answer.Sum k (sum_by (register_or_zero k) s.servers))) s

@@ -4,6 +4,7 @@ ghost use Rattle.std.specs.List.{flat_map};
 ghost use Rattle.tp_lines.specs.declared.line.Command.TheVariants as commands;
 ghost use Rattle.tp_store.specs.Calls.{alive_in};
 ghost use Rattle.tp_talk.specs.Dumps.{and_lines, client_line, dropped_lines, dump_lines, dump_text, element_line};
+ghost use Rattle.tp_talk.specs.Dumps.{element_lines, other_lines, standing_lines};
 ghost use Rattle.tp_talk.specs.Dumps.{ended_lines, first_lines, from_lines, hand_lines, over_line};
 ghost use Rattle.tp_talk.specs.Dumps.{prepared_lines, server_lines, settled_below, settled_lines, start_line};
 ghost use Rattle.tp_talk.specs.Dumps.{start_lines, store_lines, told_dump, worker_lines};
@@ -191,6 +192,17 @@ impl Dump {
         }
     }
 
+    /// How a server stands.
+    fn add_standing(&mut self, alloc: Global, server: &Server) -> Result<(), AllocError>
+        ensures { OnOk result (self.new ≡ and_lines (standing_lines server.now) self.old) }
+    {
+        let name = server.name();
+        self.add_from(alloc, name, server.from())?;
+        self.add_hand(alloc, name, server.hand())?;
+        self.add_prepared(alloc, name, server.is_prepared())?;
+        self.add_dropped(alloc, name, server.is_dropped())
+    }
+
     /// A server.
     fn add_server(&mut self, alloc: Global, server: &Server) -> Result<(), AllocError>
         ensures { OnOk result (self.new ≡ and_lines (server_lines server.now) self.old) }
@@ -198,10 +210,7 @@ impl Dump {
         let name = server.name();
         self.add(alloc, &HeadLine::Server(server.line()?))?;
         self.add_starts(alloc, name, 0, server.registers())?;
-        self.add_from(alloc, name, server.from())?;
-        self.add_hand(alloc, name, server.hand())?;
-        self.add_prepared(alloc, name, server.is_prepared())?;
-        self.add_dropped(alloc, name, server.is_dropped())
+        self.add_standing(alloc, server)
     }
 
     /// The servers, in the order of their lines.
@@ -326,26 +335,50 @@ impl Dump {
         )
     }
 
-    /// Those of all stages.
+    /// Those of the stages below this one.
     #[tactic(auto, unfolding(crate::specs::Dumps::settled_below))]
-    fn add_all_settled(&mut self, alloc: Global, store: &Store) -> Result<(), AllocError>
-        ensures { OnOk result (self.new
-            ≡ and_lines (settled_below (LAST_STAGE + 1) store.now.tally.stages) self.old) }
+    fn add_all_settled(&mut self, alloc: Global, store: &Store, end: u16) -> Result<(), AllocError>
+        ensures { OnOk result (self.new ≡ and_lines (settled_below end store.now.tally.stages) self.old) }
     {
-        for stage in 0..LAST_STAGE + 1 {
+        for stage in 0..end {
             self.add_settled(alloc, stage, store.stage_total(stage))?;
         }
         Ok(())
+    }
+
+    /// All elements of a store.
+    fn add_all_elements(&mut self, alloc: Global, store: &Store) -> Result<(), AllocError>
+        ensures { OnOk result (self.new ≡ and_lines (element_lines store.now) self.old) }
+    {
+        let elements = store.list(alloc, Group::All, 0, usize::MAX)?;
+        self.add_elements(alloc, elements.as_slice())
     }
 
     /// All that is in a store.
     fn add_store(&mut self, alloc: Global, store: &Store) -> Result<(), AllocError>
         ensures { OnOk result (self.new ≡ and_lines (store_lines store.now) self.old) }
     {
-        let elements = store.list(alloc, Group::All, 0, usize::MAX)?;
-        self.add_elements(alloc, elements.as_slice())?;
+        self.add_all_elements(alloc, store)?;
         self.add_over(alloc, store)?;
-        self.add_all_settled(alloc, store)
+        self.add_all_settled(alloc, store, LAST_STAGE + 1)
+    }
+
+    /// What there is beside the settings.
+    fn add_others(
+        &mut self,
+        alloc: Global,
+        servers: &[Server],
+        workers: &BTreeMap<Name, Worker>,
+        clients: &BTreeMap<Name, ClientNote>,
+        store: &Store,
+    ) -> Result<(), AllocError>
+        ensures { OnOk result (self.new ≡ and_lines (other_lines servers.now
+            workers.now.entries clients.now.entries store.now) self.old) }
+    {
+        self.add_servers(alloc, servers)?;
+        self.add_workers(alloc, workers)?;
+        self.add_clients(alloc, clients)?;
+        self.add_store(alloc, store)
     }
 
     /// All that there is.
@@ -353,10 +386,13 @@ impl Dump {
         ensures { OnOk result (self.new ≡ and_lines (dump_lines session.now) self.old) }
     {
         self.add_first(alloc, session)?;
-        self.add_servers(alloc, session.servers.as_slice())?;
-        self.add_workers(alloc, &session.workers)?;
-        self.add_clients(alloc, &session.clients)?;
-        self.add_store(alloc, &session.store)
+        self.add_others(
+            alloc,
+            session.servers.as_slice(),
+            &session.workers,
+            &session.clients,
+            &session.store,
+        )
     }
 
     /// The text of all lines, with how many they are in front of them.

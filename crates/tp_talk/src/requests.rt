@@ -217,7 +217,7 @@ impl Session {
     pub(crate) fn depth(&self, alloc: Global) -> Result<String, LineError>
         ensures { Says string_bytes result self.now self.now (depth_step self.now) }
     {
-        match depths(alloc, &self.store) {
+        match depths(alloc, &self.store, LAST_STAGE + 1) {
             Ok(depths) => told(alloc, Answer::Depth(depths.as_slice())),
             Err(_) => Err(LineError::NoMemory),
         }
@@ -259,13 +259,13 @@ fn depth(store: &Store, stage: u16) -> Depth
     }
 }
 
-/// How deep each stage is.
+/// How deep each stage below this one is.
 #[tactic(auto, unfolding(crate::specs::Requests::depths_below))]
-fn depths(alloc: Global, store: &Store) -> Result<Vec<Depth>, AllocError>
-    ensures { IfOk result (λ depths. depths.items ≡ depths_below (LAST_STAGE + 1) store.now) }
+fn depths(alloc: Global, store: &Store, end: u16) -> Result<Vec<Depth>, AllocError>
+    ensures { IfOk result (λ depths. depths.items ≡ depths_below end store.now) }
 {
     let mut depths = Vec::new(alloc);
-    for stage in 0..LAST_STAGE + 1 {
+    for stage in 0..end {
         depths.push(depth(store, stage))?;
     }
     Ok(depths)
