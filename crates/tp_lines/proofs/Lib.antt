@@ -5,4 +5,7 @@ pub mod Cuts
 pub mod WordReads
 pub mod BodyReads
 pub mod OutputReads
+pub mod LineReads
+pub mod ElementReads
+pub mod ServerReads
 pub mod HeadReads

@@ -258,4 +258,3 @@ deed_is a word = refl
 pub kind_word : (k : Kind) → Word 8 (kind_text k)
 kind_word kinds.Eager = small_word (codes "eager") 8 eager_small (omega arith) (omega arith)
 kind_word kinds.Lazy = small_word (codes "lazy") 8 lazy_small (omega arith) (omega arith)
-

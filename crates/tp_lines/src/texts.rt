@@ -140,11 +140,7 @@ fn server<W: fmt::Write>(f: &mut fmt::Formatter<W>, server: &ServerLine) -> fmt:
 // ---- elements
 
 // A number, or this word where there is none, behind a space.
-fn number<W: fmt::Write>(
-    f: &mut fmt::Formatter<W>,
-    none: &str,
-    number: Option<u64>,
-) -> fmt::Result
+fn number<W: fmt::Write>(f: &mut fmt::Formatter<W>, none: &str, number: Option<u64>) -> fmt::Result
     ensures { WritesOnOk W.write_str_gives f.old result (codes " " <> number_text none.now number) f.new }
 {
     match number {
