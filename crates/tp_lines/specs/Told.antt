@@ -1,5 +1,6 @@
 -- What is told is read again: the lines that a dump has, and what a session reads of them.
-use Rattle.std.specs.Prelude.{◌≡◌, ◌<◌, ◌≤◌, ◌≢◌, ◌^◌, ⊤, ℕ, true, List, [], ◌∷◌, Option, Some, None, Ok, is_ok, length}
+use Rattle.std.specs.Prelude.{◌≡◌, ◌<◌, ◌≤◌, ◌≢◌, ◌^◌, ⊤, ℕ, true, List, [], ◌∷◌, Option, Some, None, Ok}
+use Rattle.std.specs.Prelude.{is_ok, length}
 use Rattle.tp_model.specs.History.{In}
 use Rattle.tp_model.specs.declared.types.TheConstants.{MAX_ATTEMPTS, MAX_OUTPUTS}
 use Rattle.tp_server.specs.Check.{check_of}
