@@ -1,5 +1,5 @@
 -- The first element of a group: what an index says, and a walk over the elements.
-use Rattle.std.proofs.Common.{◌≡◌, ◌==◌, ◌&&◌, ◌≤◌, ◌<◌, ◌^◌, nat_le, ℕ, Bool, true, false, cond, if◌then◌else◌, inl, inr, Option, Some, None, List, [], ◌∷◌, refl, sym, ◌∙◌, ap, subst, arith}
+use Rattle.std.proofs.Common.{◌≡◌, ◌==◌, ◌&&◌, ◌≤◌, ◌<◌, ◌^◌, nat_le, ℕ, Bool, true, false, cond, not, is_none, is_some, if◌then◌else◌, inl, inr, Option, Some, None, List, [], ◌∷◌, refl, sym, ◌∙◌, ap, subst, arith}
 use Rattle.std.specs.Ordering.{nat_cmp}
 use Rattle.std.specs.declared.cmp.Ordering.TheVariants.{Less}
 use Rattle.std.specs.BTreeMap.{is_at}
@@ -131,3 +131,22 @@ module _ (of : Element → Option ℕ) (group : ℕ) where
         differ : false ≡ true → ⊥
         differ e = absurd cc
     found_is (Some x) (first, there) = sym (find_first from x.0 x.1 es sorted there first.0 (subst (λ y. stands of group y ≡ true) there (sym (is group x.0) ∙ first.1)) (λ i low high. sym (is group i) ∙ first.2 i low high))
+
+    -- and it finds none where the walk does
+    pub none_as : (r : Option ℕ) → IsFirstFrom places group from r → is_none r ≡ is_none (first_in of group from es)
+    none_as None none = ap is_none (sym (none_by_index none))
+    none_as (Some id) first = go (element_at id es) refl
+      where
+        differ : false ≡ true → ⊥
+        differ e = absurd cc
+
+        go : (x : Option Element) → element_at id es ≡ x → false ≡ is_none (first_in of group from es)
+        go None missing = absurd (differ (subst (λ x. stands of group x ≡ true) missing (sym (is group id) ∙ first.1)))
+        go (Some e) there = ap is_none (found_is (Some (id, e)) (first, there))
+
+-- what a test of an option says of it
+pub told_none : (x : Option ℕ) (b : Bool) → is_some x ≡ not b → b ≡ is_none x
+told_none None true h = refl
+told_none None false h = absurd cc
+told_none (Some n) true h = absurd cc
+told_none (Some n) false h = refl

@@ -1,6 +1,7 @@
 //! The elements of a store, by their ids, with all indexes.
 ghost use Rattle.std.specs.Prelude.{◌≡◌, [], true, Some, None, IfSome, OnOk, OnErr};
 ghost use Rattle.tp_store.specs.Elements.{alive_of, element_at, first_in, groups_of, put, without};
+ghost use Rattle.tp_store.specs.Ends.{is_over};
 ghost use Rattle.tp_store.specs.Listing.{first_of};
 ghost use Rattle.tp_store.specs.declared.group.Group.TheVariants.{All};
 ghost use Rattle.tp_store.specs.Indexing.{gains_any};
@@ -133,6 +134,13 @@ impl Shelf {
             Group::Family(root) => found(&self.elements, &self.indexes.families, root, from),
             Group::All => first_from(&self.elements, from),
         }
+    }
+
+    /// Whether no work on this request goes on.
+    pub(crate) fn is_over(&self, root: u64) -> bool
+        ensures { result ≡ is_over root self.now }
+    {
+        self.indexes.alive.first(root, 0).is_none()
     }
 
     /// The first element of this request from this id on, on which work may go on.

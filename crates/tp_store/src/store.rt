@@ -372,7 +372,7 @@ impl Store {
             None => {}
             Some(_) => return Err(Refusal::NotThere),
         }
-        if self.shelf.first_alive(root, 0).is_none() {
+        if self.shelf.is_over(root) {
             return Ok(Cancelled { killed: 0 });
         }
         match self.ended.reserve(1) {
