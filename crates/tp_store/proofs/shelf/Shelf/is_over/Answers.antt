@@ -1,7 +1,6 @@
-use Rattle.std.proofs.Common.{◌∙◌}
-use Rattle.tp_store.specs.Elements.{alive_of}
-use Rattle.tp_store.proofs.Finding.{none_as, told_none}
+use Rattle.std.proofs.Common.{is_none, ap, ◌∙◌}
+use Rattle.tp_store.proofs.Finding.{told_none}
 use Rattle.tp_store.proofs.shelf.Shelf.is_over.Goals as goal
 
 pub returns : goal.returns
-returns c = rw (← c.self.view_is) (told_none _ _ c.is_none.ensures ∙ none_as alive_of c.args.root 0 c.self.inside.elements.entries _ c.self.invariant.sorted c.self.invariant.fits c.self.invariant.alive _ c.first.ensures)
+returns c = told_none _ _ c.is_none.ensures ∙ ap is_none c.first_alive.ensures.first
