@@ -1,14 +1,15 @@
 -- The first element of a request: its own one, or the first that the index has of it.
-use Rattle.std.proofs.Common.{◌≡◌, ◌≢◌, ◌==◌, ◌&&◌, ◌≤◌, ◌<◌, ◌^◌, nat_le, nat_lt, ℕ, Bool, true, false, if◌then◌else◌, inl, inr, Option, Some, None, List, refl, sym, ◌∙◌, ap, subst, arith}
+use Rattle.std.proofs.Common.{◌≡◌, ◌≢◌, ◌==◌, ◌&&◌, ◌≤◌, ◌<◌, ◌^◌, nat_le, nat_lt, ℕ, Bool, true, false, is_none, if◌then◌else◌, inl, inr, Option, Some, None, List, refl, sym, ◌∙◌, ap, subst, arith}
 use Rattle.std.proofs.lemmas.Bool.Decides.{nat_tests}
 use Rattle.tp_store.specs.declared.element.Element.{Element}
 use Rattle.tp_store.specs.declared.element.Status.{Status}
 use Rattle.tp_store.specs.declared.element.Status.TheVariants.{Waiting, Held, Consumed, Parked, Killed}
 use Rattle.tp_store.specs.Elements.{Entry, alive_of, element_at, family_of, first_in, is_group, unless_own}
-use Rattle.tp_store.specs.Indexes.{has}
+use Rattle.tp_store.specs.Indexes.{has, IsFirstFrom}
 use Rattle.tp_store.specs.Indexing.{Places}
 use Rattle.tp_store.specs.Shelves.{AreSorted, earlier, IsFoundBy, IsIndexOf, own_of, stands}
 use Rattle.tp_store.proofs.Finding.{at_most, both, find_first, find_none}
+use Rattle.tp_store.proofs.Looking.{none_is}
 
 same : (m n : ℕ) → (m == n) ≡ true → m ≡ n
 same m n h = grind (arith, nat_tests)
@@ -159,3 +160,23 @@ module _ (of : Element → Option ℕ) (request : IsOfRequest of) (root : ℕ) w
           go : (b : Bool) → nat_lt x.0 y.0 ≡ b → (if b then Some x else Some y) ≡ first_in of root from es
           go true h = sym (find_first (λ j. of) root from x.0 x.1 es sorted there first.0 (member x first.1 there) (λ i low high. others i (element_at i es) (before i (let b = below h in omega arith)) (sym (is root i) ∙ first.2 i low high)))
           go false h = own_first y mine (λ i low high. sym (is root i) ∙ first.2 i low (let a = above h in omega arith))
+
+      -- where there is an own one there is a first one
+      pub own_there : (y : Entry) → own_of of root from (element_at root es) ≡ Some y → false ≡ is_none (first_in of root from es)
+      own_there y own = go (first_in of root from es) refl
+        where
+          mine : IsOwn y (element_at root es)
+          mine = own_is y _ own
+
+          go : (r : Option Entry) → first_in of root from es ≡ r → false ≡ is_none r
+          go (Some x) h = refl
+          go None h = absurd (not_both mine.member (none_is of root from es h root mine.one mine.found mine.low))
+
+      -- and else where the index has one
+      pub other_there : (other : Option ℕ) → own_of of root from (element_at root es) ≡ None → IsFirstFrom places root from other → is_none other ≡ is_none (first_in of root from es)
+      other_there None own found = ap is_none (earlier_is None None own (inl found))
+      other_there (Some id) own found = go (element_at id es) refl
+        where
+          go : (x : Option Element) → element_at id es ≡ x → false ≡ is_none (first_in of root from es)
+          go None missing = absurd (not_both (subst (λ x. stands (unless_own of) root id x ≡ true) missing (sym (is root id) ∙ found.1)) refl)
+          go (Some e) there = ap is_none (earlier_is None (Some (id, e)) own (found, there))

@@ -161,7 +161,10 @@ impl Shelf {
     pub(crate) fn is_over(&self, root: u64) -> bool
         ensures { result ≡ is_over root self.now }
     {
-        self.first_alive(root, 0).is_none()
+        match own_alive(&self.elements, root, 0) {
+            Some(_) => false,
+            None => self.indexes.alive.first(root, 0).is_none(),
+        }
     }
 }
 
