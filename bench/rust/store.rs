@@ -207,6 +207,10 @@ impl Store {
         true
     }
 
+    fn list(&self, stage: u16, from: u64, most: usize) -> Vec<(u64, Element)> {
+        self.ready[stage as usize].range(from..).take(most).map(|id| (*id, self.elements[id])).collect()
+    }
+
     fn kill(&mut self, id: u64) -> bool {
         let Some(element) = self.elements.get(&id).copied() else { return false };
         if matches!(element.status, Status::Consumed(_) | Status::Killed) {
@@ -250,6 +254,7 @@ fn measure(alive: u64) {
     let count = |times: u64, call: &mut dyn FnMut(u64) -> bool| (0..times).filter(|&i| call(i)).count() as u64;
     timed("submit_all", alive, || count(alive, &mut |i| store.submit(1, [i, 1, 0, 0], None).is_some()));
     timed("read", alive, || count(200_000, &mut |i| black_box(store.elements.get(&below(i, alive)).copied()).is_some()));
+    timed("list", alive, || (0..50).map(|_| black_box(store.list(1, 0, 4000)).len() as u64).sum());
     timed("claim_abort", alive, || {
         count(few / 4, &mut |_| store.claim(1).is_some_and(|(id, unit, _)| store.abort(id, unit)))
     });

@@ -1,3 +1,11 @@
 pub mod NameLemmas
 pub mod FirstWords
 pub mod DraftLemmas
+pub mod Cuts
+pub mod WordReads
+pub mod BodyReads
+pub mod OutputReads
+pub mod LineReads
+pub mod ElementReads
+pub mod ServerReads
+pub mod HeadReads

@@ -11,3 +11,4 @@ pub mod Commands
 pub mod Grammar
 pub mod Reading
 pub mod HeadTexts
+pub mod Told

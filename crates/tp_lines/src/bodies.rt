@@ -56,8 +56,13 @@ pub(crate) fn body_at(alloc: Global, word: &[u8]) -> Result<Body, LineError>
 // The number of a stage, and a body.
 #[tactic(auto, unfolding(crate::specs::Words::place_numbers))]
 fn place_of(words: Five<'_>) -> Result<(u16, Body), LineError>
-    ensures { Gives (λ x. x) result (place_numbers (words.entry.0.now, words.entry.1.now,
-        words.entry.2.now, words.entry.3.now, words.entry.4.now)) }
+    ensures { Gives (λ x. x) result (place_numbers (
+      words.entry.0.now,
+      words.entry.1.now,
+      words.entry.2.now,
+      words.entry.3.now,
+      words.entry.4.now,
+    )) }
 {
     let stage = short_at(words.0)?;
     let body = body_of((words.1, words.2, words.3, words.4))?;

@@ -12,7 +12,8 @@ use crate::drafts::{commit_words, drafts_at};
 use crate::keyword::{Alone, Deed, OfId, Verb};
 use crate::line::{Act, Command};
 use crate::words::{
-    is, long_at, name_and_number, name_at, none, one_name, one_number, ordinal_at, short_at, stage_at,
+    is, long_at, name_and_number, name_at, none, one_name, one_number, ordinal_at, short_at,
+    stage_at,
 };
 use std::alloc::Global;
 use tp_script::{LineError, LineFault};
@@ -200,11 +201,7 @@ fn receive_said(words: &[&[u8]]) -> Result<Command, LineError>
 // ---- all of them
 
 /// What a line of this first word asks for, by the words after it.
-pub(crate) fn command_said(
-    alloc: Global,
-    verb: Verb,
-    words: &[&[u8]],
-) -> Result<Command, LineError>
+pub(crate) fn command_said(alloc: Global, verb: Verb, words: &[&[u8]]) -> Result<Command, LineError>
     ensures { Gives (λ x. x) result (command_said verb (map (λ x. x.now) words.now)) }
 {
     match verb {

@@ -10,6 +10,7 @@ mod ends;
 mod grammar;
 mod heads;
 mod keyword;
+mod laws;
 mod line;
 mod name;
 mod servers;
@@ -19,5 +20,6 @@ mod texts;
 mod words;
 
 pub use grammar::{MAX_LINE, read_line};
+pub use laws::told_and_read;
 pub use line::{Act, ClientNote, Command, HeadLine, Line, ServerLine, UnitEnd};
 pub use name::{MAX_NAME, Name};

@@ -59,48 +59,97 @@ pub enum UnitEnd {
         count: u64,
     },
     /// It was aborted by its worker.
-    Aborted { id: u64 },
+    Aborted {
+        id: u64,
+    },
     /// Another caller had aborted it.
-    Lost { id: u64 },
+    Lost {
+        id: u64,
+    },
 }
 
 /// A line that says what there is. Those of a dump say all that there is.
 #[derive(Drop)]
 pub enum HeadLine {
     /// `limit N`: how many attempts an element has in a round, 1 to 7.
-    Limit { attempts: u8 },
+    Limit {
+        attempts: u8,
+    },
     /// `max N`: how many elements may be alive so that a client may submit one more.
-    Max { elements: u64 },
+    Max {
+        elements: u64,
+    },
     /// `keep N`: how many requests are kept behind their ends.
-    Keep { requests: u64 },
+    Keep {
+        requests: u64,
+    },
     /// `server NAME KIND STAGE REGISTERS ACT OUT..`
     Server(ServerLine),
     /// `start NAME K V`: register K of a server holds V.
-    Start { name: Name, k: u64, value: u64 },
+    Start {
+        name: Name,
+        k: u64,
+        value: u64,
+    },
     /// `worker NAME STAGE`: a worker of this stage, 1 to 999 and not 15.
-    Worker { name: Name, stage: u16 },
+    Worker {
+        name: Name,
+        stage: u16,
+    },
     /// `register NAME`: notes are kept of a client.
-    Register { name: Name },
+    Register {
+        name: Name,
+    },
     /// `numbers NEXT UNITS OWNERS`: the next id, the next unit, and the number of the next client.
-    Numbers { next: u64, units: u64, owners: u64 },
+    Numbers {
+        next: u64,
+        units: u64,
+        owners: u64,
+    },
     /// `element ID STAGE:W0:W1:W2:W3 ROOT MAKER OWNER ROUNDS STATUS ..`: an element, and how it stands.
-    Element { id: u64, element: Element },
+    Element {
+        id: u64,
+        element: Element,
+    },
     /// `over ROOT`: the next one of the requests that are over.
-    Over { root: u64 },
+    Over {
+        root: u64,
+    },
     /// `settled STAGE CONSUMED KILLED`: how many of a stage were consumed and killed, forgotten ones too.
-    Settled { stage: u16, consumed: u64, killed: u64 },
+    Settled {
+        stage: u16,
+        consumed: u64,
+        killed: u64,
+    },
     /// `hand NAME ID UNIT`: what a server or a worker has taken.
-    Hand { name: Name, id: u64, unit: u64 },
+    Hand {
+        name: Name,
+        id: u64,
+        unit: u64,
+    },
     /// `prepared NAME`: the work of a server is prepared.
-    Prepared { name: Name },
+    Prepared {
+        name: Name,
+    },
     /// `dropped NAME`: a server's desk was dropped.
-    Dropped { name: Name },
+    Dropped {
+        name: Name,
+    },
     /// `from NAME ID`: where `next` of a server or a worker goes on.
-    From { name: Name, id: u64 },
+    From {
+        name: Name,
+        id: u64,
+    },
     /// `ended NAME ..`: how a worker's last unit of work ended.
-    Ended { name: Name, end: UnitEnd },
+    Ended {
+        name: Name,
+        end: UnitEnd,
+    },
     /// `client NAME OWNER SENT ELEMENT RECEIVED REPLY ROOT W0:W1:W2:W3`: what is noted of a client.
-    Client { name: Name, note: ClientNote },
+    Client {
+        name: Name,
+        note: ClientNote,
+    },
 }
 
 /// What a server or a worker does.
@@ -128,23 +177,42 @@ pub enum Act {
 #[derive(Drop)]
 pub enum Command {
     /// `submit STAGE KEY AMOUNT W2 W3`
-    Submit { stage: u16, body: Body },
+    Submit {
+        stage: u16,
+        body: Body,
+    },
     /// `kill ID`
-    Kill { id: u64 },
+    Kill {
+        id: u64,
+    },
     /// `cancel ROOT`
-    Cancel { root: u64 },
+    Cancel {
+        root: u64,
+    },
     /// `requeue ID`
-    Requeue { id: u64 },
+    Requeue {
+        id: u64,
+    },
     /// `release ID`
-    Release { id: u64 },
+    Release {
+        id: u64,
+    },
     /// `read ID`
-    Read { id: u64 },
+    Read {
+        id: u64,
+    },
     /// `reply ROOT`
-    Reply { root: u64 },
+    Reply {
+        root: u64,
+    },
     /// `collect ROOT`
-    Collect { root: u64 },
+    Collect {
+        root: u64,
+    },
     /// `family ROOT`
-    Family { root: u64 },
+    Family {
+        root: u64,
+    },
     /// `errors`
     Errors,
     /// `count`
@@ -152,7 +220,10 @@ pub enum Command {
     /// `depth`
     Depth,
     /// `list STAGE FROM`: the stage is 1 to 999.
-    List { stage: u16, from: u64 },
+    List {
+        stage: u16,
+        from: u64,
+    },
     /// `account`
     Account,
     /// `holds`
@@ -164,13 +235,23 @@ pub enum Command {
     /// `drain` or `drain next`
     Drain(Order),
     /// `sum K`
-    Sum { k: u64 },
+    Sum {
+        k: u64,
+    },
     /// `balance NAME K`
-    Balance { name: Name, k: u64 },
+    Balance {
+        name: Name,
+        k: u64,
+    },
     /// A command of a server or a worker.
-    Act { name: Name, act: Act },
+    Act {
+        name: Name,
+        act: Act,
+    },
     /// `leave NAME`
-    Leave { name: Name },
+    Leave {
+        name: Name,
+    },
     /// `send NAME N STAGE KEY AMOUNT W2 W3`: N counts from 1.
     Send {
         name: Name,
@@ -185,9 +266,13 @@ pub enum Command {
         root: Option<u64>,
     },
     /// `last NAME`
-    Last { name: Name },
+    Last {
+        name: Name,
+    },
     /// `forget NAME`
-    Forget { name: Name },
+    Forget {
+        name: Name,
+    },
 }
 
 /// What a line says.

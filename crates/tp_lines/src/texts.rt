@@ -3,8 +3,10 @@ ghost use Rattle.std.specs.Prelude.{◌≡◌, Some, codes, map};
 ghost use Rattle.std.specs.Fmt.{WritesOnOk};
 ghost use Rattle.tp_script.specs.Fault.{◌<>◌};
 ghost use Rattle.tp_lines.specs.HeadTexts.{act_text, amount_text, body_text, deed_text, element_words};
-ghost use Rattle.tp_lines.specs.HeadTexts.{end_words, head_text, key_text, kind_text, note_words, number_text};
-ghost use Rattle.tp_lines.specs.HeadTexts.{output_text, place_text, server_words, spaced, status_words, word_text};
+ghost use Rattle.tp_lines.specs.HeadTexts.{end_words, head_text, key_text, kind_text, note_words};
+ghost use Rattle.tp_lines.specs.HeadTexts.{number_text};
+ghost use Rattle.tp_lines.specs.HeadTexts.{output_text, place_text, server_words, spaced, status_words};
+ghost use Rattle.tp_lines.specs.HeadTexts.{word_text};
 
 use crate::line::{ClientNote, HeadLine, ServerLine, UnitEnd};
 use std::fmt;
@@ -140,11 +142,7 @@ fn server<W: fmt::Write>(f: &mut fmt::Formatter<W>, server: &ServerLine) -> fmt:
 // ---- elements
 
 // A number, or this word where there is none, behind a space.
-fn number<W: fmt::Write>(
-    f: &mut fmt::Formatter<W>,
-    none: &str,
-    number: Option<u64>,
-) -> fmt::Result
+fn number<W: fmt::Write>(f: &mut fmt::Formatter<W>, none: &str, number: Option<u64>) -> fmt::Result
     ensures { WritesOnOk W.write_str_gives f.old result (codes " " <> number_text none.now number) f.new }
 {
     match number {

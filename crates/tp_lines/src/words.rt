@@ -55,9 +55,10 @@ pub(crate) fn three<'a>(words: &[&'a [u8]]) -> Result<(&'a [u8], &'a [u8], &'a [
     }
 }
 
-/// Four words.
+/// Four words, one after the other.
 pub(crate) type Four<'a> = (&'a [u8], &'a [u8], &'a [u8], &'a [u8]);
 
+/// Four words.
 pub(crate) fn four<'a>(words: &[&'a [u8]]) -> Result<Four<'a>, LineError>
     ensures { Gives (λ x. (x.0.now, x.1.now, x.2.now, x.3.now)) result (four (map (λ x. x.now) words.now)) }
 {
@@ -67,9 +68,10 @@ pub(crate) fn four<'a>(words: &[&'a [u8]]) -> Result<Four<'a>, LineError>
     }
 }
 
-/// Five words.
+/// Five words, one after the other.
 pub(crate) type Five<'a> = (&'a [u8], &'a [u8], &'a [u8], &'a [u8], &'a [u8]);
 
+/// Five words.
 pub(crate) fn five<'a>(words: &[&'a [u8]]) -> Result<Five<'a>, LineError>
     ensures { Gives (λ x. (x.0.now, x.1.now, x.2.now, x.3.now, x.4.now)) result
         (five (map (λ x. x.now) words.now)) }

@@ -23,3 +23,4 @@ pub mod Newborn
 pub mod Striking
 pub mod Listed
 pub mod Restored
+pub mod Owning

@@ -1,5 +1,5 @@
 -- What is open of a request, from one of its elements to the next.
-use Rattle.std.proofs.Common.{is_none, is_some, Option, ◌≡◌, ◌==◌, ◌&&◌, ◌+◌, ◌≤◌, ◌<◌, nat_le, ℕ, Bool, true, false, not, if◌then◌else◌, Some, None, List, [], ◌∷◌, filter, length, refl, sym, ◌∙◌, ap, subst, arith}
+use Rattle.std.proofs.Common.{◌≡◌, ◌==◌, ◌&&◌, ◌+◌, ◌≤◌, ◌<◌, nat_le, ℕ, Bool, true, false, not, if◌then◌else◌, Some, None, List, [], ◌∷◌, filter, length, refl, sym, ◌∙◌, ap, subst, arith}
 use Rattle.std.specs.Ordering.{nat_cmp, match_ordering}
 use Rattle.std.specs.declared.cmp.Ordering.{Ordering}
 use Rattle.std.specs.declared.cmp.Ordering.TheVariants.{Less, Equal, Greater}
@@ -140,14 +140,6 @@ kills_as (e ∷ es) s = kills_as es (killed e.0 e.1 s)
 -- a cancel of a client's request, on which work goes on
 pub cancel_is : (root : ℕ) (s : State) (e : Element) → element_at root s.elements ≡ Some e → e.by ≡ None → is_over root s.elements ≡ false → cancel_of root s ≡ cancelled root s
 cancel_is root s e there own live = rw there (rw own (rw live refl))
-
--- no walk finds work on it that goes on
-pub live_as : (root : ℕ) (es : List Entry) (x : Option Entry) (b : Bool) → x ≡ first_in alive_of root 0 es → is_some x ≡ not b → b ≡ false → is_over root es ≡ false
-live_as root es x b first some live = ap is_none (sym first) ∙ go x (rw live at some)
-  where
-    go : (x : Option Entry) → is_some x ≡ true → is_none x ≡ false
-    go (Some e) h = refl
-    go None h = absurd cc
 
 -- what it leaves
 pub cancelled_as : (root : ℕ) (s : State) (es ns : List Entry) (t : TallyView) (was now : List ℕ) → record { elements = es; tally = t } ≡ strike_all (filter (is_open_from root 0) s.elements) (record { elements = s.elements; tally = s.tally }) → was ≡ ended_in root es s.ended → record { elements = ns; ended = now } ≡ forget FORGET_STEPS s.limits.keep (record { elements = es; ended = was }) → record s { elements = ns; tally = t; ended = now } ≡ (cancelled root s).1

@@ -67,14 +67,18 @@ family_of e = Some e.root
 abbrev pub alive_of : Element → Option ℕ
 alive_of e = if is_alive e.status then Some e.root else None
 
--- all of these
-abbrev pub groups_of : Element → Groups
-groups_of e = record {
+-- where an index has it: a request's own element is found by its id, and no index of requests has it
+abbrev pub unless_own : (Element → Option ℕ) → ℕ → Element → Option ℕ
+unless_own of id e = if e.root == id then None else of e
+
+-- the groups in which the indexes have it
+abbrev pub groups_of : ℕ → Element → Groups
+groups_of id e = record {
   queue = queue_of e;
   reply = reply_of e;
   owned = owned_of e;
-  family = family_of e;
-  alive = alive_of e;
+  family = unless_own family_of id e;
+  alive = unless_own alive_of id e;
 }
 
 -- ---- the elements, in the order of their births

@@ -1,6 +1,6 @@
 //! Elements: requests, what workers made of them, and replies; and how each of them stands.
 ghost use Rattle.std.specs.Prelude.{◌≡◌, ◌≤◌, ◌↔◌, IsSome, IfSome};
-ghost use Rattle.tp_store.specs.Elements.{groups_of, is_held_by, standing};
+ghost use Rattle.tp_store.specs.Elements.{alive_of, groups_of, is_held_by, is_reply, queue_of, standing};
 
 use std::marker::Model;
 use tp_model::types::{BODY_WORDS, Body};
@@ -90,49 +90,57 @@ impl Element {
         }
     }
 
-    /// The groups that it stands in.
-    pub(crate) fn groups(&self) -> Groups
-        ensures { result ≡ groups_of self.now }
+    /// Its request, where work on it may go on.
+    pub(crate) fn alive(&self) -> Option<u64>
+        ensures { result ≡ alive_of self.now }
     {
-        let is_reply = self.stage == REPLY_STAGE;
-        let root = Some(self.root);
-        let stage = u64::from(self.stage);
         match self.status {
-            Status::Waiting { .. } => Groups {
-                queue: Some(stage),
-                reply: if is_reply { root } else { None },
-                owned: if is_reply { self.owner } else { None },
-                family: root,
-                alive: root,
-            },
-            Status::Held { .. } => Groups {
-                queue: None,
-                reply: None,
-                owned: None,
-                family: root,
-                alive: root,
-            },
-            Status::Parked { .. } => Groups {
-                queue: Some(0),
-                reply: None,
-                owned: None,
-                family: root,
-                alive: root,
-            },
-            Status::Consumed { .. } => Groups {
-                queue: None,
-                reply: None,
-                owned: None,
-                family: root,
-                alive: None,
-            },
-            Status::Killed => Groups {
-                queue: None,
-                reply: None,
-                owned: None,
-                family: root,
-                alive: None,
-            },
+            Status::Waiting { .. } => Some(self.root),
+            Status::Held { .. } => Some(self.root),
+            Status::Parked { .. } => Some(self.root),
+            Status::Consumed { .. } => None,
+            Status::Killed => None,
+        }
+    }
+
+    /// The queue that it waits in.
+    fn queue(&self) -> Option<u64>
+        ensures { result ≡ queue_of self.now }
+    {
+        match self.status {
+            Status::Waiting { .. } => Some(u64::from(self.stage)),
+            Status::Held { .. } => None,
+            Status::Parked { .. } => Some(0),
+            Status::Consumed { .. } => None,
+            Status::Killed => None,
+        }
+    }
+
+    /// Whether it is a reply that waits.
+    fn is_reply(&self) -> bool
+        ensures { result ≡ is_reply self.now }
+    {
+        match self.status {
+            Status::Waiting { .. } => self.stage == REPLY_STAGE,
+            Status::Held { .. } => false,
+            Status::Parked { .. } => false,
+            Status::Consumed { .. } => false,
+            Status::Killed => false,
+        }
+    }
+
+    /// The groups in which the indexes have it, where this is its id.
+    pub(crate) fn groups(&self, id: u64) -> Groups
+        ensures { result ≡ groups_of id self.now }
+    {
+        let is_own = self.root == id;
+        let is_reply = self.is_reply();
+        Groups {
+            queue: self.queue(),
+            reply: if is_reply { Some(self.root) } else { None },
+            owned: if is_reply { self.owner } else { None },
+            family: if is_own { None } else { Some(self.root) },
+            alive: if is_own { None } else { self.alive() },
         }
     }
 }

@@ -17,7 +17,7 @@ pub(crate) fn note_end(shelf: &Shelf, ended: &mut VecDeque<u64>, root: u64)
     requires room { deque_len ended.old < deque_capacity ended.old }
     ensures { ended.new.items ≡ ended_in root shelf.now ended.old.items }
 {
-    if shelf.first_alive(root, 0).is_none() {
+    if shelf.is_over(root) {
         let _ = ended.push_back(root);
     }
 }

@@ -6,7 +6,6 @@ ghost use Rattle.tp_store.specs.Indexes.{gains, has, is_place, IsFirstFrom};
 use std::alloc::{AllocError, Global};
 use std::collections::BTreeSet;
 use std::marker::Model;
-use std::ops::Bound;
 
 /// Which ids stand in which group: a group and an id for each.
 #[derive(Drop)]
@@ -88,13 +87,9 @@ impl Index {
     pub(crate) fn first(&self, group: u64, from: u64) -> Option<u64>
         ensures { IsFirstFrom self.now group from result }
     {
-        let mut found = self.places.range((
-            Bound::Included((group, from)),
-            Bound::Included((group, u64::MAX)),
-        ));
-        match found.next() {
-            Some(&(_, id)) => Some(id),
-            None => None,
-        }
+        let Some(&(at, id)) = self.places.range((group, from)..).next() else {
+            return None;
+        };
+        if at == group { Some(id) } else { None }
     }
 }

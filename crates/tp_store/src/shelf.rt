@@ -1,10 +1,11 @@
 //! The elements of a store, by their ids, with all indexes.
 ghost use Rattle.std.specs.Prelude.{◌≡◌, [], true, Some, None, IfSome, OnOk, OnErr};
-ghost use Rattle.tp_store.specs.Elements.{alive_of, element_at, first_in, groups_of, put, without};
+ghost use Rattle.tp_store.specs.Elements.{alive_of, element_at, family_of, first_in, groups_of, put, without};
+ghost use Rattle.tp_store.specs.Ends.{is_over};
 ghost use Rattle.tp_store.specs.Listing.{first_of};
 ghost use Rattle.tp_store.specs.declared.group.Group.TheVariants.{All};
 ghost use Rattle.tp_store.specs.Indexing.{gains_any};
-ghost use Rattle.tp_store.specs.Shelves.{groups_at, AreSorted, IsFoundBy, IsPutAt, IsThere};
+ghost use Rattle.tp_store.specs.Shelves.{earlier, groups_at, own_of, AreSorted, IsFoundBy, IsPutAt, IsThere};
 
 use crate::element::{Element, Groups, NO_GROUPS};
 use crate::group::Group;
@@ -61,7 +62,7 @@ impl Shelf {
         ensures at { OnOk result (IsPutAt id (Some element) self.old self.new) }
         ensures err { OnErr result (self.new ≡ self.old) }
     {
-        let to = element.groups();
+        let to = element.groups(id);
         match self.indexes.enter(id, &NO_GROUPS, &to) {
             Ok(()) => {}
             Err(refused) => return Err(refused),
@@ -90,10 +91,10 @@ impl Shelf {
         ensures ok { OnOk result (self.new ≡ put id after self.old) }
         ensures at { OnOk result (IsPutAt id (Some after) self.old self.new) }
         ensures err { OnErr result (self.new ≡ self.old) }
-        ensures needed { OnErr result (gains_any (groups_of before.now) (groups_of after) ≡ true) }
+        ensures needed { OnErr result (gains_any (groups_of id before.now) (groups_of id after) ≡ true) }
     {
-        let from = before.groups();
-        let to = after.groups();
+        let from = before.groups(id);
+        let to = after.groups(id);
         match self.indexes.enter(id, &from, &to) {
             Ok(()) => {}
             Err(refused) => return Err(refused),
@@ -130,9 +131,19 @@ impl Shelf {
             ),
             Group::Replies(root) => found(&self.elements, &self.indexes.replies, root, from),
             Group::Owned(owner) => found(&self.elements, &self.indexes.owned, owner, from),
-            Group::Family(root) => found(&self.elements, &self.indexes.families, root, from),
+            Group::Family(root) => self.first_member(root, from),
             Group::All => first_from(&self.elements, from),
         }
+    }
+
+    /// The first element of a request from this id on: its own one, or by the index.
+    fn first_member(&self, root: u64, from: u64) -> Option<(u64, Element)>
+        ensures first { result ≡ first_in family_of root from self.now }
+        ensures there { IfSome result (IsThere self.now) }
+    {
+        let own = own_member(&self.elements, root, from);
+        let other = found(&self.elements, &self.indexes.families, root, from);
+        earlier(own, other)
     }
 
     /// The first element of this request from this id on, on which work may go on.
@@ -141,16 +152,74 @@ impl Shelf {
         ensures there { IfSome result (IsThere self.now) }
         ensures sorted { AreSorted self.now }
     {
-        found(&self.elements, &self.indexes.alive, root, from)
+        let own = own_alive(&self.elements, root, from);
+        let other = found(&self.elements, &self.indexes.alive, root, from);
+        earlier(own, other)
+    }
+
+    /// Whether no work on this request goes on.
+    pub(crate) fn is_over(&self, root: u64) -> bool
+        ensures { result ≡ is_over root self.now }
+    {
+        match own_alive(&self.elements, root, 0) {
+            Some(_) => false,
+            None => self.indexes.alive.first(root, 0).is_none(),
+        }
+    }
+}
+
+/// A request's own element, if its id isn't below this one.
+fn own_member(elements: &BTreeMap<u64, Element>, root: u64, from: u64) -> Option<(u64, Element)>
+    ensures { result ≡ own_of family_of root from (element_at root elements.now.entries) }
+{
+    let Some(element) = elements.get(&root) else {
+        return None;
+    };
+    if from <= root && element.root == root {
+        Some((root, *element))
+    } else {
+        None
+    }
+}
+
+/// The same, if work on it may go on.
+fn own_alive(elements: &BTreeMap<u64, Element>, root: u64, from: u64) -> Option<(u64, Element)>
+    ensures { result ≡ own_of alive_of root from (element_at root elements.now.entries) }
+{
+    let Some(element) = elements.get(&root) else {
+        return None;
+    };
+    let Some(request) = element.alive() else {
+        return None;
+    };
+    if from <= root && request == root {
+        Some((root, *element))
+    } else {
+        None
+    }
+}
+
+/// The one of two that has the lesser id.
+fn earlier(one: Option<(u64, Element)>, other: Option<(u64, Element)>) -> Option<(u64, Element)>
+    ensures { result ≡ earlier one other }
+{
+    let Some(first) = one else { return other };
+    let Some(second) = other else {
+        return Some(first);
+    };
+    if second.0 < first.0 {
+        Some(second)
+    } else {
+        Some(first)
     }
 }
 
 /// The groups that the element with this id stands in.
 fn groups_at(elements: &BTreeMap<u64, Element>, id: u64) -> Groups
-    ensures { result ≡ groups_at (element_at id elements.now.entries) }
+    ensures { result ≡ groups_at id (element_at id elements.now.entries) }
 {
     match elements.get(&id) {
-        Some(element) => element.groups(),
+        Some(element) => element.groups(id),
         None => NO_GROUPS,
     }
 }

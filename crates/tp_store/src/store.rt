@@ -372,7 +372,7 @@ impl Store {
             None => {}
             Some(_) => return Err(Refusal::NotThere),
         }
-        if self.shelf.first_alive(root, 0).is_none() {
+        if self.shelf.is_over(root) {
             return Ok(Cancelled { killed: 0 });
         }
         match self.ended.reserve(1) {
@@ -479,7 +479,7 @@ impl Store {
         requires there { element_at id self.old.elements ≡ Some before.now }
         ensures ok { OnOk result (self.new ≡ with_change id before.now after self.old) }
         ensures err { OnErr result (self.new ≡ self.old) }
-        ensures needed { OnErr result (gains_any (groups_of before.now) (groups_of after) ≡ true) }
+        ensures needed { OnErr result (gains_any (groups_of id before.now) (groups_of id after) ≡ true) }
     {
         self.shelf.replace(id, before, after)?;
         self.tally

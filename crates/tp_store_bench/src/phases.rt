@@ -56,6 +56,17 @@ fn reads(store: &Store, end: u64, count: u64) -> u64 {
     found
 }
 
+/// Lists of the first 4,000 that wait in a stage; the answer is how many were listed.
+fn lists(store: &Store, alloc: Global, stage: u16, count: u64) -> u64 {
+    let mut listed = 0u64;
+    for _ in 0..count {
+        if let Ok(list) = store.list(alloc, Group::Queue(stage), 0, 4000) {
+            listed = listed.wrapping_add(list.len() as u64);
+        }
+    }
+    listed
+}
+
 /// Claims of one stage, and commits with one output to another.
 fn turns(store: &mut Store, stage: u16, output: u16, count: u64) -> u64 {
     let mut done = 0u64;
@@ -140,7 +151,10 @@ fn fill(rt: &HostRuntime, store: &mut Store, alive: u64) -> io::Result<()> {
     tell(rt, "submit_all", alive, since, calls)?;
     let since = now(rt);
     let calls = reads(store, alive, 200_000);
-    tell(rt, "read", alive, since, calls)
+    tell(rt, "read", alive, since, calls)?;
+    let since = now(rt);
+    let calls = lists(store, rt.alloc(), 1, 50);
+    tell(rt, "list", alive, since, calls)
 }
 
 fn work(rt: &HostRuntime, store: &mut Store, alive: u64, few: u64) -> io::Result<()> {

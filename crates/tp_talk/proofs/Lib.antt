@@ -1,3 +1,4 @@
 pub mod AttendLemmas
 pub mod ConverseLemmas
 pub mod DumpLemmas
+pub mod DrainLemmas

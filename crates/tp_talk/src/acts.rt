@@ -10,7 +10,7 @@ ghost use Rattle.tp_talk.specs.Session.{worker_holders};
 ghost use Rattle.tp_talk.specs.Servers.{gives_outputs};
 ghost use Rattle.tp_talk.specs.Workers.{is_of_server};
 
-use crate::drains::drain;
+use crate::drains::{MAX_ROUNDS_OF_DRAIN, drain};
 use crate::hand::{Hand, attempt_in, hand_told};
 use crate::requests::told;
 use crate::server::Server;
@@ -218,7 +218,12 @@ impl Session {
     pub(crate) fn drain(&mut self, alloc: Global, order: Order) -> Result<String, LineError>
         ensures { Says string_bytes result self.new self.old (drain_step order self.old) }
     {
-        match drain(self.servers.as_mut_slice(), &mut self.store, order) {
+        match drain(
+            self.servers.as_mut_slice(),
+            &mut self.store,
+            order,
+            MAX_ROUNDS_OF_DRAIN,
+        ) {
             Ok(true) => told(alloc, Answer::DrainedSoFar),
             Ok(false) => told(alloc, Answer::Drained),
             Err(_) => Err(LineError::NoMemory),

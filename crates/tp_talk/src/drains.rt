@@ -1,5 +1,5 @@
 //! Drains: the servers take turns in rounds until nothing is left for them.
-ghost use Rattle.std.specs.Prelude.{◌≡◌, ◌-◌, ◌≤◌};
+ghost use Rattle.std.specs.Prelude.{◌≡◌};
 ghost use Rattle.tp_talk.specs.Acted.{Rounds, Serves};
 ghost use Rattle.tp_talk.specs.Drains.{has_taken, round, rounds, turn_in_round};
 
@@ -47,17 +47,17 @@ fn round(servers: &mut [Server], store: &mut Store, order: Order) -> Result<bool
     }
 }
 
-/// Rounds, one after another, until nothing is taken in one: whether something was taken in the last one.
-#[tactic(auto, unfolding(crate::specs::Drains::rounds))]
+/// Rounds, one after another, until nothing is taken in one, and `most` at most: whether something was taken
+/// in the last one.
 pub(crate) fn drain(
     servers: &mut [Server],
     store: &mut Store,
     order: Order,
+    most: u32,
 ) -> Result<bool, AllocError>
-    ensures { Rounds result servers.new store.new
-        (rounds order MAX_ROUNDS_OF_DRAIN servers.old store.old) }
+    ensures { Rounds result servers.new store.new (rounds order most servers.old store.old) }
 {
-    for _round in 0..MAX_ROUNDS_OF_DRAIN {
+    for past in 0..most {
         if !round(servers, store, order)? {
             return Ok(false);
         }

@@ -356,11 +356,12 @@ impl Session {
         ensures { Sets result self.new self.old (told_back (put_back_of id element self.old.store) self.old) }
     {
         match self.store.put_back(id, element) {
-            Ok(()) => Ok(()),
-            Err(Refusal::NoMemory) => Err(LineError::NoMemory),
-            Err(Refusal::NoNumber) => Err(LineError::NoMemory),
-            Err(_) => Err(BAD_NUMBER),
+            Ok(()) => {}
+            Err(Refusal::NoMemory) => return Err(LineError::NoMemory),
+            Err(Refusal::NoNumber) => return Err(LineError::NoMemory),
+            Err(_) => return Err(BAD_NUMBER),
         }
+        Ok(())
     }
 
     /// `over ROOT`

@@ -59,7 +59,7 @@ impl Store {
         ensures answer { Does result self.new (put_over_of root self.old) self.old }
         ensures short { result ≡ Err NoNumber → ⊥ }
     {
-        if root >= self.next || self.shelf.first_alive(root, 0).is_some() {
+        if root >= self.next || !self.shelf.is_over(root) {
             return Err(Refusal::Unsound);
         }
         match self.ended.reserve(1) {

@@ -15,7 +15,7 @@ invariant_of-self-2 c =
     elim c.match-get_mut.branch [
       | in-Some w ↦ (
           let r = replaced c.args.id c.args.before.now c.args.after c.self.inside.elements.entries _ c.self.invariant.sorted there (c.get_mut.follows.holds _).0 in
-          let left = rw (w.self-inside-is, c.groups-from.ensures, c.groups-to.ensures, ← ap groups_at there) at c.leave.ensures in
+          let left = rw (w.self-inside-is, c.groups-from.ensures, c.groups-to.ensures, ← ap (groups_at c.args.id) there) at c.leave.ensures in
           rw w.self-inside-is (indexed_put c.args.id c.self.inside.elements.entries c.self.inside.indexes c.self.invariant (Some c.args.after) _ c.enter.new.self c.leave.new.self c.ranges.id.fits r.at r.sorted (rw c.groups-to.ensures at c.in-Ok.ensures.ok) left)
           )
       | in_default w ↦ absurd (missing _ c.args.before.now there (sym c.get_mut.ensures.value ∙ ap option_copied_mut w.in_default.is))

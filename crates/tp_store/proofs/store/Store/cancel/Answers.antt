@@ -1,13 +1,13 @@
 use Rattle.std.proofs.Common.{Ok, false, ◌≡◌, sym, ◌∙◌, ap}
 use Rattle.tp_store.specs.Ends.{ended_in, is_over}
 use Rattle.tp_store.specs.State.{State}
-use Rattle.tp_store.proofs.Striking.{cancel_is, cancelled_as, live_as}
+use Rattle.tp_store.proofs.Striking.{cancel_is, cancelled_as}
 use Rattle.tp_store.proofs.store.Store.cancel.Goals as goal
 
 pub returns-clause-answer : goal.returns-clause-answer
 returns-clause-answer c =
     let s : State = record { limits = c.self.inside.limits; next = c.self.inside.next; units = c.self.inside.units; elements = c.self.inside.shelf; tally = c.self.inside.tally; ended = c.self.inside.ended.items } in
-    let live : is_over c.args.root c.self.inside.shelf ≡ false = live_as c.args.root c.self.inside.shelf _ _ c.first_alive.ensures.first c.is_none.ensures c.if-is_none.false in
+    let live : is_over c.args.root c.self.inside.shelf ≡ false = sym c.is_over.ensures ∙ c.if-is_over.false in
     let is = cancel_is c.args.root s c.in-Some.element (sym c.get.ensures ∙ c.in-Some.is) c.in-None.is live in
     let noted = c.note_end.ensures ∙ ap (ended_in c.args.root c.kill_open-killed.new.shelf) c.reserve.ensures.items in
     rw (← c.self.view_is) (

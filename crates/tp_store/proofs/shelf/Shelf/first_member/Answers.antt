@@ -1,0 +1,7 @@
+use Rattle.std.proofs.Common.{sym, ◌∙◌}
+use Rattle.tp_store.specs.Elements.{family_of}
+use Rattle.tp_store.proofs.Owning.{family_is, earlier_is}
+use Rattle.tp_store.proofs.shelf.Shelf.first_member.Goals as goal
+
+pub returns-clause-first : goal.returns-clause-first
+returns-clause-first c = rw (← c.self.view_is) (c.earlier.ensures ∙ earlier_is family_of family_is c.args.root c.args.from c.self.inside.elements.entries _ c.self.invariant.sorted c.self.invariant.fits c.self.invariant.family _ _ (sym c.own_member-own.ensures) c.found-other.ensures.first)
