@@ -69,12 +69,7 @@ impl Session {
     }
 
     /// Has a server or a worker do this.
-    pub(crate) fn act(
-        &mut self,
-        alloc: Global,
-        name: &Name,
-        act: &Act,
-    ) -> Result<String, LineError>
+    pub(crate) fn act(&mut self, alloc: Global, name: &Name, act: &Act) -> Result<String, LineError>
         ensures { Says string_bytes result self.new self.old (act_step name.now act.now self.old) }
     {
         match self.worker_at(name) {
@@ -106,22 +101,11 @@ impl Session {
             Ok(()) => {}
             Err(_) => return Err(LineError::NoMemory),
         }
-        told(
-            alloc,
-            Answer::Named {
-                name,
-                told: answer,
-            },
-        )
+        told(alloc, Answer::Named { name, told: answer })
     }
 
     /// Has a server do this.
-    fn act_of_server(
-        &mut self,
-        alloc: Global,
-        name: &Name,
-        act: &Act,
-    ) -> Result<String, LineError>
+    fn act_of_server(&mut self, alloc: Global, name: &Name, act: &Act) -> Result<String, LineError>
         ensures { Says string_bytes result self.new self.old
             (at_server (server_at name.now self.old) act.now self.old) }
     {
@@ -158,13 +142,7 @@ impl Session {
             Err(_) => return Err(LineError::NoMemory),
         };
         let _ = self.workers.remove(name);
-        told(
-            alloc,
-            Answer::Left {
-                name,
-                told: answer,
-            },
-        )
+        told(alloc, Answer::Left { name, told: answer })
     }
 
     /// `last NAME`

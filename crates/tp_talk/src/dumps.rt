@@ -224,7 +224,12 @@ impl Dump {
     }
 
     /// How a worker's last unit ended.
-    fn add_end(&mut self, alloc: Global, name: &Name, end: Option<UnitEnd>) -> Result<(), AllocError>
+    fn add_end(
+        &mut self,
+        alloc: Global,
+        name: &Name,
+        end: Option<UnitEnd>,
+    ) -> Result<(), AllocError>
         ensures { OnOk result (self.new ≡ and_lines (ended_lines name.now end) self.old) }
     {
         let Some(end) = end else {
@@ -282,11 +287,7 @@ impl Dump {
     }
 
     /// The elements.
-    fn add_elements(
-        &mut self,
-        alloc: Global,
-        elements: &[(u64, Element)],
-    ) -> Result<(), AllocError>
+    fn add_elements(&mut self, alloc: Global, elements: &[(u64, Element)]) -> Result<(), AllocError>
         ensures { OnOk result (self.new ≡ and_lines (map element_line elements.now) self.old) }
     {
         for (id, element) in elements {

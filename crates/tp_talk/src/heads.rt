@@ -345,9 +345,8 @@ impl Session {
                 self.owners = owners;
                 Ok(())
             }
-            Err(Refusal::NoMemory) => Err(LineError::NoMemory),
-            Err(Refusal::NoNumber) => Err(LineError::NoMemory),
-            Err(_) => Err(BAD_NUMBER),
+            Err(Refusal::Unsound) => Err(BAD_NUMBER),
+            Err(_) => Err(LineError::NoMemory),
         }
     }
 
@@ -357,9 +356,8 @@ impl Session {
     {
         match self.store.put_back(id, element) {
             Ok(()) => {}
-            Err(Refusal::NoMemory) => return Err(LineError::NoMemory),
-            Err(Refusal::NoNumber) => return Err(LineError::NoMemory),
-            Err(_) => return Err(BAD_NUMBER),
+            Err(Refusal::Unsound) => return Err(BAD_NUMBER),
+            Err(_) => return Err(LineError::NoMemory),
         }
         Ok(())
     }
@@ -370,9 +368,8 @@ impl Session {
     {
         match self.store.put_over(root) {
             Ok(()) => Ok(()),
-            Err(Refusal::NoMemory) => Err(LineError::NoMemory),
-            Err(Refusal::NoNumber) => Err(LineError::NoMemory),
-            Err(_) => Err(BAD_NUMBER),
+            Err(Refusal::Unsound) => Err(BAD_NUMBER),
+            Err(_) => Err(LineError::NoMemory),
         }
     }
 
@@ -383,9 +380,8 @@ impl Session {
     {
         match self.store.set_settled(stage, consumed, killed) {
             Ok(()) => Ok(()),
-            Err(Refusal::NoMemory) => Err(LineError::NoMemory),
-            Err(Refusal::NoNumber) => Err(LineError::NoMemory),
-            Err(_) => Err(BAD_NUMBER),
+            Err(Refusal::Unsound) => Err(BAD_NUMBER),
+            Err(_) => Err(LineError::NoMemory),
         }
     }
 }

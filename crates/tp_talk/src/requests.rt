@@ -172,7 +172,10 @@ impl Session {
     pub(crate) fn list(&self, alloc: Global, stage: u16, from: u64) -> Result<String, LineError>
         ensures { Says string_bytes result self.now self.now (list_step stage from self.now) }
     {
-        match self.store.list(alloc, Group::Queue(stage), from, MAX_LISTED) {
+        match self
+            .store
+            .list(alloc, Group::Queue(stage), from, MAX_LISTED)
+        {
             Ok(all) => {
                 let waiting = all.as_slice();
                 told(alloc, Answer::List { stage, waiting })

@@ -104,11 +104,7 @@ impl Server {
     }
 
     /// Claims in this order.
-    fn claim_in(
-        &mut self,
-        store: &mut Store,
-        order: Order,
-    ) -> Result<Option<Work>, Refusal>
+    fn claim_in(&mut self, store: &mut Store, order: Order) -> Result<Option<Work>, Refusal>
         ensures same { self.new ≡ self.old }
         ensures answer { Does result store.new (claim_in_order order self.old store.old) store.old }
     {
