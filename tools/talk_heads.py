@@ -154,10 +154,11 @@ class Head:
     def set_settled(self, stage, consumed, killed):
         must(1 <= stage <= 999, "BadNumber")
         told = {"consumed": consumed, "killed": killed}
-        counts, all_of = self.store.counts(stage), self.store.total()
+        counts, total = self.store.counts(stage), self.store.total
         for it, many in told.items():
-            must(counts[it] <= many and all_of[it] + many - counts[it] <= LARGEST, "BadNumber")
+            must(counts[it] <= many and total[it] + many - counts[it] <= LARGEST, "BadNumber")
         for it, many in told.items():
+            total[it] += many - counts[it]
             counts[it] = many
 
     def set_hand(self, name, id, unit):

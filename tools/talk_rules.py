@@ -9,6 +9,7 @@ REFUSALS = {
     "BadStage": 3, "NotThere": 4, "Consumed": 5, "AlreadyKilled": 6, "Full": 7, "NotParked": 8, "NoRound": 9, "NotWaiting": 10,
     "Busy": 11, "NotHeld": 12, "Gap": 15,
 }
+STATES = ("waiting", "held", "consumed", "parked", "killed")
 ROUNDS = 1000
 
 
@@ -93,13 +94,12 @@ class Talk(Head):
         return f"list {stage}" + "".join(f" {id}" for id in self.store.waiting(stage, start)[:200])
 
     def do_count(self):
-        return " ".join(f"{it} {many}" for it, many in self.store.total().items())
+        return " ".join(f"{it} {self.store.total[it]}" for it in STATES)
 
     def do_account(self):
-        total = self.store.total()
-        if total["held"]:
+        if self.store.total["held"]:
             raise Refused("Busy")
-        return f"account born {sum(total.values())} {self.do_count()}"
+        return f"account born {self.store.total.total()} {self.do_count()}"
 
     def do_depth(self):
         rows = [(stage, *(counts[it] for it in ("waiting", "held", "parked"))) for stage, counts in sorted(self.store.tally.items())]

@@ -5,7 +5,7 @@ from dataclasses import dataclass
 
 from talk_lines import LARGEST
 
-ALIVE, STATES = ("waiting", "held", "parked"), ("waiting", "held", "consumed", "parked", "killed")
+ALIVE = ("waiting", "held", "parked")
 REPLIES = 15
 
 
@@ -48,15 +48,14 @@ class Store:
     def __init__(self):
         self.attempts, self.most, self.keep = 3, LARGEST, 1000
         self.next = self.units = 0
-        self.elements, self.tally, self.over = {}, {}, []
+        self.elements, self.over = {}, []
+        # How many there are of each status, in all and by stage.
+        self.total, self.tally = Counter(), {}
 
     # -- what there is
 
-    def total(self):
-        return {it: sum(counts[it] for counts in self.tally.values()) for it in STATES}
-
     def alive(self):
-        return sum(self.total()[it] for it in ALIVE)
+        return sum(self.total[it] for it in ALIVE)
 
     def family(self, root):
         return [(id, e) for id, e in self.elements.items() if e.root == root]
@@ -79,14 +78,16 @@ class Store:
     # -- changes
 
     def change(self, e, *status):
-        self.tally[e.stage][e.status[0]] -= 1
+        for counts in (self.total, self.counts(e.stage)):
+            counts[e.status[0]] = max(0, counts[e.status[0]] - 1)
         self.add(e, *status)
 
     def counts(self, stage):
         return self.tally.setdefault(stage, Counter())
 
     def add(self, e, *status):
-        self.counts(e.stage)[status[0]] += 1
+        for counts in (self.total, self.counts(e.stage)):
+            counts[status[0]] = min(LARGEST, counts[status[0]] + 1)
         e.status = status
 
     def born(self, drafts, root, by, owner):
