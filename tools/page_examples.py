@@ -2,16 +2,22 @@
 
 An example is an indented text whose first line, but for comments, is a setting, or the answer `recovered N` of a session with a journal.
 On the left is what is sent, on the right, behind two spaces at least, what is answered. What it leaves out at its end are final lines.
+Those of docs/TALKS.md are answered by the rules of talks, which tools/talks holds the program to, and by the proved program where it
+stands.
 """
 import os
 import re
 import subprocess
 import tempfile
 
+from talk_rules import Talk
+
 TOP = os.path.dirname(os.path.dirname(os.path.realpath(__file__)))
 SETTINGS = ("rows ", "units ", "limit ", "spare ")
 # Which pages have scripts; the examples of all others are sessions.
 SCRIPTS = ("README.md", "docs/SCRIPTS.md")
+# Which have talks, how their heads begin, and the program.
+TALKS, HEADS, TALKER = ("docs/TALKS.md",), ("keep ", "server ", "worker "), "crates/tp_talk_program/out/tp_talk_program"
 
 
 def sides(text):
@@ -22,12 +28,12 @@ def sides(text):
     return [it[1] for it in pairs if it[1]], [it[2] for it in pairs if it[2]]
 
 
-def examples(text):
+def examples(text, settings=SETTINGS):
     """Yields of each example of a page what it sends, and what it is answered."""
     for block in re.findall(r"(?:(?: {4}[^\n]*)\n)+", text):
         sent, answers = sides(block.rstrip("\n"))
         lines = [it for it in sent if not it.startswith("#")]
-        if answers and ((lines and lines[0].startswith(SETTINGS)) or answers[0].startswith("recovered ")):
+        if answers and ((lines and lines[0].startswith(settings)) or answers[0].startswith("recovered ")):
             yield sent, answers
 
 
@@ -41,14 +47,31 @@ def differs(answers, said):
     return answers[len(said)] if len(answers) > len(said) else None
 
 
-def said_by(words, sent):
+def said_by(words, sent, program="run"):
     """Returns the lines that ./run writes with these words, once it was sent these lines."""
-    ran = subprocess.run([f"{TOP}/run", *words], input="".join(f"{it}\n" for it in sent), capture_output=True, text=True)
+    ran = subprocess.run([f"{TOP}/{program}", *words], input="".join(f"{it}\n" for it in sent), capture_output=True, text=True)
     return ran.stdout.splitlines()
+
+
+def said_by_rules(sent):
+    """Returns what the rules of talks answer to these lines."""
+    talk = Talk()
+    return [it for line in sent for it in talk.answers(line.encode())] + talk.finals()
+
+
+def wrong_talks(text):
+    """Yields of each example of a talk the answer that isn't so, or None."""
+    for sent, answers in examples(text, HEADS):
+        yield differs(answers, said_by_rules(sent))
+        if os.path.exists(f"{TOP}/{TALKER}"):
+            yield differs(answers, said_by([], sent, TALKER))
 
 
 def wrong_examples(page, text):
     """Yields of each example of a page the answer that isn't so, or None. Those with a journal go on from one another."""
+    if page in TALKS:
+        yield from wrong_talks(text)
+        return
     with tempfile.TemporaryDirectory() as room:
         for sent, answers in examples(text):
             words = [] if page in SCRIPTS else ["--live"]
