@@ -12,3 +12,4 @@ pub mod Dumps
 pub mod Session
 pub mod Acted
 pub mod Conversed
+pub mod Lasting

@@ -8,6 +8,7 @@ mod drains;
 mod dumps;
 mod hand;
 mod heads;
+pub mod laws;
 mod phase;
 mod requests;
 mod server;

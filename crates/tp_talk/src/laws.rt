@@ -1,0 +1,14 @@
+//! The laws of sessions. These functions do nothing: their contracts are the laws.
+
+ghost use Rattle.tp_talk.specs.Lasting.{GoesOnFromLines, ReadingsChangeNothing};
+
+/// What the first lines of a session leave, given to the other ones, is what all of them leave; so a log of
+/// the lines leads where they led.
+pub fn goes_on_from_lines()
+    ensures { GoesOnFromLines }
+{}
+
+/// A command that only tells changes nothing: a log need not have it.
+pub fn readings_change_nothing()
+    ensures { ReadingsChangeNothing }
+{}
