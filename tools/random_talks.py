@@ -157,7 +157,8 @@ def changed(lines, random):
         parts[random.randrange(len(parts))] = str(random.choice(EDGES))
         words[k] = ":".join(parts)
         other = random.randrange(len(lines))
-        lines[at:at + 1] = random.choice(([" ".join(words)], [" ".join(words)], [" ".join(words)], [], [lines[at], lines[other]], [lines[other], lines[at]]))
+        others = [[], [lines[at], lines[other]], [lines[other], lines[at]]]
+        lines[at:at + 1] = random.choice([[" ".join(words)]] * 3 + others)
         if not lines:
             return ["numbers 1 1 1"]
     return lines

@@ -284,7 +284,8 @@ class Talk(Head):
             asked = self.store.elements.get(root)
             if root is not None and not (asked and asked.root == root and asked.owner == it.owner):
                 raise Refused("NotThere")
-            found = [x for x in self.store.elements.items() if x[1].is_reply() and (x[1].owner == it.owner if root is None else x[1].root == root)]
+            replies = [x for x in self.store.elements.items() if x[1].is_reply()]
+            found = [(id, e) for id, e in replies if (e.owner == it.owner if root is None else e.root == root)]
             if not found:
                 return f"received {name} {number} none"
             id, e = found[0]
