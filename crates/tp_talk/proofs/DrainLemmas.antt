@@ -3,7 +3,7 @@ use Rattle.std.proofs.Common.{◌≡◌, ◌∙◌, ℕ, suc, List, true, false,
 use Rattle.std.specs.Prelude.{if◌then◌else◌}
 use Rattle.tp_server.specs.declared.order.Order.{Order}
 use Rattle.tp_store.specs.State.{State}
-use Rattle.tp_talk.specs.Drains.{Round, round, rounds}
+use Rattle.tp_talk.specs.Drains.{round, rounds}
 use Rattle.tp_talk.specs.State.{ServerView}
 
 module _ (order : Order) (vs : List ServerView) (s : State) where

@@ -1,10 +1,9 @@
 -- Sessions go on from their lines, and readings change nothing.
-use Rattle.std.proofs.Common.{◌≡◌, ◌∙◌, ◌==◌, ℕ, ◌+◌, Bool, true, false, List, [], ◌∷◌, ◌++◌, Option, Some, None, Result, Ok, Err, length, refl, sym, ap, append_assoc, arith}
+use Rattle.std.proofs.Common.{◌≡◌, ◌∙◌, ◌==◌, ℕ, ◌+◌, Bool, true, false, List, [], ◌∷◌, ◌++◌, Option, Some, None, Ok, Err, length, sym, ap, append_assoc, arith}
 use Rattle.std.specs.Prelude.{if◌then◌else◌, slice_get}
 use Rattle.tp_lines.specs.Names.{NameView}
 use Rattle.tp_lines.specs.declared.line.ClientNote.{ClientNote}
 use Rattle.tp_lines.specs.declared.line.Command.TheVariants as commands
-use Rattle.tp_script.specs.declared.fault.LineFault.{LineFault}
 use Rattle.tp_script.specs.declared.fault.LineFault.TheVariants.{BadName}
 use Rattle.tp_talk.specs.Clients.{last_by, of_note}
 use Rattle.tp_talk.specs.Lasting.{GoesOnFromLines, ReadingsChangeNothing}

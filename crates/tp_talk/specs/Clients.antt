@@ -1,5 +1,5 @@
 -- What clients that may crash are told, and what is noted of them.
-use Rattle.std.specs.Prelude.{ℕ, ◌+◌, ◌==◌, nat_lt, Bool, true, false, if◌then◌else◌, List, [], ◌∷◌}
+use Rattle.std.specs.Prelude.{ℕ, ◌+◌, ◌==◌, nat_lt, Bool, false, if◌then◌else◌, List, [], ◌∷◌}
 use Rattle.std.specs.Prelude.{Option, Some, None, Result, Ok, Err}
 use Rattle.tp_script.specs.declared.fault.LineFault.TheVariants.{BadName}
 use Rattle.tp_store.specs.Calls.{collect_of, submit_of}

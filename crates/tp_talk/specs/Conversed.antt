@@ -5,7 +5,7 @@ use Rattle.tp_report.specs.Written.{AppendsFront}
 use Rattle.tp_report.specs.declared.fault.Exit.{Exit}
 use Rattle.tp_report.specs.declared.fault.Exit.TheVariants as exits
 use Rattle.tp_report.specs.declared.fault.Fault.{Fault}
-use Rattle.tp_wire.specs.Heard.{Tells, heard}
+use Rattle.tp_wire.specs.Heard.{heard}
 use Rattle.tp_talk.specs.Session.{lines_step, session_of}
 use Rattle.tp_talk.specs.State.{SessionState}
 

@@ -8,10 +8,7 @@ use Rattle.tp_store.specs.Listing.{listed}
 use Rattle.tp_store.specs.declared.group.Group.{Group}
 use Rattle.tp_store.specs.declared.group.Group.TheVariants.{Family, Queue, Replies}
 use Rattle.tp_store.specs.State.{State}
-use Rattle.tp_store.specs.declared.answers.Cancelled.{Cancelled}
-use Rattle.tp_store.specs.declared.answers.Killed.{Killed}
 use Rattle.tp_store.specs.declared.answers.Refusal.TheVariants.{NotThere}
-use Rattle.tp_store.specs.declared.answers.Released.{Released}
 use Rattle.tp_store.specs.declared.counts.Counts.{Counts}
 use Rattle.tp_store.specs.declared.element.Element.{Element}
 use Rattle.tp_store.specs.declared.element.TheConstants.{LAST_STAGE}

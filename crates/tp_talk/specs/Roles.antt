@@ -6,7 +6,7 @@ use Rattle.std.specs.Str.{bytes_eq}
 use Rattle.tp_lines.specs.Names.{NameView, name_cmp}
 use Rattle.tp_lines.specs.declared.line.ClientNote.{ClientNote}
 use Rattle.tp_talk.specs.declared.worker.Worker.{Worker}
-use Rattle.tp_talk.specs.State.{ServerView, SessionState}
+use Rattle.tp_talk.specs.State.{SessionState}
 
 -- what there is of this name
 abbrev pub named : {A : Type 0} → NameView → List (NameView × A) → Option A

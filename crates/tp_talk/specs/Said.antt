@@ -1,6 +1,5 @@
 -- What a command is told, and what it leaves.
-use Rattle.std.specs.Prelude.{◌≡◌, ℕ, List, Result, Ok, Err, string_bytes}
-use Rattle.std.specs.declared.string.String.{String}
+use Rattle.std.specs.Prelude.{◌≡◌, ℕ, List, Result, Ok, Err}
 use Rattle.tp_script.specs.declared.fault.LineError.{LineError}
 use Rattle.tp_script.specs.declared.fault.LineError.TheVariants as errors
 use Rattle.tp_script.specs.declared.fault.LineFault.{LineFault}

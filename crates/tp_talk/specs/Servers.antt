@@ -1,9 +1,7 @@
 -- What a built-in server does: each step with its answer, computed.
-use Rattle.std.specs.Prelude.{ℕ, ◌+◌, ◌==◌, Bool, true, false, is_some, if◌then◌else◌, List, [], length}
+use Rattle.std.specs.Prelude.{ℕ, ◌+◌, ◌==◌, Bool, true, false, is_some, if◌then◌else◌, List, length}
 use Rattle.std.specs.Prelude.{Option, Some, None, Result, Ok, Err}
 use Rattle.tp_model.specs.declared.types.Element.{Element as ModelElement}
-use Rattle.tp_script.specs.declared.fault.LineFault.{LineFault}
-use Rattle.tp_script.specs.declared.fault.LineFault.TheVariants.{Syntax}
 use Rattle.tp_server.specs.Effect.{Effect, effect_of}
 use Rattle.tp_server.specs.declared.order.Order.{Order}
 use Rattle.tp_server.specs.declared.order.Order.TheVariants.{LeastFirst, InTurn}

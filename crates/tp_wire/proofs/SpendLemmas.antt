@@ -1,6 +1,5 @@
 -- How often a reader of known bytes is asked.
-use Rattle.std.proofs.Common.{◌≡◌, ◌∙◌, ◌==◌, ◌≤◌, ◌+◌, ◌++◌, ℕ, zero, suc, Bool, true, false, not, sym, List, [], ◌∷◌, Option, Some, None, refl, ap, arith, inl, inr, length}
-use Rattle.std.specs.Prelude.{◌⊎◌}
+use Rattle.std.proofs.Common.{◌≡◌, ◌∙◌, ◌==◌, ◌≤◌, ◌+◌, ◌++◌, ℕ, zero, suc, Bool, true, false, not, sym, List, [], ◌∷◌, Option, Some, None, refl, ap, arith, length}
 use Rattle.std.specs.Io.KnownBytes.{Consumes}
 use Rattle.std.proofs.lemmas.List.{length-append, length-take}
 use Rattle.tp_wire.specs.Heard.{ReadsLine}

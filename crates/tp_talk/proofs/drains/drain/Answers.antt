@@ -1,4 +1,4 @@
-use Rattle.std.proofs.Common.{◌≡◌, ◌∙◌, ◌+◌, ◌-◌, suc, arith, sym, ap}
+use Rattle.std.proofs.Common.{◌∙◌, ◌+◌, ◌-◌, arith, sym, ap}
 use Rattle.tp_talk.specs.Drains.{rounds}
 use Rattle.tp_talk.proofs.DrainLemmas.{rounds_end, rounds_more, rounds_none}
 use Rattle.tp_talk.proofs.drains.drain.Goals as goal

@@ -1,4 +1,4 @@
-use Rattle.std.proofs.Common.{◌≡◌, ◌-◌, ◌≤◌}
+use Rattle.std.proofs.Common.{◌≡◌, ◌-◌}
 use Rattle.tp_talk.specs.Drains.{rounds}
 use Rattle.tp_talk.proofs.drains.drain.Given as goal
 
