@@ -117,8 +117,11 @@ class Lines:
 
     def make_receive(self, kind):
         name = self.client()
-        made = self.talk.clients[name].received if name in self.talk.clients else 0
-        return f"receive {name} {self.number(made)}" + f" {self.id()}" * (self.random.random() < 0.3)
+        if name not in self.talk.clients:
+            return f"receive {name} 1"
+        it, elements = self.talk.clients[name], self.talk.store.elements.items()
+        own = [id for id, e in elements if e.owner == it.owner and e.root == id]
+        return f"receive {name} {self.number(it.received)}" + f" {self.pick(own, self.id())}" * (self.random.random() < 0.4)
 
     def faulty(self, line):
         """A line with something changed, which may be none any more, or another one."""
