@@ -28,6 +28,8 @@ use Rattle.tp_store.specs.Runs.{after, Call, Submit, Claim, ClaimFrom, Take, Com
 use Rattle.tp_store.specs.Soundness.{IsSound}
 use Rattle.tp_store.specs.State.{State, made, put_all, swept, with_births, with_change, with_end, start}
 use Rattle.tp_store.proofs.Accounting.{AddsUp, IsShown, IsTold, IsTurn, told_birth, told_change, told_without}
+use Rattle.tp_store.specs.Restoring.{is_attempt, is_root}
+use Rattle.tp_store.proofs.Settling.{HasPlace, IsSettled, none_settled, settled_birth, settled_change, settled_without}
 use Rattle.tp_store.proofs.Leading.{AreAlive, calls_follow, cancel_kills, found_filter, kills_one, others_alive, sorted_filter, start_sound}
 use Rattle.tp_store.proofs.Changing.{all_found, index_below, with_units}
 use Rattle.tp_store.specs.Shelves.{AreSorted}
@@ -39,329 +41,361 @@ use Rattle.tp_store.proofs.Overs.{over_means}
 as_number : (m n : ℕ) → (m == n) ≡ true → m ≡ n
 as_number m n h = grind (arith, nat_tests)
 
--- the account of a store, whose elements are of stages that there are
-pub record Accounted (s : State) : Type 0 where
+-- the account of a store, whose elements are of stages that there are, from the least one on
+pub record Accounted (low : ℕ) (s : State) : Type 0 where
   pub told : IsTold s.next s.tally s.elements
-  pub stages : (id : ℕ) (e : Element) → element_at id s.elements ≡ Some e → e.stage ≤ LAST_STAGE
+  pub each : (id : ℕ) (e : Element) → element_at id s.elements ≡ Some e → HasPlace low id e
+  pub settled : IsSettled low s.tally s.elements
 
--- ---- births
+-- the drafts of a call are of stages that there are, from the least one on
+abbrev pub HasStagesFrom : ℕ → Call → Type 0
+HasStagesFrom low (Commit id unit drafts) = AllByRecursion (λ d. (low ≤ d.stage) × (d.stage ≤ LAST_STAGE)) drafts
+HasStagesFrom low other = Unit {0}
 
-told_births : (from : Origin) (ds : List DraftView) (next : ℕ) (t : TallyView) (es : List Entry) → AreSorted es → ((i : ℕ) → next ≤ i → element_at i es ≡ None) → AllByRecursion (λ d. d.stage ≤ LAST_STAGE) ds → next + length ds < 2 ^ 64 - 1 → IsTold next t es → IsTold (next + length ds) (tallied_births ds t) (put_all next from ds es)
-told_births from [] next t es sorted none stages few told = subst (λ n. IsTold n t es) (omega arith) told
-told_births from (d ∷ ds) next t es sorted none stages few told = subst (λ n. IsTold n (tallied_births (d ∷ ds) t) (put_all next from (d ∷ ds) es)) (omega arith) (told_births from ds (next + 1) _ (put next (made from d) es) (put_sorted next (made from d) es sorted) (λ i low. put_looks next (made from d) es i ∙ rw (above next i low) (none i (omega arith))) stages.1 (omega arith) (told_birth next t es next (made from d) sorted (none next (omega arith)) refl stages.0 (omega arith) told))
-  where
-    above : (m n : ℕ) → m + 1 ≤ n → (m == n) ≡ false
-    above m n h = grind (arith, nat_tests)
+module _ (low : ℕ) (lowest : low ≤ 1) where
+  -- ---- births
 
-unborn : (s : State) → IsSound s → (i : ℕ) → s.next ≤ i → element_at i s.elements ≡ None
-unborn s sound i low = go (element_at i s.elements) refl
-  where
-    go : (x : Option Element) → element_at i s.elements ≡ x → element_at i s.elements ≡ None
-    go None h = h
-    go (Some e) h = absurd (let drawn = (sound.each i e h).drawn in omega arith)
+  told_births : (from : Origin) (ds : List DraftView) (next : ℕ) (t : TallyView) (es : List Entry) → AreSorted es → ((i : ℕ) → next ≤ i → element_at i es ≡ None) → AllByRecursion (λ d. (low ≤ d.stage) × (d.stage ≤ LAST_STAGE)) ds → next + length ds < 2 ^ 64 - 1 → IsTold next t es → IsSettled low t es → IsTold (next + length ds) (tallied_births ds t) (put_all next from ds es) × IsSettled low (tallied_births ds t) (put_all next from ds es)
+  told_births from [] next t es sorted none stages few told settled = (subst (λ n. IsTold n t es) (omega arith) told, settled)
+  told_births from (d ∷ ds) next t es sorted none stages few told settled =
+      let rest = told_births from ds (next + 1) _ (put next (made from d) es) (put_sorted next (made from d) es sorted) (λ i low. put_looks next (made from d) es i ∙ rw (above next i low) (none i (omega arith))) stages.1 (omega arith) (told_birth next t es next (made from d) sorted (none next (omega arith)) refl stages.0.1 (omega arith) told) (settled_birth low next t es next (made from d) sorted (none next (omega arith)) refl stages.0.0 stages.0.1 (omega arith) told settled) in
+      (subst (λ n. IsTold n (tallied_births (d ∷ ds) t) (put_all next from (d ∷ ds) es)) (omega arith) rest.0, rest.1)
+    where
+      above : (m n : ℕ) → m + 1 ≤ n → (m == n) ≡ false
+      above m n h = grind (arith, nat_tests)
 
-stage_at : (ds : List DraftView) (n : ℕ) (d : DraftView) → AllByRecursion (λ d. d.stage ≤ LAST_STAGE) ds → slice_get ds n ≡ Some d → d.stage ≤ LAST_STAGE
-stage_at [] n d all at = absurd (let low = index_below [] n d at in omega arith)
-stage_at (x ∷ ds) zero d all at = let h : Some x ≡ Some d = at in let same : x ≡ d = cc in subst (λ (y : DraftView). y.stage ≤ LAST_STAGE) same all.0
-stage_at (x ∷ ds) (suc n) d all at = stage_at ds n d all.1 at
+  unborn : (s : State) → IsSound s → (i : ℕ) → s.next ≤ i → element_at i s.elements ≡ None
+  unborn s sound i low = go (element_at i s.elements) refl
+    where
+      go : (x : Option Element) → element_at i s.elements ≡ x → element_at i s.elements ≡ None
+      go None h = h
+      go (Some e) h = absurd (let drawn = (sound.each i e h).drawn in omega arith)
 
-acc_births : (from : Origin) (ds : List DraftView) (s : State) → IsSound s → AllByRecursion (λ d. d.stage ≤ LAST_STAGE) ds → s.next + length ds < 2 ^ 64 - 1 → Accounted s → Accounted (with_births from ds s)
-acc_births from ds s sound stages few acc = record {
-  told = told_births from ds s.next s.tally s.elements sound.sorted (unborn s sound) stages few acc.told;
-  stages = λ id e found. go id e (all_found from s.next ds s.elements id e found);
-}
-  where
-    go : (id : ℕ) (e : Element) → (element_at id s.elements ≡ Some e) ⊎ ((n : ℕ) × (d : DraftView) × (slice_get ds n ≡ Some d) × (id ≡ s.next + n) × (e ≡ made from d)) → e.stage ≤ LAST_STAGE
-    go id e (inl was) = acc.stages id e was
-    go id e (inr (n, d, at, place, is)) = rw is (stage_at ds n d stages at)
+  stage_at : (ds : List DraftView) (n : ℕ) (d : DraftView) → AllByRecursion (λ d. (low ≤ d.stage) × (d.stage ≤ LAST_STAGE)) ds → slice_get ds n ≡ Some d → (low ≤ d.stage) × (d.stage ≤ LAST_STAGE)
+  stage_at [] n d all at = absurd (let low = index_below [] n d at in omega arith)
+  stage_at (x ∷ ds) zero d all at = let h : Some x ≡ Some d = at in let same : x ≡ d = cc in subst (λ (y : DraftView). (low ≤ y.stage) × (y.stage ≤ LAST_STAGE)) same all.0
+  stage_at (x ∷ ds) (suc n) d all at = stage_at ds n d all.1 at
 
--- ---- a change
+  acc_births : (from : Origin) (ds : List DraftView) (s : State) → IsSound s → AllByRecursion (λ d. (low ≤ d.stage) × (d.stage ≤ LAST_STAGE)) ds → ((n : ℕ) → n < length ds → is_root (s.next + n) from.by from.root ≡ true) → s.next + length ds < 2 ^ 64 - 1 → Accounted low s → Accounted low (with_births from ds s)
+  acc_births from ds s sound stages roots few acc =
+      let births = told_births from ds s.next s.tally s.elements sound.sorted (unborn s sound) stages few acc.told acc.settled in
+      record { told = births.0; each = λ id e found. go id e (all_found from s.next ds s.elements id e found); settled = births.1 }
+    where
+      go : (id : ℕ) (e : Element) → (element_at id s.elements ≡ Some e) ⊎ ((n : ℕ) × (d : DraftView) × (slice_get ds n ≡ Some d) × (id ≡ s.next + n) × (e ≡ made from d)) → HasPlace low id e
+      go id e (inl was) = acc.each id e was
+      go id e (inr (n, d, at, place, is)) = let stage = stage_at ds n d stages at in rw is (record { from = stage.0; stage = stage.1; root = rw place (roots n (index_below ds n d at)); attempt = refl })
 
-acc_change : (s : State) (units id : ℕ) (old new : Element) → IsSound s → s.next < 2 ^ 64 - 1 → Accounted s → element_at id s.elements ≡ Some old → new.stage ≡ old.stage → IsTurn old.status new.status → Accounted (with_units units (with_change id old new s))
-acc_change s units id old new sound few acc found place turn = record {
-  told = told_change s.next s.tally s.elements id old new sound.sorted found place (acc.stages id old found) turn few acc.told;
-  stages = λ q e there. go q e (id == q) (sym (put_looks id new s.elements q) ∙ there);
-}
-  where
-    go : (q : ℕ) (e : Element) (b : Bool) → cond b (Some new) (element_at q s.elements) ≡ Some e → e.stage ≤ LAST_STAGE
-    go q e true same = let h : Some new ≡ Some e = same in let is : new ≡ e = cc in subst (λ (x : Element). x.stage ≤ LAST_STAGE) is (rw place (acc.stages id old found))
-    go q e false same = acc.stages q e same
+  -- ---- a change
 
--- ---- what is forgotten
+  acc_change : (s : State) (units id : ℕ) (old new : Element) → IsSound s → s.next < 2 ^ 64 - 1 → Accounted low s → element_at id s.elements ≡ Some old → new ≡ record old { status = new.status; rounds = new.rounds } → is_attempt new.status ≡ true → IsTurn old.status new.status → Accounted low (with_units units (with_change id old new s))
+  acc_change s units id old new sound few acc found contents attempt turn = record {
+    told = told_change s.next s.tally s.elements id old new sound.sorted found stage_same was.stage turn few acc.told;
+    each = λ q e there. go q e (id == q) refl (sym (put_looks id new s.elements q) ∙ there);
+    settled = settled_change low s.next s.tally s.elements id old new sound.sorted found stage_same was.from was.stage turn few acc.told acc.settled;
+  }
+    where
+      was : HasPlace low id old
+      was = acc.each id old found
 
-acc_step : (s : State) → IsSound s → Accounted s → Accounted (with_shelf s (forget_one s.limits.keep (record { elements = s.elements; ended = s.ended })))
-acc_step s sound acc = go (nat_le (length s.ended) s.limits.keep) refl s.ended refl
-  where
-    first : (root : ℕ) (others : List ℕ) → s.ended ≡ root ∷ others → (x : Option Entry) → first_in family_of root 0 s.elements ≡ x → Accounted (with_shelf s (forget_first x others (record { elements = s.elements; ended = s.ended })))
-    first root others is (Some x) h =
-        let f = first_is family_of root 0 s.elements sound.sorted x h in
-        record {
-          told = told_without s.next s.tally s.elements x.0 x.1 f.found (over_means root s.elements (rw is at sound.ended).0.1 x.0 x.1 f.found (in_family root x.1.root f.member)) acc.told;
-          stages = λ q e there. still q e (x.0 == q) (sym (without_looks x.0 s.elements sound.sorted q) ∙ there);
-        }
+      stage_same : new.stage ≡ old.stage
+      stage_same = ap (λ (x : Element). x.stage) contents
+
+      now : HasPlace low id new
+      now = record { from = rw stage_same was.from; stage = rw stage_same was.stage; root = rw (ap (λ (x : Element). x.by) contents, ap (λ (x : Element). x.root) contents) was.root; attempt = attempt }
+
+      go : (q : ℕ) (e : Element) (b : Bool) → (id == q) ≡ b → cond b (Some new) (element_at q s.elements) ≡ Some e → HasPlace low q e
+      go q e true h same = let there : Some new ≡ Some e = same in let is : new ≡ e = cc in subst (λ i. HasPlace low i e) (as_number id q h) (subst (HasPlace low id) is now)
+      go q e false h same = acc.each q e same
+
+  -- ---- what is forgotten
+
+  acc_step : (s : State) → IsSound s → Accounted low s → Accounted low (with_shelf s (forget_one s.limits.keep (record { elements = s.elements; ended = s.ended })))
+  acc_step s sound acc = go (nat_le (length s.ended) s.limits.keep) refl s.ended refl
+    where
+      first : (root : ℕ) (others : List ℕ) → s.ended ≡ root ∷ others → (x : Option Entry) → first_in family_of root 0 s.elements ≡ x → Accounted low (with_shelf s (forget_first x others (record { elements = s.elements; ended = s.ended })))
+      first root others is (Some x) h =
+          let f = first_is family_of root 0 s.elements sound.sorted x h in
+          record {
+            told = told_without s.next s.tally s.elements x.0 x.1 f.found (over_means root s.elements (rw is at sound.ended).0.1 x.0 x.1 f.found (in_family root x.1.root f.member)) acc.told;
+            each = λ q e there. still q e (x.0 == q) (sym (without_looks x.0 s.elements sound.sorted q) ∙ there);
+            settled = settled_without low s.tally s.elements x.0 x.1 f.found acc.settled;
+          }
+        where
+          still : (q : ℕ) (e : Element) (b : Bool) → cond b None (element_at q s.elements) ≡ Some e → HasPlace low q e
+          still q e true same = absurd cc
+          still q e false same = acc.each q e same
+      first root others is None h = record { told = acc.told; each = acc.each; settled = acc.settled }
+
+      go : (b : Bool) → nat_le (length s.ended) s.limits.keep ≡ b → (roots : List ℕ) → s.ended ≡ roots → Accounted low (with_shelf s (forget_one s.limits.keep (record { elements = s.elements; ended = s.ended })))
+      go true h roots is = rw h acc
+      go false h [] is = rw (h, is) (record { told = acc.told; each = acc.each; settled = acc.settled })
+      go false h (root ∷ others) is = rw (h, is) (rw (← is) (first root others is (first_in family_of root 0 s.elements) refl))
+
+  acc_steps : (n : ℕ) (s : State) → IsSound s → Accounted low s → Accounted low (with_shelf s (forget n s.limits.keep (record { elements = s.elements; ended = s.ended })))
+  unfolding forget
+  acc_steps zero s sound acc = acc
+  acc_steps (suc n) s sound acc = acc_step _ (loses_steps n s sound).sound (acc_steps n s sound acc)
+
+  acc_end : (root : ℕ) (s : State) → IsSound s → root < s.next → Accounted low s → Accounted low (swept (with_end root s))
+  acc_end root s sound low acc = acc_steps FORGET_STEPS (with_end root s) (loses_end root s low sound).sound (record { told = acc.told; each = acc.each; settled = acc.settled })
+
+  -- ---- the calls
+
+  module _ (s : State) (sound : IsSound s) (few : s.next < 2 ^ 64 - 1) (acc : Accounted low s) where
+    acc_to : (units id : ℕ) (e : Element) (status : Status) → element_at id s.elements ≡ Some e → is_attempt status ≡ true → IsTurn e.status status → Accounted low (with_units units (with_change id e (standing status e) s))
+    acc_to units id e status found attempt turn = acc_change s units id e (standing status e) sound few acc found refl attempt turn
+
+    one_at_least : (n : ℕ) → nat_le 1 (n + 1) ≡ true
+    one_at_least n = grind (arith, nat_tests)
+
+    acc_out : (id : ℕ) (e : Element) → element_at id s.elements ≡ Some e → (status : Status) → e.status ≡ status → Accounted low (hand_out_as id e status s).1
+    acc_out id e found (Waiting n) is = acc_to (s.units + 1) id e (Held s.units (n + 1)) found (one_at_least n) (rw is tt)
+    acc_out id e found (Held u n) is = acc
+    acc_out id e found (Consumed u) is = acc
+    acc_out id e found (Parked n) is = acc
+    acc_out id e found Killed is = acc
+
+    acc_claim : (stage from : ℕ) (x : Option Entry) → first_in queue_of stage from s.elements ≡ x → Accounted low (claim_first x s).1
+    acc_claim stage from None is = acc
+    acc_claim stage from (Some x) is = as_out (hand_out_as x.0 x.1 x.1.status s) (acc_out x.0 x.1 (first_is queue_of stage from s.elements sound.sorted x is).found x.1.status refl)
       where
-        still : (q : ℕ) (e : Element) (b : Bool) → cond b None (element_at q s.elements) ≡ Some e → e.stage ≤ LAST_STAGE
-        still q e true same = absurd cc
-        still q e false same = acc.stages q e same
-    first root others is None h = record { told = acc.told; stages = acc.stages }
+        as_out : (r : Result Work Refusal × State) → Accounted low r.1 → Accounted low (as_claimed r).1
+        as_out (Ok w, t) a = a
+        as_out (Err why, t) a = a
 
-    go : (b : Bool) → nat_le (length s.ended) s.limits.keep ≡ b → (roots : List ℕ) → s.ended ≡ roots → Accounted (with_shelf s (forget_one s.limits.keep (record { elements = s.elements; ended = s.ended })))
-    go true h roots is = rw h acc
-    go false h [] is = rw (h, is) (record { told = acc.told; stages = acc.stages })
-    go false h (root ∷ others) is = rw (h, is) (rw (← is) (first root others is (first_in family_of root 0 s.elements) refl))
+    acc_claim_from : (stage from : ℕ) (x : Option Entry) → first_in queue_of stage from s.elements ≡ x → Accounted low (claim_first (option_or x (first_in queue_of stage 0 s.elements)) s).1
+    acc_claim_from stage from None is = acc_claim stage 0 (first_in queue_of stage 0 s.elements) refl
+    acc_claim_from stage from (Some x) is = acc_claim stage from (Some x) is
 
-acc_steps : (n : ℕ) (s : State) → IsSound s → Accounted s → Accounted (with_shelf s (forget n s.limits.keep (record { elements = s.elements; ended = s.ended })))
-unfolding forget
-acc_steps zero s sound acc = acc
-acc_steps (suc n) s sound acc = acc_step _ (loses_steps n s sound).sound (acc_steps n s sound acc)
+    acc_take : (id : ℕ) (x : Option Element) → element_at id s.elements ≡ x → Accounted low (take_at id x s).1
+    acc_take id None is = acc
+    acc_take id (Some e) is = go (e.stage == REPLY_STAGE) refl
+      where
+        go : (b : Bool) → (e.stage == REPLY_STAGE) ≡ b → Accounted low (take_at id (Some e) s).1
+        go true r = rw r acc
+        go false r = rw r (acc_out id e is e.status refl)
 
-acc_end : (root : ℕ) (s : State) → IsSound s → root < s.next → Accounted s → Accounted (swept (with_end root s))
-acc_end root s sound low acc = acc_steps FORGET_STEPS (with_end root s) (loses_end root s low sound).sound (record { told = acc.told; stages = acc.stages })
+    acc_give_up : (id u n : ℕ) (e : Element) → element_at id s.elements ≡ Some e → e.status ≡ Held u n → Accounted low (give_up id e n s)
+    acc_give_up id u n e found held = go (nat_lt n s.limits.attempts) refl
+      where
+        go : (b : Bool) → nat_lt n s.limits.attempts ≡ b → Accounted low (give_up id e n s)
+        go true h = rw h (acc_to s.units id e (Waiting n) found refl (rw held tt))
+        go false h = rw h (acc_to s.units id e (Parked n) found refl (rw held tt))
 
--- ---- the calls
+    acc_abort : (id unit : ℕ) (x : Option Element) → element_at id s.elements ≡ x → Accounted low (abort_at id unit x s).1
+    acc_abort id unit None is = acc
+    acc_abort id unit (Some e) is = go e.status refl
+      where
+        by_unit : (u n : ℕ) → e.status ≡ Held u n → (b : Bool) → (u == unit) ≡ b → Accounted low (abort_as id unit e (Held u n) s).1
+        by_unit u n held true same = rw same (acc_give_up id u n e is held)
+        by_unit u n held false same = rw same acc
 
-module _ (s : State) (sound : IsSound s) (few : s.next < 2 ^ 64 - 1) (acc : Accounted s) where
-  acc_to : (units id : ℕ) (e : Element) (status : Status) → element_at id s.elements ≡ Some e → IsTurn e.status status → Accounted (with_units units (with_change id e (standing status e) s))
-  acc_to units id e status found turn = acc_change s units id e (standing status e) sound few acc found refl turn
+        go : (status : Status) → e.status ≡ status → Accounted low (abort_as id unit e status s).1
+        go (Held u n) held = by_unit u n held (u == unit) refl
+        go (Waiting n) held = acc
+        go (Consumed u) held = acc
+        go (Parked n) held = acc
+        go Killed held = acc
 
-  acc_out : (id : ℕ) (e : Element) → element_at id s.elements ≡ Some e → (status : Status) → e.status ≡ status → Accounted (hand_out_as id e status s).1
-  acc_out id e found (Waiting n) is = acc_to (s.units + 1) id e (Held s.units (n + 1)) found (rw is tt)
-  acc_out id e found (Held u n) is = acc
-  acc_out id e found (Consumed u) is = acc
-  acc_out id e found (Parked n) is = acc
-  acc_out id e found Killed is = acc
+    acc_release : (id : ℕ) (x : Option Element) → element_at id s.elements ≡ x → Accounted low (release_at id x s).1
+    acc_release id None is = acc
+    acc_release id (Some e) is = go e.status refl
+      where
+        go : (status : Status) → e.status ≡ status → Accounted low (release_as id e status s).1
+        go (Held u n) held = acc_give_up id u n e is held
+        go (Waiting n) held = acc
+        go (Consumed u) held = acc
+        go (Parked n) held = acc
+        go Killed held = acc
 
-  acc_claim : (stage from : ℕ) (x : Option Entry) → first_in queue_of stage from s.elements ≡ x → Accounted (claim_first x s).1
-  acc_claim stage from None is = acc
-  acc_claim stage from (Some x) is = as_out (hand_out_as x.0 x.1 x.1.status s) (acc_out x.0 x.1 (first_is queue_of stage from s.elements sound.sorted x is).found x.1.status refl)
+    killed_turn : (x : Status) → is_alive x ≡ true → IsTurn x Killed
+    killed_turn (Waiting n) h = tt
+    killed_turn (Held u n) h = tt
+    killed_turn (Parked n) h = tt
+    killed_turn (Consumed u) h = absurd cc
+    killed_turn Killed h = absurd cc
+
+    acc_killed : (id : ℕ) (e : Element) → element_at id s.elements ≡ Some e → is_alive e.status ≡ true → Accounted low (killed id e s)
+    acc_killed id e found alive = acc_to s.units id e Killed found refl (killed_turn e.status alive)
+
+    acc_kill : (id : ℕ) (x : Option Element) → element_at id s.elements ≡ x → Accounted low (kill_at id x s).1
+    acc_kill id None is = acc
+    acc_kill id (Some e) is = go e.status refl
+      where
+        dead : is_alive e.status ≡ true → Accounted low (swept (with_end e.root (killed id e s)))
+        dead alive = acc_end e.root (killed id e s) (kills_one s id e sound is alive).alters.sound (root_low s sound id e is) (acc_killed id e is alive)
+
+        go : (status : Status) → e.status ≡ status → Accounted low (kill_as id e status s).1
+        go (Waiting n) was = dead (rw was refl)
+        go (Held u n) was = dead (rw was refl)
+        go (Parked n) was = dead (rw was refl)
+        go (Consumed u) was = acc
+        go Killed was = acc
+
+    acc_requeue : (id : ℕ) (x : Option Element) → element_at id s.elements ≡ x → Accounted low (requeue_at id x s).1
+    acc_requeue id None is = acc
+    acc_requeue id (Some e) is = go e.status refl
+      where
+        parked : (n : ℕ) → e.status ≡ Parked n → (b : Bool) → nat_lt e.rounds MAX_ROUNDS ≡ b → Accounted low (requeue_as id e (Parked n) s).1
+        parked n was true h = rw h (acc_change s s.units id e (record e { status = Waiting 0; rounds = e.rounds + 1 }) sound few acc is refl refl (rw was tt))
+        parked n was false h = rw h acc
+
+        go : (status : Status) → e.status ≡ status → Accounted low (requeue_as id e status s).1
+        go (Parked n) was = parked n was (nat_lt e.rounds MAX_ROUNDS) refl
+        go (Waiting n) was = acc
+        go (Held u n) was = acc
+        go (Consumed u) was = acc
+        go Killed was = acc
+
+    acc_collect : (id : ℕ) (x : Option Element) → element_at id s.elements ≡ x → Accounted low (collect_at id x s).1
+    acc_collect id None is = acc
+    acc_collect id (Some e) is = go (e.stage == REPLY_STAGE) refl
+      where
+        reply : e.stage ≡ REPLY_STAGE → (status : Status) → e.status ≡ status → Accounted low (collect_as id e status s).1
+        reply r (Waiting n) was = acc_end e.root t fit (root_low s sound id e is) (acc_to (s.units + 1) id e (Consumed s.units) is refl (rw was tt))
+          where
+            t : State
+            t = with_units (s.units + 1) (with_change id e (standing (Consumed s.units) e) s)
+
+            fit : IsSound t
+            fit = (alters_to s sound (s.units + 1) id e (Consumed s.units) (omega arith) is (rw was tt) (rw was (inr (inr (r, s.units, refl)))) (λ u h. drawn u h) (λ r. refl)).sound
+              where
+                drawn : (u : ℕ) → Some s.units ≡ Some u → u < s.units + 1
+                drawn u h = let same : s.units ≡ u = cc in omega arith
+        reply r (Held u n) was = acc
+        reply r (Consumed u) was = acc
+        reply r (Parked n) was = acc
+        reply r Killed was = acc
+
+        go : (b : Bool) → (e.stage == REPLY_STAGE) ≡ b → Accounted low (collect_at id (Some e) s).1
+        go true r = rw r (reply (as_number e.stage REPLY_STAGE r) e.status refl)
+        go false r = rw r acc
+
+    acc_submit : (stage : ℕ) (body : List ℕ) (owner : Option ℕ) → (submit_of stage body owner s).1.next < 2 ^ 64 - 1 → Accounted low (submit_of stage body owner s).1
+    acc_submit stage body owner later = go (is_server_stage stage) (nat_lt (alive_in s) s.limits.most) refl refl later
+      where
+        b : State
+        b = with_births (of_client s.next owner) (record { stage = stage; body = body } ∷ []) s
+
+        there : (n : ℕ) → is_server_stage n ≡ true → (1 ≤ n) × (n ≤ LAST_STAGE)
+        there n server = (grind (arith, nat_tests), grind (arith, nat_tests))
+
+        own_root : (n k : ℕ) → k < 1 → (n == (n + k)) ≡ true
+        own_root n k h = grind (arith, nat_tests)
+
+        go : (x y : Bool) → is_server_stage stage ≡ x → nat_lt (alive_in s) s.limits.most ≡ y → (submit_of stage body owner s).1.next < 2 ^ 64 - 1 → Accounted low (submit_of stage body owner s).1
+        go false y server room later = rw server acc
+        go true false server room later = rw (server, room) acc
+        go true true server room later =
+            let high = rw (server, room) at later in
+            let stage_is = there stage server in
+            let next = (loses_swept b (submit_bears s sound stage body owner).sound).next in
+            rw (server, room) (acc_steps FORGET_STEPS b (submit_bears s sound stage body owner).sound (acc_births (of_client s.next owner) (record { stage = stage; body = body } ∷ []) s sound ((omega arith, stage_is.1), tt) (λ k inside. own_root s.next k inside) (omega arith) acc))
+
+    acc_commit : (id unit : ℕ) (drafts : List DraftView) → HasStagesFrom low (Commit id unit drafts) → (x : Option Element) → element_at id s.elements ≡ x → (commit_at id unit x drafts s).1.next < 2 ^ 64 - 1 → Accounted low (commit_at id unit x drafts s).1
+    acc_commit id unit drafts stages None is later = acc
+    acc_commit id unit drafts stages (Some e) is later = go (is_held_by unit e.status) refl later
+      where
+        done : (n : ℕ) → e.status ≡ Held unit n → (consumed id unit e drafts s).next < 2 ^ 64 - 1 → Accounted low (consumed id unit e drafts s)
+        done n held later = acc_end e.root t alters_sound (let a = before in omega arith) (acc_change b b.units id e (standing (Consumed unit) e) bears_sound next_few (acc_births (of_unit unit e) drafts s sound stages (λ k inside. unit_root k) next_few acc) found refl refl (rw held tt))
+          where
+            b : State
+            b = with_births (of_unit unit e) drafts s
+
+            t : State
+            t = with_change id e (standing (Consumed unit) e) b
+
+            bears_sound : IsSound b
+            bears_sound = (commit_bears s sound id unit n e drafts is held).sound
+
+            found : element_at id b.elements ≡ Some e
+            found = (commit_bears s sound id unit n e drafts is held).keeps id e is
+
+            alters_sound : IsSound t
+            alters_sound = (commit_alters s sound id unit n e drafts is held).sound
+
+            ends : Loses t (with_end e.root t)
+            ends = commit_ends s sound id unit n e drafts is held
+
+            next_few : s.next + length drafts < 2 ^ 64 - 1
+            next_few = let a = (loses_swept (with_end e.root t) ends.sound).next in omega arith
+
+            before : e.root < s.next
+            before = root_low s sound id e is
+
+            below : (m n : ℕ) → m < n → nat_lt m n ≡ true
+            below m n h = grind (arith, nat_tests)
+
+            unit_root : (k : ℕ) → nat_lt e.root (s.next + k) ≡ true
+            unit_root k = let a = before in below e.root (s.next + k) (omega arith)
+
+        go : (c : Bool) → is_held_by unit e.status ≡ c → (commit_at id unit (Some e) drafts s).1.next < 2 ^ 64 - 1 → Accounted low (commit_at id unit (Some e) drafts s).1
+        go true held later = let n = held_is s sound unit e.status held in rw held (done n.0 n.1 (rw held at later))
+        go false held later = rw held acc
+
+  -- each of these is killed
+  acc_kill_all : (xs : List Entry) (s : State) → IsSound s → s.next < 2 ^ 64 - 1 → Accounted low s → AreSorted xs → AreAlive s xs → Accounted low (kill_all xs s)
+  acc_kill_all [] s sound few acc sorted all = acc
+  acc_kill_all (x ∷ xs) s sound few acc sorted all =
+      acc_kill_all xs (killed x.0 x.1 s) (kills_one s x.0 x.1 sound all.0.0 all.0.1).alters.sound few (acc_killed s sound few acc x.0 x.1 all.0.0 all.0.1) (sorted_tail nat_cmp x.0 (keys_of xs) sorted) (others_alive s x xs (sorted_head nat_cmp x.0 (keys_of xs) sorted) all.1)
+
+  acc_cancel : (s : State) → IsSound s → s.next < 2 ^ 64 - 1 → Accounted low s → (root : ℕ) (x : Option Element) → element_at root s.elements ≡ x → Accounted low (cancel_at x root s).1
+  acc_cancel s sound few acc root None is = acc
+  acc_cancel s sound few acc root (Some e) is = go e.by
     where
-      as_out : (r : Result Work Refusal × State) → Accounted r.1 → Accounted (as_claimed r).1
-      as_out (Ok w, t) a = a
-      as_out (Err why, t) a = a
+      open_still : (b : Bool) → is_over root s.elements ≡ b → Accounted low (cancel_by None root s).1
+      open_still true over = rw over acc
+      open_still false over =
+          let kills = cancel_kills s root sound in
+          let low = (sound.each root e is).drawn in
+          let next = kills.alters.next in
+          rw over (acc_end root (kill_all (filter (is_open root) s.elements) s) kills.alters.sound (omega arith) (acc_kill_all (filter (is_open root) s.elements) s sound few acc (sorted_filter root s.elements sound.sorted) (found_filter root s.elements sound.sorted)))
 
-  acc_claim_from : (stage from : ℕ) (x : Option Entry) → first_in queue_of stage from s.elements ≡ x → Accounted (claim_first (option_or x (first_in queue_of stage 0 s.elements)) s).1
-  acc_claim_from stage from None is = acc_claim stage 0 (first_in queue_of stage 0 s.elements) refl
-  acc_claim_from stage from (Some x) is = acc_claim stage from (Some x) is
+      go : (by : Option ℕ) → Accounted low (cancel_by by root s).1
+      go (Some unit) = acc
+      go None = open_still (is_over root s.elements) refl
 
-  acc_take : (id : ℕ) (x : Option Element) → element_at id s.elements ≡ x → Accounted (take_at id x s).1
-  acc_take id None is = acc
-  acc_take id (Some e) is = go (e.stage == REPLY_STAGE) refl
+  acc_after : (call : Call) (s : State) → IsSound s → s.next < 2 ^ 64 - 1 → HasStagesFrom low call → (after call s).next < 2 ^ 64 - 1 → Accounted low s → Accounted low (after call s)
+  acc_after (Submit stage body owner) s sound few fit later acc = acc_submit s sound few acc stage body owner later
+  acc_after (Claim stage) s sound few fit later acc = go (is_server_stage stage) refl
     where
-      go : (b : Bool) → (e.stage == REPLY_STAGE) ≡ b → Accounted (take_at id (Some e) s).1
-      go true r = rw r acc
-      go false r = rw r (acc_out id e is e.status refl)
-
-  acc_give_up : (id u n : ℕ) (e : Element) → element_at id s.elements ≡ Some e → e.status ≡ Held u n → Accounted (give_up id e n s)
-  acc_give_up id u n e found held = go (nat_lt n s.limits.attempts) refl
+      go : (b : Bool) → is_server_stage stage ≡ b → Accounted low (claim_of stage s).1
+      go true server = rw server (acc_claim s sound few acc stage 0 (first_in queue_of stage 0 s.elements) refl)
+      go false server = rw server acc
+  acc_after (ClaimFrom stage from) s sound few fit later acc = go (is_server_stage stage) refl
     where
-      go : (b : Bool) → nat_lt n s.limits.attempts ≡ b → Accounted (give_up id e n s)
-      go true h = rw h (acc_to s.units id e (Waiting n) found (rw held tt))
-      go false h = rw h (acc_to s.units id e (Parked n) found (rw held tt))
+      go : (b : Bool) → is_server_stage stage ≡ b → Accounted low (claim_from_of stage from s).1
+      go true server = rw server (acc_claim_from s sound few acc stage from (first_in queue_of stage from s.elements) refl)
+      go false server = rw server acc
+  acc_after (Take id) s sound few fit later acc = acc_take s sound few acc id (element_at id s.elements) refl
+  acc_after (Commit id unit drafts) s sound few fit later acc = acc_commit s sound few acc id unit drafts fit (element_at id s.elements) refl later
+  acc_after (Abort id unit) s sound few fit later acc = acc_abort s sound few acc id unit (element_at id s.elements) refl
+  acc_after (Release id) s sound few fit later acc = acc_release s sound few acc id (element_at id s.elements) refl
+  acc_after (Kill id) s sound few fit later acc = acc_kill s sound few acc id (element_at id s.elements) refl
+  acc_after (Cancel root) s sound few fit later acc = acc_cancel s sound few acc root (element_at root s.elements) refl
+  acc_after (Requeue id) s sound few fit later acc = acc_requeue s sound few acc id (element_at id s.elements) refl
+  acc_after (SetLimits limits) s sound few fit later acc = record { told = acc.told; each = acc.each; settled = acc.settled }
+  acc_after (Collect id) s sound few fit later acc = acc_collect s sound few acc id (element_at id s.elements) refl
 
-  acc_abort : (id unit : ℕ) (x : Option Element) → element_at id s.elements ≡ x → Accounted (abort_at id unit x s).1
-  acc_abort id unit None is = acc
-  acc_abort id unit (Some e) is = go e.status refl
-    where
-      by_unit : (u n : ℕ) → e.status ≡ Held u n → (b : Bool) → (u == unit) ≡ b → Accounted (abort_as id unit e (Held u n) s).1
-      by_unit u n held true same = rw same (acc_give_up id u n e is held)
-      by_unit u n held false same = rw same acc
+  -- ---- runs
 
-      go : (status : Status) → e.status ≡ status → Accounted (abort_as id unit e status s).1
-      go (Held u n) held = by_unit u n held (u == unit) refl
-      go (Waiting n) held = acc
-      go (Consumed u) held = acc
-      go (Parked n) held = acc
-      go Killed held = acc
+  next_before : (calls : List Call) (s : State) → IsSound s → s.next ≤ (run calls s).next
+  next_before [] s sound = omega arith
+  next_before (call ∷ calls) s sound = let led = calls_follow call s sound in let a = led.1.next in let b = next_before calls (after call s) led.0 in omega arith
 
-  acc_release : (id : ℕ) (x : Option Element) → element_at id s.elements ≡ x → Accounted (release_at id x s).1
-  acc_release id None is = acc
-  acc_release id (Some e) is = go e.status refl
-    where
-      go : (status : Status) → e.status ≡ status → Accounted (release_as id e status s).1
-      go (Held u n) held = acc_give_up id u n e is held
-      go (Waiting n) held = acc
-      go (Consumed u) held = acc
-      go (Parked n) held = acc
-      go Killed held = acc
-
-  killed_turn : (x : Status) → is_alive x ≡ true → IsTurn x Killed
-  killed_turn (Waiting n) h = tt
-  killed_turn (Held u n) h = tt
-  killed_turn (Parked n) h = tt
-  killed_turn (Consumed u) h = absurd cc
-  killed_turn Killed h = absurd cc
-
-  acc_killed : (id : ℕ) (e : Element) → element_at id s.elements ≡ Some e → is_alive e.status ≡ true → Accounted (killed id e s)
-  acc_killed id e found alive = acc_to s.units id e Killed found (killed_turn e.status alive)
-
-  acc_kill : (id : ℕ) (x : Option Element) → element_at id s.elements ≡ x → Accounted (kill_at id x s).1
-  acc_kill id None is = acc
-  acc_kill id (Some e) is = go e.status refl
-    where
-      dead : is_alive e.status ≡ true → Accounted (swept (with_end e.root (killed id e s)))
-      dead alive = acc_end e.root (killed id e s) (kills_one s id e sound is alive).alters.sound (root_low s sound id e is) (acc_killed id e is alive)
-
-      go : (status : Status) → e.status ≡ status → Accounted (kill_as id e status s).1
-      go (Waiting n) was = dead (rw was refl)
-      go (Held u n) was = dead (rw was refl)
-      go (Parked n) was = dead (rw was refl)
-      go (Consumed u) was = acc
-      go Killed was = acc
-
-  acc_requeue : (id : ℕ) (x : Option Element) → element_at id s.elements ≡ x → Accounted (requeue_at id x s).1
-  acc_requeue id None is = acc
-  acc_requeue id (Some e) is = go e.status refl
-    where
-      parked : (n : ℕ) → e.status ≡ Parked n → (b : Bool) → nat_lt e.rounds MAX_ROUNDS ≡ b → Accounted (requeue_as id e (Parked n) s).1
-      parked n was true h = rw h (acc_change s s.units id e (record e { status = Waiting 0; rounds = e.rounds + 1 }) sound few acc is refl (rw was tt))
-      parked n was false h = rw h acc
-
-      go : (status : Status) → e.status ≡ status → Accounted (requeue_as id e status s).1
-      go (Parked n) was = parked n was (nat_lt e.rounds MAX_ROUNDS) refl
-      go (Waiting n) was = acc
-      go (Held u n) was = acc
-      go (Consumed u) was = acc
-      go Killed was = acc
-
-  acc_collect : (id : ℕ) (x : Option Element) → element_at id s.elements ≡ x → Accounted (collect_at id x s).1
-  acc_collect id None is = acc
-  acc_collect id (Some e) is = go (e.stage == REPLY_STAGE) refl
-    where
-      reply : e.stage ≡ REPLY_STAGE → (status : Status) → e.status ≡ status → Accounted (collect_as id e status s).1
-      reply r (Waiting n) was = acc_end e.root t fit (root_low s sound id e is) (acc_to (s.units + 1) id e (Consumed s.units) is (rw was tt))
-        where
-          t : State
-          t = with_units (s.units + 1) (with_change id e (standing (Consumed s.units) e) s)
-
-          fit : IsSound t
-          fit = (alters_to s sound (s.units + 1) id e (Consumed s.units) (omega arith) is (rw was tt) (rw was (inr (inr (r, s.units, refl)))) (λ u h. drawn u h) (λ r. refl)).sound
-            where
-              drawn : (u : ℕ) → Some s.units ≡ Some u → u < s.units + 1
-              drawn u h = let same : s.units ≡ u = cc in omega arith
-      reply r (Held u n) was = acc
-      reply r (Consumed u) was = acc
-      reply r (Parked n) was = acc
-      reply r Killed was = acc
-
-      go : (b : Bool) → (e.stage == REPLY_STAGE) ≡ b → Accounted (collect_at id (Some e) s).1
-      go true r = rw r (reply (as_number e.stage REPLY_STAGE r) e.status refl)
-      go false r = rw r acc
-
-  acc_submit : (stage : ℕ) (body : List ℕ) (owner : Option ℕ) → (submit_of stage body owner s).1.next < 2 ^ 64 - 1 → Accounted (submit_of stage body owner s).1
-  acc_submit stage body owner later = go (is_server_stage stage) (nat_lt (alive_in s) s.limits.most) refl refl later
-    where
-      b : State
-      b = with_births (of_client s.next owner) (record { stage = stage; body = body } ∷ []) s
-
-      there : (n : ℕ) → is_server_stage n ≡ true → n ≤ LAST_STAGE
-      there n server = grind (arith, nat_tests)
-
-      go : (x y : Bool) → is_server_stage stage ≡ x → nat_lt (alive_in s) s.limits.most ≡ y → (submit_of stage body owner s).1.next < 2 ^ 64 - 1 → Accounted (submit_of stage body owner s).1
-      go false y server room later = rw server acc
-      go true false server room later = rw (server, room) acc
-      go true true server room later =
-          let low = rw (server, room) at later in
-          let next = (loses_swept b (submit_bears s sound stage body owner).sound).next in
-          rw (server, room) (acc_steps FORGET_STEPS b (submit_bears s sound stage body owner).sound (acc_births (of_client s.next owner) (record { stage = stage; body = body } ∷ []) s sound (there stage server, tt) (omega arith) acc))
-
-  acc_commit : (id unit : ℕ) (drafts : List DraftView) → HasStages (Commit id unit drafts) → (x : Option Element) → element_at id s.elements ≡ x → (commit_at id unit x drafts s).1.next < 2 ^ 64 - 1 → Accounted (commit_at id unit x drafts s).1
-  acc_commit id unit drafts stages None is later = acc
-  acc_commit id unit drafts stages (Some e) is later = go (is_held_by unit e.status) refl later
-    where
-      done : (n : ℕ) → e.status ≡ Held unit n → (consumed id unit e drafts s).next < 2 ^ 64 - 1 → Accounted (consumed id unit e drafts s)
-      done n held later = acc_end e.root t alters_sound (let a = low in omega arith) (acc_change b b.units id e (standing (Consumed unit) e) bears_sound next_few (acc_births (of_unit unit e) drafts s sound stages next_few acc) found refl (rw held tt))
-        where
-          b : State
-          b = with_births (of_unit unit e) drafts s
-
-          t : State
-          t = with_change id e (standing (Consumed unit) e) b
-
-          bears_sound : IsSound b
-          bears_sound = (commit_bears s sound id unit n e drafts is held).sound
-
-          found : element_at id b.elements ≡ Some e
-          found = (commit_bears s sound id unit n e drafts is held).keeps id e is
-
-          alters_sound : IsSound t
-          alters_sound = (commit_alters s sound id unit n e drafts is held).sound
-
-          ends : Loses t (with_end e.root t)
-          ends = commit_ends s sound id unit n e drafts is held
-
-          next_few : s.next + length drafts < 2 ^ 64 - 1
-          next_few = let a = (loses_swept (with_end e.root t) ends.sound).next in omega arith
-
-          low : e.root < s.next
-          low = root_low s sound id e is
-
-      go : (c : Bool) → is_held_by unit e.status ≡ c → (commit_at id unit (Some e) drafts s).1.next < 2 ^ 64 - 1 → Accounted (commit_at id unit (Some e) drafts s).1
-      go true held later = let n = held_is s sound unit e.status held in rw held (done n.0 n.1 (rw held at later))
-      go false held later = rw held acc
-
--- each of these is killed
-acc_kill_all : (xs : List Entry) (s : State) → IsSound s → s.next < 2 ^ 64 - 1 → Accounted s → AreSorted xs → AreAlive s xs → Accounted (kill_all xs s)
-acc_kill_all [] s sound few acc sorted all = acc
-acc_kill_all (x ∷ xs) s sound few acc sorted all =
-    acc_kill_all xs (killed x.0 x.1 s) (kills_one s x.0 x.1 sound all.0.0 all.0.1).alters.sound few (acc_killed s sound few acc x.0 x.1 all.0.0 all.0.1) (sorted_tail nat_cmp x.0 (keys_of xs) sorted) (others_alive s x xs (sorted_head nat_cmp x.0 (keys_of xs) sorted) all.1)
-
-acc_cancel : (s : State) → IsSound s → s.next < 2 ^ 64 - 1 → Accounted s → (root : ℕ) (x : Option Element) → element_at root s.elements ≡ x → Accounted (cancel_at x root s).1
-acc_cancel s sound few acc root None is = acc
-acc_cancel s sound few acc root (Some e) is = go e.by
-  where
-    open_still : (b : Bool) → is_over root s.elements ≡ b → Accounted (cancel_by None root s).1
-    open_still true over = rw over acc
-    open_still false over =
-        let kills = cancel_kills s root sound in
-        let low = (sound.each root e is).drawn in
-        let next = kills.alters.next in
-        rw over (acc_end root (kill_all (filter (is_open root) s.elements) s) kills.alters.sound (omega arith) (acc_kill_all (filter (is_open root) s.elements) s sound few acc (sorted_filter root s.elements sound.sorted) (found_filter root s.elements sound.sorted)))
-
-    go : (by : Option ℕ) → Accounted (cancel_by by root s).1
-    go (Some unit) = acc
-    go None = open_still (is_over root s.elements) refl
-
-acc_after : (call : Call) (s : State) → IsSound s → s.next < 2 ^ 64 - 1 → HasStages call → (after call s).next < 2 ^ 64 - 1 → Accounted s → Accounted (after call s)
-acc_after (Submit stage body owner) s sound few fit later acc = acc_submit s sound few acc stage body owner later
-acc_after (Claim stage) s sound few fit later acc = go (is_server_stage stage) refl
-  where
-    go : (b : Bool) → is_server_stage stage ≡ b → Accounted (claim_of stage s).1
-    go true server = rw server (acc_claim s sound few acc stage 0 (first_in queue_of stage 0 s.elements) refl)
-    go false server = rw server acc
-acc_after (ClaimFrom stage from) s sound few fit later acc = go (is_server_stage stage) refl
-  where
-    go : (b : Bool) → is_server_stage stage ≡ b → Accounted (claim_from_of stage from s).1
-    go true server = rw server (acc_claim_from s sound few acc stage from (first_in queue_of stage from s.elements) refl)
-    go false server = rw server acc
-acc_after (Take id) s sound few fit later acc = acc_take s sound few acc id (element_at id s.elements) refl
-acc_after (Commit id unit drafts) s sound few fit later acc = acc_commit s sound few acc id unit drafts fit (element_at id s.elements) refl later
-acc_after (Abort id unit) s sound few fit later acc = acc_abort s sound few acc id unit (element_at id s.elements) refl
-acc_after (Release id) s sound few fit later acc = acc_release s sound few acc id (element_at id s.elements) refl
-acc_after (Kill id) s sound few fit later acc = acc_kill s sound few acc id (element_at id s.elements) refl
-acc_after (Cancel root) s sound few fit later acc = acc_cancel s sound few acc root (element_at root s.elements) refl
-acc_after (Requeue id) s sound few fit later acc = acc_requeue s sound few acc id (element_at id s.elements) refl
-acc_after (SetLimits limits) s sound few fit later acc = record { told = acc.told; stages = acc.stages }
-acc_after (Collect id) s sound few fit later acc = acc_collect s sound few acc id (element_at id s.elements) refl
-
--- ---- runs
-
-next_before : (calls : List Call) (s : State) → IsSound s → s.next ≤ (run calls s).next
-next_before [] s sound = omega arith
-next_before (call ∷ calls) s sound = let led = calls_follow call s sound in let a = led.1.next in let b = next_before calls (after call s) led.0 in omega arith
-
-acc_run : (calls : List Call) (s : State) → IsSound s → AllByRecursion HasStages calls → (run calls s).next < 2 ^ 64 - 1 → Accounted s → Accounted (run calls s)
-acc_run [] s sound fit few acc = acc
-acc_run (call ∷ calls) s sound fit few acc =
-    let led = calls_follow call s sound in
-    let next = led.1.next in
-    let low = next_before calls (after call s) led.0 in
-    acc_run calls (after call s) led.0 fit.1 few (acc_after call s sound (omega arith) fit.0 (omega arith) acc)
+  pub acc_run : (calls : List Call) (s : State) → IsSound s → AllByRecursion (HasStagesFrom low) calls → (run calls s).next < 2 ^ 64 - 1 → Accounted low s → Accounted low (run calls s)
+  acc_run [] s sound fit few acc = acc
+  acc_run (call ∷ calls) s sound fit few acc =
+      let led = calls_follow call s sound in
+      let next = led.1.next in
+      let low = next_before calls (after call s) led.0 in
+      acc_run calls (after call s) led.0 fit.1 few (acc_after call s sound (omega arith) fit.0 (omega arith) acc)
 
 nothing_times : (n x : ℕ) → x ≡ 0 → n * x ≡ x
 nothing_times n x h = rw h (omega arith)
 
-start_accounted : (limits : Limits) → Accounted (start limits)
-start_accounted limits = record {
+pub start_accounted : (low : ℕ) → low ≤ 1 → (limits : Limits) → Accounted low (start limits)
+start_accounted low lowest limits = record {
   told = record {
     long = length-replicate (LAST_STAGE + 1) no_counts;
     all = refl;
@@ -374,7 +408,8 @@ start_accounted limits = record {
     held = shown (λ c. c.held) is_held refl;
     parked = shown (λ c. c.parked) is_parked refl;
   };
-  stages = λ id e found. absurd cc;
+  each = λ id e found. absurd cc;
+  settled = none_settled low lowest;
 }
   where
     adds : (get : Counts → ℕ) → get no_counts ≡ 0 → AddsUp get no_tally
@@ -395,7 +430,7 @@ same_counts c d p q r s t = all c.waiting c.held c.consumed c.parked c.killed d.
     all : (a b c d e v w x y z : ℕ) → a ≡ v → b ≡ w → c ≡ x → d ≡ y → e ≡ z → as_counts a b c d e ≡ as_counts v w x y z
     all a b c d e v w x y z p q r s t = cc
 
-account_of : (s : State) → Accounted s → IsAccount s
+account_of : (s : State) → Accounted 0 s → IsAccount s
 account_of s acc = let t = acc.told in record {
   all = t.all;
   waiting = t.waiting.total;
@@ -407,5 +442,27 @@ account_of s acc = let t = acc.told in record {
   stages = same_counts (added s.tally.stages) s.tally.total t.add_waiting t.add_held t.add_consumed t.add_parked t.add_killed;
 }
 
+stages_from : (calls : List Call) → AllByRecursion HasStages calls → AllByRecursion (HasStagesFrom 0) calls
+stages_from [] all = tt
+stages_from (call ∷ calls) all = (one call all.0, stages_from calls all.1)
+  where
+    drafts_from : (ds : List DraftView) → AllByRecursion (λ d. d.stage ≤ LAST_STAGE) ds → AllByRecursion (λ d. (0 ≤ d.stage) × (d.stage ≤ LAST_STAGE)) ds
+    drafts_from [] all = tt
+    drafts_from (d ∷ ds) all = ((omega arith, all.0), drafts_from ds all.1)
+
+    one : (call : Call) → HasStages call → HasStagesFrom 0 call
+    one (Submit stage body owner) fit = tt
+    one (Claim stage) fit = tt
+    one (ClaimFrom stage from) fit = tt
+    one (Take id) fit = tt
+    one (Commit id unit drafts) fit = drafts_from drafts fit
+    one (Abort id unit) fit = tt
+    one (Release id) fit = tt
+    one (Kill id) fit = tt
+    one (Cancel root) fit = tt
+    one (Requeue id) fit = tt
+    one (Collect id) fit = tt
+    one (SetLimits limits) fit = tt
+
 pub accounts_hold : AccountsHold
-accounts_hold limits calls fit few = account_of (run calls (start limits)) (acc_run calls (start limits) (start_sound limits) fit few (start_accounted limits))
+accounts_hold limits calls fit few = account_of (run calls (start limits)) (acc_run 0 (omega arith) calls (start limits) (start_sound limits) (stages_from calls fit) few (start_accounted 0 (omega arith) limits))

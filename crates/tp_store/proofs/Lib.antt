@@ -16,6 +16,7 @@ pub mod ModelBirths
 pub mod Recording
 pub mod StatusKinds
 pub mod Accounting
+pub mod Settling
 pub mod Accounted
 pub mod Wholes
 pub mod Keeping
@@ -24,3 +25,7 @@ pub mod Striking
 pub mod Listed
 pub mod Restored
 pub mod Owning
+pub mod Recounted
+pub mod PutBack
+pub mod Resettled
+pub mod Retold

@@ -12,6 +12,7 @@ pub mod Listing
 pub mod Modelled
 pub mod Progress
 pub mod Restoring
+pub mod Retelling
 pub mod Runs
 pub mod Shelves
 pub mod Soundness

@@ -9,6 +9,7 @@ ghost use Rattle.tp_store.specs.Progress.{AbortsHeld, ClaimsFirst, CollectsRepli
 ghost use Rattle.tp_store.specs.Progress.{KillsAlive};
 ghost use Rattle.tp_store.specs.Progress.{NeverIdle, OutputsWait, RequeuesParked, SubmitsWait, TakesWaiting};
 ghost use Rattle.tp_store.specs.Restoring.{RestoredIsSound, StaysSound};
+ghost use Rattle.tp_store.specs.Retelling.{ToldAndTakenBack};
 
 /// A claim of a stage in which an element waits is never idle: it hands out the one with the least id.
 pub fn claims_never_idle()
@@ -74,4 +75,10 @@ pub fn accounts_hold()
 pub fn takes_back_soundly()
     ensures stays { StaysSound }
     ensures restored { RestoredIsSound }
+{}
+
+/// A store that calls have led to is built again of all that it tells of itself: its numbers, its elements, the
+/// requests that are over, and what was ever settled. All of it is taken in, and nothing is other than it was.
+pub fn told_and_taken_back()
+    ensures { ToldAndTakenBack }
 {}
