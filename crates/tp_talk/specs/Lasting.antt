@@ -30,7 +30,7 @@ is_reading (commands.Balance name k) = true
 is_reading (commands.Last name) = true
 is_reading other = false
 
--- it changes nothing: a log need not have it
+-- It changes nothing. (Where it is the first command it ends the head all the same, as each does: `command_step`.)
 abbrev pub ReadingsChangeNothing : Type 0
 ReadingsChangeNothing = (c : Command) (s left : SessionState) (text : List ℕ)
     → is_reading c ≡ true → does c s ≡ Ok (text, left) → left ≡ s

@@ -8,7 +8,8 @@ pub fn goes_on_from_lines()
     ensures { GoesOnFromLines }
 {}
 
-/// A command that only tells changes nothing: a log need not have it.
+/// A command that only tells changes nothing, so a log need not have it, unless it is the first command: that
+/// one ends the head.
 pub fn readings_change_nothing()
     ensures { ReadingsChangeNothing }
 {}
