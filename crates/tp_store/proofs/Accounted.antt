@@ -1,5 +1,5 @@
 -- The account of a store behind each call, and behind each run.
-use Rattle.std.proofs.Common.{◌≡◌, ◌⊎◌, inl, inr, ◌==◌, ◌≤◌, ◌<◌, ◌+◌, ◌-◌, ◌*◌, ◌^◌, ℕ, zero, suc, Bool, true, false, nat_lt, nat_le, cond, Option, Some, None, Result, Ok, Err, List, [], ◌∷◌, length, slice_get, filter, refl, sym, ◌∙◌, ap, subst, arith}
+use Rattle.std.proofs.Common.{◌≡◌, inr, ◌==◌, ◌≤◌, ◌<◌, ◌+◌, ◌-◌, ◌*◌, ◌^◌, ℕ, Bool, true, false, nat_lt, nat_le, Option, Some, None, Result, Ok, Err, List, [], ◌∷◌, length, filter, refl, ◌∙◌, ap, arith}
 use Rattle.std.specs.List.{AllByRecursion}
 use Rattle.std.specs.Option.{option_or}
 use Rattle.std.specs.Ordering.{nat_cmp}
@@ -11,7 +11,6 @@ use Rattle.std.proofs.lemmas.List.Folds.{sum_by-replicate}
 use Rattle.tp_model.specs.Drafts.{DraftView}
 use Rattle.tp_store.specs.declared.answers.Refusal.{Refusal}
 use Rattle.tp_store.specs.declared.answers.Work.{Work}
-use Rattle.tp_store.specs.declared.births.Origin.{Origin}
 use Rattle.tp_store.specs.declared.counts.Counts.{Counts}
 use Rattle.tp_store.specs.declared.element.Element.{Element}
 use Rattle.tp_store.specs.declared.element.Status.{Status}
@@ -21,129 +20,29 @@ use Rattle.tp_store.specs.declared.ends.TheConstants.{FORGET_STEPS}
 use Rattle.tp_store.specs.declared.store.Limits.{Limits}
 use Rattle.tp_store.specs.Accounts.{AccountsHold, added, HasStages, IsAccount, is_held, is_parked}
 use Rattle.tp_store.specs.Calls.{abort_as, abort_at, alive_in, as_claimed, cancel_at, cancel_by, claim_first, claim_from_of, claim_of, collect_as, collect_at, commit_at, consumed, give_up, hand_out_as, is_open, is_server_stage, kill_all, kill_as, kill_at, killed, of_client, of_unit, release_as, release_at, requeue_as, requeue_at, submit_of, take_at}
-use Rattle.tp_store.specs.Counting.{no_counts, no_tally, tallied_births, TallyView}
-use Rattle.tp_store.specs.Elements.{Entry, element_at, family_of, first_in, is_alive, is_waiting, put, queue_of, standing, is_held_by}
-use Rattle.tp_store.specs.Ends.{is_over, forget, forget_first, forget_one}
+use Rattle.tp_store.specs.Counting.{no_counts, no_tally}
+use Rattle.tp_store.specs.Elements.{Entry, element_at, first_in, is_alive, is_waiting, queue_of, standing, is_held_by}
+use Rattle.tp_store.specs.Ends.{is_over}
 use Rattle.tp_store.specs.Runs.{after, Call, Submit, Claim, ClaimFrom, Take, Commit, Abort, Release, Kill, Cancel, Requeue, Collect, SetLimits, run}
 use Rattle.tp_store.specs.Soundness.{IsSound}
-use Rattle.tp_store.specs.State.{State, made, put_all, swept, with_births, with_change, with_end, start}
-use Rattle.tp_store.proofs.Accounting.{AddsUp, IsShown, IsTold, IsTurn, told_birth, told_change, told_without}
-use Rattle.tp_store.specs.Restoring.{is_attempt, is_root}
-use Rattle.tp_store.proofs.Settling.{HasPlace, IsSettled, none_settled, settled_birth, settled_change, settled_without}
+use Rattle.tp_store.specs.State.{State, swept, with_births, with_change, with_end, start}
+use Rattle.tp_store.proofs.AccountSteps.{acc_births, acc_change, acc_end, acc_steps, Accounted, as_number, HasStagesFrom}
+use Rattle.tp_store.proofs.Accounting.{AddsUp, IsShown, IsTurn}
+use Rattle.tp_store.specs.Restoring.{is_attempt}
+use Rattle.tp_store.proofs.Settling.{none_settled}
 use Rattle.tp_store.proofs.Leading.{AreAlive, calls_follow, cancel_kills, found_filter, kills_one, others_alive, sorted_filter, start_sound}
-use Rattle.tp_store.proofs.Changing.{all_found, index_below, with_units}
+use Rattle.tp_store.proofs.Changing.{with_units}
 use Rattle.tp_store.specs.Shelves.{AreSorted}
 use Rattle.tp_store.proofs.Following.{alters_to, commit_alters, commit_bears, commit_ends, held_is, root_low, submit_bears}
-use Rattle.tp_store.proofs.Forgetting.{in_family, Loses, loses_end, loses_steps, loses_swept, with_shelf}
-use Rattle.tp_store.proofs.Looking.{first_is, put_looks, put_sorted, without_looks}
-use Rattle.tp_store.proofs.Overs.{over_means}
-
-as_number : (m n : ℕ) → (m == n) ≡ true → m ≡ n
-as_number m n h = grind (arith, nat_tests)
-
--- the account of a store, whose elements are of stages that there are, from the least one on
-pub record Accounted (low : ℕ) (s : State) : Type 0 where
-  pub told : IsTold s.next s.tally s.elements
-  pub each : (id : ℕ) (e : Element) → element_at id s.elements ≡ Some e → HasPlace low id e
-  pub settled : IsSettled low s.tally s.elements
-
--- the drafts of a call are of stages that there are, from the least one on
-abbrev pub HasStagesFrom : ℕ → Call → Type 0
-HasStagesFrom low (Commit id unit drafts) = AllByRecursion (λ d. (low ≤ d.stage) × (d.stage ≤ LAST_STAGE)) drafts
-HasStagesFrom low other = Unit {0}
+use Rattle.tp_store.proofs.Forgetting.{Loses, loses_swept}
+use Rattle.tp_store.proofs.Looking.{first_is}
 
 module _ (low : ℕ) (lowest : low ≤ 1) where
-  -- ---- births
-
-  told_births : (from : Origin) (ds : List DraftView) (next : ℕ) (t : TallyView) (es : List Entry) → AreSorted es → ((i : ℕ) → next ≤ i → element_at i es ≡ None) → AllByRecursion (λ d. (low ≤ d.stage) × (d.stage ≤ LAST_STAGE)) ds → next + length ds < 2 ^ 64 - 1 → IsTold next t es → IsSettled low t es → IsTold (next + length ds) (tallied_births ds t) (put_all next from ds es) × IsSettled low (tallied_births ds t) (put_all next from ds es)
-  told_births from [] next t es sorted none stages few told settled = (subst (λ n. IsTold n t es) (omega arith) told, settled)
-  told_births from (d ∷ ds) next t es sorted none stages few told settled =
-      let rest = told_births from ds (next + 1) _ (put next (made from d) es) (put_sorted next (made from d) es sorted) (λ i low. put_looks next (made from d) es i ∙ rw (above next i low) (none i (omega arith))) stages.1 (omega arith) (told_birth next t es next (made from d) sorted (none next (omega arith)) refl stages.0.1 (omega arith) told) (settled_birth low next t es next (made from d) sorted (none next (omega arith)) refl stages.0.0 stages.0.1 (omega arith) told settled) in
-      (subst (λ n. IsTold n (tallied_births (d ∷ ds) t) (put_all next from (d ∷ ds) es)) (omega arith) rest.0, rest.1)
-    where
-      above : (m n : ℕ) → m + 1 ≤ n → (m == n) ≡ false
-      above m n h = grind (arith, nat_tests)
-
-  unborn : (s : State) → IsSound s → (i : ℕ) → s.next ≤ i → element_at i s.elements ≡ None
-  unborn s sound i low = go (element_at i s.elements) refl
-    where
-      go : (x : Option Element) → element_at i s.elements ≡ x → element_at i s.elements ≡ None
-      go None h = h
-      go (Some e) h = absurd (let drawn = (sound.each i e h).drawn in omega arith)
-
-  stage_at : (ds : List DraftView) (n : ℕ) (d : DraftView) → AllByRecursion (λ d. (low ≤ d.stage) × (d.stage ≤ LAST_STAGE)) ds → slice_get ds n ≡ Some d → (low ≤ d.stage) × (d.stage ≤ LAST_STAGE)
-  stage_at [] n d all at = absurd (let low = index_below [] n d at in omega arith)
-  stage_at (x ∷ ds) zero d all at = let h : Some x ≡ Some d = at in let same : x ≡ d = cc in subst (λ (y : DraftView). (low ≤ y.stage) × (y.stage ≤ LAST_STAGE)) same all.0
-  stage_at (x ∷ ds) (suc n) d all at = stage_at ds n d all.1 at
-
-  acc_births : (from : Origin) (ds : List DraftView) (s : State) → IsSound s → AllByRecursion (λ d. (low ≤ d.stage) × (d.stage ≤ LAST_STAGE)) ds → ((n : ℕ) → n < length ds → is_root (s.next + n) from.by from.root ≡ true) → s.next + length ds < 2 ^ 64 - 1 → Accounted low s → Accounted low (with_births from ds s)
-  acc_births from ds s sound stages roots few acc =
-      let births = told_births from ds s.next s.tally s.elements sound.sorted (unborn s sound) stages few acc.told acc.settled in
-      record { told = births.0; each = λ id e found. go id e (all_found from s.next ds s.elements id e found); settled = births.1 }
-    where
-      go : (id : ℕ) (e : Element) → (element_at id s.elements ≡ Some e) ⊎ ((n : ℕ) × (d : DraftView) × (slice_get ds n ≡ Some d) × (id ≡ s.next + n) × (e ≡ made from d)) → HasPlace low id e
-      go id e (inl was) = acc.each id e was
-      go id e (inr (n, d, at, place, is)) = let stage = stage_at ds n d stages at in rw is (record { from = stage.0; stage = stage.1; root = rw place (roots n (index_below ds n d at)); attempt = refl })
-
-  -- ---- a change
-
-  acc_change : (s : State) (units id : ℕ) (old new : Element) → IsSound s → s.next < 2 ^ 64 - 1 → Accounted low s → element_at id s.elements ≡ Some old → new ≡ record old { status = new.status; rounds = new.rounds } → is_attempt new.status ≡ true → IsTurn old.status new.status → Accounted low (with_units units (with_change id old new s))
-  acc_change s units id old new sound few acc found contents attempt turn = record {
-    told = told_change s.next s.tally s.elements id old new sound.sorted found stage_same was.stage turn few acc.told;
-    each = λ q e there. go q e (id == q) refl (sym (put_looks id new s.elements q) ∙ there);
-    settled = settled_change low s.next s.tally s.elements id old new sound.sorted found stage_same was.from was.stage turn few acc.told acc.settled;
-  }
-    where
-      was : HasPlace low id old
-      was = acc.each id old found
-
-      stage_same : new.stage ≡ old.stage
-      stage_same = ap (λ (x : Element). x.stage) contents
-
-      now : HasPlace low id new
-      now = record { from = rw stage_same was.from; stage = rw stage_same was.stage; root = rw (ap (λ (x : Element). x.by) contents, ap (λ (x : Element). x.root) contents) was.root; attempt = attempt }
-
-      go : (q : ℕ) (e : Element) (b : Bool) → (id == q) ≡ b → cond b (Some new) (element_at q s.elements) ≡ Some e → HasPlace low q e
-      go q e true h same = let there : Some new ≡ Some e = same in let is : new ≡ e = cc in subst (λ i. HasPlace low i e) (as_number id q h) (subst (HasPlace low id) is now)
-      go q e false h same = acc.each q e same
-
-  -- ---- what is forgotten
-
-  acc_step : (s : State) → IsSound s → Accounted low s → Accounted low (with_shelf s (forget_one s.limits.keep (record { elements = s.elements; ended = s.ended })))
-  acc_step s sound acc = go (nat_le (length s.ended) s.limits.keep) refl s.ended refl
-    where
-      first : (root : ℕ) (others : List ℕ) → s.ended ≡ root ∷ others → (x : Option Entry) → first_in family_of root 0 s.elements ≡ x → Accounted low (with_shelf s (forget_first x others (record { elements = s.elements; ended = s.ended })))
-      first root others is (Some x) h =
-          let f = first_is family_of root 0 s.elements sound.sorted x h in
-          record {
-            told = told_without s.next s.tally s.elements x.0 x.1 f.found (over_means root s.elements (rw is at sound.ended).0.1 x.0 x.1 f.found (in_family root x.1.root f.member)) acc.told;
-            each = λ q e there. still q e (x.0 == q) (sym (without_looks x.0 s.elements sound.sorted q) ∙ there);
-            settled = settled_without low s.tally s.elements x.0 x.1 f.found acc.settled;
-          }
-        where
-          still : (q : ℕ) (e : Element) (b : Bool) → cond b None (element_at q s.elements) ≡ Some e → HasPlace low q e
-          still q e true same = absurd cc
-          still q e false same = acc.each q e same
-      first root others is None h = record { told = acc.told; each = acc.each; settled = acc.settled }
-
-      go : (b : Bool) → nat_le (length s.ended) s.limits.keep ≡ b → (roots : List ℕ) → s.ended ≡ roots → Accounted low (with_shelf s (forget_one s.limits.keep (record { elements = s.elements; ended = s.ended })))
-      go true h roots is = rw h acc
-      go false h [] is = rw (h, is) (record { told = acc.told; each = acc.each; settled = acc.settled })
-      go false h (root ∷ others) is = rw (h, is) (rw (← is) (first root others is (first_in family_of root 0 s.elements) refl))
-
-  acc_steps : (n : ℕ) (s : State) → IsSound s → Accounted low s → Accounted low (with_shelf s (forget n s.limits.keep (record { elements = s.elements; ended = s.ended })))
-  unfolding forget
-  acc_steps zero s sound acc = acc
-  acc_steps (suc n) s sound acc = acc_step _ (loses_steps n s sound).sound (acc_steps n s sound acc)
-
-  acc_end : (root : ℕ) (s : State) → IsSound s → root < s.next → Accounted low s → Accounted low (swept (with_end root s))
-  acc_end root s sound low acc = acc_steps FORGET_STEPS (with_end root s) (loses_end root s low sound).sound (record { told = acc.told; each = acc.each; settled = acc.settled })
-
   -- ---- the calls
 
   module _ (s : State) (sound : IsSound s) (few : s.next < 2 ^ 64 - 1) (acc : Accounted low s) where
     acc_to : (units id : ℕ) (e : Element) (status : Status) → element_at id s.elements ≡ Some e → is_attempt status ≡ true → IsTurn e.status status → Accounted low (with_units units (with_change id e (standing status e) s))
-    acc_to units id e status found attempt turn = acc_change s units id e (standing status e) sound few acc found refl attempt turn
+    acc_to units id e status found attempt turn = acc_change low s units id e (standing status e) sound few acc found refl attempt turn
 
     one_at_least : (n : ℕ) → nat_le 1 (n + 1) ≡ true
     one_at_least n = grind (arith, nat_tests)
@@ -223,7 +122,7 @@ module _ (low : ℕ) (lowest : low ≤ 1) where
     acc_kill id (Some e) is = go e.status refl
       where
         dead : is_alive e.status ≡ true → Accounted low (swept (with_end e.root (killed id e s)))
-        dead alive = acc_end e.root (killed id e s) (kills_one s id e sound is alive).alters.sound (root_low s sound id e is) (acc_killed id e is alive)
+        dead alive = acc_end low e.root (killed id e s) (kills_one s id e sound is alive).alters.sound (root_low s sound id e is) (acc_killed id e is alive)
 
         go : (status : Status) → e.status ≡ status → Accounted low (kill_as id e status s).1
         go (Waiting n) was = dead (rw was refl)
@@ -237,7 +136,7 @@ module _ (low : ℕ) (lowest : low ≤ 1) where
     acc_requeue id (Some e) is = go e.status refl
       where
         parked : (n : ℕ) → e.status ≡ Parked n → (b : Bool) → nat_lt e.rounds MAX_ROUNDS ≡ b → Accounted low (requeue_as id e (Parked n) s).1
-        parked n was true h = rw h (acc_change s s.units id e (record e { status = Waiting 0; rounds = e.rounds + 1 }) sound few acc is refl refl (rw was tt))
+        parked n was true h = rw h (acc_change low s s.units id e (record e { status = Waiting 0; rounds = e.rounds + 1 }) sound few acc is refl refl (rw was tt))
         parked n was false h = rw h acc
 
         go : (status : Status) → e.status ≡ status → Accounted low (requeue_as id e status s).1
@@ -252,7 +151,7 @@ module _ (low : ℕ) (lowest : low ≤ 1) where
     acc_collect id (Some e) is = go (e.stage == REPLY_STAGE) refl
       where
         reply : e.stage ≡ REPLY_STAGE → (status : Status) → e.status ≡ status → Accounted low (collect_as id e status s).1
-        reply r (Waiting n) was = acc_end e.root t fit (root_low s sound id e is) (acc_to (s.units + 1) id e (Consumed s.units) is refl (rw was tt))
+        reply r (Waiting n) was = acc_end low e.root t fit (root_low s sound id e is) (acc_to (s.units + 1) id e (Consumed s.units) is refl (rw was tt))
           where
             t : State
             t = with_units (s.units + 1) (with_change id e (standing (Consumed s.units) e) s)
@@ -290,14 +189,14 @@ module _ (low : ℕ) (lowest : low ≤ 1) where
             let high = rw (server, room) at later in
             let stage_is = there stage server in
             let next = (loses_swept b (submit_bears s sound stage body owner).sound).next in
-            rw (server, room) (acc_steps FORGET_STEPS b (submit_bears s sound stage body owner).sound (acc_births (of_client s.next owner) (record { stage = stage; body = body } ∷ []) s sound ((omega arith, stage_is.1), tt) (λ k inside. own_root s.next k inside) (omega arith) acc))
+            rw (server, room) (acc_steps low FORGET_STEPS b (submit_bears s sound stage body owner).sound (acc_births low (of_client s.next owner) (record { stage = stage; body = body } ∷ []) s sound ((omega arith, stage_is.1), tt) (λ k inside. own_root s.next k inside) (omega arith) acc))
 
     acc_commit : (id unit : ℕ) (drafts : List DraftView) → HasStagesFrom low (Commit id unit drafts) → (x : Option Element) → element_at id s.elements ≡ x → (commit_at id unit x drafts s).1.next < 2 ^ 64 - 1 → Accounted low (commit_at id unit x drafts s).1
     acc_commit id unit drafts stages None is later = acc
     acc_commit id unit drafts stages (Some e) is later = go (is_held_by unit e.status) refl later
       where
         done : (n : ℕ) → e.status ≡ Held unit n → (consumed id unit e drafts s).next < 2 ^ 64 - 1 → Accounted low (consumed id unit e drafts s)
-        done n held later = acc_end e.root t alters_sound (let a = before in omega arith) (acc_change b b.units id e (standing (Consumed unit) e) bears_sound next_few (acc_births (of_unit unit e) drafts s sound stages (λ k inside. unit_root k) next_few acc) found refl refl (rw held tt))
+        done n held later = acc_end low e.root t alters_sound (let a = before in omega arith) (acc_change low b b.units id e (standing (Consumed unit) e) bears_sound next_few (acc_births low (of_unit unit e) drafts s sound stages (λ k inside. unit_root k) next_few acc) found refl refl (rw held tt))
           where
             b : State
             b = with_births (of_unit unit e) drafts s
@@ -347,9 +246,9 @@ module _ (low : ℕ) (lowest : low ≤ 1) where
       open_still true over = rw over acc
       open_still false over =
           let kills = cancel_kills s root sound in
-          let low = (sound.each root e is).drawn in
+          let drawn = (sound.each root e is).drawn in
           let next = kills.alters.next in
-          rw over (acc_end root (kill_all (filter (is_open root) s.elements) s) kills.alters.sound (omega arith) (acc_kill_all (filter (is_open root) s.elements) s sound few acc (sorted_filter root s.elements sound.sorted) (found_filter root s.elements sound.sorted)))
+          rw over (acc_end low root (kill_all (filter (is_open root) s.elements) s) kills.alters.sound (omega arith) (acc_kill_all (filter (is_open root) s.elements) s sound few acc (sorted_filter root s.elements sound.sorted) (found_filter root s.elements sound.sorted)))
 
       go : (by : Option ℕ) → Accounted low (cancel_by by root s).1
       go (Some unit) = acc

@@ -17,6 +17,7 @@ pub mod Recording
 pub mod StatusKinds
 pub mod Accounting
 pub mod Settling
+pub mod AccountSteps
 pub mod Accounted
 pub mod Wholes
 pub mod Keeping

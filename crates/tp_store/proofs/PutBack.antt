@@ -1,7 +1,7 @@
 -- Elements in the order of their ids, and requests that are over, are taken back one after another.
-use Rattle.std.proofs.Common.{◌≡◌, ◌==◌, ◌&&◌, ◌≤◌, ◌<◌, ◌+◌, ◌-◌, ◌^◌, nat_lt, nat_le, ℕ, Bool, true, false, is_none, if◌then◌else◌, Option, Some, None, Ok, List, [], ◌∷◌, ◌++◌, length, map, refl, sym, ◌∙◌, ap, subst, arith}
+use Rattle.std.proofs.Common.{◌≡◌, ◌&&◌, ◌≤◌, ◌<◌, ◌+◌, ◌-◌, ◌^◌, nat_lt, nat_le, ℕ, Bool, true, false, None, Ok, List, [], ◌∷◌, ◌++◌, length, map, refl, sym, ◌∙◌, ap, subst, arith}
 use Rattle.std.specs.Ordering.{nat_cmp}
-use Rattle.std.specs.declared.cmp.Ordering.TheVariants.{Less, Equal, Greater}
+use Rattle.std.specs.declared.cmp.Ordering.TheVariants.{Less, Greater}
 use Rattle.std.specs.BTreeMap.{is_at}
 use Rattle.std.specs.List.{AllByRecursion}
 use Rattle.std.specs.Map.{keys_of}
@@ -16,7 +16,7 @@ use Rattle.tp_store.specs.Counting.{tallied, TallyView}
 use Rattle.tp_store.specs.Elements.{Entry, element_at, put}
 use Rattle.tp_store.specs.Ends.{is_over}
 use Rattle.tp_store.specs.Listing.{first_of}
-use Rattle.tp_store.specs.Restoring.{all_back, is_next, is_possible, if_sound, is_stage, taken_back, Told, Back, Over}
+use Rattle.tp_store.specs.Restoring.{all_back, is_next, is_possible, if_sound, taken_back, Told, Back, Over}
 use Rattle.tp_store.specs.Restoring.{with_element, with_over}
 use Rattle.tp_store.specs.Retelling.{AreTaken}
 use Rattle.tp_store.specs.Shelves.{AreSorted}

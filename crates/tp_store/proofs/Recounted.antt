@@ -1,5 +1,5 @@
 -- Counts of elements that were put back one after another: of each kind, those that are there.
-use Rattle.std.proofs.Common.{◌≡◌, ◌==◌, ◌&&◌, ◌≤◌, ◌<◌, ◌+◌, ◌-◌, ◌*◌, ◌^◌, ℕ, Bool, true, false, Option, Some, None, List, [], length, slice_index_or, refl, sym, ◌∙◌, ap, arith}
+use Rattle.std.proofs.Common.{◌≡◌, ◌==◌, ◌&&◌, ◌≤◌, ◌<◌, ◌+◌, ◌-◌, ◌*◌, ◌^◌, ℕ, Bool, true, false, None, List, [], length, refl, ◌∙◌, ap, arith}
 use Rattle.std.proofs.lemmas.List.{get_or-replicate, length-replicate, length-set}
 use Rattle.std.proofs.lemmas.List.Folds.{sum_by-replicate}
 use Rattle.tp_store.specs.declared.counts.Counts.{Counts}
@@ -11,7 +11,7 @@ use Rattle.tp_store.specs.Counting.{no_counts, no_tally, tallied, TallyView}
 use Rattle.tp_store.specs.Elements.{Entry, element_at, is_waiting, put}
 use Rattle.tp_store.specs.Shelves.{AreSorted}
 use Rattle.tp_store.proofs.Accounting.{AddsUp, IsShown, Moves, moves, shown_moved}
-use Rattle.tp_store.proofs.StatusKinds.{consumed_kind, count, count_new, held_kind, is_consumed, is_killed, IsKind, killed_kind, one, one_kind, parked_kind, waiting_kind}
+use Rattle.tp_store.proofs.StatusKinds.{consumed_kind, count_new, held_kind, is_consumed, is_killed, IsKind, killed_kind, one_kind, parked_kind, waiting_kind}
 
 -- one kind: the stages add up, and the counts are those of the elements
 pub record IsCounted (get : Counts → ℕ) (is : Status → Bool) (t : TallyView) (es : List Entry) : Type 0 where

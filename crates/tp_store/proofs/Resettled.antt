@@ -1,13 +1,13 @@
 -- What was ever settled in each stage is taken back, one stage after another.
-use Rattle.std.proofs.Common.{◌≡◌, ◌==◌, ◌&&◌, ◌≤◌, ◌<◌, ◌+◌, ◌-◌, ◌^◌, nat_lt, nat_le, ℕ, zero, suc, Bool, true, false, Ok, List, [], ◌∷◌, ◌++◌, length, slice_index_or, slice_set, sum_by, refl, sym, ◌∙◌, ap, subst, arith}
+use Rattle.std.proofs.Common.{◌≡◌, ◌&&◌, ◌≤◌, ◌<◌, ◌+◌, ◌-◌, ◌^◌, nat_lt, nat_le, ℕ, suc, true, Ok, List, [], ◌∷◌, ◌++◌, length, slice_index_or, slice_set, sum_by, refl, sym, ◌∙◌, ap, subst, arith}
 use Rattle.std.proofs.lemmas.Bool.Decides.{nat_tests}
-use Rattle.std.proofs.lemmas.List.{append_assoc, append-nil}
+use Rattle.std.proofs.lemmas.List.{append_assoc}
 use Rattle.std.proofs.lemmas.List.Sums.{sum_by-cons}
 use Rattle.std.proofs.Math.Seq.{get_or-append_seam, set-append_seam}
 use Rattle.tp_store.specs.declared.counts.Counts.{Counts}
 use Rattle.tp_store.specs.declared.element.TheConstants.{LAST_STAGE}
-use Rattle.tp_store.specs.Counting.{no_counts, TallyView}
-use Rattle.tp_store.specs.Restoring.{is_rise, is_settling, is_stage, settled, Settled, if_sound, taken_back}
+use Rattle.tp_store.specs.Counting.{no_counts}
+use Rattle.tp_store.specs.Restoring.{is_rise, is_stage, settled, Settled, if_sound, taken_back}
 use Rattle.tp_store.specs.Retelling.{answered, settled_from, settled_in}
 use Rattle.tp_store.specs.State.{State}
 use Rattle.tp_store.proofs.PutBack.{Leads, leads_both, passed}

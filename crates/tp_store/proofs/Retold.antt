@@ -1,5 +1,5 @@
 -- A store that is told in full is taken back.
-use Rattle.std.proofs.Common.{◌≡◌, ◌==◌, ◌&&◌, ◌≤◌, ◌<◌, ◌+◌, ◌-◌, ◌^◌, nat_lt, nat_le, ℕ, Bool, true, false, if◌then◌else◌, Option, Some, None, List, [], ◌∷◌, ◌++◌, length, map, slice_index_or, refl, sym, ◌∙◌, ap, subst, arith}
+use Rattle.std.proofs.Common.{◌≡◌, ◌==◌, ◌≤◌, ◌<◌, ◌-◌, ◌^◌, nat_lt, nat_le, ℕ, Bool, true, false, if◌then◌else◌, Option, Some, None, List, [], ◌∷◌, length, map, slice_index_or, refl, sym, ◌∙◌, ap, arith}
 use Rattle.std.specs.Ordering.{nat_cmp}
 use Rattle.std.specs.BTreeMap.{is_at}
 use Rattle.std.specs.List.{AllByRecursion}
@@ -16,20 +16,21 @@ use Rattle.tp_store.specs.declared.element.TheConstants.{LAST_STAGE, MAX_ROUNDS,
 use Rattle.tp_store.specs.Counting.{no_counts, no_tally}
 use Rattle.tp_store.specs.Ends.{is_over}
 use Rattle.tp_store.specs.Elements.{Entry, element_at}
-use Rattle.tp_store.specs.Restoring.{is_attempt, is_drawn, is_possible, is_root, is_stage, is_standing, all_back, with_numbers}
-use Rattle.tp_store.specs.Restoring.{Numbers, Back, Over, Told}
+use Rattle.tp_store.specs.Restoring.{is_attempt, is_drawn, is_possible, is_stage, is_standing, all_back, with_numbers}
+use Rattle.tp_store.specs.Restoring.{Numbers, Back, Over}
 use Rattle.tp_store.specs.Retelling.{AreTaken, HasDraftStages, settled_in, told_of, ToldAndTakenBack}
 use Rattle.tp_store.specs.Runs.{Call, Submit, Claim, ClaimFrom, Take, Commit, Abort, Release, Kill, Cancel, Requeue, Collect, SetLimits, run}
 use Rattle.tp_store.specs.Shelves.{AreSorted}
 use Rattle.tp_store.specs.Soundness.{HasEnded, is_for_reply, IsSound, IsSoundElement, unit_in}
 use Rattle.tp_store.specs.State.{State, start}
-use Rattle.tp_store.proofs.Accounted.{acc_run, Accounted, HasStagesFrom, start_accounted}
-use Rattle.tp_store.proofs.Finding.{at_most, both, IsBelow, later}
+use Rattle.tp_store.proofs.Accounted.{acc_run, start_accounted}
+use Rattle.tp_store.proofs.AccountSteps.{Accounted, HasStagesFrom}
+use Rattle.tp_store.proofs.Finding.{at_most, both, later}
 use Rattle.tp_store.proofs.Leading.{runs_are_sound, start_sound}
 use Rattle.tp_store.proofs.Looking.{sorted_none}
 use Rattle.tp_store.proofs.PutBack.{and_true, come_back, ComeBack, Leads, leads_both, MayComeBack, of_elements, of_ended, overs_back, passed}
 use Rattle.tp_store.proofs.Recounted.{none_counted}
-use Rattle.tp_store.proofs.Resettled.{all_settled, IsBehind, IsUnder, of_tally, under_all, IsUnsettled}
+use Rattle.tp_store.proofs.Resettled.{all_settled, IsBehind, IsUnder, under_all, IsUnsettled}
 use Rattle.tp_store.proofs.Settling.{HasPlace}
 
 -- a store that can be told in full

@@ -1,5 +1,5 @@
 -- What is ever settled is counted, as elements are born, change and are forgotten.
-use Rattle.std.proofs.Common.{◌≡◌, ◌≢◌, ◌==◌, ◌&&◌, ◌≤◌, ◌<◌, ◌+◌, ◌-◌, ◌^◌, ℕ, Bool, true, false, cond, Option, Some, None, List, [], ◌∷◌, length, slice_index_or, slice_set, refl, sym, ◌∙◌, ap, subst, arith}
+use Rattle.std.proofs.Common.{◌≡◌, ◌≢◌, ◌==◌, ◌&&◌, ◌≤◌, ◌<◌, ◌+◌, ◌-◌, ◌^◌, ℕ, Bool, true, false, Option, Some, None, List, [], slice_index_or, slice_set, refl, sym, ◌∙◌, ap, arith}
 use Rattle.std.specs.BTreeMap.{is_at}
 use Rattle.std.specs.Ordering.{nat_cmp}
 use Rattle.std.proofs.lemmas.Bool.Decides.{nat_tests}
@@ -10,7 +10,6 @@ use Rattle.tp_store.specs.declared.element.Element.{Element}
 use Rattle.tp_store.specs.declared.element.Status.{Status}
 use Rattle.tp_store.specs.declared.element.Status.TheVariants.{Waiting, Held, Consumed, Parked, Killed}
 use Rattle.tp_store.specs.declared.element.TheConstants.{LAST_STAGE}
-use Rattle.tp_store.specs.Accounts.{all_in}
 use Rattle.tp_store.specs.Counting.{counted, no_counts, no_tally, tallied, TallyView}
 use Rattle.tp_store.specs.Elements.{Entry, element_at, put, without}
 use Rattle.tp_store.specs.Restoring.{is_attempt, is_root}
@@ -18,8 +17,8 @@ use Rattle.tp_store.specs.Shelves.{AreSorted}
 use Rattle.tp_store.proofs.Accounting.{AddsUp, IsTold, IsTurn, Moves, moves}
 use Rattle.tp_store.proofs.StatusKinds.{consumed_kind, count, count_new, count_put, is_consumed, is_killed, IsKind, killed_kind, one, was_so}
 
--- an element is of a stage that there is from this one on, of a request that may be its own, and is held for the
--- first time or later
+-- an element is of a stage that there is, from the least one on, its request may be the one that it has, and
+-- what is held was taken at least once
 pub record HasPlace (low id : ℕ) (e : Element) : Type 0 where
   pub from : low ≤ e.stage
   pub stage : e.stage ≤ LAST_STAGE

@@ -1,12 +1,12 @@
 -- What a store tells of itself, of which it is built again.
-use Rattle.std.specs.Prelude.{◌≡◌, ℕ, ◌+◌, ◌-◌, ◌^◌, ◌<◌, Bool, true, Result, Ok, Err, List, [], ◌∷◌, ◌++◌, map}
+use Rattle.std.specs.Prelude.{◌≡◌, ℕ, ◌+◌, ◌-◌, ◌^◌, ◌<◌, true, Result, Ok, List, [], ◌∷◌, ◌++◌, map}
 use Rattle.std.specs.List.{AllByRecursion}
 use Rattle.tp_store.specs.declared.answers.Refusal.{Refusal}
 use Rattle.tp_store.specs.declared.counts.Counts.{Counts}
 use Rattle.tp_store.specs.declared.store.Limits.{Limits}
 use Rattle.tp_store.specs.Elements.{Entry}
-use Rattle.tp_store.specs.Restoring.{all_back, is_stage, put_back_of, put_over_of, set_numbers_of, set_settled_of}
-use Rattle.tp_store.specs.Restoring.{taken_back, Told, Numbers, Back, Over, Settled}
+use Rattle.tp_store.specs.Restoring.{all_back, is_stage, put_back_of, put_over_of, set_numbers_of}
+use Rattle.tp_store.specs.Restoring.{set_settled_of, taken_back, Told, Numbers, Back, Over, Settled}
 use Rattle.tp_store.specs.Runs.{Call, Commit, run}
 use Rattle.tp_store.specs.State.{State, start}
 
@@ -38,7 +38,7 @@ abbrev pub told_of : State → List Told
 told_of s = Numbers s.next s.units ∷ (map (λ (e : Entry). Back e.0 e.1) s.elements
     ++ (map Over s.ended ++ settled_in s.tally.stages))
 
--- the drafts of a call are of stages from 1 on
+-- the drafts of a call are of stages that there are, from 1 on, as each draft is
 abbrev pub HasDraftStages : Call → Type 0
 HasDraftStages (Commit id unit drafts) = AllByRecursion (λ d. is_stage d.stage ≡ true) drafts
 HasDraftStages other = Unit {0}

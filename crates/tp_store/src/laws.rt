@@ -77,8 +77,9 @@ pub fn takes_back_soundly()
     ensures restored { RestoredIsSound }
 {}
 
-/// A store that calls have led to is built again of all that it tells of itself: its numbers, its elements, the
-/// requests that are over, and what was ever settled. All of it is taken in, and nothing is other than it was.
+/// A store that calls have led to is built again of all that it tells of itself: its numbers, its elements,
+/// the requests that are over, and what was ever settled. All of it is taken in, and nothing is other than it
+/// was. This is of runs that draw fewer than 2^64 - 1 ids, and of drafts of stages 1 to 999, as each is.
 pub fn told_and_taken_back()
     ensures { ToldAndTakenBack }
 {}
