@@ -44,10 +44,10 @@
 #include <string.h>
 
 #define COVETRIVET_VERSION_MAJOR 0
-#define COVETRIVET_VERSION_MINOR 23
+#define COVETRIVET_VERSION_MINOR 25
 #define COVETRIVET_VERSION_PATCH 0
 /* 1000 times the major, plus the minor, then 1000 times that, plus the patch. */
-#define COVETRIVET_VERSION 23000
+#define COVETRIVET_VERSION 25000
 
 #ifdef __cplusplus
 extern "C" {
@@ -205,7 +205,7 @@ enum {
   COVETRIVET_TOO_MANY = 21,      /* more than four drafts */
   COVETRIVET_BAD_DRAFT = 22,     /* a draft's stage is not 1 to 15 */
   COVETRIVET_NOT_ALL = 23,       /* a caller is not at home */
-  COVETRIVET_UNEQUAL = 24,       /* an error of the library; it came in no test */
+  COVETRIVET_UNEQUAL = 24,       /* no call tells it: a rollover is never refused so, which is proved */
   COVETRIVET_FULL_LOST = 26      /* as FULL of a commit, but another caller had aborted its unit, as for LOST */
 };
 /* And those of this page's own tests. Nothing has changed then. */

@@ -6,7 +6,7 @@ calls are made in the new manager. They come before all calls of the second roun
 from histories import Call, Wrong, read_rounds, read_value, status
 from history_search import find
 from rollover_rules import Births, Full, described
-from rules import Element, Run, Worker
+from rules import Element, Run
 
 
 def carried_in(lines):
@@ -18,8 +18,7 @@ def carried_in(lines):
 def stand_of(lines):
     """Returns the manager as a round's log leaves it."""
     (limits, calls, _), = read_rounds(lines)
-    run = Run(limits["rows"], limits["units"], limits["attempts"], limits["spare"], [])
-    run.workers = [Worker("", 1) for _ in range(limits["parts"] - 1)]
+    run = Run(limits["rows"], limits["units"], limits["attempts"], limits["spare"], [], others=limits["parts"] - 1)
     run.begin()
     for call in calls:
         if call.thread == 0 and call.kind == "Read" and call.answer[0] == "Ok":

@@ -1,8 +1,8 @@
 """Runs a program of Linux on x86-64 and refuses it what it asks for: an allocation, a thread, a byte to read or to write.
 
 The program is the one that was built, and nothing is linked into it: this process traces it, as a debugger does. Its own entries
-for malloc and realloc are turned to addresses where nothing lies, so that each such call stops it; calls of the system stop it
-anyway.
+for malloc, realloc and free are turned to addresses where nothing lies, so that each such call stops it; calls of the system stop it
+anyway. So it is counted too how many blocks of memory the program has and hasn't given back.
 """
 import ctypes
 import os
@@ -61,11 +61,12 @@ class Run:
     """One run of a program, in which `refuse(kind, number)` says of each call what is to come of it: None for what it asks for.
 
     The kinds are alloc (refused by anything else), thread (likewise), read and write (an error's number as `-n`, or the most
-    bytes that are moved). The calls of each kind are numbered from 1. The words are the program's arguments.
+    bytes that are moved). The calls of each kind are numbered from 1. The words are the program's arguments. `held` is how many blocks
+    the program has kept to its end.
     """
 
     def __init__(self, program, elf, script, refuse, words=()):
-        self.elf, self.refuse, self.counts, self.inside = elf, refuse, {}, {}
+        self.elf, self.refuse, self.counts, self.inside, self.held = elf, refuse, {}, {}, 0
         with tempfile.TemporaryFile() as given, tempfile.TemporaryFile() as out, tempfile.TemporaryFile() as said:
             given.write(script)
             given.seek(0)
@@ -92,10 +93,10 @@ class Run:
         ptrace(SETOPTIONS, self.main, OPTIONS)
         base = self.begin()
         self.hooks = {}
-        for name in ("malloc", "realloc"):
+        for name in ("malloc", "realloc", "free"):
             if name in self.elf.slots:
                 slot, trap = base + self.elf.slots[name], 16 * (len(self.hooks) + 1)
-                self.hooks[trap], = struct.unpack("<Q", os.pread(self.memory, 8, slot))
+                self.hooks[trap] = (name, *struct.unpack("<Q", os.pread(self.memory, 8, slot)))
                 os.pwrite(self.memory, struct.pack("<Q", trap), slot)
         ptrace(SYSCALL, self.main)
         while True:
@@ -140,13 +141,16 @@ class Run:
         if by == signal.SIGSEGV:
             registers = self.registers(thread)
             if registers[RIP] in self.hooks:
-                self.at_allocation(thread, registers)
+                self.at_memory(thread, registers, *self.hooks[registers[RIP]])
                 return None
         return by
 
-    def at_allocation(self, thread, registers):
-        if self.answer("alloc") is None:
-            registers[RIP] = self.hooks[registers[RIP]]
+    def at_memory(self, thread, registers, name, function):
+        """Has a call for memory, or one that gives it back, come to its function, or to nothing."""
+        if name == "free" or self.answer("alloc") is None:
+            registers[RIP] = function
+            # (one that is moved stays one)
+            self.held += -(registers[RDI] != 0) if name == "free" else name == "malloc" or registers[RDI] == 0
         else:
             registers[RAX], top = 0, registers[RSP]
             registers[RIP], = struct.unpack("<Q", os.pread(self.memory, 8, top))

@@ -2,9 +2,9 @@
 import hashlib
 import re
 
-FIRST = b"# covetrivet journal 2\n"
-COUNTED = re.compile(rb"# covetrivet: (\d+) lines for (\d+)\n")
-END = re.compile(rb"# (\d+) ([0-9a-f]{64})\x17\n")
+FIRST = b"# covetrivet journal 4\n"
+COUNTED = re.compile(rb"# covetrivet: (\d+) lines for (\d+)\x02\n")
+END = re.compile(rb"(# (\d+) (\d+) )([0-9a-f]{64})\x17\n")
 
 
 class Wrong(Exception):
@@ -15,14 +15,14 @@ def own_lines(text):
     """The batches of a journal's text, each as a list of lines, once its first line and each end were held against it."""
     if not text.startswith(FIRST):
         raise Wrong(f"the text begins with {text[:40]!r}")
-    batches, lines, at = [], [], len(FIRST)
+    batches, lines, at, begin = [], [], len(FIRST), len(FIRST)
     for line in re.findall(rb"[^\n]*\n|[^\n]+", text[len(FIRST):]):
         end = END.fullmatch(line)
         if end:
-            if int(end[1]) != at or end[2].decode() != hashlib.sha256(text[:at]).hexdigest():
+            if (int(end[2]), int(end[3])) != (at, begin) or end[4].decode() != hashlib.sha256(text[:at] + end[1]).hexdigest():
                 raise Wrong(f"the end at byte {at} isn't that of the bytes before it")
             batches.append(lines)
-            lines = []
+            lines, begin = [], at + len(line)
         else:
             lines.append(line)
         at += len(line)
@@ -47,23 +47,21 @@ def attested(path):
 
 
 def sent_in(path):
-    """For how many lines of its client those at the front of a session's journal stand, and the client's lines behind them. A `dump`
-    before a line that may ask for a rollover is the session's own."""
+    """For how many lines of its client the dump at the front of a session's journal stands, and the client's lines behind it."""
     lines = flat(attested(path))
     count = COUNTED.fullmatch(lines[0]) if lines else None
-    behind = lines[1 + int(count[1]):] if count else lines
-    own = [(it, after[:8]) == (b"dump\n", b"rollover") for it, after in zip(behind, [*behind[1:], b""])]
-    return int(count[2]) if count else 0, [it for it, is_own in zip(behind, own) if not is_own]
+    return (int(count[2]), lines[1 + int(count[1]):]) if count else (0, lines)
 
 
-def sealed(text):
-    """The text with the end of a batch behind it."""
-    return text + b"# %d %s\x17\n" % (len(text), hashlib.sha256(text).hexdigest().encode())
+def sealed(text, batch):
+    """The text with a batch behind it, and the end of that."""
+    words = b"# %d %d " % (len(text + batch), len(text))
+    return text + batch + words + hashlib.sha256(text + batch + words).hexdigest().encode() + b"\x17\n"
 
 
 def made(batches):
     """The text of a journal that has these batches."""
     text = FIRST
     for lines in batches:
-        text = sealed(text + b"".join(lines))
+        text = sealed(text, b"".join(lines))
     return text

@@ -1,8 +1,9 @@
 """The examples of scripts and sessions on the pages, as the programs answer them.
 
-An example is an indented text whose first line, but for comments, is a setting, or the answer `recovered N` of a session with a journal.
+An example is an indented text whose first line, but for comments, is one of a head, or the answer `recovered N` of a session with a
+journal.
 On the left is what is sent, on the right, behind two spaces at least, what is answered. What it leaves out at its end are final lines.
-Those of docs/TALKS.md are answered by the rules of talks, which tools/talks holds the program to, and by the proved program where it
+Those of docs/LIVE.md are answered by the rules of sessions, which tools/sessions holds the program to, and by the proved program where it
 stands.
 """
 import os
@@ -10,14 +11,16 @@ import re
 import subprocess
 import tempfile
 
-from talk_rules import Talk
+from session_rules import RuledSession
 
 TOP = os.path.dirname(os.path.dirname(os.path.realpath(__file__)))
 SETTINGS = ("rows ", "units ", "limit ", "spare ")
 # Which pages have scripts; the examples of all others are sessions.
 SCRIPTS = ("README.md", "docs/SCRIPTS.md")
-# Which have talks, how their heads begin, and the program.
-TALKS, HEADS, TALKER = ("docs/TALKS.md",), ("keep ", "server ", "worker "), "crates/tp_talk_program/out/tp_talk_program"
+# More than a mebibyte of comments.
+LONG = ["# " + 998 * "-"] * 1100
+# Which have sessions, how their heads begin, and the program.
+LIVE, HEADS, PROGRAM = ("docs/LIVE.md",), ("keep ", "server ", "worker "), "crates/tp_live/out/tp_live"
 
 
 def sides(text):
@@ -54,26 +57,26 @@ def said_by(words, sent, program="run"):
 
 
 def said_by_rules(sent):
-    """Returns what the rules of talks answer to these lines."""
-    talk = Talk()
-    return [it for line in sent for it in talk.answers(line.encode())] + talk.finals()
+    """Returns what the rules of sessions answer to these lines."""
+    session = RuledSession()
+    return [it for line in sent for it in session.answers(line.encode())] + session.finals()
 
 
-def wrong_talks(text):
-    """Yields of each example of a talk the answer that isn't so, or None."""
+def wrong_sessions(text):
+    """Yields of each example of a session the answer that isn't so, or None."""
     for sent, answers in examples(text, HEADS):
         yield differs(answers, said_by_rules(sent))
-        if os.path.exists(f"{TOP}/{TALKER}"):
-            yield differs(answers, said_by([], sent, TALKER))
+        if os.path.exists(f"{TOP}/{PROGRAM}"):
+            yield differs(answers, said_by([], sent, PROGRAM))
 
 
 def wrong_examples(page, text):
     """Yields of each example of a page the answer that isn't so, or None. Those with a journal go on from one another."""
-    if page in TALKS:
-        yield from wrong_talks(text)
+    if page in LIVE:
+        yield from wrong_sessions(text)
         return
     with tempfile.TemporaryDirectory() as room:
-        for sent, answers in examples(text):
+        for sent, answers in examples(text, SETTINGS if page in SCRIPTS else HEADS):
             words = [] if page in SCRIPTS else ["--live"]
             if answers[0].startswith("recovered "):
                 words += ["--journal", f"{room}/journal"]
@@ -82,10 +85,12 @@ def wrong_examples(page, text):
 
 
 def wrong_journal(text, path):
-    """Yields, where a page shows the text of the journal of its examples behind a rollover, what isn't so, or None."""
-    shown = re.search(r"(?m)^    # covetrivet journal \d+\n(?: {4}[^\n]*\n)+", text)
-    if shown and os.path.exists(path):
-        said_by(["--live", "--journal", path], ["rollover"])
+    """Yields, for each text that a page shows of the journal of its examples, what isn't so, or None. The second one is that behind
+    comments by which it becomes short, N lines, and they aren't shown."""
+    for shown in re.findall(r"(?m)^    # covetrivet journal \d+\n(?: {4}[^\n]*\n)+", text) if os.path.exists(path) else ():
+        if "lines for N" in shown:
+            said_by(["--live", "--journal", path], LONG)
         with open(path, encoding="latin-1") as it:
-            kept = [line for line in it.read().replace("\0", "").split("\n") if line and "\x17" not in line]
-        yield differs([it.strip() for it in shown[0].splitlines()], kept)
+            lines = it.read().replace("\0", "").split("\n")
+        kept = [re.sub(r"lines for \d+\x02", "lines for N", line) for line in lines if line and "\x17" not in line]
+        yield differs([it.strip() for it in shown.splitlines()], [it for it in kept if it != LONG[0]])

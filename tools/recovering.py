@@ -21,7 +21,7 @@ import time
 
 HERE = os.path.dirname(os.path.realpath(__file__))
 sys.path.insert(0, os.path.join(HERE, "../clients/python"))
-from covetrivet import Client, Disconnected, Draft, Unknown, connect, refusals  # noqa: E402
+from covetrivet import Client, Disconnected, Draft, Unknown, connect  # noqa: E402
 
 UNDER_WAY, SECONDS = 8, 0.002
 REPLIES, FOR_THE_TILL = 15, 2
@@ -55,15 +55,6 @@ def note(path, text, how="a"):
         file.write(text)
 
 
-def with_room(session, ask):
-    """Asks, and where rows or units are used up once more behind a rollover."""
-    try:
-        return ask()
-    except (refusals.Full, refusals.NoUnit):
-        session.rollover()
-        return ask()
-
-
 def client(session, folder, orders, error):
     shop, extra = Client(session, "shop"), int(noted(f"{folder}/extra") or 0)
     life = Life(error in ("again", "skip"))
@@ -73,7 +64,7 @@ def client(session, folder, orders, error):
         note(f"{folder}/handled", f"{reply.number} {reply.words[0]}\n")
 
     def send(order):
-        with_room(session, lambda: shop.send((order, 7 * order)))
+        shop.send((order, 7 * order))
 
     if error != "skip" and (reply := shop.receive_again()):
         handle(reply)
@@ -99,15 +90,12 @@ def worker(session, folder, error):
         if work:
             note(f"{folder}/work", str(work.words[0]), "w")
             done = Draft(FOR_THE_TILL, 0, work.words[0]), Draft(REPLIES, *work.words)
-            try:
-                session.commit("packer", *done)
-                session.drain()
-                life.step()
-            except (refusals.Full, refusals.NoUnit):
-                session.rollover()
+            session.commit("packer", *done)
+            session.drain()
+            life.step()
         else:
             time.sleep(SECONDS)
-        work = with_room(session, lambda: session.claim("packer"))
+        work = session.claim("packer")
 
 
 def go_on(path, act):
@@ -136,7 +124,7 @@ def wrong_session(words):
         os.write(1, next(told))
     while line := sys.stdin.buffer.readline():
         sent = re.fullmatch(rb"send shop (\d+) (.*)\n", line)
-        if line.split()[0] in (b"rows", b"units", b"limit", b"spare", b"server", b"worker"):
+        if line.split()[0] in (b"keep", b"limit", b"server", b"worker", b"register"):
             program.stdin.write(line)
         elif sent:
             count = int(re.match(rb"last shop sent (\d+)", answers(b"last shop\n"))[1])

@@ -1,7 +1,7 @@
 """A rollover, written once more from docs/ROLLOVER.md alone: what is alive in one run goes on in another of the same limits.
 
-It is described first, and then born of its description alone: so a rollover and the `restore` of a dump (dump_rules.py) are the same.
-tools/rules.py has the runs. Nothing is shared with the program: elements are a dictionary, and a new manager is a new run.
+It is described first, and then born of its description alone. tools/rules.py has the runs. Nothing is shared with the program: elements
+are a dictionary, and a new manager is a new run.
 """
 from dataclasses import dataclass
 
@@ -16,8 +16,7 @@ class Full(Exception):
 
 @dataclass(frozen=True)
 class Alive:
-    """An element that is alive, as an `alive` or a `held` line describes it. One that is its own root has that twice. Where a pass has it
-    in hand that is the `holder`, and `attempts` counts that one too."""
+    """An element that is alive: it waits or is parked. One that is its own root has that twice."""
     number: int
     attempts: int
     rounds: int
@@ -26,17 +25,12 @@ class Alive:
     root: int
     root_stage: int
     root_body: tuple
-    holder: object = None
 
 
 def described(run):
     """What is alive in a run, in the order of the ids."""
     found = [(i, it, run.elements[it.root]) for i, it in sorted(run.elements.items()) if not it.settled()]
-    # (the units of each pass have numbers of their own)
-    holders = {i: it.unit // run.units for i, it, _ in found if it.status == "held"}
-    return [
-        Alive(i, it.attempts, it.rounds, it.stage, tuple(it.body), it.root, root.stage, tuple(root.body), holders.get(i)) for i, it, root in found
-    ]
+    return [Alive(i, it.attempts, it.rounds, it.stage, tuple(it.body), it.root, root.stage, tuple(root.body)) for i, it, root in found]
 
 
 @dataclass
@@ -52,7 +46,6 @@ class Births:
 
     def __init__(self, alive, new):
         self.alive, self.new = alive, new
-        self.holders = {it.holder for it in alive}
         self.families, self.moved = {}, []
         # what was called in the new manager: by which pass, what, and with which ids and units
         self.calls = []
@@ -64,8 +57,8 @@ class Births:
         return min(number // self.new.rows, len(self.new.passes))
 
     def has_units(self, by, units):
-        """Whether a pass may begin so many: one that is to hold an element keeps a unit for that."""
-        return not units or self.new.units - by.begun >= units + (by.number in self.holders)
+        """Whether a pass may begin so many."""
+        return self.new.units - by.begun >= units
 
     def maker(self, home, rows, units):
         """The pass that makes the next elements: in a part as long as there is one with room, and else in spare blocks."""
@@ -147,15 +140,7 @@ class Births:
             self.attempt(number, element, self.new.limit)
             element.status, element.attempts, element.rounds = "waiting", 0, element.rounds + 1
             self.calls.append((0, "requeue", number, element.rounds))
-        self.attempt(number, element, was.attempts - (was.holder is not None))
-
-    def hold(self, by, number):
-        """The pass has the new element in hand."""
-        if self.new.passes[by].begun == self.new.units:
-            raise Full
-        self.new.held_by(self.new.at_pass(by), by, number)
-        element = self.new.elements[number]
-        self.calls.append((by, "claim", number, element.unit, element.attempts))
+        self.attempt(number, element, was.attempts)
 
     def all(self):
         for it in self.alive:
@@ -165,34 +150,23 @@ class Births:
             done += self.next_of(self.alive[done:])
         for was, (_, new) in zip(self.alive, self.moved):
             self.replay(was, new)
-        for was, (_, new) in zip(self.alive, self.moved):
-            if was.holder is not None:
-                self.hold(was.holder, new)
         return self.moved
-
-    def known(self):
-        """The new ids of what goes on, and of the roots of that, by their old ones."""
-        return {root: it.root for root, it in self.families.items()} | dict(self.moved)
 
 
 def told(births):
-    """What is said of a rollover or a restore, behind its first words: what was carried over, which roots weren't, and what workers have in
-    hand since."""
+    """What is said of a rollover behind its first words: what was carried over, and which roots weren't."""
     moved = births.all()
     roots = [f"{root}:{it.root}" for root, it in births.families.items() if root not in dict(moved)]
-    units = [f"{it.name}:{it.item}" for it in births.new.workers if it.unit is not None]
     pairs = [f"{old}:{new}" for old, new in moved]
-    return " ".join([str(len(moved)), *pairs, *(["roots", *roots] if roots else []), *(["units", *units] if units else [])])
+    return " ".join([str(len(moved)), *pairs, *(["roots", *roots] if roots else [])])
 
 
 def roll_over(run):
     """Returns the line, and the run that goes on."""
-    if run.is_desk_busy():
+    if run.is_busy():
         return "refused 11 Busy", run
     births = Births(described(run), run.afresh())
     try:
-        answer = f"rolled over {told(births)}"
+        return f"rolled over {told(births)}", births.new
     except Full:
         return "refused 7 Full", run
-    births.new.notes = run.notes.behind(births.known())
-    return answer, births.new

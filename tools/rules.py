@@ -1,12 +1,9 @@
-"""The rules of scripts and of live sessions, written once more from docs/SCRIPTS.md and docs/LIVE.md alone: what each command answers,
-by one thread and one list of elements.
+"""The rules of scripts, written once more from docs/SCRIPTS.md alone: what each command answers, by one thread and one list of elements.
 
-No words, no marks, and no units of work but their numbers. tools/random_scripts and tools/random_sessions hold the programs against
-this. A rollover is in rollover_rules.py, what a dump is and leads to in dump_rules.py, and clients that may crash in client_rules.py.
+No words, no marks, and no units of work but their numbers. tools/random_scripts holds the programs against this. A rollover is in
+rollover_rules.py.
 """
 from dataclasses import dataclass, field, replace
-
-from client_rules import VERBS, Notes
 
 TOP = 2**64
 
@@ -86,26 +83,6 @@ class Server:
 
 
 @dataclass
-class Worker:
-    """A worker of a live session, which does its work outside."""
-    name: str
-    stage: int
-    unit: object = None
-    item: int = 0
-    # the element, by the id that it had then, that it lost before a rollover and hasn't heard of yet
-    lost: object = None
-    # where its next claim in turn begins: after what it took last by one
-    place: int = 0
-
-    def is_free(self):
-        return self.unit is None and self.lost is None
-
-    def is_place(self):
-        """Whether it is a place that no worker has."""
-        return self.name.startswith("-")
-
-
-@dataclass
 class Run:
     rows: int
     units: int
@@ -115,39 +92,26 @@ class Run:
     servers: list
     elements: dict = field(default_factory=dict)
     drawn: int = 0
-    workers: list = field(default_factory=list)
-    # the client's, one for each server, and one for each worker
+    # the client's, one for each server, and so many others
     passes: list = field(default_factory=list)
-    notes: Notes = field(default_factory=Notes)
+    others: int = 0
 
     def begin(self):
         """Gives each pass its rows."""
-        self.passes = [Pass(at, at * self.rows, self.rows) for at in range(1 + len(self.servers) + len(self.workers))]
+        self.passes = [Pass(at, at * self.rows, self.rows) for at in range(1 + len(self.servers) + self.others)]
 
     def is_busy(self):
-        """Whether a unit of work is open, of a desk or of a worker."""
-        return any(it.unit is not None for it in [*self.servers, *self.workers])
-
-    def is_desk_busy(self):
-        """Whether a unit of work of a desk is open."""
+        """Whether a unit of work is open."""
         return any(it.unit is not None for it in self.servers)
 
-    def lost_by(self, worker):
-        """The element that a worker has lost, and hasn't heard of yet, by the id that it knows."""
-        return worker.item if worker.unit is not None and not self.holds(worker) else worker.lost
-
     def afresh(self):
-        """A run with the same limits, servers and workers, in which nothing has happened. What workers have lost they have to hear."""
-        new = Run(self.rows, self.units, self.limit, self.spare, [replace(it, unit=None, item=0, pending=None, place=0) for it in self.servers])
+        """A run with the same limits and servers, in which nothing has happened."""
+        servers = [replace(it, unit=None, item=0, pending=None, place=0) for it in self.servers]
+        new = Run(self.rows, self.units, self.limit, self.spare, servers, others=self.others)
         for it in new.servers:
             it.registers = [*it.registers]
-        new.workers = [Worker(it.name, it.stage, lost=self.lost_by(it)) for it in self.workers]
         new.begin()
         return new
-
-    def at_pass(self, by):
-        """The server or worker whose pass has this number."""
-        return [*self.servers, *self.workers][by - 1]
 
     def has_room(self, by, count):
         """Whether there are `count` rows for the pass, if need be in the next spare block."""
@@ -159,17 +123,17 @@ class Run:
     def give_up(self, element):
         element.status = "waiting" if element.attempts < self.limit else "parked"
 
-    def holds(self, who):
+    def holds(self, server):
         """Whether the open unit still has its element."""
-        element = self.elements[who.item]
-        return element.status == "held" and element.unit == who.unit
+        element = self.elements[server.item]
+        return element.status == "held" and element.unit == server.unit
 
-    def abort(self, who):
-        """Ends the open unit of a server or worker by an abort: whether it was this one."""
-        ours = self.holds(who)
+    def abort(self, server):
+        """Ends the open unit of a server by an abort: whether it was this one."""
+        ours = self.holds(server)
         if ours:
-            self.give_up(self.elements[who.item])
-        who.unit = who.pending = None
+            self.give_up(self.elements[server.item])
+        server.unit = server.pending = None
         return ours
 
     def waiting(self, stage):
@@ -185,10 +149,10 @@ class Run:
             return "idle"
         return self.held_by(server, at + 1, self.in_turn(server, found) if in_turn else found[0])
 
-    def in_turn(self, who, found):
-        """Which of these ids comes next for a server or worker."""
-        number = min(found, key=lambda i: (i < who.place, i))
-        who.place = number + 1
+    def in_turn(self, server, found):
+        """Which of these ids comes next for a server."""
+        number = min(found, key=lambda i: (i < server.place, i))
+        server.place = number + 1
         return number
 
     def take(self, at, number):
@@ -201,12 +165,12 @@ class Run:
             return f"refused {number} BadStage"
         return self.held_by(server, at + 1, number) if element.status == "waiting" else f"refused {number} NotWaiting"
 
-    def held_by(self, who, by, number):
-        """A new unit of a server or worker takes the element."""
+    def held_by(self, server, by, number):
+        """A new unit of a server takes the element."""
         element = self.elements[number]
-        who.unit, who.item = self.passes[by].begin(self.units), number
-        element.status, element.unit, element.attempts = "held", who.unit, element.attempts + 1
-        return f"work {number} unit {who.unit} attempt {element.attempts}"
+        server.unit, server.item = self.passes[by].begin(self.units), number
+        element.status, element.unit, element.attempts = "held", server.unit, element.attempts + 1
+        return f"work {number} unit {server.unit} attempt {element.attempts}"
 
     def prepare(self, server):
         element = self.elements[server.item]
@@ -230,14 +194,14 @@ class Run:
             server.registers[key] = after
         return answer
 
-    def ended(self, who, by, drafts):
-        """The open unit of a server or worker commits with these drafts."""
-        unit, item, element, own = who.unit, who.item, self.elements[who.item], self.passes[by]
+    def ended(self, server, by, drafts):
+        """The open unit of a server commits with these drafts."""
+        unit, item, element, own = server.unit, server.item, self.elements[server.item], self.passes[by]
         if not self.has_room(own, len(drafts)):
-            self.abort(who)
+            self.abort(server)
             return f"full {item}"
-        first, ours = own.use(len(drafts)), self.holds(who)
-        who.unit = who.pending = None
+        first, ours = own.use(len(drafts)), self.holds(server)
+        server.unit = server.pending = None
         if not ours:
             return f"lost {item}"
         element.status = "consumed"
@@ -280,59 +244,6 @@ class Run:
         if verb == "commit":
             return self.commit(at)
         return f"{'aborted' if self.abort(server) else 'already'} {server.item}"
-
-    def at_worker(self, verb, at, *words):
-        """What a worker's line is answered. The words of a commit are its drafts."""
-        worker, by = self.workers[at], 1 + len(self.servers) + at
-        if verb in ("claim", "next", "take"):
-            return self.taken(verb, worker, by, *words) if worker.is_free() else "busy"
-        was_before = worker.lost is not None
-        answer = self.ended_at(worker, by, verb, words)
-        self.notes.heard(worker.name, answer, was_before)
-        return answer
-
-    def join(self, name, stage):
-        """A worker comes: it takes the first free place, if there is one."""
-        at = next(at for at, it in enumerate(self.workers) if it.is_place())
-        self.workers[at].name, self.workers[at].stage = name, stage
-        return f"joined {name}"
-
-    def leave(self, name):
-        """A worker gives up what it has in hand, and goes. Nothing is known any more of its last unit."""
-        at = next(at for at, it in enumerate(self.workers) if it.name == name)
-        answer = self.at_worker("abort", at)
-        self.notes.ends.pop(name, None)
-        self.workers[at].name, self.workers[at].stage = f"-{at}", 1
-        return f"left {name} {answer}"
-
-    def ended_at(self, worker, by, verb, words):
-        """What a worker's commit or abort is answered."""
-        if worker.lost is not None:
-            lost, worker.lost = worker.lost, None
-            return f"{'lost' if verb == 'commit' else 'already'} {lost}"
-        if worker.unit is None:
-            return "none"
-        if verb == "commit":
-            return self.ended(worker, by, words)
-        return f"{'aborted' if self.abort(worker) else 'already'} {worker.item}"
-
-    def taken(self, verb, worker, by, *words):
-        """A worker claims from its stage, or takes the element with this id, of any stage but that of replies."""
-        if self.passes[by].begun == self.units:
-            return "nounit"
-        found = words or self.waiting(worker.stage)
-        if not found:
-            return "idle"
-        number = self.in_turn(worker, found) if verb == "next" else found[0]
-        element = self.elements.get(number)
-        if element is None:
-            return f"refused {number} NotThere"
-        if element.stage == 15:
-            return f"refused {number} BadStage"
-        if element.status != "waiting":
-            return f"refused {number} NotWaiting"
-        told = self.held_by(worker, by, number)
-        return f"{told} root {element.root} body {':'.join(map(str, element.body))}"
 
     def submit(self, stage, *words):
         if not 1 <= stage <= 14:
@@ -407,39 +318,11 @@ class Run:
             self.kill(number)
         return self.told_of("collected", root, found)
 
-    def depth(self):
-        told = ["depth"]
-        for stage in range(1, 16):
-            here = [it.status for it in self.elements.values() if it.stage == stage]
-            numbers = [here.count(it) for it in ("waiting", "held", "parked")]
-            if any(numbers):
-                told.append(":".join(map(str, [stage, *numbers])))
-        return " ".join(told)
-
-    def list(self, stage, start=0):
-        return " ".join(map(str, ["list", stage, *[it for it in self.waiting(stage) if it >= start][:200]]))
-
-    def room(self):
-        names = ["client", *(it.name for it in [*self.servers, *self.workers])]
-        left = [f"{name} {it.left}:{self.units - it.begun}" for name, it in zip(names, self.passes)]
-        return " ".join(["room", *left, f"spare {self.spare - self.drawn}"])
-
-    def holders(self):
-        """What `holds` is answered."""
-        told = ["holds"]
-        for it in [*self.servers, *self.workers]:
-            if it.unit is not None:
-                attempt = self.elements[it.item].attempts if self.holds(it) else "lost"
-                told.append(f"{it.name}:{it.item}:{it.unit}:{attempt}")
-        return " ".join(told)
-
     def count(self):
         return " ".join(f"{state} {sum(it.status == state for it in self.elements.values())}" for state in STATES)
 
     def line(self, words):
         verb, numbers = words[0], words[1:]
-        if verb in VERBS:
-            return self.notes.line(self, *words)
         if verb in ("turn", "claim", "next", "take", "prepare", "commit", "abort", "drop"):
             return f"{self.servers[numbers[0]].name} {self.at_server(verb, *numbers)}"
         if verb == "balance":
@@ -453,7 +336,6 @@ class Run:
             return " ".join(["errors", *(str(i) for i, it in sorted(self.elements.items()) if it.status == "parked")])
         call = {
             "submit": self.submit, "kill": self.killed, "cancel": self.cancel, "requeue": self.requeue, "release": self.release,
-            "read": self.read, "reply": self.reply, "collect": self.collect, "family": self.family, "depth": self.depth, "list": self.list,
-            "count": self.count, "drain": self.drain, "room": self.room, "holds": self.holders,
+            "read": self.read, "reply": self.reply, "collect": self.collect, "family": self.family, "count": self.count, "drain": self.drain,
         }
         return call[verb](*numbers)

@@ -1,4 +1,4 @@
-"""What the run of a script or a live session did, by its report: which elements were born, who held them, and where they ended."""
+"""What the run of a script did, by its report: which elements were born, who held them, and where they ended."""
 from dataclasses import dataclass, field
 
 SETTINGS = ("rows", "units", "limit", "spare")
@@ -57,24 +57,12 @@ class Row:
     is_crowd: bool = False
 
 
-def session_told(session, answers):
-    """Returns a session as a script and its report: without the lines that had no answer or were refused, but with those of its head."""
-    # (the lines that a dump tells belong to the answer before them)
-    lines, told = session.splitlines(), [it for it in answers.splitlines() if not it.startswith("> ")]
-    behind = told[len(lines):]
-    told += [""] * (len(lines) - len(told))
-    both = [(line, said) for line, said in zip(lines, told) if not said.startswith("refused line ")]
-    return "".join(f"{line}\n" for line, _ in both), "".join(f"{it}\n" for it in [*(said for _, said in both if said), *behind])
-
-
 class Story:
     def __init__(self, script, report):
         self.title, self.servers, self.rows, self.elements = "", [], [], {}
         self.open, self.attempts = {}, 3
-        # what a session's head says is alive: its words by its id there, and the worker that has it in hand
-        self.alive, self.holders = {}, {}
         commands = self.read_script(script)
-        lines = [it for it in report.splitlines() if not it.startswith("> ")]
+        lines = report.splitlines()
         if lines and lines[0].startswith("refused line "):
             raise Untold(f"the script was refused: {lines[0]}")
         if len(lines) < len(commands):
@@ -88,7 +76,7 @@ class Story:
         self.end(finals)
 
     def read_script(self, script):
-        commands, gap, before, workers = [], False, [], []
+        commands, gap, before = [], False, []
         for line in script.splitlines():
             words = line.split()
             if not words or line.startswith("#"):
@@ -97,19 +85,12 @@ class Story:
                     before.append(line.lstrip("# "))
             elif words[0] == "server":
                 self.servers.append(Server(words[1], words[2], int(words[3]), words[5], words[6:]))
-            elif words[0] == "worker":
-                workers.append(Server(words[1], "worker", int(words[2]), "a worker", []))
-            elif words[0] == "alive":
-                self.alive[int(words[1])] = words[2:]
-            elif words[0] == "held":
-                self.alive[int(words[2])], self.holders[int(words[2])] = words[3:], words[1]
             elif words[0] == "limit":
                 self.attempts = int(words[1])
-            elif words[0] not in SETTINGS and words[0] not in ("start", "lost", "account"):
+            elif words[0] not in SETTINGS and words[0] not in ("start", "account"):
                 commands.append((" ".join(words), gap))
                 gap = False
         self.title = " ".join(before)
-        self.servers += workers
         return commands
 
     def lane(self, name):
@@ -123,11 +104,6 @@ class Story:
             more = f", and behind them {' and '.join(command[4:])}" if len(command) > 4 else ""
             text = f"submitted to stage {command[1]} with key {command[2]} and amount {command[3]}{more}"
             self.elements[number] = Element(number, number, int(command[1]), 0, row, text)
-        elif verb == "restore" and line[0] == "restored":
-            told = line[2:line.index("units")] if "units" in line else line[2:]
-            at = told.index("roots") if "roots" in told else len(told)
-            moved, roots = (dict(map(int, it.split(":")) for it in some) for some in (told[:at], told[at + 1:]))
-            self.restore(row, moved, roots)
         elif verb == "kill" and line[0] == "killed":
             self.kill(row, int(command[1]))
         elif verb == "cancel" and line[0] == "cancelled":
@@ -146,26 +122,16 @@ class Story:
         elif verb == "take" and line[1] != "work":
             return
         elif verb in ("turn", "claim", "next", "take", "prepare", "commit", "abort", "drop"):
-            server = self.servers[self.lane(command[1]) - 1]
-            if server.kind == "worker":
-                server.outputs = command[2:]
             self.serve(row, self.lane(command[1]), line[1:])
 
     def serve(self, row, lane, answer):
-        """What a server or worker did with an element: `answer` is the report's line without its name."""
+        """What a server did with an element: `answer` is the report's line without its name."""
         what = answer[0]
-        if what in ("lost", "already") and lane not in self.open:
-            # (the element was lost where the session was dumped, and has no line here)
-            return
         element = self.elements.get(int(answer[1])) if len(answer) > 1 else self.open.get(lane)
         if what == "work":
             # (what a drain has made isn't known)
             if element is None:
                 return
-            # (a worker is told the root)
-            if len(answer) > 7:
-                for it in [it for it in self.elements.values() if it.root == element.root]:
-                    it.root = int(answer[7])
             self.open[lane] = element
             element.holds.append(Hold(lane, answer[3], row))
         elif what in ("done", "refused", "lost", "full", "aborted", "already", "dropped") and element:
@@ -192,22 +158,6 @@ class Story:
             stage = int(output.split(":")[0])
             text = f"an output of {self.servers[lane - 1].name}, " + ("a reply" if stage == 15 else f"for stage {stage}")
             self.elements[first + at] = Element(first + at, element.root, stage, lane, row, text)
-
-    def restore(self, row, moved, roots):
-        """What the head says is alive is there, under new ids, and so are the roots that aren't alive."""
-        for old, new in moved.items():
-            attempts, _rounds, output, *root = self.alive[old]
-            stage = int(output.split(":")[0])
-            text = f"restored, which was element {old} where it was dumped, " + ("a reply" if stage == 15 else f"for stage {stage}")
-            of = int(root[0]) if root else old
-            it = self.elements[new] = Element(new, moved[of] if of in moved else roots[of], stage, 0, row, text, past=-int(attempts))
-            if old in self.holders:
-                # (the attempt in hand is one of them)
-                lane, it.past = self.lane(self.holders[old]), it.past + 1
-                self.open[lane] = it
-                it.holds.append(Hold(lane, "", row))
-            else:
-                self.wait_again(row, it)
 
     def wait_again(self, row, element):
         if element.how == "waiting" and len(element.holds) - element.past >= self.attempts:

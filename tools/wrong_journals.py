@@ -5,7 +5,7 @@ drop    drops the journal's last line when it starts
 skip    has the session skip the last line of the journal when it starts
 again   tells the answers to recovered lines again
 count   tells one line more than was recovered
-lost    drops an element that is alive from the dump that a rollover has left
+lost    drops an element from the dump that has made the journal short
 """
 import os
 import subprocess
@@ -85,10 +85,10 @@ def main():
         around(program, path, b"recovered %d\n" % (before + len(behind) + 1))
     elif error == "lost":
         count = COUNTED.fullmatch(lines[0]) if lines else None
-        alive = [it for it in lines if it.startswith(b"alive ")]
-        if count and alive:
-            lines[0] = b"# covetrivet: %d lines for %s\n" % (int(count[1]) - 1, count[2])
-            lines.remove(alive[-1])
+        elements = [it for it in lines if it.startswith(b"element ")]
+        if count and elements:
+            lines[0] = b"# covetrivet: %d lines for %s\2\n" % (int(count[1]) - 1, count[2])
+            lines.remove(elements[-1])
             with open(path, "wb") as file:
                 file.write(made([lines]))
         os.execv(program[0], [*program, "--journal", path])

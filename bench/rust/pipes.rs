@@ -73,12 +73,8 @@ fn measure(which: &str, count: usize, batch: usize, words: &[String]) -> io::Res
     match which {
         _ if words[0].starts_with("unix:") => {}
         "echo" => {}
-        "read" => {
-            peer.send("rows 8\n")?;
-            peer.ask("submit 1 7 100\n", 1, "submitted")?;
-        }
+        "read" => peer.ask("submit 1 7 100\n", 1, "submitted")?,
         _ => {
-            peer.send("rows 256\nunits 1024\nspare 256\n")?;
             for name in &names {
                 peer.send(&format!("worker {name} 1\n"))?;
             }

@@ -13,7 +13,7 @@ from pathlib import Path
 sys.path.insert(0, str(Path(__file__).resolve().parents[2] / "clients/python"))
 from covetrivet import Draft, Session  # noqa: E402
 
-HEAD = ["rows 8", "units 8", "worker clerk 1", "worker editor 14"]
+HEAD = ["worker clerk 1", "worker editor 14"]
 DEAD, REPLIES = 14, 15
 
 

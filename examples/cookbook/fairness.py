@@ -12,7 +12,7 @@ from pathlib import Path
 sys.path.insert(0, str(Path(__file__).resolve().parents[2] / "clients/python"))
 from covetrivet import Session  # noqa: E402
 
-HEAD = ["rows 16", "units 16", "worker clerk 1"]
+HEAD = ["worker clerk 1"]
 
 
 def in_turn(waiting: dict[int, deque[int]]) -> Iterator[int]:

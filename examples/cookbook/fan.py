@@ -10,7 +10,7 @@ from pathlib import Path
 sys.path.insert(0, str(Path(__file__).resolve().parents[2] / "clients/python"))
 from covetrivet import Draft, Session  # noqa: E402
 
-HEAD = ["rows 16", "units 16", "worker splitter 1", "worker packer 2"]
+HEAD = ["worker splitter 1", "worker packer 2"]
 PARTS, REPLIES = 2, 15
 PRICES = {7: (20, 30, 40), 8: (10, 15)}
 

@@ -14,17 +14,17 @@ from pathlib import Path
 sys.path.insert(0, str(Path(__file__).resolve().parents[2] / "clients/python"))
 from covetrivet import Draft, Session, Work, refusals  # noqa: E402
 
-HEAD = ["rows 8", "units 8", "worker ann 1", "worker bob 1"]
+HEAD = ["worker ann 1", "worker bob 1"]
 REPLIES = 15
 SECONDS = 30
 Held = dict[str, tuple[Work, int]]  # by a worker's name: its work, and when it was heard of last
 
 
-def claim(session: Session, held: Held, name: str, now: int) -> int:
-    """Returns the unit that the worker is given, or 0."""
+def claim(session: Session, held: Held, name: str, now: int) -> int | None:
+    """Returns the unit that the worker is given, if any."""
     work = session.claim(name)
     if not work:
-        return 0
+        return None
     held[name] = work, now
     print(now, name, "has", work.element, "attempt", work.attempt)
     return work.unit
@@ -42,7 +42,7 @@ def release_late(session: Session, held: Held, now: int) -> None:
             print(now, "released", session.release(work.element).element, "of", name)
 
 
-def commit(session: Session, held: Held, name: str, unit: int, now: int) -> None:
+def commit(session: Session, held: Held, name: str, unit: int | None, now: int) -> None:
     """Commits the unit that the worker was given, unless its name has another one by now."""
     if name not in held or held[name][0].unit == unit:
         held.pop(name, None)
@@ -75,7 +75,7 @@ def main() -> None:
         of_dead = claim(session, held, "ann", 60)
         release_late(session, held, 100)
         try:
-            session.account()
+            session.claim("ann")
         except refusals.Busy:
             print("her unit is still open")
         bury(session, "ann")

@@ -19,7 +19,7 @@ from pathlib import Path
 sys.path.insert(0, str(Path(__file__).resolve().parents[2] / "clients/python"))
 from covetrivet import Client, Draft, Session  # noqa: E402
 
-HEAD = ["rows 64", "units 64", "worker clerk 1", "register shop"]
+HEAD = ["worker clerk 1", "register shop"]
 REPLIES = 15
 TABLES = """
     create table if not exists customers (id integer primary key, owes integer);

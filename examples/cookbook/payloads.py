@@ -12,7 +12,7 @@ from pathlib import Path
 sys.path.insert(0, str(Path(__file__).resolve().parents[2] / "clients/python"))
 from covetrivet import Draft, Session, refusals  # noqa: E402
 
-HEAD = ["rows 16", "units 16", "worker resizer 1", "worker mailer 2"]
+HEAD = ["keep 1", "worker resizer 1", "worker mailer 2"]
 REPLIES = 15
 
 
@@ -21,7 +21,7 @@ def is_over(session: Session, order: int) -> bool:
     try:
         family = session.family(order)
     except refusals.NotThere:
-        return True  # (it was over before a rollover)
+        return True  # (it is over, and forgotten)
     return all(member.state in ("consumed", "killed") for member in family)
 
 
@@ -41,8 +41,8 @@ def mail(session: Session) -> None:
 def main() -> None:
     pictures: dict[int, bytes] = {}
     orders: dict[int, int] = {}
-    with Session(HEAD, on_full="rollover") as session:
-        for key, picture in ((100, b"cat"), (101, b"horse")):
+    with Session(HEAD) as session:
+        for key, picture in ((100, b"cat"), (101, b"horse"), (102, b"ox")):
             pictures[key] = picture
             orders[key] = session.submit(1, key).element
         while work := session.claim("resizer"):
@@ -53,11 +53,9 @@ def main() -> None:
         print("replies collected:", sweep(session, pictures, orders))
         mail(session)
         print("one mailed:", sweep(session, pictures, orders))
-        session.rollover()
-        print("rolled over:", sweep(session, pictures, orders))
         mail(session)
-        session.rollover()
-        print("both mailed, and rolled over:", sweep(session, pictures, orders))
+        mail(session)
+        print("all mailed, and two forgotten:", sweep(session, pictures, orders))
 
 
 if __name__ == "__main__":

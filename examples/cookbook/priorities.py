@@ -10,7 +10,7 @@ from pathlib import Path
 sys.path.insert(0, str(Path(__file__).resolve().parents[2] / "clients/python"))
 from covetrivet import Session, Work  # noqa: E402
 
-HEAD = ["rows 16", "units 16", "worker express 1", "worker usual 2"]
+HEAD = ["worker express 1", "worker usual 2"]
 
 
 def claim(session: Session) -> tuple[str, Work] | None:

@@ -15,22 +15,16 @@ from pathlib import Path
 sys.path.insert(0, str(Path(__file__).resolve().parents[2] / "clients/python"))
 from covetrivet import Draft, Session, SessionEnded, refusals  # noqa: E402
 
-HEAD = ["rows 16", "units 16", "worker clerk 1"]
+HEAD = ["worker clerk 1"]
 REPLIES = 15
 
 
 def requests(session: Session) -> dict[int, int]:
-    """Returns the requests of which something is alive, by their numbers. Of what a unit has made, the last
-    two words of its line are its root and what that was.
-    """
-    found = {}
-    for words in (line.split() for line in session.dump().lines):
-        if words[0] == "held":
-            del words[1]  # (the worker that has it in hand)
-        if words[0] in ("alive", "held"):
-            root, out = words[5:] or (words[1], words[4])
-            found[int(out.split(":")[1])] = int(root)
-    return found
+    """Returns the requests of which something is alive, by their numbers."""
+    elements = [line.split() for line in session.dump().lines if line.startswith("element ")]
+    numbers = {element: int(out.split(":")[1]) for _, element, out, *_ in elements}
+    alive = [root for _, _, _, root, _, _, _, state, *_ in elements if state in ("waiting", "held", "parked")]
+    return {numbers[root]: int(root) for root in alive}
 
 
 def work_off(session: Session) -> None:

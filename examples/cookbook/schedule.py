@@ -14,7 +14,7 @@ from pathlib import Path
 sys.path.insert(0, str(Path(__file__).resolve().parents[2] / "clients/python"))
 from covetrivet import Draft, Session, refusals  # noqa: E402
 
-HEAD = ["rows 32", "units 32", "worker sender 1", "worker mover 2"]
+HEAD = ["worker sender 1", "worker mover 2"]
 READY, LATER, REPLIES = 1, 2, 15
 THERE_FROM = {5: 0, 7: 0, 8: 25, 9: 1000}
 
@@ -44,11 +44,10 @@ def move(session: Session, later: list[tuple[int, int]], now: int) -> None:
             session.commit("mover", Draft(READY, *work.words))
 
 
-def dumped(session: Session) -> list[tuple[int, int]]:
-    """Returns what is due later as a dump tells it: for a client that begins anew."""
-    alive = [line.split() for line in session.dump().lines if line.startswith("alive ")]
-    outs = [(int(words[1]), [int(it) for it in words[4].split(":")]) for words in alive]
-    return sorted((out[3], element) for element, out in outs if out[0] == LATER)
+def told(session: Session) -> list[tuple[int, int]]:
+    """Returns what is due later as the session tells it: for a client that begins anew."""
+    waiting = [(it, session.read(it)) for it in session.all_waiting(LATER)]
+    return sorted((look.words[2], element) for element, look in waiting)
 
 
 def main() -> None:
@@ -61,7 +60,7 @@ def main() -> None:
             move(session, later, now)
             send(session, later, now)
             if now == 10:
-                print("a dump tells:", dumped(session), dumped(session) == sorted(later))
+                print("it is told:", told(session), told(session) == sorted(later))
                 print("cancelled:", session.cancel(orders[2]).killed)
         for order in orders:
             replies = [it.words for it in session.collect(order)]

@@ -17,14 +17,14 @@ from typing import NamedTuple
 sys.path.insert(0, str(Path(__file__).resolve().parents[2] / "clients/python"))
 from covetrivet import Draft, Look, Session, refusals  # noqa: E402
 
-HEAD = ["rows 256", "units 1024", "spare 256", "limit 3", "worker gate 1"]
+HEAD = ["limit 3", "worker gate 1"]
 GATE, REPLIES, MOST_OUTPUTS = "gate", 15, 4
 DEAD = "/dlq"
 
 
 def opened() -> Session:
     """Returns the session, for a `with` block."""
-    return Session(HEAD, on_full="rollover")
+    return Session(HEAD)
 
 
 class Refused(Exception):
@@ -98,11 +98,7 @@ class Queues:
         if output.destination not in self.stages:
             raise Refused(f"there is no destination {output.destination} to send to by itself")
         number = self.keep(output.message)
-        try:
-            element = self.session.submit(self.stages[output.destination], number).element
-        except refusals.Full as full:
-            del self.messages[number]
-            raise Refused("the queues are full") from full
+        element = self.session.submit(self.stages[output.destination], number).element
         self.wait(element)
         return element
 
@@ -136,12 +132,7 @@ class Queues:
 
     def commit(self, element: int, drafts: Sequence[Draft]) -> range:
         self.session.take(GATE, element)
-        try:
-            return self.session.commit(GATE, *drafts).outputs
-        except refusals.Full:
-            # The session has rolled over, and there may be room.
-            self.session.take(GATE, element)
-            return self.session.commit(GATE, *drafts).outputs
+        return self.session.commit(GATE, *drafts).outputs
 
     def finish(self, element: int) -> None:
         """Consumes an element of a queue, and takes a reply or a dead letter away."""

@@ -18,7 +18,7 @@ from pathlib import Path
 sys.path.insert(0, str(Path(__file__).resolve().parents[2] / "clients/python"))
 from covetrivet import Draft, Session, refusals  # noqa: E402
 
-HEAD = ["rows 64", "units 64", "worker clerk 1"]
+HEAD = ["worker clerk 1"]
 ORDERS, REPLIES = 6, 15
 
 

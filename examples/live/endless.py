@@ -1,8 +1,7 @@
 #!/usr/bin/env python3
-"""A queue without end: each order is taken, replied to and collected, and the session rolls over when a
-manager is used up.
+"""A queue without end: each order is taken, replied to and collected, and what is over is forgotten.
 
-One order of a hundred waits for the end. It is carried over each time, and its id stays the same.
+One order of a hundred waits for the end. It is there as long as it waits.
 """
 from __future__ import annotations
 
@@ -13,7 +12,7 @@ from pathlib import Path
 sys.path.insert(0, str(Path(__file__).resolve().parents[2] / "clients/python"))
 from covetrivet import Draft, Session  # noqa: E402
 
-HEAD = ["rows 64", "units 64", "worker clerk 1", "worker late 2"]
+HEAD = ["keep 10", "worker clerk 1", "worker late 2"]
 REPLIES = 15
 
 
@@ -28,13 +27,14 @@ def pay(session: Session, customer: int) -> int:
 
 def main() -> None:
     paid, late = 0, []
-    with Session(HEAD, on_full="rollover") as session:
+    with Session(HEAD) as session:
         for customer in range(2_000):
             if customer % 100 == 0:
                 late.append(session.submit(2, customer, 30).element)
             else:
                 paid += pay(session, customer)
-        print("paid", paid, "and more than one rollover" if session.rollovers > 1 else "")
+        known = sum(line.startswith("element ") for line in session.dump().lines)
+        print("paid", paid, "of", session.count().consumed // 2, "orders, and knows", known, "elements")
         print("waited:", all(session.read(it).status == "waiting 0" for it in late))
         while work := session.claim("late"):
             late.remove(work.element)

@@ -20,7 +20,7 @@ from typing import TypeVar
 sys.path.insert(0, str(Path(__file__).resolve().parents[2] / "clients/python"))
 from covetrivet import Client, Draft, Received, Session  # noqa: E402
 
-HEAD = ["rows 64", "units 64", "worker clerk 1", "register shop"]
+HEAD = ["worker clerk 1", "register shop"]
 ORDERS = [(customer, 30) for customer in (7, 8, 9)]
 STEPS, REPLIES = 5, 15
 T = TypeVar("T")

@@ -13,7 +13,7 @@ from pathlib import Path
 sys.path.insert(0, str(Path(__file__).resolve().parents[2] / "clients/python"))
 from covetrivet import Draft, Session, SessionEnded  # noqa: E402
 
-HEAD = ["rows 64", "units 64", "worker clerk 1", "worker late 2"]
+HEAD = ["keep 1", "worker clerk 1", "worker late 2"]
 REPLIES = 15
 
 
@@ -47,7 +47,7 @@ def main() -> None:
             print("lost by signal", -ended.status)
         print("lines of the log:", len(log.read_text(encoding="ascii").splitlines()))
         with opened(log) as session:
-            print("restored:", len(session.moved), "in hand:", session.units, "and then:", session.count())
+            print("in hand:", session.holds(), "of", session.count())
             print("done:", session.commit("late").element)
             while work := session.claim("late"):
                 print(work.words[0], end=" ")

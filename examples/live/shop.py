@@ -14,7 +14,7 @@ from pathlib import Path
 sys.path.insert(0, str(Path(__file__).resolve().parents[2] / "clients/python"))
 from covetrivet import Draft, Session, Work, refusals, submit  # noqa: E402
 
-HEAD = ["rows 16", "units 16", "limit 2", "worker clerk 1", "worker bank 2", "worker packer 3"]
+HEAD = ["limit 2", "worker clerk 1", "worker bank 2", "worker packer 3"]
 ORDERS = [(1, 30), (2, 70), (1, 50), (3, 20)]
 REPLIES = 15
 

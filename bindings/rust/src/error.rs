@@ -46,7 +46,7 @@ pub enum Error {
     BadDraft,
     /// Not all callers are at home.
     NotAll,
-    /// What stands in the new manager isn't what was alive in the old one: an error of the library.
+    /// What stands in the new manager isn't what was alive in the old one. No call tells it, which is proved.
     Unequal,
     /// The callers are of different managers, or the caller isn't of this one.
     OtherManager,

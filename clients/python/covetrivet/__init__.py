@@ -2,7 +2,7 @@
 
     from covetrivet import Draft, Session, refusals, submit
 
-    with Session(["rows 8", "server till eager 2 1 add", "worker packer 1"]) as session:
+    with Session(["server till eager 2 1 add", "worker packer 1"]) as session:
         session.submit(1, 5, 6)
         work = session.claim("packer")
         session.commit("packer", Draft(2, 0, 10), Draft(15, 5, 6))
@@ -14,9 +14,8 @@ once in a batch:
         asked = [batch.add(submit(1, customer, price)) for customer, price in orders]
     ids = [it.value.element for it in asked]
 
-One process owns a session, and all its threads may call it. A manager's rows and units are used once.
-`rollover` carries what is alive into a new one, and workers keep what they have in hand. A session with
-`on_full="rollover"` does so by itself, and the ids that it tells last.
+One process owns a session, and all its threads may call it. Ids are 0, 1, 2, .. in the order of births, for
+good.
 
 `dump` returns all that there is as lines, with which a new session goes on: `Session(session.dump().lines)`.
 `Session.open` has a session whose lines are in a journal on the disk before they are answered: it goes on
@@ -33,17 +32,15 @@ alone.
 """
 from covetrivet import refusals
 from covetrivet.answers import (
-    Account, Cancelled, Counts, Depth, Done, Draft, Dumped, Heard, Held, Killed, Last, LastWork, Left, Look,
-    Member, NotUnderstood, Received, Released, Reply, Requeued, RolledOver, Room, Sent, Submitted, UnitEnd,
-    Work,
+    Account, Cancelled, Counts, Depth, Done, Draft, Dumped, Heard, Held, Killed, Last, LastWork, Look, Member,
+    NotUnderstood, Received, Released, Reply, Requeued, Sent, Submitted, UnitEnd, Work,
 )  # fmt: skip
 from covetrivet.batch import Batch, Later
 from covetrivet.client import Client
 from covetrivet.commands import (
     Command, abort, account, balance, cancel, claim, claim_next, collect, commit, count, depth,
     drain, drain_next, drop, dump, errors, family, forget, holds, join, kill, last, last_work, leave,
-    prepare, read, receive, register, release, reply, requeue, rollover, room, send, submit, take, total,
-    turn, waiting,
+    prepare, read, receive, register, release, reply, requeue, send, submit, take, total, turn, waiting,
 )  # fmt: skip
 from covetrivet.faults import (
     Disconnected, JournalFault, LogFault, NoProgram, SessionBroken, SessionClosed, SessionEnded,
@@ -55,14 +52,13 @@ from covetrivet.session import Session
 
 __all__ = [
     "Account", "Batch", "Cancelled", "Client", "Command", "Counts", "Depth", "Disconnected", "Done",
-    "Draft", "Dumped", "Heard", "Held", "JournalFault", "Killed", "Last", "LastWork", "Later", "Left",
-    "LogFault", "Look", "Member", "NoProgram", "NotUnderstood", "Received", "Released", "Reply", "Requeued",
-    "RolledOver", "Room", "Sent", "Session", "SessionBroken", "SessionClosed", "SessionEnded",
-    "SessionFault", "Submitted", "UnitEnd", "Unknown", "Work", "abort", "account", "balance", "cancel",
-    "claim", "claim_next", "collect", "commit", "connect", "count", "depth", "drain", "drain_next", "drop",
-    "dump", "errors", "family", "forget", "holds", "join", "kill", "last", "last_work", "leave", "prepare",
-    "read", "receive", "refusals", "register", "release", "reply", "requeue", "rollover", "room", "send",
-    "submit", "take", "total", "turn", "waiting",
+    "Draft", "Dumped", "Heard", "Held", "JournalFault", "Killed", "Last", "LastWork", "Later", "LogFault",
+    "Look", "Member", "NoProgram", "NotUnderstood", "Received", "Released", "Reply", "Requeued", "Sent",
+    "Session", "SessionBroken", "SessionClosed", "SessionEnded", "SessionFault", "Submitted", "UnitEnd",
+    "Unknown", "Work", "abort", "account", "balance", "cancel", "claim", "claim_next", "collect", "commit",
+    "connect", "count", "depth", "drain", "drain_next", "drop", "dump", "errors", "family", "forget", "holds",
+    "join", "kill", "last", "last_work", "leave", "prepare", "read", "receive", "refusals", "register",
+    "release", "reply", "requeue", "send", "submit", "take", "total", "turn", "waiting",
 ]  # fmt: skip
 
 __version__ = version()

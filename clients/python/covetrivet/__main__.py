@@ -1,5 +1,5 @@
 """The command `covetrivet`, or `python3 -m covetrivet`: runs the program of sessions, tells what its lines
-are, and shares a session among processes.
+are, shares a session among processes, and converts dumps.
 """
 from __future__ import annotations
 
@@ -12,15 +12,16 @@ from covetrivet import NoProgram, program
 HELP = """\
 covetrivet [SESSION]    answers a session line by line, of a file or its input
 covetrivet serve, node, call, top   one session for many processes (--help)
+covetrivet convert [DUMP]   a dump of 0.22.1 or before, as the head of a session
 covetrivet --help, --version    COVETRIVET_PROGRAM names the program of sessions
-Head     rows N  units N  limit N  spare N   (to 256, 1024, 7, 256; these first)
-         worker NAME STAGE  workers N    1 to 8 letters, 1 to 14; N places
+Head     limit N  max N  keep N   attempts, 1 to 7; most alive; ended ones kept
+         worker NAME STAGE  register NAME   a name to 32 signs; 1 to 999 but 15
          server NAME eager|lazy STAGE REGISTERS add|take|pass OUT ..
          start NAME REGISTER N   OUT is STAGE:W0:W1[:W2[:W3]]; 15 replies
 Client   submit STAGE W0 W1 [W2 [W3]]                   submitted ID
          kill ID  cancel ROOT  requeue ID  release ID   killed ID aborted N ..
          reply ROOT  collect ROOT  family ROOT          replies ROOT ID:W0:W1 ..
-         read ID  errors  list STAGE [FROM]  depth  count  room  holds  account
+         read ID  errors  list STAGE [FROM]  depth  count  holds  account
          send NAME N STAGE W0 W1 ..  receive NAME N [ROOT]   N counts from 1
          register NAME  last NAME  forget NAME          last also of a worker
 Worker   claim NAME         NAME work ID unit U attempt N root R body W0:..:W3
@@ -29,25 +30,25 @@ Worker   claim NAME         NAME work ID unit U attempt N root R body W0:..:W3
          abort NAME         NAME aborted ID; worker NAME STAGE  leave NAME
 Server   turn NAME   claim, next, take, prepare, commit, abort, drop NAME
          balance NAME REGISTER    sum REGISTER    drain    drain next
-All      rollover           rolled over N OLD:NEW ..  used rows are free again
-         dump, restore      dumped N, and N lines (alive ..) to go on from
-Refused  refused [line L:] K WHY [U]
-         NAME idle, busy, none, nounit, lost, full, ended or refused ID WHY
-One answer each, in order. More: docs/LIVE.md, DURABLE.md, SERVICE.md
+All      dump, restore      dumped N, and N lines: the head of the same session
+Refused  refused [line L:] K WHY [U]; NAME idle, busy, none, lost, ended or
+         refused ID WHY. One answer each, in order. More: docs/LIVE.md
 """
 
 
-SHARED = ("serve", "node", "call", "top")
+WORDS = ("serve", "node", "call", "top", "convert")
 
 
-def shared(command: str, words: Sequence[str]) -> int:
-    """Runs a command of a session that processes share."""
+def run_word(command: str, words: Sequence[str]) -> int:
+    """Runs a command that is more than the program of sessions."""
     if command == "serve":
         from covetrivet.serve import serve as run
     elif command == "node":
         from covetrivet.node import node as run
     elif command == "call":
         from covetrivet.call import call as run
+    elif command == "convert":
+        from covetrivet.convert import convert as run
     else:
         from covetrivet.top import top as run
     return run(words)
@@ -63,8 +64,8 @@ def main(words: Sequence[str] | None = None) -> int:
     program.
     """
     given = list(sys.argv[1:] if words is None else words)
-    if given[:1] and given[0] in SHARED:
-        return shared(given[0], given[1:])
+    if given[:1] and given[0] in WORDS:
+        return run_word(given[0], given[1:])
     if given in (["--help"], ["-h"]):
         print(HELP, end="")
         return 0

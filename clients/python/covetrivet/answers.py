@@ -1,9 +1,9 @@
 """What calls return, and how an answer's line is read. docs/LIVE.md has the lines."""
 from __future__ import annotations
 
+import operator
 import re
-from collections.abc import Callable
-from dataclasses import dataclass, field
+from dataclasses import dataclass, fields
 
 from covetrivet import refusals
 from covetrivet.faults import Unknown
@@ -96,8 +96,8 @@ class Reply:
 
 @dataclass(frozen=True)
 class Sent:
-    """A client's send of this number is made. `element` is what it submitted; None where a rollover has left
-    that behind, and of an earlier send than the last.
+    """A client's send of this number is made. `element` is what it submitted; of an earlier send than the
+    last that is None.
     """
 
     number: int
@@ -106,13 +106,11 @@ class Sent:
 
 @dataclass(frozen=True)
 class Received:
-    """A client's receive of this number: the reply's id, its request's, and its words. An id is None where a
-    rollover has left it behind.
-    """
+    """A client's receive of this number: the reply's id, its request's, and its words."""
 
     number: int
-    element: int | None
-    root: int | None
+    element: int
+    root: int
     words: Words
 
 
@@ -128,15 +126,14 @@ class Last:
 
 @dataclass(frozen=True)
 class UnitEnd:
-    """How a worker's last unit ended: `done`, `aborted`, `lost` or `full`. Of one that is done: the unit, its
-    first output and how many there were. An id is None where a rollover has left it behind.
+    """How a worker's last unit ended: `done`, `aborted` or `lost`. Of one that is done: the unit, and the ids
+    of its outputs.
     """
 
     how: str
-    element: int | None
+    element: int
     unit: int | None = None
-    first: int | None = None
-    outputs: int = 0
+    outputs: range = range(0)
 
 
 @dataclass(frozen=True)
@@ -195,24 +192,6 @@ class Depth:
 
 
 @dataclass(frozen=True)
-class Left:
-    """How many rows and units are left to the client, or to a server or worker."""
-
-    rows: int
-    units: int
-
-
-@dataclass(frozen=True)
-class Room:
-    """What is left: to the client, to each server and worker by its name, and to all of them in spare blocks.
-    """
-
-    client: Left
-    others: dict[str, Left]
-    spare: int
-
-
-@dataclass(frozen=True)
 class Held:
     """An open unit of a server or worker, and the element that it took. `attempt` is None where another
     caller has aborted the unit.
@@ -237,35 +216,27 @@ class Account:
 
 
 @dataclass(frozen=True)
-class RolledOver:
-    """What is alive, by its id in the old manager, and its id in the new one; by each worker that has an
-    element in hand the id of that one; and the root of what is alive where that isn't alive itself, by its
-    old id.
-    """
-
-    moved: dict[int, int]
-    units: dict[str, int] = field(default_factory=dict)
-    roots: dict[int, int] = field(default_factory=dict)
-
-
-@dataclass(frozen=True)
 class Dumped:
-    """All that there is, as the lines of a session that goes on from there. Where ids last, comments among
-    them say which.
-    """
+    """All that there is, as the lines of a session that goes on from there."""
 
     lines: tuple[str, ...]
 
 
 @dataclass(frozen=True)
 class Draft:
-    """An output of a commit: its stage, which is 15 for a reply, and its words."""
+    """An output of a commit: its stage, which is 15 for a reply, and its words. TypeError where one of these
+    is no whole number.
+    """
 
     stage: int
     zero: int = 0
     one: int = 0
     two: int = 0
     three: int = 0
+
+    def __post_init__(self) -> None:
+        for it in fields(self):
+            operator.index(getattr(self, it.name))
 
     def __str__(self) -> str:
         return ":".join(f"{it:d}" for it in (self.stage, self.zero, self.one, self.two, self.three))
@@ -275,36 +246,23 @@ class NotUnderstood(ValueError):
     """An answer hasn't the form that its command's answers have. The session is broken then."""
 
 
-def as_it_is(_name: str, element: int) -> int:
-    return element
-
-
 @dataclass(frozen=True)
 class Heard:
-    """The answer to a command. `told` makes of the program's id of an element the one by which the session
-    tells it, and `of_lost` of that which the worker of this name has lost.
-    """
+    """The answer to a command."""
 
     text: str
     command: str
-    told: Callable[[int], int] = int
-    of_lost: Callable[[str, int], int] = as_it_is
 
     def numbers(self, form: str) -> tuple[int, ...]:
-        """Returns the numbers of an answer of this form. In it each N is a number, and each E an element's
-        id, which is told as the session tells it.
-        """
-        found = self.formed(re.sub("[NE]", "([0-9]+)", form))
-        kinds = re.findall("[NE]", form)
-        told = zip(kinds, map(int, found.groups()))
-        return tuple(self.told(it) if kind == "E" else it for kind, it in told)
+        """Returns the numbers of an answer of this form, in which each N is one."""
+        return tuple(map(int, self.formed(form.replace("N", "([0-9]+)")).groups()))
 
     def behind(self, first: str) -> Heard:
         """Returns what is behind the first word, which must be this one."""
         word, _, rest = self.text.partition(" ")
         if word != first:
-            raise NotUnderstood(f"{self.command!r} was answered {self.text!r}")
-        return Heard(rest, self.command, self.told)
+            raise self.not_understood()
+        return Heard(rest, self.command)
 
     def listed(self, form: str) -> list[str]:
         """Returns the words behind those of the form."""
@@ -312,23 +270,31 @@ class Heard:
         Heard(" ".join(words[: len(wanted)]), self.command).numbers(form)
         return words[len(wanted) :]
 
-    def noted(self, word: str) -> int | None:
-        """Returns an id as the session tells it, or None where it is `gone`."""
-        return None if word == "gone" else self.elements([word])[0]
+    def ids(self, form: str) -> tuple[int, ...]:
+        """Returns the numbers behind the words of the form."""
+        return self.ids_in(self.listed(form))
+
+    def ids_in(self, words: list[str]) -> tuple[int, ...]:
+        if not all(it.isdecimal() for it in words):
+            raise self.not_understood()
+        return tuple(map(int, words))
 
     def of_number(self, first: str, client: str, nth: int) -> list[str]:
         """Returns the words behind those that name a client's send or receive."""
         words = self.text.split(" ")
         if words[:3] != [first, client, str(nth)] or len(words) == 3:
-            raise NotUnderstood(f"{self.command!r} was answered {self.text!r}")
+            raise self.not_understood()
         return words[3:]
 
     def formed(self, form: str) -> re.Match[str]:
         """Returns what the groups of this form are in the answer."""
         found = re.fullmatch(form, self.text)
         if not found:
-            raise NotUnderstood(f"{self.command!r} was answered {self.text!r}")
+            raise self.not_understood()
         return found
+
+    def not_understood(self) -> NotUnderstood:
+        return NotUnderstood(f"{self.command!r} was answered {self.text!r}")
 
     def refused(self) -> None:
         """Raises the refusal that the answer is, by its name, if it is one that any command may have; or
@@ -340,7 +306,7 @@ class Heard:
         if found:
             kind = refusals.BY_NAME.get(found[1])
             if kind is None:
-                raise NotUnderstood(f"{self.command!r} was answered {self.text!r}")
+                raise self.not_understood()
             raise kind(self.command, unit=int(found[2]) if found[2] else None)
 
     def said_of(self, name: str) -> Heard:
@@ -349,18 +315,14 @@ class Heard:
         first, *others = said.text.split(" ")
         kind = refusals.BY_WORD.get(first)
         if kind and len(others) <= 1:
-            raise kind(self.command, name, said.elements(others)[0] if others else None)
+            raise kind(self.command, name, int(others[0]) if others else None)
         if first == "refused" and len(others) == 2:
             why = refusals.BY_NAME.get(others[1])
-            element = said.elements(others[:1])[0]
+            element = int(others[0])
             if why:
                 raise why(self.command, name, element)
             raise refusals.Declined(self.command, name, element, reason=others[1])
         return said
-
-    def elements(self, words: list[str]) -> tuple[int, ...]:
-        """Returns ids, as the session tells them."""
-        return Heard(" ".join(words), self.command, self.told).numbers(" ".join("E" * len(words)))
 
 
 def words_of(text: str) -> Words:
@@ -368,16 +330,3 @@ def words_of(text: str) -> Words:
     words = [int(it) for it in text.split(":")]
     zero, one, two, three = words + [0] * (4 - len(words))
     return zero, one, two, three
-
-
-def carried_of(listed: list[str]) -> tuple[dict[int, int], dict[str, int], dict[int, int]]:
-    """Returns what is listed as OLD:NEW, behind `units` as NAME:NEW, and behind `roots` as OLD:NEW."""
-    parts: dict[str, list[list[str]]] = {"moved": [], "roots": [], "units": []}
-    part = parts["moved"]
-    for word in listed:
-        if word in parts:
-            part = parts[word]
-        else:
-            part.append(word.split(":"))
-    moved, roots = ({int(old): int(new) for old, new in parts[it]} for it in ("moved", "roots"))
-    return moved, {name: int(new) for name, new in parts["units"]}, roots

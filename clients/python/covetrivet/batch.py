@@ -7,7 +7,6 @@ from typing import Any, Generic, TypeVar
 
 from covetrivet.commands import Command
 from covetrivet.faults import Unknown
-from covetrivet.lines import is_rollover
 from covetrivet.refusals import Refusal
 
 T = TypeVar("T")
@@ -51,13 +50,9 @@ class Batch:
         self.has_ended = False
 
     def add(self, command: Command[T]) -> Later[T]:
-        """Adds a command. ValueError for a rollover, behind which ids are others, and where the batch has
-        ended.
-        """
+        """Adds a command. ValueError where the batch has ended."""
         if self.has_ended:
             raise ValueError("the batch has ended")
-        if is_rollover(command.line):
-            raise ValueError("a rollover can't be part of a batch")
         later = Later(command)
         self.asked.append(later)
         return later

@@ -6,7 +6,6 @@ from __future__ import annotations
 import operator
 import re
 from collections.abc import Callable
-from dataclasses import dataclass
 from typing import Generic, TypeVar
 
 from covetrivet import answers, refusals
@@ -16,29 +15,17 @@ T = TypeVar("T")
 
 
 class Command(Generic[T]):
-    """A line, by its words, and what its answer is read as. `element` is the id at its end, as the session
-    tells it, where there is one.
+    """A line, by its words, and what its answer is read as.
 
     ValueError where a word is empty or has a byte that no word has, or where the line would be a comment: it
     would have no answer.
     """
 
-    def __init__(self, *words: object, read: Callable[[Heard], T], element: int | None = None) -> None:
-        self.words = tuple(str(it) for it in words)
-        self.read = read
-        self.element = None if element is None else number(element)
-        wrong = [it for it in self.words if not re.fullmatch("[!-~]+", it)]
-        if wrong or not self.words or self.words[0].startswith("#"):
-            raise ValueError(f"this can't be a command: {' '.join(self.words)!r}")
-
-    @property
-    def line(self) -> str:
-        """The line as the caller gave it."""
-        return self.with_id(self.element)
-
-    def with_id(self, element: int | None) -> str:
-        """Returns the line with this id at its end."""
-        return " ".join(self.words if element is None else (*self.words, str(element)))
+    def __init__(self, *words: object, read: Callable[[Heard], T]) -> None:
+        told = [str(it) for it in words]
+        self.line, self.read = " ".join(told), read
+        if not all(re.fullmatch("[!-~]+", it) for it in told) or not told or self.line.startswith("#"):
+            raise ValueError(f"this can't be a command: {self.line!r}")
 
 
 def number(value: int) -> int:
@@ -50,7 +37,7 @@ def submit(stage: int, *words: int) -> Command[answers.Submitted]:
     """The client submits an element into the stage, with up to four words, 0 to 2^64 - 1."""
     told = [*words, *[0] * (2 - len(words))]
     line = "submit", number(stage), *map(number, told)
-    return Command(*line, read=lambda it: answers.Submitted(*it.numbers("submitted E")))
+    return Command(*line, read=lambda it: answers.Submitted(*it.numbers("submitted N")))
 
 
 def work(name: str) -> Callable[[Heard], answers.Work | None]:
@@ -59,19 +46,18 @@ def work(name: str) -> Callable[[Heard], answers.Work | None]:
         if said.text == "idle":
             return None
         shown, _, body = said.text.partition(" body ")
-        taken = Heard(shown, heard.command, heard.told)
+        taken = Heard(shown, heard.command)
         if not body:
-            element, unit, attempt = taken.numbers("work E unit N attempt N")
+            element, unit, attempt = taken.numbers("work N unit N attempt N")
             return answers.Work(element, unit, attempt)
-        element, unit, attempt, root = taken.numbers("work E unit N attempt N root E")
+        element, unit, attempt, root = taken.numbers("work N unit N attempt N root N")
         return answers.Work(element, unit, attempt, root, answers.words_of(body))
 
     return read
 
 
 def done(heard: Heard) -> answers.Done:
-    element, unit, count = heard.numbers("done E unit N outputs [0-9]+ N")
-    first = heard.told(int(heard.text.split(" ")[5])) if count else 0
+    element, unit, first, count = heard.numbers("done N unit N outputs N N")
     return answers.Done(element, unit, range(first, first + count))
 
 
@@ -91,7 +77,7 @@ def claim_next(name: str) -> Command[answers.Work | None]:
 
 def take(name: str, element: int) -> Command[answers.Work | None]:
     """The worker or server takes this element, with a new unit of work."""
-    return Command("take", name, element=element, read=work(name))
+    return Command("take", name, number(element), read=work(name))
 
 
 def commit(name: str, *drafts: Draft) -> Command[answers.Done]:
@@ -101,24 +87,24 @@ def commit(name: str, *drafts: Draft) -> Command[answers.Done]:
 
 def abort(name: str) -> Command[int]:
     """The worker or server aborts its unit. The element's id is returned."""
-    return Command("abort", name, read=lambda it: it.said_of(name).numbers("aborted E")[0])
+    return Command("abort", name, read=lambda it: it.said_of(name).numbers("aborted N")[0])
 
 
 def join(name: str, stage: int) -> Command[None]:
-    """A worker of this stage comes (`worker`, behind the head): it takes the first free place. BadLimits
-    where there is none, and BadName where a worker, a server or a client has the name.
+    """A worker of this stage comes (`worker`, behind the head). BadName where a worker, a server or a client
+    has the name.
     """
-    return Command("worker", name, number(stage), read=lambda it: nothing(f"joined {name}")(it))
+    return Command("worker", name, number(stage), read=said(f"joined {name}"))
 
 
 def leave(name: str) -> Command[int | None]:
-    """The worker gives up what it has in hand, and leaves: its place is free. The element that it had in hand
-    is returned, if there was one, also where another caller had aborted its unit.
+    """The worker gives up what it has in hand, and is gone. The element that it had in hand is returned, if
+    there was one, also where another caller had aborted its unit.
     """
 
     def read(heard: Heard) -> int | None:
-        found = heard.formed(rf"left {name} (?:none|(?:aborted|already) (\d+))")
-        return heard.elements([found[1]])[0] if found[1] else None
+        found = heard.behind("left").behind(name).formed(r"none|(?:aborted|already) (\d+)")
+        return int(found[1]) if found[1] else None
 
     return Command("leave", name, read=read)
 
@@ -133,106 +119,103 @@ def turn(name: str) -> Command[answers.Done | None]:
     return Command("turn", name, read=read)
 
 
-def nothing(form: str) -> Callable[[Heard], None]:
+def said(text: str) -> Callable[[Heard], None]:
+    """Returns what reads this answer, which tells nothing."""
+
     def read(heard: Heard) -> None:
-        heard.numbers(form)
+        if heard.text != text:
+            raise heard.not_understood()
 
     return read
 
 
 def prepare(name: str) -> Command[None]:
     """The server prepares its work on what it has claimed."""
-    return Command("prepare", name, read=lambda it: nothing("ready")(it.said_of(name)))
+    return Command("prepare", name, read=lambda it: said("ready")(it.said_of(name)))
 
 
 def drop(name: str) -> Command[None]:
-    """The server's desk is dropped."""
-    return Command("drop", name, read=lambda it: nothing("dropped")(it.said_of(name)))
+    """The server takes nothing any more, and gives up what it has in hand."""
+    return Command("drop", name, read=lambda it: said("dropped")(it.said_of(name)))
 
 
 def kill(element: int) -> Command[answers.Killed]:
     """An element is killed."""
-    form = "killed E aborted N"
-    return Command("kill", element=element, read=lambda it: answers.Killed(*it.numbers(form)))
+    form = "killed N aborted N"
+    return Command("kill", number(element), read=lambda it: answers.Killed(*it.numbers(form)))
 
 
 def cancel(root: int) -> Command[answers.Cancelled]:
     """A whole request is cancelled."""
-    form = "cancelled E killed N"
-    return Command("cancel", element=root, read=lambda it: answers.Cancelled(*it.numbers(form)))
+    form = "cancelled N killed N"
+    return Command("cancel", number(root), read=lambda it: answers.Cancelled(*it.numbers(form)))
 
 
 def requeue(element: int) -> Command[answers.Requeued]:
     """A parked element is given another round of attempts, three times at most."""
-    form = "requeued E round N"
-    return Command("requeue", element=element, read=lambda it: answers.Requeued(*it.numbers(form)))
+    form = "requeued N round N"
+    return Command("requeue", number(element), read=lambda it: answers.Requeued(*it.numbers(form)))
 
 
 def release(element: int) -> Command[answers.Released]:
     """The unit that holds the element is aborted."""
-    form = "released E unit N attempt N"
-    return Command("release", element=element, read=lambda it: answers.Released(*it.numbers(form)))
+    form = "released N unit N attempt N"
+    return Command("release", number(element), read=lambda it: answers.Released(*it.numbers(form)))
 
 
 def read(element: int) -> Command[answers.Look]:
     """An element is read."""
 
     def look(heard: Heard) -> answers.Look:
-        ids, words = r"(\d+ stage \d+ root \d+)", r"key (\d+) amount (\d+)(?: more (\d+) (\d+))?"
-        found = re.fullmatch(rf"{ids} {words} by (\w+) (.+)", heard.text)
-        if not found:
-            raise answers.NotUnderstood(f"{heard.command!r} was answered {heard.text!r}")
-        element, stage, root = Heard(found[1], heard.command, heard.told).numbers("E stage N root E")
-        body = answers.words_of(":".join(it or "0" for it in found.groups()[1:5]))
-        return answers.Look(element, stage, root, body, found[6], found[7])
+        ids, words = r"(\d+) stage (\d+) root (\d+)", r"key (\d+) amount (\d+)(?: more (\d+) (\d+))?"
+        *told, by, status = heard.formed(rf"{ids} {words} by (\w+) (.+)").groups()
+        element, stage, root, zero, one, two, three = (int(it or 0) for it in told)
+        return answers.Look(element, stage, root, (zero, one, two, three), by, status)
 
-    return Command("read", element=element, read=look)
+    return Command("read", number(element), read=look)
 
 
 def replies(form: str) -> Callable[[Heard], tuple[Reply, ...]]:
     def read(heard: Heard) -> tuple[Reply, ...]:
-        listed = [it.split(":", 1) for it in heard.listed(form)]
-        ids = heard.elements([it[0] for it in listed])
-        return tuple(Reply(element, answers.words_of(body)) for element, (_, body) in zip(ids, listed))
+        listed = (it.split(":", 1) for it in heard.listed(form))
+        return tuple(Reply(int(element), answers.words_of(body)) for element, body in listed)
 
     return read
 
 
 def reply(root: int) -> Command[tuple[Reply, ...]]:
     """The replies to a request are listed."""
-    return Command("reply", element=root, read=replies("replies N"))
+    return Command("reply", number(root), read=replies("replies N"))
 
 
 def collect(root: int) -> Command[tuple[Reply, ...]]:
     """The replies to a request are listed and killed: each is listed once."""
-    return Command("collect", element=root, read=replies("collected N"))
+    return Command("collect", number(root), read=replies("collected N"))
 
 
 def family(root: int) -> Command[tuple[answers.Member, ...]]:
     """The elements of a request are listed, each with its stage and state."""
 
     def read(heard: Heard) -> tuple[answers.Member, ...]:
-        listed = [it.split(":") for it in heard.listed("family N")]
-        ids = heard.elements([it[0] for it in listed])
-        told = zip(ids, listed)
-        return tuple(answers.Member(element, int(stage), state) for element, (_, stage, state) in told)
+        listed = (it.split(":") for it in heard.listed("family N"))
+        return tuple(answers.Member(int(element), int(stage), state) for element, stage, state in listed)
 
-    return Command("family", element=root, read=read)
+    return Command("family", number(root), read=read)
 
 
 def errors() -> Command[tuple[int, ...]]:
     """The parked elements are listed."""
-    return Command("errors", read=lambda it: it.elements(it.listed("errors")))
+    return Command("errors", read=lambda it: it.ids("errors"))
 
 
 def register(client: str) -> Command[None]:
     """A client that may crash is registered. One that is already stays as it is."""
-    return Command("register", client, read=lambda it: nothing(f"registered {client}")(it))
+    return Command("register", client, read=said(f"registered {client}"))
 
 
 def forget(client: str) -> Command[None]:
     """A client's counts are gone, and its requests are nobody's."""
-    return Command("forget", client, read=lambda it: nothing(f"forgotten {client}")(it))
+    return Command("forget", client, read=said(f"forgotten {client}"))
 
 
 def send(client: str, nth: int, stage: int, *words: int) -> Command[answers.Sent]:
@@ -242,7 +225,7 @@ def send(client: str, nth: int, stage: int, *words: int) -> Command[answers.Sent
 
     def read(heard: Heard) -> answers.Sent:
         (element,) = heard.of_number("sent", client, nth)
-        return answers.Sent(nth, None if element == "done" else heard.noted(element))
+        return answers.Sent(nth, None if element == "done" else int(element))
 
     return Command("send", client, *told, read=read)
 
@@ -253,31 +236,32 @@ def receive(client: str, nth: int, root: int | None = None) -> Command[answers.R
     an earlier one.
     """
     nth = number(nth)
+    of_root = () if root is None else (number(root),)
 
     def read(heard: Heard) -> answers.Received | None:
         element, *others = heard.of_number("received", client, nth)
         if element == "done":
             raise refusals.Past(heard.command)
-        return received(heard, nth, element, *others) if others else None
+        return received(nth, element, *others) if others else None
 
-    return Command("receive", client, nth, element=root, read=read)
+    return Command("receive", client, nth, *of_root, read=read)
 
 
-def received(heard: Heard, nth: int, element: str, root: str, body: str) -> answers.Received:
-    return answers.Received(nth, heard.noted(element), heard.noted(root), answers.words_of(body))
+def received(nth: int, element: str, root: str, body: str) -> answers.Received:
+    return answers.Received(nth, int(element), int(root), answers.words_of(body))
 
 
 def last(client: str) -> Command[answers.Last]:
     """What a client has sent and received. BadName of a worker's name."""
-    sends, receives = r"sent (\d+)(?: (\d+|gone))?", r"received (\d+)(?: (\d+|gone) (\d+|gone) ([\d:]+))?"
+    form = r"sent (\d+)(?: (\d+))? received (\d+)(?: (\d+) (\d+) ([\d:]+))?"
 
     def read(heard: Heard) -> answers.Last:
-        if heard.text.startswith(f"last {client} hand "):
+        told = heard.behind("last").behind(client)
+        if told.text.startswith("hand "):
             raise refusals.BadName(heard.command, worker=client)
-        found = heard.formed(rf"last {client} {sends} {receives}")
-        sent, element, nth, reply, root, body = found.groups()
-        taken = received(heard, int(nth), reply, root, body) if reply else None
-        return answers.Last(int(sent), heard.noted(element) if element else None, int(nth), taken)
+        sent, element, nth, *reply = told.formed(form).groups()
+        taken = received(int(nth), *reply) if reply[0] else None
+        return answers.Last(int(sent), int(element) if element else None, int(nth), taken)
 
     return Command("last", client, read=read)
 
@@ -286,32 +270,26 @@ def last_work(worker: str) -> Command[answers.LastWork]:
     """What a worker has in hand, and how its last unit ended (`last`, of a worker). BadName of a client's
     name.
     """
-    hand = r"none|lost (\d+)|(\d+ unit \d+ attempt \d+ root \d+) body ([\d:]+)"
-    end = r"none|(aborted|lost|full) (\d+|gone)|done (\d+|gone) unit (\d+) outputs (\d+|gone) (\d)"
+    hand = r"none|lost (\d+)|(\d+) unit (\d+) attempt (\d+) root (\d+) body ([\d:]+)"
+    end = r"none|(aborted|lost) (\d+)|done (\d+) unit (\d+) outputs (\d+) (\d)"
 
     def read(heard: Heard) -> answers.LastWork:
-        if heard.text.startswith(f"last {worker} sent "):
+        told = heard.behind("last").behind(worker)
+        if told.text.startswith("sent "):
             raise refusals.BadName(heard.command, worker=worker)
-        lost, taken, body, *ended = heard.formed(rf"last {worker} hand (?:{hand}) (?:{end})").groups()
+        found = told.formed(rf"hand (?:{hand}) (?:{end})").groups()
+        lost, *numbers, body, how, of, element, unit, first, many = found
         work = None
-        if taken:
-            said = Heard(taken, heard.command, heard.told)
-            element, unit, attempt, root = said.numbers("E unit N attempt N root E")
-            work = answers.Work(element, unit, attempt, root, answers.words_of(body))
-        known = heard.of_lost(worker, int(lost)) if lost else None
-        return answers.LastWork(work, known, unit_end(heard, *ended))
+        if body:
+            held, unit_held, attempt, root = map(int, numbers)
+            work = answers.Work(held, unit_held, attempt, root, answers.words_of(body))
+        ended = answers.UnitEnd(how, int(of)) if how else None
+        if element:
+            outputs = range(int(first), int(first) + int(many))
+            ended = answers.UnitEnd("done", int(element), int(unit), outputs)
+        return answers.LastWork(work, int(lost) if lost else None, ended)
 
     return Command("last", worker, read=read)
-
-
-def unit_end(heard: Heard, how: str | None, of: str, element: str, *done: str) -> answers.UnitEnd | None:
-    if how:
-        return answers.UnitEnd(how, heard.noted(of))
-    if not element:
-        return None
-    unit, first, outputs = done
-    made = heard.noted(first) if int(outputs) else None
-    return answers.UnitEnd("done", heard.noted(element), int(unit), made, int(outputs))
 
 
 def count() -> Command[answers.Counts]:
@@ -330,56 +308,30 @@ def depth() -> Command[tuple[answers.Depth, ...]]:
     return Command("depth", read=read)
 
 
-def room() -> Command[answers.Room]:
-    """How many rows and units are left to the client and to each server and worker, and how many spare
-    blocks.
-    """
-
-    def read(heard: Heard) -> answers.Room:
-        found = heard.formed(r"room client (\d+:\d+)((?: [-a-z\d]+ \d+:\d+)*) spare (\d+)")
-        words = found[2].split()
-        others = {name: left(told) for name, told in zip(words[::2], words[1::2])}
-        return answers.Room(left(found[1]), others, int(found[3]))
-
-    return Command("room", read=read)
-
-
-def left(told: str) -> answers.Left:
-    rows, units = map(int, told.split(":"))
-    return answers.Left(rows, units)
-
-
 def holds() -> Command[tuple[answers.Held, ...]]:
     """Each open unit: who has it, and the element that it took."""
 
     def read(heard: Heard) -> tuple[answers.Held, ...]:
-        found = [held.fullmatch(it) for it in heard.listed("holds")]
-        if None in found:
-            raise answers.NotUnderstood(f"{heard.command!r} was answered {heard.text!r}")
-        parts = [it.groups() for it in found if it]
-        ids = heard.elements([element for _, element, _, _ in parts])
+        parts = [it.split(":") for it in heard.listed("holds")]
         return tuple(
-            answers.Held(name, element, int(unit), None if attempt == "lost" else int(attempt))
-            for (name, _, unit, attempt), element in zip(parts, ids)
+            answers.Held(name, int(element), int(unit), None if attempt == "lost" else int(attempt))
+            for name, element, unit, attempt in parts
         )
 
-    held = re.compile(r"([a-z]{1,8}):(\d+):(\d+):(\d+|lost)")
     return Command("holds", read=read)
 
 
 def waiting(stage: int, start: int = 0) -> Command[tuple[int, ...]]:
-    """What waits in a stage, 1 to 15, is listed from an id on (`list`, which is a word of Python), at most
+    """What waits in a stage, 1 to 999, is listed from an id on (`list`, which is a word of Python), at most
     200 ids. The next list starts at the last one plus 1.
     """
-    return Command("list", number(stage), element=start, read=lambda it: it.elements(it.listed("list N")))
+    return Command("list", number(stage), number(start), read=lambda it: it.ids("list N"))
 
 
 def balance(name: str, register: int) -> Command[int | None]:
     """A register of a server, or None where it has no such one."""
 
     def read(heard: Heard) -> int | None:
-        if heard.text == f"{name} ended":
-            heard.said_of(name)
         told = heard.behind("balance").behind(name)
         if re.fullmatch(r"\d+ none", told.text):
             return None
@@ -399,26 +351,24 @@ def account() -> Command[answers.Account]:
     return Command("account", read=lambda it: answers.Account(*it.numbers(form)))
 
 
-def drain() -> Command[None]:
-    """The servers take turns until a round of them finds nothing."""
-    return Command("drain", read=nothing("drained"))
-
-
-def drain_next() -> Command[None]:
-    """The same by turns that take elements in turn."""
-    return Command("drain", "next", read=nothing("drained"))
-
-
-def rollover() -> Command[answers.RolledOver]:
-    """What is alive goes on in a new manager of the same limits, what a worker has in hand in its hand. Not
-    for a batch. Busy where a unit of a server's desk is open.
+def drain() -> Command[bool]:
+    """The servers take turns until a round of them finds nothing. False where a thousand rounds each found
+    something: more may wait.
     """
-    form = "rolled over N"
-    return Command("rollover", read=lambda it: answers.RolledOver(*answers.carried_of(it.listed(form))))
+    return Command("drain", read=drained)
+
+
+def drain_next() -> Command[bool]:
+    """The same by turns that take elements in turn."""
+    return Command("drain", "next", read=drained)
+
+
+def drained(heard: Heard) -> bool:
+    return not heard.formed("drained( so far)?")[1]
 
 
 def dump() -> Command[answers.Dumped]:
-    """All that there is is told as the lines of a session. Busy where a unit of a server's desk is open."""
+    """All that there is is told as the lines of a session."""
 
     def read(heard: Heard) -> answers.Dumped:
         first, *lines = heard.text.split("\n")
@@ -427,19 +377,3 @@ def dump() -> Command[answers.Dumped]:
         return answers.Dumped(tuple(it[2:] for it in lines))
 
     return Command("dump", read=read)
-
-
-@dataclass(frozen=True)
-class Restored:
-    """What a restore made alive: by each id in the head its id from then on; by each worker that has an
-    element in hand the id of that one; and the root of what is alive where that isn't alive itself.
-    """
-
-    moved: dict[int, int]
-    units: dict[str, int]
-    roots: dict[int, int]
-
-
-def restore() -> Command[Restored]:
-    """The first command behind a head that says what is alive. A session sends it by itself."""
-    return Command("restore", read=lambda it: Restored(*answers.carried_of(it.listed("restored N"))))

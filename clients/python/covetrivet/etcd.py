@@ -1,14 +1,15 @@
 """A shared log that etcd keeps, by its JSON gateway.
 
-Its keys, behind a prefix: `leader`, which is bound to the leader's lease; `log/PLACE`; and `base`. Each
-change is a transaction that compares the revision in which this leader's key was created. So one that leads
-no more changes nothing.
+Its keys, behind a prefix: `leader`, which is bound to the leader's lease; `log/PLACE`; `base`, without
+its lines; and `base/PLACE/NUMBER`, which has a piece of them. Each change is a transaction that compares the
+revision in which this leader's key was created. So one that leads no more changes nothing.
 """
 from __future__ import annotations
 
 import base64
 import contextlib
 import http.client
+import itertools
 import json
 import ssl
 import threading
@@ -21,12 +22,18 @@ from urllib.parse import urlsplit
 from covetrivet.shared_log import Base, InDoubt, LogLost, Record, Token
 
 RECORDS_AT_ONCE = 100
-# A request has at most 1.5 MiB (etcd's --max-request-bytes). Dumps are compressed, and are smaller then.
+# A request has at most 1.5 MiB (etcd's --max-request-bytes). Dumps are compressed, and put in such pieces.
+PIECE = 1 << 20
 Json = dict[str, Any]
 
 
 def coded(text: str | bytes) -> str:
     return base64.b64encode(text.encode() if isinstance(text, str) else text).decode()
+
+
+def unpacked(pieces: Sequence[Json]) -> str:
+    """Returns the text of which these keys have the pieces, compressed."""
+    return zlib.decompress(b"".join(base64.b64decode(it["value"]) for it in pieces)).decode()
 
 
 class Gateway:
@@ -112,6 +119,9 @@ class EtcdLog:
     def place(self, place: int) -> str:
         return self.key(f"log/{place:016d}")
 
+    def piece(self, place: int, number: int = 0) -> str:
+        return self.key(f"base/{place:016d}/{number:06d}")
+
     def mine(self, token: Token) -> Json:
         """Returns the comparison that this node leads still."""
         return {"key": self.key("leader"), "target": "CREATE", "create_revision": str(token.term)}
@@ -178,21 +188,31 @@ class EtcdLog:
     def base(self, behind: int) -> Base | None:
         # (one that was read already is not sent again)
         newer = self.base_revision + 1 if behind >= self.base_place else 0
-        asked = {"key": self.key("base"), "min_mod_revision": newer}
-        found = self.gateway.call("/v3/kv/range", asked).get("kvs")
-        if not found:
+        asked = {"key": self.key("base"), "range_end": self.key("base0"), "min_mod_revision": newer}
+        found = {it["key"]: it for it in self.gateway.call("/v3/kv/range", asked).get("kvs", [])}
+        if self.key("base") not in found:
             return None
         try:
-            base = Base.of(zlib.decompress(base64.b64decode(found[0]["value"])).decode())
+            base = Base.of(unpacked([found[self.key("base")]]))
+            names = (self.piece(base.place, it) for it in itertools.count())
+            lines = unpacked([found[it] for it in itertools.takewhile(found.__contains__, names)])
         except zlib.error as fault:
             raise LogLost(f"{self.prefix}base isn't the base of a log: {fault}") from fault
-        self.base_place, self.base_revision = base.place, int(found[0]["mod_revision"])
-        return base if base.place > behind else None
+        self.base_place, self.base_revision = base.place, int(found[self.key("base")]["mod_revision"])
+        return base._replace(lines=lines.split("\n")) if base.place > behind else None
 
     def compact(self, base: Base, token: Token) -> bool:
-        put = {"request_put": {"key": self.key("base"), "value": coded(zlib.compress(base.text().encode()))}}
-        delete = {"request_delete_range": {"key": self.place(0), "range_end": self.place(base.place)}}
-        return self.is_done([self.mine(token)], [put, delete])
+        packed = zlib.compress("\n".join(base.lines).encode())
+        for number, at in enumerate(range(0, len(packed), PIECE)):
+            name, piece = self.piece(base.place, number), packed[at : at + PIECE]
+            if not self.is_done([self.mine(token)], [{"request_put": {"key": name, "value": coded(piece)}}]):
+                return False
+        first = zlib.compress(base._replace(lines=[]).text().encode())
+        put = {"request_put": {"key": self.key("base"), "value": coded(first)}}
+        records = {"key": self.place(0), "range_end": self.place(base.place)}
+        pieces = {"key": self.piece(0), "range_end": self.piece(base.place)}
+        deletes = [{"request_delete_range": it} for it in (records, pieces)]
+        return self.is_done([self.mine(token)], [put, *deletes])
 
     def watch(self, seconds: float) -> None:
         behind = coded(self.prefix[:-1] + "0")

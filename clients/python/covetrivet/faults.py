@@ -64,7 +64,7 @@ class Unknown(SessionFault):
     """
 
 
-class Disconnected(SessionFault):
+class Disconnected(SessionFault, ConnectionError):
     """The server has let the connection go, or has ended. The text is what it said. What was sent and not
     answered may have been done or not.
     """

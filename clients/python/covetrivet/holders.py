@@ -72,7 +72,8 @@ class Holders:
 
 def ends(verb: str, said: str) -> bool:
     """Whether a unit is over with this answer, behind the name. Work that a server declined is aborted."""
-    return verb in ("commit", "abort", "drop", "leave") or verb == "prepare" and said.startswith("refused ")
+    is_over = verb == "prepare" and said.startswith(("refused ", "lost "))
+    return verb in ("commit", "abort", "drop", "leave") or is_over
 
 
 class Orphans:

@@ -6,22 +6,19 @@ import fcntl
 import os
 import re
 import time
-from collections.abc import Iterable, Sequence
-from itertools import islice
-from typing import Literal
+from collections.abc import Iterable, Iterator, Sequence
+from itertools import islice, takewhile
 
-from covetrivet import refusals
 from covetrivet.faults import JournalFault, SessionEnded
-from covetrivet.ids import Ids
-from covetrivet.journal_lines import lines_in
-from covetrivet.kept_ids import KeptIds
-from covetrivet.lines import beginning, is_only_head
+from covetrivet.lines import is_only_head
 from covetrivet.pipe import Pipe
 from covetrivet.program import find
 from covetrivet.session import Path, Session
 from covetrivet.wire import Wire
 
 SECONDS_TO_LET_GO = 5
+# A journal's own lines are comments: the first one, and those with this sign.
+END_OF_BATCH = "\x17"
 
 
 def journaled(program: Sequence[str], path: str) -> list[str]:
@@ -43,8 +40,10 @@ def wait_until_free(path: str) -> None:
                 time.sleep(0.02)
 
 
-def recovered(pipe: Pipe, path: str) -> int:
-    """Waits until the program has recovered its journal, and returns how many lines that has."""
+def recovered(pipe: Pipe, path: str) -> tuple[int, int]:
+    """Waits until the program has recovered its journal, and returns how many lines that has, and how many
+    bytes were cut off behind them.
+    """
     try:
         answer = pipe.hear()
     except SessionEnded as ended:
@@ -52,10 +51,18 @@ def recovered(pipe: Pipe, path: str) -> int:
         if why:
             raise JournalFault(f"{path}: {why[1]}") from ended
         raise
-    told = re.fullmatch(r"recovered (\d+)", answer)
+    told = re.fullmatch(r"recovered (\d+)(?: cut (\d+))?", answer)
     if not told:
         raise JournalFault(f"the program keeps no journal: it answers {answer!r}")
-    return int(told[1])
+    return int(told[1]), int(told[2] or 0)
+
+
+def lines_in(path: str) -> Iterator[str]:
+    """Yields the lines of the session that this journal has. The dump at its front is among them."""
+    with open(path, encoding="latin-1", newline="\n") as file:
+        next(file, "")
+        text = takewhile(lambda it: not it.startswith("\0"), file)
+        yield from (it.rstrip("\n") for it in text if END_OF_BATCH not in it)
 
 
 class Journaled(Session):
@@ -67,71 +74,40 @@ class Journaled(Session):
         head: Iterable[str] | None,
         program: Sequence[str] | Path | None = None,
         seconds: float | None = None,
-        on_full: Literal["rollover"] | None = None,
     ) -> None:
-        super().__init__([] if head is None else head, program, None, on_full, seconds)
+        super().__init__([] if head is None else head, program, None, seconds)
         self._path = os.fspath(path)
         self._is_begun = head is None
-        self._kept = KeptIds(self._path)
 
     def _started(self) -> tuple[Wire, list[str]]:
         if self._is_begun and not os.path.exists(self._path):
             raise JournalFault(f"there is no journal {self._path}: begin it by Session.open(path, head)")
-        # (comments that say which ids last are kept beside the journal, which has none)
-        lines = [it for it in self._opened() if not it.startswith("# covetrivet: ")]
-        if self._ids and not self._is_begun:
-            self._kept.begin(self._head)
-        elif not self._ids and self._kept.is_there():
-            raise JournalFault(f"ids of {self._path} last: go on with on_full 'rollover'")
+        lines = self._opened()
         wait_until_free(self._path)
         self._pipe = Pipe(journaled(find(self._program), self._path))
         return self._pipe, lines
 
     def _begin(self, lines: list[str]) -> None:
-        self.recovered = self.lines = recovered(self._pipe, self._path)
+        self.recovered, self.cut = recovered(self._pipe, self._path)
+        self.lines = self.recovered
         if self._is_begun and not self.recovered:
             raise JournalFault(f"{self._path} has no lines: begin it by Session.open(path, head)")
         if not self._is_begun:
             self._send_beginning(lines, self._known(lines))
-        self._recover_ids()
-
-    def _ids_of(self, head: list[str]) -> Ids | None:
-        return super()._ids_of(self._head)
-
-    def _recover_ids(self) -> None:
-        if self._ids:
-            self._ids = self._kept.recovered(self._program)
-
-    def _keep_ids(self, number: int, comments: Sequence[str]) -> None:
-        try:
-            self._kept.keep(number, comments)
-        except OSError as fault:
-            raise refusals.NoMemory("rollover") from fault
-
-    def again(self) -> Pipe:
-        """Starts the program again over its journal, once it has ended, and returns it."""
-        self._pipe.let_go()
-        wait_until_free(self._path)
-        self._wire = self._pipe = Pipe(journaled(find(self._program), self._path))
-        self.recovered = self.lines = recovered(self._pipe, self._path)
-        self._recover_ids()
-        return self._pipe
 
     def _known(self, lines: list[str]) -> int:
         """Returns how many of the lines to begin with need not be sent. A journal may have some of them
         alone, where its beginning was cut short.
         """
-        first, others = beginning(lines)
-        wanted = [*first, *others]
         if not self.recovered:
             # What is refused would stay in the journal. So the lines are tried without one before.
             with Session(lines, self._program, seconds=self._seconds):
                 return 0
-        if self.recovered >= len(wanted):
-            return len(wanted)
+        if self.recovered >= len(lines):
+            return len(lines)
         there = list(islice(lines_in(self._path), self.recovered))
-        if there == wanted[: self.recovered]:
+        if there == lines[: self.recovered]:
             return self.recovered
         if is_only_head(there):
             raise JournalFault(f"{self._path} has the beginning of another head")
-        return len(wanted)
+        return len(lines)

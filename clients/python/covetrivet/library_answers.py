@@ -3,7 +3,7 @@ from __future__ import annotations
 
 from dataclasses import dataclass, field
 
-from covetrivet import answers, refusals
+from covetrivet import refusals
 from covetrivet.answers import Counts
 from covetrivet.refusals import Refusal
 
@@ -41,13 +41,15 @@ class OtherManager(Refusal):
 
 
 @dataclass(frozen=True)
-class RolledOver(answers.RolledOver):
-    """`roots` has the root of each request of which something is alive, by its old one, also where that is
-    alive itself. A root that was consumed has another one in its place, which the rollover made and consumed:
-    the account counts it. `holders` has, by the number of each caller that has an element in hand, the id of
-    that one.
+class RolledOver:
+    """What is alive, by its id in the old manager: its id in the new one. `roots` has the root of each
+    request of which something is alive, by its old one, also where that is alive itself. A root that was
+    consumed has another one in its place, which the rollover made and consumed: the account counts it.
+    `holders` has, by the number of each caller that has an element in hand, the id of that one.
     """
 
+    moved: dict[int, int]
+    roots: dict[int, int] = field(default_factory=dict)
     holders: dict[int, int] = field(default_factory=dict)
 
 

@@ -13,7 +13,7 @@ from collections.abc import Iterable
 from covetrivet.faults import LogFault
 
 # The first line. Its number changes with each change by which the same lines may lead elsewhere.
-FIRST = "# covetrivet log 1"
+FIRST = "# covetrivet log 2"
 
 
 class Log:

@@ -6,21 +6,35 @@ import queue
 import threading
 import time
 from collections.abc import Sequence
-from typing import Protocol
+from typing import NamedTuple, Protocol
 
 from covetrivet.answers import Counts, Depth
 from covetrivet.faults import SessionFault
 from covetrivet.refusals import Refusal
+from covetrivet.relay import Asked
 from covetrivet.replica import Replica
-from covetrivet.rollovers import Item, Rollovers, most_of, next_of
 from covetrivet.shared_log import BadHead, Base, Deposed, InDoubt, LogLost, Record, SharedLog, Token
 
 # Of a follower: between two looks at the log at most. Of a leader: between two looks at its lease.
 SECONDS_TO_WATCH, SECONDS_TO_LOOK = 1.0, 0.1
 SECONDS_AFTER_DOUBT = 0.2
-# So late after a rollover the log is compacted: a follower that isn't further behind needs no dump.
-SECONDS_TO_COMPACT = 1.0
+# (each sign is at most six bytes of a record, and etcd takes 1.5 MiB)
+LINES_OF_RECORD, SIGNS_OF_RECORD = 1000, 150_000
+# After so many lines the log is made short by a dump, and so late behind that: a follower that isn't further
+# behind needs no dump.
+MOST_LINES, SECONDS_TO_COMPACT = 20000, 1.0
 NO_MORE = "this node leads no more; what wasn't answered may have been done"
+
+
+class Item(NamedTuple):
+    """A line that waits for its turn. `reign` says for which of the times that the node led, and `number`
+    which of its lines this is.
+    """
+
+    reign: int
+    number: int
+    asked: Asked
+    line: str
 
 
 class Told(Protocol):
@@ -56,9 +70,9 @@ class Member:
         self.replica: Replica | None = None
         self.token: Token | None = None
         self.reign = 0
-        self.rollovers = Rollovers(1)
-        # where the log's base is to be next, and when
-        self.next_base: tuple[Base, float] | None = None
+        self.most_lines = MOST_LINES
+        # where the log's base is to be next, when, and how many lines it stands for
+        self.next_base: tuple[Base, float, int] | None = None
         self.leader: str | None = None
         # where a session was that is closed
         self.stood = 0, ""
@@ -134,7 +148,6 @@ class Member:
         except (Refusal, ValueError) as why:
             raise BadHead(f"the session can't begin: {why}") from why
         self.replica = replica
-        self.rollovers = Rollovers(most_of(base.lines))
         return True
 
     def close_replica(self) -> None:
@@ -163,31 +176,28 @@ class Member:
         if token.is_lost:
             raise Deposed("the lease is lost")
         self.compact(replica, token)
-        items, lines = self.next_record(replica)
-        if not lines:
+        items = self.next_items()
+        if not items:
             return
-        place, record = replica.place, Record(self.who, replica.digest, lines)
+        place, record = replica.place, Record(self.who, replica.digest, [it.line for it in items])
         if not self.log.append(place, record, token):
             raise Deposed("another node leads")
         answers = replica.feed(place, record)
-        if not items:
-            self.rollovers.heard(answers[0])
         self.told.answered([(it.number, answer) for it, answer in zip(items, answers)])
 
-    def next_record(self, replica: Replica) -> tuple[list[Item], list[str]]:
-        """Returns the lines of the next record, and whose they are. A rollover of the leader's own is
-        nobody's.
-        """
+    def next_items(self) -> list[Item]:
+        """Returns the lines of the next record."""
         self.gather()
-        if self.rollovers.is_due(replica.use):
-            return [], ["rollover"]
         if not self.pending:
             with contextlib.suppress(queue.Empty):
                 self.take(self.asked.get(timeout=SECONDS_TO_LOOK))
-            return [], []
-        many = next_of(self.pending)
+            return []
+        many = signs = 0
+        while many < min(len(self.pending), LINES_OF_RECORD) and signs < SIGNS_OF_RECORD:
+            signs += len(self.pending[many].line)
+            many += 1
         items, self.pending = self.pending[:many], self.pending[many:]
-        return items, [it.line for it in items]
+        return items
 
     def gather(self) -> None:
         with contextlib.suppress(queue.Empty):
@@ -199,13 +209,13 @@ class Member:
         self.pending += [it for it in items if it.reign == self.reign]
 
     def compact(self, replica: Replica, token: Token) -> None:
-        """Has a newer base in the log, some time after the rollover that it is of."""
-        if replica.base and not self.next_base:
-            self.next_base = replica.base, time.monotonic() + SECONDS_TO_COMPACT
-            replica.base = None
+        """Makes the log short, where it is due."""
+        if not self.next_base and replica.fed >= self.most_lines:
+            self.next_base = replica.base(), time.monotonic() + SECONDS_TO_COMPACT, replica.fed
         if self.next_base and time.monotonic() > self.next_base[1]:
             if not self.log.compact(self.next_base[0], token):
                 raise Deposed("another node leads")
+            replica.fed -= self.next_base[2]
             self.next_base = None
 
     def place(self) -> int:
@@ -228,9 +238,6 @@ class Member:
         """Leads no more, if it did."""
         token, self.token = self.token, None
         self.pending, self.leader = [], None
-        # (a base that isn't in the log yet is the next one still, where no rollover has come since)
-        if self.next_base and self.replica and not self.replica.base:
-            self.replica.base = self.next_base[0]
         self.next_base = None
         if token:
             self.told.follows(None, why)

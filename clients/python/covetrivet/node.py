@@ -4,6 +4,7 @@ from __future__ import annotations
 import asyncio
 import contextlib
 import ssl
+import sys
 from collections.abc import Sequence
 from pathlib import Path
 
@@ -13,14 +14,18 @@ from covetrivet.faults import NoProgram, SessionFault
 from covetrivet.lines import checked
 from covetrivet.node_server import NodeServer
 from covetrivet.options import Joining, joining
-from covetrivet.place import Place, PlaceTaken
+from covetrivet.place import Place, PlaceTaken, allow_files, place_at
 from covetrivet.postgres import PostgresLog
-from covetrivet.program import find
-from covetrivet.serve import BAD_HEAD, NO_HEAD, NO_PLACE, NO_PROGRAM, allow_files, lines_of, place_at
-from covetrivet.served import say
+from covetrivet.program import NO_PROGRAM, find
 from covetrivet.shared_log import BadHead, SharedLog
 
+BAD_HEAD, NO_HEAD, NO_PLACE = 65, 66, 73
 SECONDS_TO_LEAVE = 10
+
+
+def say(text: object) -> None:
+    with contextlib.suppress(OSError):
+        print(f"covetrivet: {text}", file=sys.stderr, flush=True)
 
 
 def node(words: Sequence[str]) -> int:
@@ -58,6 +63,12 @@ def node(words: Sequence[str]) -> int:
     return BAD_HEAD if isinstance(lost, BadHead) else int(lost is not None)
 
 
+def lines_of(text: str) -> list[str]:
+    """Returns the lines, of which the last one may lack its end."""
+    *lines, last = text.split("\n")
+    return [*lines, last] if last else lines
+
+
 def opened(options: Joining) -> SharedLog:
     """Returns the log. An OSError or a ValueError where its certificates can't be had, ImportError where its
     library can't.
@@ -78,6 +89,7 @@ async def run(
     """Has the node, until SIGTERM. Returns the fault by which it can't go on."""
     server = NodeServer(log, options.name, head, options.limits, options.orphans, say)
     member = server.office.member
+    member.most_lines = options.dump
     member.thread.start()
     try:
         await server.run(place, metrics, lambda: say(f"node {options.name} is at {options.socket}"))

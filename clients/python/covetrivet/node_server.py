@@ -8,9 +8,8 @@ from collections.abc import Callable, Collection, Iterable, Sequence
 from covetrivet.answers import Counts, Depth
 from covetrivet.connection import Connection, Limits
 from covetrivet.faults import SessionFault
-from covetrivet.member import NO_MORE, Member
+from covetrivet.member import NO_MORE, Item, Member
 from covetrivet.relay import Asked, Caller, Hear, OnEnd, hand_out, words_of
-from covetrivet.rollovers import Item
 from covetrivet.server import Server
 from covetrivet.shared_log import LogLost, SharedLog, Token
 from covetrivet.tally import shown
@@ -52,9 +51,6 @@ class Office:
     def unanswered(self) -> Collection[Asked]:
         return self.waiting.values()
 
-    def note(self) -> None:
-        """All is heard as it is answered."""
-
     async def idle(self, seconds: float) -> bool:
         if self.waiting:
             self.when_idle = self.loop.create_future()
@@ -65,9 +61,6 @@ class Office:
     def wake(self) -> None:
         if not self.waiting and self.when_idle and not self.when_idle.done():
             self.when_idle.set_result(None)
-
-    def used(self) -> dict[str, float]:
-        return {}
 
     def give_up(self) -> SessionFault:
         return LogLost("lines were not answered in time")
@@ -157,14 +150,6 @@ class NodeServer(Server):
     async def count(self) -> tuple[Counts, tuple[Depth, ...]]:
         # (of this node's own session, which may be behind: no record is made for it)
         return await asyncio.to_thread(self.office.member.count)
-
-    async def oldest(self, stages: Sequence[int]) -> dict[int, float]:
-        # (a node that takes the lead hasn't heard of what is there)
-        return {}
-
-    async def rooms(self) -> Iterable[str]:
-        # (a record would be made for it)
-        return ()
 
     def more(self) -> Iterable[str]:
         yield from shown("leads", "gauge", {"": int(self.office.token is not None)})

@@ -1,4 +1,4 @@
-"""The words behind `covetrivet serve`, `call` and `top`."""
+"""The words behind `covetrivet node`, `call` and `top`."""
 from __future__ import annotations
 
 import argparse
@@ -17,20 +17,6 @@ class Parser(argparse.ArgumentParser):
 
     def error(self, message: str) -> NoReturn:
         self.exit(WRONG_WORDS, f"covetrivet: {message}; {self.prog} --help\n")
-
-
-@dataclass(frozen=True)
-class Serving:
-    """What a server is to be."""
-
-    socket: str
-    head: str
-    mode: int
-    orphans: float | None
-    metrics: str | None
-    limits: Limits
-    journal: str | None
-    rolls_over: bool
 
 
 def mode_of(word: str) -> int:
@@ -87,32 +73,24 @@ seconds_of.__name__, many_of.__name__ = "number of seconds", "number"
 
 
 @dataclass(frozen=True)
-class Joining(Serving):
+class Joining:
     """What a node is to be, and which log it shares."""
 
+    socket: str
+    head: str
+    mode: int
+    orphans: float | None
+    metrics: str | None
+    limits: Limits
     name: str
     members: list[str] | None
     postgres: str | None
     prefix: str
     lease: int
+    dump: int
     authority: str | None
     certificate: str | None
     key: str | None
-
-
-def serving(words: Sequence[str]) -> Serving:
-    parser = Parser("covetrivet serve", description="One live session for many processes of this machine.")
-    parser.add_argument("--head", required=True, metavar="FILE", help="the lines to begin with, as of a dump")
-    what = "each line is in it before it is answered, and the session goes on from it"
-    parser.add_argument("--journal", metavar="FILE", help=what)
-    what = "ids last, and the session rolls over by itself before rows or units run out (refuse)"
-    parser.add_argument("--on-full", choices=("refuse", "rollover"), default="refuse", help=what)
-    add_sockets(parser)
-    it = parser.parse_args(words)
-    return Serving(
-        it.socket, it.head, it.mode, it.orphans, it.metrics, limits_of(it),
-        it.journal, it.on_full == "rollover",
-    )  # fmt: skip
 
 
 def joining(words: Sequence[str]) -> Joining:
@@ -128,13 +106,15 @@ def joining(words: Sequence[str]) -> Joining:
     parser.add_argument("--prefix", type=prefix_of, default="covetrivet", help=what)
     what = "seconds after which another node may lead, where nothing is heard of this one (3)"
     parser.add_argument("--lease", type=many_of, default=3, metavar="SECONDS", help=what)
+    what = "lines after which a dump takes the place of the log's records (20000)"
+    parser.add_argument("--dump", type=many_of, default=20000, metavar="LINES", help=what)
     for name, what in ("ca", "whom etcd's certificates are of"), ("cert", "this node's"), ("key", "its key"):
         parser.add_argument(f"--{name}", metavar="FILE", help=f"of https://: {what}")
     add_sockets(parser)
     it = parser.parse_args(words)
     return Joining(
-        it.socket, it.head, it.mode, it.orphans, it.metrics, limits_of(it), None, True,
-        it.name, it.etcd, it.postgres, it.prefix, it.lease, it.ca, it.cert, it.key,
+        it.socket, it.head, it.mode, it.orphans, it.metrics, limits_of(it),
+        it.name, it.etcd, it.postgres, it.prefix, it.lease, it.dump, it.ca, it.cert, it.key,
     )  # fmt: skip
 
 
@@ -182,13 +162,15 @@ class Watching:
     socket: str
     metrics: str | None
     seconds: float | None
+    has_clients: bool
 
 
 def watching(words: Sequence[str]) -> Watching:
     parser = Parser("covetrivet top", description="Shows what a server's session has, again and again.")
     parser.add_argument("--socket", required=True, metavar="PATH")
     parser.add_argument("--metrics", metavar="PATH", help="its other socket, for what the server counts")
+    parser.add_argument("--clients", action="store_true", help="with --metrics, those that send most, too")
     parser.add_argument("--once", action="store_true", help="one time alone")
     parser.add_argument("--every", type=seconds_of, default=2, metavar="SECONDS", help="how often (2)")
     it = parser.parse_args(words)
-    return Watching(it.socket, it.metrics, None if it.once else max(it.every, 0.1))
+    return Watching(it.socket, it.metrics, None if it.once else max(it.every, 0.1), it.clients)

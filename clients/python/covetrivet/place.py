@@ -4,8 +4,12 @@ from __future__ import annotations
 import contextlib
 import fcntl
 import os
+import resource
 import socket
 import stat
+from collections.abc import Iterator
+
+FILES_BESIDE = 64
 
 
 class PlaceTaken(Exception):
@@ -74,3 +78,24 @@ class Place:
             with contextlib.suppress(FileNotFoundError):
                 os.unlink(self.path)
         os.close(self.lock)
+
+
+@contextlib.contextmanager
+def place_at(path: str, mode: int) -> Iterator[Place]:
+    place = Place(path, mode)
+    try:
+        yield place
+    finally:
+        place.leave()
+
+
+def allow_files(connections: int) -> None:
+    """Has the system let this process have so many connections. PlaceTaken where it doesn't."""
+    wanted = connections + FILES_BESIDE
+    soft, hard = resource.getrlimit(resource.RLIMIT_NOFILE)
+    if soft == resource.RLIM_INFINITY or soft >= wanted:
+        return
+    try:
+        resource.setrlimit(resource.RLIMIT_NOFILE, (wanted, hard))
+    except (OSError, ValueError) as fault:
+        raise PlaceTaken(f"a process may have {hard} files here, and {wanted} are needed") from fault

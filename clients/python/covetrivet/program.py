@@ -9,10 +9,15 @@ from pathlib import Path
 
 from covetrivet.faults import NoProgram
 
-VARIABLE = "COVETRIVET_PROGRAM"
+VARIABLE, SERVER = "COVETRIVET_PROGRAM", "COVETRIVET_SERVER"
+NO_PROGRAM = 69
 HOW = (
     f"Name it, by Session(head, program=..) or the environment variable {VARIABLE}: "
     "in a checkout of Covetrivet, ./prove makes crates/tp_live/out/tp_live."
+)
+HOW_TO_SERVE = (
+    f"Name it by the environment variable {SERVER}: in a checkout of Covetrivet, server/build makes "
+    "out/covetrivetd."
 )
 
 
@@ -42,8 +47,27 @@ def find(program: Sequence[str] | str | os.PathLike[str] | None = None) -> list[
     raise NoProgram(f"There is no program of sessions. {HOW}")
 
 
+def find_server() -> list[str]:
+    """Returns the server of sessions, with its first arguments: what the environment names, or `./run
+    --server` of the checkout.
+
+    NoProgram where there is none of these.
+    """
+    named = os.environ.get(SERVER)
+    if named:
+        return [named]
+    top = checkout()
+    if top:
+        return [str(top / "run"), "--server"]
+    raise NoProgram(f"There is no server of sessions. {HOW_TO_SERVE}")
+
+
 def cant_start(program: str, fault: OSError) -> str:
     return f"The program {program!r} can't be started: {fault.strerror}. {HOW}"
+
+
+def no_server(server: str, fault: OSError) -> str:
+    return f"The server {server!r} can't be started: {fault.strerror}. {HOW_TO_SERVE}"
 
 
 def version() -> str:

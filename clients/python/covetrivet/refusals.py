@@ -3,7 +3,7 @@
     except refusals.Busy as busy:
         print(busy.worker, "has a unit open:", busy.command)
 
-docs/LIVE.md and docs/SCRIPTS.md say when each comes. Nothing was done, unless the class says so. The calls of
+docs/LIVE.md says when each comes. Nothing was done, unless the class says so. The calls of
 covetrivet.library raise those of them that they have, and some of their own.
 """
 from __future__ import annotations
@@ -48,7 +48,7 @@ class BadNumber(Refusal):
 
 
 class BadLimits(Refusal):
-    """A setting is out of its range, or there are too many servers or workers."""
+    """A setting is out of its range, or there are too many servers."""
 
 
 class BadRecipe(Refusal):
@@ -60,22 +60,20 @@ class BadName(Refusal):
 
 
 class TooLong(Refusal):
-    """The line has more than 208 bytes."""
+    """The line has more than 1,023 bytes."""
 
 
 class Order(Refusal):
-    """A line of the head came behind it, or a setting behind a server; or what the head says is alive wasn't
-    restored at once.
-    """
+    """A line of the head came behind it; or what a dump says wasn't restored at once."""
 
 
 class BadStage(Refusal):
-    """The stage isn't 1 to 14; of a taken element, it is another server's."""
+    """The stage isn't 1 to 999, or it is 15; of a taken element, it is another server's."""
 
 
 class NotThere(Refusal):
-    """No such element is born, or no such client is registered, or the request isn't the client's; where ids
-    last, also: the element was consumed or killed before a rollover.
+    """No such element is born, or it is forgotten; or no such client is registered, or the request isn't the
+    client's.
     """
 
 
@@ -88,9 +86,7 @@ class AlreadyKilled(Refusal):
 
 
 class Full(Refusal):
-    """The pass has no rows left. Of a commit or a turn: the unit is aborted. Of `register`: there are 64
-    clients.
-    """
+    """As many elements are alive as the session may have. (Of the C library: a caller has no rows left.)"""
 
 
 class NotParked(Refusal):
@@ -102,7 +98,7 @@ class NoRound(Refusal):
 
 
 class Busy(Refusal):
-    """A unit of work is open; for a rollover and a dump one of a server's desk."""
+    """A unit of work is open."""
 
 
 class NotHeld(Refusal):
@@ -114,17 +110,15 @@ class NotWaiting(Refusal):
 
 
 class NoUnit(Refusal):
-    """The pass has no unit of work left."""
+    """Of the C library alone: the caller has no unit of work left."""
 
 
 class NoMemory(Refusal):
-    """The program had no memory for a rollover, a dump or a restore."""
+    """Of the C library alone: there was no memory."""
 
 
 class Unequal(Refusal):
-    """What a head says is alive contradicts itself or the settings; or a rollover would have been wrong, to
-    which no test came.
-    """
+    """Of the C library alone: a rollover would have been wrong. No call tells it, which is proved."""
 
 
 class Gap(Refusal):
@@ -152,18 +146,20 @@ class AlreadyAborted(Refusal):
 
 
 class Ended(Refusal):
-    """The server's desk was dropped."""
+    """The server was dropped."""
+
+
+class Denied(Refusal):
+    """A server's rights don't allow this client such a line."""
 
 
 BY_NAME: dict[str, type[Refusal]] = {it.__name__: it for it in Refusal.__subclasses__()}
 
 # What a worker or a server is answered by one word, which the element may follow.
 BY_WORD: dict[str, type[Refusal]] = {
-    "nounit": NoUnit,
     "busy": Busy,
     "none": NoneOpen,
     "lost": Lost,
-    "full": Full,
     "already": AlreadyAborted,
     "ended": Ended,
 }

@@ -79,9 +79,8 @@ def connect(path: Path, seconds: float | None = None) -> Session:
     """Returns the session of the server at this socket, for a `with` block: each call is one of Session's,
     and is answered in its turn among those of all clients.
 
-    Disconnected where no server is there, or where it ends the connection. An exchange that takes more than
-    so many `seconds` is given up by TimeoutError. `process` and `shorten_log` are the server's: they raise
-    SessionClosed and LogFault. A `rollover` gives other ids to the elements of all clients, unless the server
-    has ids last (`serve --on-full rollover`).
+    Disconnected where no server is there, or where it ends the connection: that is an OSError too. An
+    exchange that takes more than so many `seconds` is given up by TimeoutError. `process` and `shorten_log`
+    are the server's: they raise SessionClosed and LogFault.
     """
     return Connected(path, seconds)

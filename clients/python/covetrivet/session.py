@@ -8,22 +8,19 @@ import subprocess
 import weakref
 from collections.abc import Callable, Iterable, Iterator, Sequence
 from types import TracebackType
-from typing import Any, Concatenate, Literal, ParamSpec, TypeVar, Union
+from typing import Any, Concatenate, ParamSpec, TypeVar, Union
 
 from covetrivet import commands, gate, refusals
-from covetrivet.answers import Dumped, Heard
+from covetrivet.answers import Heard
 from covetrivet.batch import Batch, Later
 from covetrivet.commands import Command
 from covetrivet.faults import LogFault, SessionBroken, SessionClosed
-from covetrivet.ids import Ids, rolled_over
 from covetrivet.lines import (
-    NOBODY, beginning, checked, head_of, is_answered, is_empty, is_for_logs, is_only_head, is_rollover,
-    is_to_restore, pieces_of, with_end,
+    beginning, checked, is_answered, is_for_logs, pieces_of,
 )  # fmt: skip
 from covetrivet.log import Log
 from covetrivet.pipe import Pipe
 from covetrivet.program import find
-from covetrivet.refusals import Refusal
 from covetrivet.wire import Wire
 
 T = TypeVar("T")
@@ -44,22 +41,15 @@ def asked(command: Callable[P, Command[T]]) -> Callable[Concatenate[Session, P],
 class Session:
     """A session, in a `with` block, once.
 
-    `head` are the lines of its head. Commands may follow, as in a dump: they are performed anew. Where the
-    head says what is alive, that is restored: `moved` has the new id of each, and `units` the id of what each
-    worker has in hand. The program is `program`, or that of COVETRIVET_PROGRAM, or the checkout's own
-    (NoProgram where there is none). What it writes on standard error is shown there.
+    `head` are the lines of its head. Commands may follow: they are performed anew. Where the head says what
+    there is, as the lines of a dump do, the session goes on from there. The program is `program`, or that of
+    COVETRIVET_PROGRAM, or the checkout's own (NoProgram where there is none). What it writes on standard
+    error is shown there.
 
     **Threads.** Any thread may call any method: a lock lets one exchange at a time through. A batch is one
     exchange. An exchange that takes more than so many `seconds` is given up by TimeoutError (but for that of
     the beginning). One that is left half-way, by this or by another exception, breaks the session: each later
     call raises SessionBroken. The process that made a session owns it, and a forked one can't use it.
-
-    **Rollovers.** With `on_full="rollover"` a call that finds no rows or no units left (`Full`, `NoUnit`) has
-    the session roll over, and is made once more. A commit's unit is over then: its `Full` is raised after the
-    rollover, and the element waits or is parked. What other workers have in hand goes on in their hands.
-    Where the rollover is refused, as with no room for what is alive, the first refusal is raised, from the
-    other. Commands of a batch are never made again. All ids that are told last: they are the same before and
-    after. Units begin anew.
 
     **Logs.** `log` names a file that isn't there yet. Each line is written into it before it is sent.
     Session.from_log goes on from it.
@@ -72,11 +62,8 @@ class Session:
         head: Iterable[str],
         program: Sequence[str] | Path | None = None,
         log: Path | None = None,
-        on_full: Literal["rollover"] | None = None,
         seconds: float | None = None,
     ) -> None:
-        if on_full not in (None, "rollover"):
-            raise ValueError(f"on_full is 'rollover' or None, and not {on_full!r}")
         self._head = [head] if isinstance(head, str) else list(head)
         self._program = program
         self._log_path = None if log is None else os.fspath(log)
@@ -85,15 +72,9 @@ class Session:
         self._gate = gate.Gate()
         self._log: Log | None = None
         self._wire: Wire | None = None
-        self._ids: Ids | None = Ids() if on_full else None
-        # what was restored, by its id in the head: its id from then on
-        self.moved: dict[int, int] = {}
-        # what each worker had in hand then
-        self.units: dict[str, int] = {}
-        # how many there were, those of the lines that it began with among them
-        self.rollovers = 0
-        # how many lines a journal had, and how many with those that were sent since
-        self.recovered = self.lines = 0
+        # how many lines a journal had, and how many with those that were sent since; how many bytes were cut
+        # off behind them, of lines that a crash had torn
+        self.recovered = self.lines = self.cut = 0
         # the registers of each server, once the session is closed
         self.finals: dict[str, tuple[int, ...]] = {}
 
@@ -101,11 +82,10 @@ class Session:
     def from_log(
         cls, path: Path, program: Sequence[str] | Path | None = None, seconds: float | None = None
     ) -> Session:
-        """Returns a session that goes on from a log, and goes on with it. It rolls over by itself, and ids
-        last, where that was so in the session that began the log. LogFault where there is no log, or another
-        session has it open.
+        """Returns a session that goes on from a log, and goes on with it. LogFault where there is no log, or
+        another session has it open.
         """
-        session = cls([], program, path, None, seconds)
+        session = cls([], program, path, seconds)
         session._goes_on = True
         return session
 
@@ -115,7 +95,6 @@ class Session:
         head: Iterable[str] | None = None,
         program: Sequence[str] | Path | None = None,
         seconds: float | None = None,
-        on_full: Literal["rollover"] | None = None,
     ) -> Session:
         """Returns a session whose program has each line in the journal in this file, on the disk, before it
         is answered. It stands where the journal's lines lead to, with work in hand; `recovered` says how many
@@ -124,11 +103,11 @@ class Session:
         `lines` counts the journal's lines and those that were sent since. Where the program or this process
         ends, the next session's `recovered` is how many of them are kept: all that were answered, and maybe
         more, in their order. JournalFault where the journal can't be opened, or has no lines and no head is
-        given. With `on_full` ids last, by a file beside the journal.
+        given.
         """
         from covetrivet.journal import Journaled
 
-        return Journaled(path, head, program, seconds, on_full)
+        return Journaled(path, head, program, seconds)
 
     # ---- its beginning and its end
 
@@ -155,71 +134,31 @@ class Session:
         """Returns the lines to begin with, which are in the log, or will be."""
         if self._log_path and self._goes_on:
             self._log, lines = Log.of(self._log_path)
-            self._ids = Ids.of(head_of(lines))
             return [checked(it) for it in lines]
         if self._log_path:
             Log.refuse_what_is_there(self._log_path)
-        lines = [checked(it) for it in self._head]
-        if is_only_head(lines) and any(map(is_to_restore, lines)):
-            lines.append("restore")
-        if self._ids and not Ids.of(head_of(lines)):
-            # A comment says that ids last.
-            lines[:0] = self._ids.comments([])
-        return lines
+        # (with a command behind the head: else the line of a worker that comes next would be one of the head)
+        first, others = beginning([checked(it) for it in self._head])
+        return [*first, *others]
 
     def _begin(self, lines: list[str]) -> None:
         """Sends the lines. A log begins once they are answered."""
         self._send_beginning(lines, 0)
         if self._log_path and not self._log:
-            self._log = Log.begun(self._log_path, with_end(lines))
+            self._log = Log.begun(self._log_path, lines)
 
     def _send_beginning(self, lines: list[str], known: int) -> None:
         """Sends the lines but for so many that are known. One of the head has no answer unless it is refused,
         so a first command tells that none was.
         """
         first, others = beginning(lines)
-        head = head_of(lines)
-        before = self._ids_of(head)
         if known < len(first):
             (answer,) = self._exchange(first[known:], 1, is_logged=False, is_head=True)
             refused = re.fullmatch(r"refused line (\d+): \d+ (\w+)", answer)
             if refused:
                 raise refusals.BY_NAME[refused[2]](first[int(refused[1]) - 1])
-            if first[-1].split() == ["restore"]:
-                self._restore(head, before, answer)
-            elif self._ids:
-                self._ids = before or self._ids
         for piece in pieces_of(others[max(0, known - len(first)) :]):
-            if is_rollover(piece[0]):
-                self._roll_over_again()
-            else:
-                said = list(filter(is_answered, piece))
-                for line, answer in zip(said, self._exchange(piece, len(said), is_logged=False)):
-                    if self._ids:
-                        self._ids.teller(line, answer)
-
-    def _ids_of(self, head: list[str]) -> Ids | None:
-        """Returns the ids that the lines to begin with say last."""
-        return Ids.of(head)
-
-    def _restore(self, head: list[str], before: Ids | None, answer: str) -> None:
-        heard = Heard(answer, "restore")
-        heard.refused()
-        restored = commands.restore().read(heard)
-        told = {(before.told(old) if before else old): new for old, new in restored.moved.items()}
-        self.moved, self.units = told, restored.units
-        if self._ids:
-            self._ids = (before or Ids()).after(restored.moved, restored.roots, head)
-            self.moved, self.units = {it: it for it in told}, self._lasting(restored.units)
-
-    def _roll_over_again(self) -> None:
-        """Performs a rollover of the lines. That it was refused as Busy or Full comes again; for want of
-        memory it would lead elsewhere.
-        """
-        try:
-            self._roll_over(is_logged=False)
-        except (refusals.Busy, refusals.Full):
-            pass
+            self._exchange(piece, len(list(filter(is_answered, piece))), is_logged=False)
 
     def __exit__(
         self, kind: type[BaseException] | None, fault: BaseException | None, trace: TracebackType | None
@@ -292,20 +231,14 @@ class Session:
         """Yields the id of each element that waits in a stage, once, by as many calls of `waiting` as it
         takes. What comes or goes meanwhile is among them or not.
         """
-        told: set[int] = set()
         start = 0
         while listed := self.waiting(stage, start):
-            # (some are listed again where the last one was over before a rollover)
-            yield from (it for it in listed if it not in told)
-            told.update(listed)
+            yield from listed
             start = listed[-1] + 1
 
     def shorten_log(self) -> None:
-        """Has the log begin anew with a dump. The session rolls over to where that leads, so ids are others
-        then, unless they last.
-
-        Busy, Full or NoMemory where the dump or the rollover is refused, LogFault where there is no log or a
-        new one can't be written: the log goes on as it was.
+        """Has the log begin anew with a dump. LogFault where there is no log, or a new one can't be written:
+        then the log goes on as it was.
         """
         self._gate.whole(self._shorten_log)
 
@@ -337,7 +270,6 @@ class Session:
     forget = asked(commands.forget)
     count = asked(commands.count)
     depth = asked(commands.depth)
-    room = asked(commands.room)
     holds = asked(commands.holds)
     waiting = asked(commands.waiting)
     balance = asked(commands.balance)
@@ -345,7 +277,6 @@ class Session:
     account = asked(commands.account)
     drain = asked(commands.drain)
     drain_next = asked(commands.drain_next)
-    rollover = asked(commands.rollover)
     dump = asked(commands.dump)
 
     # ---- parts of exchanges, behind the gate
@@ -369,102 +300,26 @@ class Session:
         return answers
 
     def _do(self, command: Command[T]) -> T:
-        try:
-            return self._once(command)
-        except (refusals.Full, refusals.NoUnit) as refusal:
-            if self._ids is None or is_rollover(command.line):
-                raise
-            try:
-                self._roll_over()
-            except Refusal as why:
-                raise refusal from why
-            if isinstance(refusal, refusals.Full) and command.words[0] not in ("submit", "send"):
-                raise
-        return self._once(command)
-
-    def _once(self, command: Command[T]) -> T:
-        if is_rollover(command.line):
-            return command.read(Heard(self._roll_over(), command.line))
-        (answer,) = self._exchange([self._line_of(command)])
+        (answer,) = self._exchange([command.line])
         return self._read(command, answer)
 
     def _do_all(self, asked: list[Later[Any]]) -> None:
-        sent: list[tuple[Later[Any], str]] = []
-        for later in asked:
-            try:
-                sent.append((later, self._line_of(later.command)))
-            except Refusal as refusal:
-                later.refusal = refusal
-        for (later, _line), answer in zip(sent, self._exchange([line for _later, line in sent])):
+        for later, answer in zip(asked, self._exchange([it.command.line for it in asked])):
             later.take(functools.partial(self._read, later.command, answer))
-
-    def _line_of(self, command: Command[T]) -> str:
-        """Returns a command's line, in which ids are those of the manager that there is now."""
-        if self._ids is None or command.element is None:
-            return command.line
-        if command.words[0] == "list":
-            return command.with_id(self._ids.place(command.element))
-        now = self._ids.known(command.element)
-        if now is None and command.words[0] == "receive":
-            # The number may be the last one again, which is answered whatever the root.
-            return command.with_id(NOBODY)
-        if now is None:
-            raise refusals.NotThere(command.line, element=command.element)
-        return command.with_id(now)
 
     def _read(self, command: Command[T], answer: str) -> T:
         heard = Heard(answer, command.line)
-        if self._ids:
-            heard = Heard(answer, command.line, self._ids.teller(command.line, answer), self._ids.of_lost)
         heard.refused()
-        value = command.read(heard)
-        if self._ids and isinstance(value, Dumped):
-            return Dumped((*self._ids.comments(value.lines), *value.lines))  # type: ignore[return-value]
-        return value
+        return command.read(heard)
 
-    def _roll_over(self, is_logged: bool = True) -> str:
-        """Rolls over, and returns the answer, by the ids that the session tells. It is logged once it is
-        done: a refusal for want of memory need not come again.
-        """
-        dumped: Sequence[str] = ()
-        if self._ids:
-            # The dump tells the roots, also of what was made where no answer told of it.
-            (answer,) = self._exchange(["dump"])
-            dumped = self._read(commands.dump(), answer).lines
-            self._keep_ids(self.lines + 1, [it for it in dumped if is_empty(it)])
-        (answer,) = self._exchange(["rollover"])
-        Heard(answer, "rollover").refused()
-        if self._log and is_logged:
-            self._log.write(["rollover"])
-        return self._rolled_over(answer, dumped)
-
-    def _keep_ids(self, number: int, comments: Sequence[str]) -> None:
-        """Takes note of the ids before a rollover, which will be this line. A journal has them beside it."""
-
-    def _rolled_over(self, answer: str, dumped: Sequence[str]) -> str:
-        """Takes note of a rollover behind a dump of these lines. Returns its answer, by the ids that the
-        session tells.
-        """
-        rolled = commands.rollover().read(Heard(answer, "rollover"))
-        self.rollovers += 1
-        if self._ids is None:
-            return answer
-        before, self._ids = self._ids, self._ids.after(rolled.moved, rolled.roots, dumped)
-        return rolled_over(before, self._ids, rolled)
-
-    def _lasting(self, units: dict[str, int]) -> dict[str, int]:
-        """Returns what workers have in hand, by the ids that the session tells."""
-        return {name: self._ids.told(it) if self._ids else it for name, it in units.items()}
+    def _in_hand(self) -> list[str]:
+        """Returns the workers and servers that have a unit open, or have lost one."""
+        return [it.name for it in self._do(commands.holds())]
 
     def _shorten_log(self) -> None:
         if self._log is None or self._log_path is None:
             raise LogFault("the session has no log")
-        log = Log.beside(self._log_path, self._once(commands.dump()).lines)
-        try:
-            self._roll_over(is_logged=False)
-        except BaseException:
-            log.discard()
-            raise
+        log = Log.beside(self._log_path, self._do(commands.dump()).lines)
         log.put_in_place()
         self._log.close()
         self._log = log

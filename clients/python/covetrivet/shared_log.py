@@ -18,8 +18,8 @@ from covetrivet.faults import SessionFault
 
 
 # What is in a log says with which version it was written. The number changes with each change by which the
-# same lines may be answered otherwise, or ids be others.
-VERSION = 1
+# same lines may be answered otherwise.
+VERSION = 2
 
 
 class InDoubt(Exception):

@@ -6,14 +6,14 @@ from collections import Counter
 from collections.abc import Iterable
 
 from covetrivet import refusals
-from covetrivet.answers import Counts, Depth, Room
+from covetrivet.answers import Counts, Depth
 from covetrivet.holders import REFUSED, Unit
 from covetrivet.relay import Asked
 
 VERBS = frozenset(
     "submit claim take next commit abort turn prepare drop kill cancel requeue release read reply collect"
-    " family errors count depth list room holds balance sum account drain rollover dump restore register send"
-    " receive last forget worker leave".split()
+    " family errors count depth list holds balance sum account drain dump restore register send receive last"
+    " forget worker leave".split()
 )
 
 
@@ -86,29 +86,14 @@ def shown_counts(counts: Counts) -> Iterable[str]:
     return shown("elements", "gauge", values)
 
 
-def shown_depths(depths: Iterable[Depth]) -> Iterable[str]:
-    """Yields the lines of how many elements of each stage wait, are held and are parked. (Zeros are told too:
-    who watches a number can't tell that it is 0 by its being left out.)
+def shown_depths(depths: Iterable[Depth], stages: set[int]) -> Iterable[str]:
+    """Yields the lines of how many elements of each of the stages wait, are held and are parked. (Zeros are
+    told too: who watches a number can't tell that it is 0 by its being left out.)
     """
     found = {it.stage: it for it in depths}
     values: dict[str, float] = {}
-    for stage in range(1, 16):
+    for stage in sorted(stages):
         told = found.get(stage, Depth(stage, 0, 0, 0))
         for state in "waiting", "held", "parked":
             values[f'{{stage="{stage}",state="{state}"}}'] = getattr(told, state)
     return shown("stage_elements", "gauge", values)
-
-
-def shown_room(room: Room) -> Iterable[str]:
-    """Yields the lines of how many rows and units are left to each, and how many spare blocks."""
-    left = {"client": room.client, **room.others}
-    for what in "rows", "units":
-        values: dict[str, float] = {f'{{of="{name}"}}': getattr(it, what) for name, it in left.items()}
-        yield from shown(f"{what}_left", "gauge", values)
-    yield from shown("spare_blocks_left", "gauge", {"": room.spare})
-
-
-def shown_oldest(ages: dict[int, float]) -> Iterable[str]:
-    """Yields the lines of for how long the oldest that waits in each of these stages has been there."""
-    values = {f'{{stage="{stage}"}}': round(age, 3) for stage, age in ages.items()}
-    return shown("stage_oldest_seconds", "gauge", values)

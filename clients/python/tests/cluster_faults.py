@@ -30,7 +30,7 @@ from log_history import EtcdHistory, History, PostgresHistory, all_written
 from machines import LEASE, MACHINES, PREFIX, Machines, children, comes
 
 WORKERS = "wa", "wb", "wc"
-SMALL = ["rows 32", "units 64", "spare 64", "limit 7", *(f"worker {it} 1" for it in WORKERS)]
+SMALL = ["limit 7", "keep 100", *(f"worker {it} 1" for it in WORKERS)]
 SECONDS_TO_GO_ON = 20
 
 
@@ -157,7 +157,6 @@ class Run:
         self.traffic.is_submitting = False
         time.sleep(1)
         self.traffic.end()
-        # (a leader may still roll over, and so be further at its end)
         place = max(self.machines.metric(it, "place") or 0 for it in MACHINES)
         for it in MACHINES:
             self.await_place(it, place)
@@ -175,10 +174,9 @@ class Run:
         for it in MACHINES:
             self.compare(it, place, digests)
         kept = self.kept(log, len(records))
-        rolled = sum(answer.startswith("rolled over ") for _, answer in performed)
         return {
-            "records": len(records), "lines": len(performed), "rollovers": rolled,
-            "dumps": dumps, "records kept": kept, "answers": self.traffic.answered(),
+            "records": len(records), "lines": len(performed), "dumps": dumps, "records kept": kept,
+            "answers": self.traffic.answered(),
             "unknown": sum(it.unknown for it in self.traffic.callers),
             "refused by followers": sum(it.refused for it in self.traffic.callers),
             "leaders": len(re.findall("leads from place", self.said_in_all())),

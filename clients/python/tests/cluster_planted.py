@@ -105,8 +105,9 @@ PLANTED = [
             ("replica.py", "import re\n", "import re\nimport sys\n"),
             (
                 "replica.py",
-                '(answer,) = self._exchange(["rollover"])',
-                '(answer,) = self._exchange(["rollover"]) if "n1" not in sys.argv else ["refused 1 Full"]',
+                "        for line, answer in zip(lines, answers):",
+                "        answers = [*answers, *['more'] * (self.place % 50 == 0 and 'n1' in sys.argv)]\n"
+                "        for line, answer in zip(lines, answers):",
             ),
         ],
         ["kill leader", "kill leader"],

@@ -107,6 +107,8 @@ class Machines:
         self.stack = contextlib.ExitStack()
         self.folder = Path(self.stack.enter_context(tempfile.TemporaryDirectory()))
         self.head = head
+        # (often, so that there are many dumps)
+        self.dump = 300
         self.postgres = Postgres(self) if postgres else None
         (self.folder / "head").write_text("".join(f"{it}\n" for it in head), encoding="ascii")
         self.environment = {**os.environ, "PYTHONDONTWRITEBYTECODE": "1"}
@@ -200,7 +202,7 @@ class Machines:
         more = "--metrics", f"{self.folder}/n{machine}.metrics", "--head", f"{self.folder}/head"
         # (by SIGABRT it would tell where each of its threads is)
         python = sys.executable, "-X", "faulthandler", "-m", "covetrivet"
-        command = [*python, "node", *words, *more, *self.log_words(machine)]
+        command = [*python, "node", *words, *more, "--dump", str(self.dump), *self.log_words(machine)]
         self.begin(f"node{machine}", machine, command)
 
     def leader(self) -> int | None:

@@ -5,10 +5,9 @@ import threading
 from collections.abc import Sequence
 
 from covetrivet.faults import SessionFault
-from covetrivet.member import Member
+from covetrivet.member import Item, Member
 from covetrivet.relay import Asked
 from covetrivet.replica import Elsewhere
-from covetrivet.rollovers import Item
 from covetrivet.shared_log import Base, InDoubt, Record, Token
 
 

@@ -19,7 +19,7 @@ import time
 from covetrivet import Session, submit
 from cluster_faults import begin
 from machines import Machines, comes
-from serving import WIDE, Client, Serving
+from serving import Client, Serving
 
 MANY = 1, 10, 100, 950
 ROWS = (1, 1), (1, 10), (1, 64), (10, 1), (100, 1), (100, 10), (1000, 1)
@@ -62,7 +62,7 @@ def measure(path: str, clients: int, at_once: int, seconds: float) -> tuple[floa
 
 def main() -> int:
     seconds = float(sys.argv[1]) if len(sys.argv) > 1 else 3.0
-    with Session(WIDE) as session:
+    with Session([]) as session:
         session.submit(1, 5)
         begun, many = time.perf_counter(), 0
         while time.perf_counter() < begun + seconds:
@@ -72,13 +72,14 @@ def main() -> int:
     if sys.argv[2:3] == ["stuck"]:
         return tell_stuck(seconds, int(sys.argv[3]) if len(sys.argv) > 3 else 2)
     if len(sys.argv) > 2:
-        with Machines(WIDE, postgres=sys.argv[2] == "postgres") as machines:
+        with Machines([], postgres=sys.argv[2] == "postgres") as machines:
+            machines.dump = 20000
             begin(machines)
             if not comes(lambda: machines.leader() and machines.metric(3, "place") is not None, 20):
                 raise RuntimeError(machines.log_of("node1"))
             tell(machines.socket_of(machines.leader() or 1), seconds)
         return 0
-    with Serving(WIDE, "--connections", "1000") as server:
+    with Serving([], "--connections", "1000") as server:
         tell(server.path, seconds)
     return 0
 
@@ -101,8 +102,8 @@ def tell_one(path: str, clients: int, at_once: int, seconds: float, beside: str 
 
 def tell_stuck(seconds: float, rounds: int) -> int:
     least: dict[tuple[int, bool], tuple[float, float]] = {}
-    with Serving(WIDE, "--connections", "1000", "--slow", "10000") as alone, contextlib.ExitStack() as stack:
-        beside = stack.enter_context(Serving(WIDE, "--connections", "1000", "--slow", "10000"))
+    with Serving([], "--connections", "1000", "--slow", "10000") as alone, contextlib.ExitStack() as stack:
+        beside = stack.enter_context(Serving([], "--connections", "1000", "--slow", "10000"))
         for server in (alone, beside):
             server.client().ask(submit(1, 5).line)
         for number in range(49):

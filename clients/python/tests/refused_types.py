@@ -17,7 +17,7 @@ def refused(session: Session, batch: Batch, caller: library.Caller) -> None:
     work: Work = session.claim("packer")
     submitted: Submitted = batch.add(claim("packer")).value
     words: int = batch.add(submit(1)).value
-    Session(["rows 8"], on_full="wait")
+    Session(["keep 8"], seconds="5")
     connect(5)
     caller.submit("1")
     caller.commit(7)

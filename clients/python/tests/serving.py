@@ -14,7 +14,6 @@ from types import TracebackType
 
 from covetrivet import program
 
-WIDE = ("rows 256", "units 1024", "spare 256")
 # how long an answer may take (where errors are planted it is less)
 SECONDS = float(os.environ.get("COVETRIVET_TEST_SECONDS", "30"))
 
@@ -147,6 +146,11 @@ class Serving:
         """Returns how many bytes of memory the server has."""
         with open(f"/proc/{self.process.pid}/statm", encoding="ascii") as file:
             return int(file.read().split(" ")[1]) * os.sysconf("SC_PAGESIZE")
+
+    def processor(self) -> float:
+        """Returns how many seconds of a processor the server has had."""
+        with open(f"/proc/{self.process.pid}/schedstat", encoding="ascii") as file:
+            return int(file.read().split(" ")[0]) / 1e9
 
     def counted(self, name: str) -> float:
         """Returns one of the server's metrics; 0 where there is none of this name."""

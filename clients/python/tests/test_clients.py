@@ -1,5 +1,5 @@
-"""Clients that may crash, and what is known of workers' last units: calls, ids that last, logs, and a server
-whose session is lost.
+"""Clients that may crash, and what is known of workers' last units: calls, logs, and a server whose session
+is lost.
 """
 from __future__ import annotations
 
@@ -16,7 +16,7 @@ from covetrivet import (
 )  # fmt: skip
 from serving import Serving
 
-HEAD = ["rows 8", "units 8", "worker packer 1", "register shop", "register web"]
+HEAD = ["worker packer 1", "register shop", "register web"]
 NOTHING = Last(0, None, 0, None)
 
 
@@ -44,21 +44,18 @@ class Clients(unittest.TestCase):
             session.send("shop", number, 1, number)
             session.claim("packer")
             session.commit("packer", Draft(15, number, 7))
-        # (packer's rows are 8 to 15)
-        self.assertEqual(session.receive("shop", 1, 1), Received(1, 9, 1, (2, 7, 0, 0)))
-        self.assertIsNone(session.receive("shop", 2, 1))
-        self.assertEqual(session.receive("shop", 1), Received(1, 9, 1, (2, 7, 0, 0)))
-        self.assertEqual(session.receive("shop", 2), Received(2, 8, 0, (1, 7, 0, 0)))
+        # (the first reply is 1, the second order 2, and its reply 3)
+        self.assertEqual(session.receive("shop", 1, 2), Received(1, 3, 2, (2, 7, 0, 0)))
+        self.assertIsNone(session.receive("shop", 2, 2))
+        self.assertEqual(session.receive("shop", 1), Received(1, 3, 2, (2, 7, 0, 0)))
+        self.assertEqual(session.receive("shop", 2), Received(2, 1, 0, (1, 7, 0, 0)))
         self.assertIsNone(session.receive("shop", 3))
         with self.assertRaises(refusals.Past):
             session.receive("shop", 1)
-        self.assertEqual(session.last("shop"), Last(2, 1, 2, Received(2, 8, 0, (1, 7, 0, 0))))
+        self.assertEqual(session.last("shop"), Last(2, 2, 2, Received(2, 1, 0, (1, 7, 0, 0))))
         self.assertEqual(session.collect(0), ())
-        session.rollover()
-        left = Last(2, None, 2, Received(2, None, None, (1, 7, 0, 0)))
-        self.assertEqual(session.last("shop"), left)
-        self.assertEqual(session.send("shop", 2, 1, 2), Sent(2, None))
-        self.assertEqual(session.receive("shop", 2, 5), left.reply)
+        # the last number again is answered whatever the root
+        self.assertEqual(session.receive("shop", 2, 5), session.last("shop").reply)
 
     def test_refusals(self) -> None:
         session = self.session
@@ -93,7 +90,7 @@ class Clients(unittest.TestCase):
         self.assertEqual(session.last_work("packer"), LastWork(None, None, None))
         session.submit(1, 5, 6)
         session.claim("packer")
-        held = Work(0, 8, 1, 0, (5, 6, 0, 0))
+        held = Work(0, 0, 1, 0, (5, 6, 0, 0))
         self.assertEqual(session.last_work("packer"), LastWork(held, None, None))
         session.abort("packer")
         self.assertEqual(session.last_work("packer"), LastWork(None, None, UnitEnd("aborted", 0)))
@@ -105,17 +102,12 @@ class Clients(unittest.TestCase):
         self.assertEqual(session.last_work("packer"), LastWork(None, None, UnitEnd("lost", 0)))
         session.claim("packer")
         session.commit("packer", Draft(2, 1), Draft(15, 2))
-        done = UnitEnd("done", 0, 10, 8, 2)
+        done = UnitEnd("done", 0, 2, range(1, 3))
         self.assertEqual(session.last_work("packer"), LastWork(None, None, done))
-        # Of the pair 8 and 9 the first one is killed, so a copy of 0 and then the reply are born in its rows.
-        session.kill(8)
-        session.rollover()
-        gone = UnitEnd("done", 8, 10, None, 2)
-        self.assertEqual(session.last_work("packer"), LastWork(None, None, gone))
         session.submit(1, 7)
         session.claim("packer")
         session.commit("packer")
-        self.assertEqual(session.last_work("packer").ended, UnitEnd("done", 0, 9, None, 0))
+        self.assertEqual(session.last_work("packer").ended, UnitEnd("done", 3, 3))
 
     def test_a_client_goes_on(self) -> None:
         with self.assertRaises(refusals.NotThere):
@@ -130,12 +122,12 @@ class Clients(unittest.TestCase):
             self.session.commit("packer", Draft(15, *work.words))
         again = Client(self.session, "web")
         self.assertEqual((again.sent, again.received), (2, 0))
-        self.assertEqual(again.receive(1), Received(1, 9, 1, (8, 30, 0, 0)))
+        self.assertEqual(again.receive(1), Received(1, 3, 1, (8, 30, 0, 0)))
         third = Client(self.session, "web")
-        self.assertEqual(third.receive_again(), Received(1, 9, 1, (8, 30, 0, 0)))
-        self.assertEqual(third.receive(), Received(2, 8, 0, (7, 30, 0, 0)))
-        self.assertEqual(third.send((9,), 2), Sent(3, 2))
-        self.assertEqual(third.last(), Last(3, 2, 2, Received(2, 8, 0, (7, 30, 0, 0))))
+        self.assertEqual(third.receive_again(), Received(1, 3, 1, (8, 30, 0, 0)))
+        self.assertEqual(third.receive(), Received(2, 2, 0, (7, 30, 0, 0)))
+        self.assertEqual(third.send((9,), 2), Sent(3, 4))
+        self.assertEqual(third.last(), Last(3, 4, 2, Received(2, 2, 0, (7, 30, 0, 0))))
 
     def test_a_refused_send_is_not_counted(self) -> None:
         client = Client(self.session, "web")
@@ -145,61 +137,6 @@ class Clients(unittest.TestCase):
         self.assertEqual((client.sent, client.send((1,))), (0, Sent(1, 0)))
 
 
-class ClientIds(unittest.TestCase):
-    def test_ids_last(self) -> None:
-        with Session([*HEAD, "worker late 1"], on_full="rollover") as session:
-            # (so that the ids of what is behind it are others behind a rollover)
-            session.kill(session.submit(1, 9).element)
-            first = session.send("shop", 1, 1, 1).element
-            second = session.send("shop", 2, 1, 2).element
-            assert first is not None and second is not None
-            session.take("packer", second)
-            session.commit("packer", Draft(15, 2), Draft(15, 3))
-            session.rollover()
-            reply = session.receive("shop", 1, second)
-            assert reply and reply.element
-            self.assertEqual((reply.root, reply.words), (second, (2, 0, 0, 0)))
-            self.assertEqual(session.last("shop"), Last(2, second, 1, reply))
-            session.rollover()
-            left = Received(1, None, second, (2, 0, 0, 0))
-            self.assertEqual(session.last("shop"), Last(2, second, 1, left))
-            self.assertEqual(session.send("shop", 2, 1, 2), Sent(2, second))
-            ended = session.last_work("packer").ended
-            assert ended
-            self.assertEqual((ended.how, ended.element, ended.outputs), ("done", second, 2))
-            # what is in hand, and what was lost before a rollover
-            session.take("late", first)
-            work = session.last_work("late").work
-            assert work
-            self.assertEqual((work.element, work.root), (first, first))
-            session.kill(first)
-            self.assertEqual(session.last_work("late"), LastWork(None, first, None))
-            session.rollover()
-            self.assertEqual(session.last_work("late"), LastWork(None, first, None))
-            with self.assertRaises(refusals.Lost) as lost:
-                session.commit("late")
-            self.assertEqual(lost.exception.element, first)
-            self.assertEqual(session.last_work("late").ended, UnitEnd("lost", None))
-            # the last number again is answered though its request is gone
-            session.collect(second)
-            session.rollover()
-            self.assertEqual(session.receive("shop", 1, second), Received(1, None, None, (2, 0, 0, 0)))
-            with self.assertRaises(refusals.NotThere):
-                session.receive("shop", 2, second)
-
-    def test_a_send_that_finds_no_rows(self) -> None:
-        with Session(["rows 2", "worker packer 1", "register shop"], on_full="rollover") as session:
-            client = Client(session, "shop")
-            for number in range(1, 40):
-                self.assertEqual(client.send((number,)).number, number)
-                work = session.claim("packer")
-                assert work
-                self.assertEqual(work.words[0], number)
-                session.commit("packer")
-            self.assertGreater(session.rollovers, 10)
-            self.assertEqual(client.last().sent, 39)
-
-
 class ClientLogs(unittest.TestCase):
     def setUp(self) -> None:
         folder = tempfile.TemporaryDirectory()
@@ -207,7 +144,7 @@ class ClientLogs(unittest.TestCase):
         self.path = os.path.join(folder.name, "orders.log")
 
     def test_a_log(self) -> None:
-        with Session(HEAD, log=self.path, on_full="rollover") as session:
+        with Session(HEAD, log=self.path) as session:
             client = Client(session, "web")
             sent = client.send((7,))
             session.claim("packer")
@@ -219,42 +156,32 @@ class ClientLogs(unittest.TestCase):
                 client = Client(session, "web")
                 self.assertEqual((client.sent, client.received), (1, 1))
                 self.assertEqual(session.last("shop"), NOTHING)
+                self.assertEqual((client.last().element, client.receive_again()), (sent.element, reply))
                 if life == 0:
-                    self.assertEqual((client.last().element, client.receive_again()), (sent.element, reply))
                     session.shorten_log()
-                self.assertEqual(client.receive_again(), Received(1, None, None, (7, 0, 0, 0)))
 
-    def test_clients_that_are_too_many(self) -> None:
-        # A log has them behind the head: there the last one is refused, and not the head.
-        names = [f"c{chr(97 + it // 26)}{chr(97 + it % 26)}" for it in range(64)]
-        with Session(HEAD[:3], log=self.path) as session:
+    def test_many_clients(self) -> None:
+        names = [f"client-{it}" for it in range(200)]
+        with Session(HEAD[:1], log=self.path) as session:
             for it in names:
                 session.register(it)
-            with self.assertRaises(refusals.Full):
-                session.register("more")
-        with Session.from_log(self.path) as session:
-            self.assertEqual(session.last("cca"), Last(0, None, 0, None))
-            with self.assertRaises(refusals.NotThere):
-                session.last("more")
+            session.send(names[-1], 1, 1, 7)
             session.shorten_log()
-        with Session.from_log(self.path) as session, self.assertRaises(refusals.Full):
-            session.register("more")
+            session.forget(names[0])
+        with Session.from_log(self.path) as session:
+            self.assertEqual([session.last(it) for it in names[1:3]], [NOTHING] * 2)
+            self.assertEqual(session.last(names[-1]), Last(1, 0, 0, None))
+            with self.assertRaises(refusals.NotThere):
+                session.last(names[0])
 
     def test_heads(self) -> None:
-        # (`restore` is sent where the head names an id, and wherever clients are registered)
-        ended = "ended packer aborted gone"
-        client = "client web 1 gone 2 gone gone 1:2:3:4"
-        head = HEAD[:-1]
-        for more in ([client], [ended, "register idle"], ["register idle", ended]):
-            with Session([*head, *more]) as session:
-                self.assertEqual(session.last("shop"), NOTHING)
-                dumped = session.dump().lines
-            with Session(dumped) as session:
-                self.assertEqual(session.dump().lines, dumped)
-        with Session([*head, "client web 1 gone 2 gone gone 1:2:3:4"]) as session:
-            self.assertEqual(session.last("web"), Last(1, None, 2, Received(2, None, None, (1, 2, 3, 4))))
-        with Session([*head, "client web 3 7 0 gone gone 0:0:0:0"]) as session:
-            self.assertEqual(session.last("web"), Last(3, None, 0, None))
+        # (`restore` is sent where the head says what there is)
+        client = "client web 0 3 7 2 5 4 1:2:3:4"
+        with Session(["numbers 9 0 1", "worker packer 1", client]) as session:
+            self.assertEqual(session.last("web"), Last(3, 7, 2, Received(2, 5, 4, (1, 2, 3, 4))))
+            dumped = session.dump().lines
+        with Session(dumped) as session:
+            self.assertEqual(session.dump().lines, dumped)
 
 
 class ServeClients(unittest.TestCase):
@@ -273,13 +200,13 @@ class ServeClients(unittest.TestCase):
                     session.commit("packer", Draft(15, *work.words))
                     server.signal_session(signal.SIGSTOP)
                     threading.Timer(0.3, server.signal_session, [signal.SIGKILL]).start()
-                    self.assertEqual(client.receive(), Received(1, 8, 0, (1, 0, 0, 0)))
+                    self.assertEqual(client.receive(), Received(1, 3, 0, (1, 0, 0, 0)))
                     self.assertEqual((client.sent, client.received), (3, 1))
                     self.assertEqual(session.count().waiting, 2)
                 with connect(server.path) as session:
                     again = Client(session, "web")
                     self.assertEqual((again.sent, again.received), (3, 1))
-                    self.assertEqual(again.receive_again(), Received(1, 8, 0, (1, 0, 0, 0)))
+                    self.assertEqual(again.receive_again(), Received(1, 3, 0, (1, 0, 0, 0)))
 
 
 if __name__ == "__main__":

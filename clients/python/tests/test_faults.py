@@ -18,7 +18,6 @@ from covetrivet import (
 )  # fmt: skip
 
 NAMES = "abcdef"
-WIDE = ["rows 256", "units 1024", "spare 256"]
 
 
 class Late(Exception):
@@ -64,7 +63,7 @@ class Threads(unittest.TestCase):
             for it in range(thread * 100, thread * 100 + 100):
                 told[it] = session.submit(1, it, 0).element
 
-        with Session([*WIDE, "worker w 1"]) as session:
+        with Session(["worker w 1"]) as session:
             self.assertEqual(at_once(4, order), [])
             self.assertEqual(len({*told.values()}), 400)
             self.assertEqual([it for it, element in told.items() if session.read(element).words[0] != it], [])
@@ -79,7 +78,7 @@ class Threads(unittest.TestCase):
                 assert (done.element, done.unit) == (found.element, found.unit)
                 worked.append(found.words[0])
 
-        with Session([*WIDE, *(f"worker {it} 1" for it in NAMES)]) as session:
+        with Session([f"worker {it} 1" for it in NAMES]) as session:
             for customer in range(200):
                 session.submit(1, customer)
             self.assertEqual(at_once(len(NAMES), work), [])
@@ -95,31 +94,16 @@ class Threads(unittest.TestCase):
                     asked = [(it, batch.add(submit(1, it))) for it in range(first, first + 10)]
                 told.update((it, later.value.element) for it, later in asked)
 
-        with Session(WIDE) as session:
+        with Session([]) as session:
             self.assertEqual(at_once(4, order), [])
             self.assertEqual([it for it, element in told.items() if session.read(element).words[0] != it], [])
 
-    def test_rollovers_on_threads(self) -> None:
-        # The ids last, so each thread finds its own orders again, whichever thread had the session roll over.
-        right: list[int] = []
-
-        def order(thread: int) -> None:
-            for it in range(thread * 100, thread * 100 + 30):
-                element = session.submit(1, it).element
-                if session.read(element).words[0] == it and session.kill(element).element == element:
-                    right.append(it)
-
-        with Session(["rows 8", "units 8"], on_full="rollover") as session:
-            self.assertEqual(at_once(4, order), [])
-            self.assertEqual(len(right), 120)
-            self.assertGreater(session.rollovers, 5)
-
 
 class Exchanges(unittest.TestCase):
-    HEAD = ["rows 64", "units 64", "worker clerk 1"]
+    HEAD = ["worker clerk 1"]
 
     def hold_to_broken(self, session: Session) -> None:
-        for call in (lambda: session.submit(1, 3, 3), session.count, session.rollover, session.dump):
+        for call in (lambda: session.submit(1, 3, 3), session.count, session.drain, session.dump):
             with self.assertRaises(SessionBroken):
                 call()
         with self.assertRaises(SessionBroken), session.batch() as batch:
@@ -191,14 +175,14 @@ class Exchanges(unittest.TestCase):
     def test_an_answer_that_isnt_understood(self) -> None:
         with Session(self.HEAD) as session:
             with self.assertRaises(ValueError):
-                session.do(Command("count", read=lambda it: it.numbers("submitted E")))
+                session.do(Command("count", read=lambda it: it.numbers("submitted N")))
             self.hold_to_broken(session)
 
 
 class Words(unittest.TestCase):
     def test_a_word_is_one_word(self) -> None:
         # Each would be another line than was meant, or one line more, or one that isn't answered.
-        with Session(["rows 16", "worker clerk 1"]) as session:
+        with Session(["worker clerk 1"]) as session:
             for wrong in ("clerk\ncount", "clerk 15:1:1", "", "clerk\r", "cl\0erk", "clérk", "clerk\tx"):
                 with self.subTest(wrong), self.assertRaises(ValueError), left_after(5):
                     session.claim(wrong)
@@ -209,19 +193,19 @@ class Words(unittest.TestCase):
             self.assertEqual(session.count(), Counts(1, 0, 0, 0, 0))
 
     def test_a_line_of_a_head_is_one_line(self) -> None:
-        for head in (["rows 16\nsubmit 1 5 5"], ["rows 16", "# a\n\nworker clerk 1"], ["rows 16", "# é"]):
+        for head in (["limit 2\nsubmit 1 5 5"], ["limit 2", "# a\n\nworker clerk 1"], ["limit 2", "# é"]):
             with self.subTest(head), self.assertRaises(ValueError), left_after(5), Session(head):
                 pass
 
 
 class Closed(unittest.TestCase):
     def test_a_closed_session_writes_nowhere(self) -> None:
-        with Session(["rows 16", "worker clerk 1"]) as session:
+        with Session(["worker clerk 1"]) as session:
             session.submit(1, 5)
         with tempfile.TemporaryDirectory() as folder, contextlib.ExitStack() as stack:
             # These take the descriptors that the session had.
             files = [stack.enter_context(open(f"{folder}/{it}", "w+", encoding="ascii")) for it in range(8)]
-            for call in (session.count, lambda: session.submit(1, 1), session.rollover):
+            for call in (session.count, lambda: session.submit(1, 1), session.dump):
                 with self.assertRaises(SessionClosed), left_after(5):
                     call()
             session.close()
@@ -230,12 +214,12 @@ class Closed(unittest.TestCase):
                 self.assertEqual(Path(it.name).read_bytes(), b"")
 
     def test_one_that_has_not_begun(self) -> None:
-        session = Session(["rows 16"])
+        session = Session([])
         with self.assertRaises(SessionClosed):
             session.count()
 
     def test_a_forked_process(self) -> None:
-        with Session(["rows 16"]) as session:
+        with Session([]) as session:
             session.submit(1, 5)
             read, write = os.pipe()
             child = os.fork()
@@ -257,78 +241,9 @@ class Closed(unittest.TestCase):
             os.close(write)
 
 
-class Lasting(unittest.TestCase):
-    def test_aborts_and_what_is_lost(self) -> None:
-        head = ["rows 8", "units 8", "worker a 1", "worker b 1"]
-        with Session(head, on_full="rollover") as session:
-            for it in range(3):
-                session.submit(1, it, it)
-            session.claim("a")
-            session.commit("a")
-            session.rollover()
-            order = session.submit(1, 9, 9).element
-            session.kill(1)
-            session.kill(2)
-            work = session.claim("a")
-            assert work
-            self.assertEqual((work.element, session.abort("a")), (order, order))
-            session.claim("a")
-            session.release(order)
-            with self.assertRaises(refusals.Lost) as caught:
-                session.commit("a")
-            self.assertEqual(caught.exception.element, order)
-            session.claim("a")
-            with self.assertRaises(refusals.NotWaiting) as not_waiting:
-                session.take("b", order)
-            self.assertEqual((not_waiting.exception.element, not_waiting.exception.worker), (order, "b"))
-            session.release(order)
-            with self.assertRaises(refusals.AlreadyAborted) as already:
-                session.abort("a")
-            self.assertEqual(already.exception.element, order)
-
-    def test_an_id_that_no_answer_told(self) -> None:
-        # Order 1 is element 0 behind the rollover. An id that says that it was born there, as element 0, is
-        # nobody's.
-        with Session(["rows 8"], on_full="rollover") as session:
-            session.submit(1, 5)
-            order = session.submit(1, 6).element
-            session.kill(0)
-            session.rollover()
-            with self.assertRaises(refusals.NotThere):
-                session.read(1 << 32)
-            self.assertEqual(session.read(order).words[0], 6)
-
-    def test_lines_with_rollovers(self) -> None:
-        # Fed with the lines of a session with a rollover, another one tells the same ids.
-        lines = ["rows 16", "units 16", "worker a 1"]
-        lines += ["submit 1 5 5", "submit 1 6 6", "claim a", "commit a 2:5:5"]
-        lines += ["rollover", "submit 1 7 7"]
-        with Session(lines[:3], on_full="rollover") as session:
-            order = session.submit(1, 5, 5).element
-            session.submit(1, 6, 6)
-            session.claim("a")
-            (output,) = session.commit("a", Draft(2, 5, 5)).outputs
-            session.rollover()
-            late = session.submit(1, 7, 7).element
-            looks = [session.read(it) for it in (output, late)]
-        self.assertEqual([(it.root, it.words) for it in looks], [(order, (5, 5, 0, 0)), (late, (7, 7, 0, 0))])
-        with Session(lines, on_full="rollover") as session:
-            self.assertEqual([session.read(it) for it in (output, late)], looks)
-
-    def test_outputs_of_lines_keep_their_root(self) -> None:
-        lines = ["rows 16", "units 16", "worker a 1"]
-        lines += ["submit 1 5 5", "submit 1 6 6", "claim a", "commit a 2:5:5"]
-        with Session(lines, on_full="rollover") as session:
-            self.assertEqual(session.read(16).root, 0)
-            session.rollover()
-            self.assertEqual(session.read(16).root, 0)
-            members = [(it.element, it.state) for it in session.family(0)]
-            self.assertEqual(members, [(0, "consumed"), (16, "waiting")])
-
-
 class Told(unittest.TestCase):
     def test_a_refusal_names_its_command_and_worker(self) -> None:
-        with Session(["rows 16", "worker clerk 1", "worker other 1"]) as session:
+        with Session(["worker clerk 1", "worker other 1"]) as session:
             session.submit(1, 5)
             session.claim("clerk")
             with self.assertRaises(refusals.Busy) as busy:
@@ -345,7 +260,7 @@ class Told(unittest.TestCase):
 
     def test_an_end_tells_how(self) -> None:
         program = ["sh", "-c", "echo no memory >&2; exit 3"]
-        with self.assertRaises(SessionEnded) as caught, Session(["rows 8"], program):
+        with self.assertRaises(SessionEnded) as caught, Session([], program):
             pass
         self.assertEqual((caught.exception.status, caught.exception.said), (3, "no memory\n"))
         for word in ("3", "no memory"):

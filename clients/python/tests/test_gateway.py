@@ -341,8 +341,8 @@ class Attempts(Gateway):
         self.assertEqual((body, "ack" in headers), (b"5", True))
         last.do("ACK", {"message-id": headers["message-id"]})
 
-    def test_more_messages_than_a_manager_has(self) -> None:
-        # (over rollovers, each with its body)
+    def test_thousands_of_messages(self) -> None:
+        # (each with its body)
         it, clerk = self.client(), self.client()
         clerk.subscribe("/queue/orders", ack="client-individual")
         for number in range(3000):

@@ -1,9 +1,11 @@
 """Sessions with a journal, whose client or program is killed."""
 from __future__ import annotations
 
+import functools
 import hashlib
 import os
 import random
+import re
 import subprocess
 import sys
 import tempfile
@@ -13,16 +15,31 @@ import unittest
 from collections.abc import Sequence
 from unittest import mock
 
-from covetrivet import Counts, Draft, JournalFault, LogFault, Session, SessionEnded, journal, refusals
-from covetrivet.journal_lines import lines_in
+from covetrivet import (
+    Counts, Draft, JournalFault, LogFault, Session, SessionEnded, journal, kill, refusals, submit,
+)  # fmt: skip
+from covetrivet.journal import lines_in
 
-HEAD = ["rows 16", "units 16", "server till eager 2 1 add", "worker clerk 1"]
+HEAD = ["server till eager 2 1 add", "worker clerk 1"]
+LARGEST = 2**64 - 1
+
+
+@functools.cache
+def first_line() -> str:
+    """Returns the line that a journal begins with, in which its version is."""
+    with tempfile.TemporaryDirectory() as folder:
+        with Session.open(f"{folder}/journal", []):
+            pass
+        with open(f"{folder}/journal", encoding="latin-1") as file:
+            return file.readline().rstrip("\n")
 
 
 def text_of(lines: Sequence[str]) -> bytes:
     """Returns the text of a journal that has these lines as one batch."""
-    text = "".join(f"{it}\n" for it in ["# covetrivet journal 2", *lines]).encode("ascii")
-    return text + f"# {len(text)} {hashlib.sha256(text).hexdigest()}\x17\n".encode("ascii")
+    begins = len(first_line()) + 1
+    text = "".join(f"{it}\n" for it in [first_line(), *lines]).encode("ascii")
+    text += f"# {len(text)} {begins} ".encode("ascii")
+    return text + f"{hashlib.sha256(text).hexdigest()}\x17\n".encode("ascii")
 
 
 class Journals(unittest.TestCase):
@@ -46,7 +63,7 @@ class Journals(unittest.TestCase):
 
     def test_a_session_goes_on(self) -> None:
         with Session.open(self.path, HEAD) as session:
-            self.assertEqual((session.recovered, session.lines), (0, 5))
+            self.assertEqual((session.recovered, session.lines), (0, 3))
             for customer in range(4):
                 session.submit(1, customer, 10)
             session.claim("clerk")
@@ -55,10 +72,10 @@ class Journals(unittest.TestCase):
             session.claim("clerk")
             before = session.lines
             self.lost(session)
-        self.assertEqual(before, 5 + 4 + 4)
+        self.assertEqual(before, 3 + 4 + 4)
         for _life in range(3):
             with Session.open(self.path, HEAD) as session:
-                # Order 1 is in hand, as it was: 2 and 3 wait, and the reply. (Output 32 is the till's.)
+                # Order 1 is in hand, as it was: 2 and 3 wait, and the reply. (Output 4 is the till's.)
                 self.assertEqual(session.recovered, before)
                 self.assertEqual(session.count(), Counts(3, 1, 2, 0, 0))
                 with self.assertRaises(refusals.Busy):
@@ -66,33 +83,50 @@ class Journals(unittest.TestCase):
                 self.assertEqual([it.words[0] for it in session.reply(0)], [0])
                 before = session.lines
                 self.lost(session)
-        self.assertEqual(self.lines()[:5], [*HEAD, "count"])
+        self.assertEqual(self.lines()[:3], [*HEAD, "count"])
         with Session.open(self.path) as session:
             session.commit("clerk", Draft(15, 1, 1))
             # (2 and 3 wait, and both replies)
             self.assertEqual(session.count(), Counts(4, 0, 3, 0, 0))
 
-    def test_work_in_hand_over_rollovers(self) -> None:
+    def test_a_new_journal_of_a_dump(self) -> None:
         with Session.open(self.path, [*HEAD, "worker late 1"]) as session:
             for customer in range(3):
                 session.submit(1, customer, 10)
-            session.kill(0)
             session.claim("clerk")
             session.claim("late")
-            self.assertEqual(session.rollover().units, {"clerk": 0, "late": 1})
             session.kill(0)
-            self.assertEqual(session.rollover().units, {"late": 0})
             self.lost(session)
         with Session.open(self.path) as session:
             with self.assertRaises(refusals.Lost) as lost:
                 session.commit("clerk")
             self.assertEqual(lost.exception.element, 0)
             session.commit("late", Draft(15, 2, 1))
-            self.assertEqual([it.words[0] for it in session.reply(0)], [2])
+            self.assertEqual([it.words[0] for it in session.reply(1)], [2])
             dumped = session.dump().lines
-        # A new journal goes on from a dump.
         with Session.open(f"{self.path}.next", dumped) as session:
-            self.assertEqual(session.count(), Counts(1, 0, 1, 0, 0))
+            self.assertEqual(session.count(), Counts(2, 0, 1, 0, 1))
+            self.assertEqual(session.waiting(1), (2,))
+
+    def test_a_long_journal(self) -> None:
+        """The program makes it short by itself, once a million bytes have come. Nothing is lost by that."""
+        with Session.open(self.path, ["keep 1", *HEAD]) as session:
+            session.submit(1, 7)
+            session.claim("clerk")
+            for first in range(1, 30_001, 1000):
+                with session.batch() as batch:
+                    for it in range(first, first + 1000):
+                        batch.add(submit(3, *[LARGEST] * 4))
+                        batch.add(kill(it))
+            sent = session.lines
+            self.lost(session)
+        # (three million came)
+        self.assertLess(sum(map(len, self.lines())), 1_500_000)
+        with Session.open(self.path) as session:
+            self.assertEqual(session.recovered, sent)
+            self.assertEqual(session.commit("clerk", Draft(15, 8)).outputs, range(30_001, 30_002))
+            self.assertEqual([it.words[0] for it in session.reply(0)], [8])
+            self.assertEqual(session.count(), Counts(1, 0, 1, 0, 30_000))
 
     def test_an_end_in_order_is_not_kept(self) -> None:
         for _life in range(2):
@@ -107,21 +141,22 @@ class Journals(unittest.TestCase):
         with Session.open(self.path, HEAD) as session:
             session.submit(1, 7)
         lines = self.lines()
-        for head in (HEAD, [*HEAD, "worker late 2", "worker later 3", "worker last 4"], ["rows 8"]):
+        for head in (HEAD, [*HEAD, "worker late 2", "worker later 3", "worker last 4"], ["keep 8"]):
             with Session.open(self.path, head) as session:
                 self.assertEqual(session.recovered, len(lines))
         self.assertEqual(self.lines(), lines)
 
     def test_a_head_that_is_refused_is_not_kept(self) -> None:
         with self.assertRaises(refusals.BadNumber) as refused:
-            with Session.open(self.path, [*HEAD, "worker late 99"]):
+            with Session.open(self.path, [*HEAD, "worker late 1000"]):
                 pass
-        self.assertEqual(refused.exception.command, "worker late 99")
+        self.assertEqual(refused.exception.command, "worker late 1000")
         with Session.open(self.path, [*HEAD, "worker late 2"]) as session:
             self.assertEqual((session.recovered, session.claim("late")), (0, None))
 
     def test_a_beginning_that_was_cut_short(self) -> None:
-        head = [*HEAD, "alive 0 0 0 1:5:6", "alive 1 0 0 1:7:8"]
+        element = "element {} 1:5:6:7:8 {} client nobody 0 waiting 0"
+        head = [*HEAD, "numbers 2 0 0", element.format(0, 0), element.format(1, 1)]
         whole = [*head, "restore"]
         for count in range(1, len(whole) + 1):
             with self.subTest(count):
@@ -129,13 +164,11 @@ class Journals(unittest.TestCase):
                 with Session.open(self.path, head) as session:
                     self.assertEqual(session.recovered, count)
                     self.assertEqual(session.count(), Counts(2, 0, 0, 0, 0))
-                    # What was recovered isn't told again.
-                    self.assertEqual(session.moved, {0: 0, 1: 1} if count < len(whole) else {})
                 self.assertEqual(self.lines(), [*whole, "count"])
-        self.write(text_of(["rows 8", "units 8"]))
+        self.write(text_of(["limit 2", "keep 8"]))
         with self.assertRaisesRegex(JournalFault, "another head"), Session.open(self.path, head):
             pass
-        self.assertEqual(self.lines(), ["rows 8", "units 8"])
+        self.assertEqual(self.lines(), ["limit 2", "keep 8"])
 
     def test_commands_behind_the_head(self) -> None:
         begin = [*HEAD, "submit 1 5 6", "# a comment", "submit 1 7 8"]
@@ -146,53 +179,6 @@ class Journals(unittest.TestCase):
                 self.assertEqual(session.count().waiting, 2)
             self.assertEqual(self.lines(), [*whole, "count"])
 
-    def replied(self, session: Session, order: int, customer: int) -> None:
-        """Replies to an order, the only one that waits. Where there is no row the session rolls over."""
-        work = session.claim("clerk")
-        assert work
-        self.assertEqual((work.element, work.words[0]), (order, customer))
-        try:
-            session.commit("clerk", Draft(15, customer))
-        except refusals.Full:
-            self.replied(session, order, customer)
-
-    def test_ids_last(self) -> None:
-        """Orders over many rollovers and lives, each of which is killed. Every tenth one stays in hand."""
-        head = ["rows 8", "units 8", "worker clerk 1", "worker late 1"]
-        early = -1
-        for life in range(4):
-            with Session.open(self.path, head, on_full="rollover") as session:
-                if life == 0:
-                    early = session.submit(1, 1000).element
-                    session.claim("late")
-                self.assertEqual(session.read(early).words[0], 1000)
-                told: list[int] = []
-                for customer in range(12):
-                    order = session.submit(1, customer).element
-                    self.replied(session, order, customer)
-                    if customer > 0:
-                        # (the reply to the one before it may have been carried over)
-                        self.assertEqual([it.words[0] for it in session.collect(told[-1])], [customer - 1])
-                    told.append(order)
-                self.assertGreater(session.rollovers, 0)
-                last = told[-1]
-                self.lost(session)
-            with Session.open(self.path, on_full="rollover") as session:
-                self.assertEqual([it.words[0] for it in session.collect(last)], [11])
-                with self.assertRaises(refusals.NotThere):
-                    session.read(told[0])
-                self.lost(session)
-        with self.assertRaisesRegex(JournalFault, "ids of .* last"), Session.open(self.path):
-            pass
-        with Session.open(self.path, on_full="rollover") as session:
-            self.assertEqual(session.commit("late", Draft(15, 7)).element, early)
-            with mock.patch.object(os, "fsync", side_effect=OSError(28, "No space left on device")):
-                with self.assertRaises(refusals.NoMemory):
-                    session.rollover()
-            self.assertEqual([it.words[0] for it in session.reply(early)], [7])
-            session.rollover()
-            self.assertEqual([it.words[0] for it in session.collect(early)], [7])
-
     def test_what_is_no_journal(self) -> None:
         with self.assertRaisesRegex(JournalFault, "there is no journal"), Session.open(self.path):
             pass
@@ -200,8 +186,8 @@ class Journals(unittest.TestCase):
         good = text_of([*HEAD, "count"])
         for text, why in (
             (good.replace(b"till", b"tell"), "damaged from line 2 on"),
-            (b"rows 8\n", "no journal"),
-            (good.replace(b"journal 2", b"journal 1"), "of another version"),
+            (b"keep 8\n", "no journal"),
+            (good.replace(first_line().encode("ascii"), b"# covetrivet journal 1"), "of another version"),
         ):
             self.write(text)
             with self.assertRaisesRegex(JournalFault, why), Session.open(self.path, HEAD):
@@ -222,7 +208,7 @@ class Journals(unittest.TestCase):
             # One that waits goes on once the other one has ended.
             threading.Timer(0.1, session.process.kill).start()
             with mock.patch.object(journal, "SECONDS_TO_LET_GO", 30), Session.open(self.path) as other:
-                self.assertEqual(other.recovered, 6)
+                self.assertEqual(other.recovered, 4)
             with self.assertRaises(SessionEnded):
                 session.count()
 
@@ -241,23 +227,13 @@ class Journals(unittest.TestCase):
                 session.shorten_log()
             self.assertEqual(session.count().waiting, 0)
 
-    def test_rollovers(self) -> None:
-        with Session.open(self.path, HEAD) as session:
-            session.submit(1, 5)
-            session.submit(1, 7)
-            session.kill(0)
-            self.assertEqual(session.rollover().moved, {1: 0})
-            self.lost(session)
-        with Session.open(self.path) as session:
-            self.assertEqual(session.read(0).words[0], 7)
-
     def test_a_client_is_killed(self) -> None:
         """Each order that a killed client was told of is there once, and so is each that was asked for before
         another one was told."""
         chance = random.Random(5)
         child = (
             "import sys\nfrom covetrivet import Session\n"
-            f"with Session.open({self.path!r}, ['rows 256', 'spare 256']) as session:\n"
+            f"with Session.open({self.path!r}, ['keep 1']) as session:\n"
             "    print('recovered', session.recovered, flush=True)\n"
             "    while True: print(session.submit(1, 7).element, flush=True)\n"
         )
@@ -267,9 +243,9 @@ class Journals(unittest.TestCase):
             try:
                 assert client.stdout
                 recovered = int(client.stdout.readline().split()[1])
-                # (a head of two lines and the command that ends it)
-                self.assertGreaterEqual(max(0, recovered - 3), known + 1)
-                known = max(0, recovered - 3) - 1
+                # (a head of one line and the command that ends it)
+                self.assertGreaterEqual(max(0, recovered - 2), known + 1)
+                known = max(0, recovered - 2) - 1
                 for _ in range(chance.randrange(30)):
                     self.assertEqual(int(client.stdout.readline()), known + 1)
                     known += 1
@@ -286,7 +262,7 @@ class Journals(unittest.TestCase):
         chance = random.Random(6)
         child = (
             "from covetrivet import Session\n"
-            f"with Session.open({self.path!r}, ['rows 8']) as session:\n"
+            f"with Session.open({self.path!r}, ['keep 8']) as session:\n"
             "    print('begun', flush=True)\n"
             "    while True: session._exchange(['#' + 'x' * 150] * 2000 + ['count'], 1)\n"
         )
@@ -300,7 +276,12 @@ class Journals(unittest.TestCase):
                 client.kill()
                 client.communicate()
         with Session.open(self.path):
-            self.assertEqual(set(self.lines()), {"rows 8", "count", "#" + "x" * 150})
+            lines = self.lines()
+            # (of more than a mebibyte of lines the first have become a dump, which stands for them)
+            dump = re.match(r"# covetrivet: (\d+) lines for \d+\x02$", lines[0])
+            behind = lines[1 + int(dump[1]):] if dump else lines
+            self.assertLessEqual(set(behind), {"keep 8", "count", "#" + "x" * 150})
+            self.assertTrue(dump or "keep 8" in behind)
 
 
 if __name__ == "__main__":

@@ -19,7 +19,7 @@ from dataclasses import replace
 from pathlib import Path
 from unittest import mock
 
-from covetrivet import answers, library, library_shapes, refusals
+from covetrivet import library, library_shapes, refusals
 from covetrivet.library import (
     BadDraft, Caller, ClosedHandle, Counts, Draft, FullLost, Limits, Look, Manager, NoLibrary, NoPart,
     NotAll, OtherManager, Released, Reply, Room, TooMany, Work,
@@ -315,7 +315,7 @@ class Calls(unittest.TestCase):
             with manager.open() as me:
                 wanted = Look(moved[left], 2, moved[left], (2, 0, 0, 0), "client", "waiting 0")
                 self.assertEqual(me.read(moved[left]), wanted)
-            self.assertIsInstance(manager.rollover(Limits(3, 16, 8, 2, 1)), answers.RolledOver)
+            self.assertEqual(manager.rollover(Limits(3, 16, 8, 2, 1)).holders, {})
             self.assertEqual(manager.limits(), Limits(3, 16, 8, 2, 1))
 
     def test_what_is_in_hand_goes_on(self) -> None:

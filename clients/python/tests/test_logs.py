@@ -10,11 +10,11 @@ import unittest
 from pathlib import Path
 
 from covetrivet import (
-    Counts, Depth, Draft, LogFault, NoProgram, Session, SessionBroken, SessionEnded, refusals,
+    Command, Counts, Depth, Draft, LogFault, NoProgram, Session, SessionBroken, SessionEnded, refusals,
 )  # fmt: skip
 
-FIRST = "# covetrivet log 1"
-HEAD = ["rows 16", "units 16", "worker clerk 1"]
+FIRST = "# covetrivet log 2"
+HEAD = ["worker clerk 1"]
 
 
 class Logs(unittest.TestCase):
@@ -40,7 +40,7 @@ class Logs(unittest.TestCase):
             session.commit("clerk", Draft(15, 0, 1))
             session.claim("clerk")
             self.lost(session)
-        wanted = [FIRST, *HEAD, "submit 1 0 10", "submit 1 1 10", "submit 1 2 10", "submit 1 3 10"]
+        wanted = [FIRST, *HEAD, "count", "submit 1 0 10", "submit 1 1 10", "submit 1 2 10", "submit 1 3 10"]
         wanted += ["claim clerk", "commit clerk 15:0:1:0:0", "claim clerk"]
         for _life in range(3):
             self.assertEqual(self.lines(), wanted)
@@ -58,7 +58,7 @@ class Logs(unittest.TestCase):
         # Each order that the killed client was told of is there once behind it.
         child = (
             "import sys\nfrom covetrivet import Session\n"
-            f"with Session(['rows 256', 'spare 256'], log={self.path!r}) as session:\n"
+            f"with Session([], log={self.path!r}) as session:\n"
             "    while True: print(session.submit(1, 7).element, flush=True)\n"
         )
         with subprocess.Popen([sys.executable, "-c", child], stdout=subprocess.PIPE, text=True) as client:
@@ -93,14 +93,14 @@ class Logs(unittest.TestCase):
                     pass
             self.assertEqual(session.count(), Counts(1, 0, 0, 0, 0))
         # Neither has changed it, and where the session is closed it still isn't begun anew.
-        self.assertEqual(self.lines(), [FIRST, *HEAD, "submit 1 1 0"])
+        self.assertEqual(self.lines(), [FIRST, *HEAD, "count", "submit 1 1 0"])
         with self.assertRaises(LogFault), Session(HEAD, log=self.path):
             pass
         self.assertEqual(os.listdir(os.path.dirname(self.path)), ["orders.log"])
 
     def test_a_session_that_doesnt_begin(self) -> None:
         # It leaves no log behind, which would be in the way of the next one.
-        with self.assertRaises(refusals.BadLimits), Session(["rows 0"], log=self.path):
+        with self.assertRaises(refusals.BadLimits), Session(["limit 0"], log=self.path):
             pass
         with self.assertRaises(NoProgram), Session(HEAD, program="/nowhere/tp_live", log=self.path):
             pass
@@ -113,8 +113,8 @@ class Logs(unittest.TestCase):
             session.submit(1, 1)
         text = Path(self.path).read_bytes()
         # (older ones have no such line)
-        for first in (b"", b"# covetrivet log 2\n", b"# covetrivet log\n", b"# covetrivet log 1 \n"):
-            other = text.replace(b"# covetrivet log 1\n", first) + b"torn"
+        for first in (b"", b"# covetrivet log 1\n", b"# covetrivet log\n", b"# covetrivet log 2 \n"):
+            other = text.replace(b"# covetrivet log 2\n", first) + b"torn"
             Path(self.path).write_bytes(other)
             with self.assertRaisesRegex(LogFault, "no log of this version"), Session.from_log(self.path):
                 pass
@@ -151,112 +151,49 @@ class Logs(unittest.TestCase):
             self.assertEqual(session.count(), Counts(1, 0, 0, 0, 0))
 
     def test_a_short_log(self) -> None:
-        with Session(HEAD, log=self.path) as session:
-            for customer in range(4):
+        with Session([*HEAD, "worker late 1"], log=self.path) as session:
+            for customer in range(5):
                 session.submit(1, customer)
             session.cancel(1)
-            session.shorten_log()
-            # (0, 2 and 3 are 0, 1 and 2 behind the rollover)
-            work = session.claim("clerk")
-            assert work
-            self.assertEqual((work.element, work.unit, work.words), (0, 16, (0, 0, 0, 0)))
-            session.commit("clerk", Draft(15, 5))
-        alive = [f"alive {it} 0 0 1:{it}:0:0:0" for it in (0, 2, 3)]
-        wanted = [FIRST, "rows 16", "units 16", "limit 3", "spare 0", "worker clerk 1", *alive, "restore"]
-        self.assertEqual(self.lines(), [*wanted, "claim clerk", "commit clerk 15:5:0:0:0"])
-        with Session.from_log(self.path) as session:
-            self.assertEqual(session.moved, {0: 0, 2: 1, 3: 2})
-            self.assertEqual([it.words[0] for it in session.collect(0)], [5])
-            self.assertEqual(session.count(), Counts(2, 0, 1, 0, 1))
-
-    def test_a_log_that_isnt_shortened(self) -> None:
-        with Session(["rows 64", "units 64", "server till eager 1 1 add"], log=self.path) as session:
-            session.submit(1, 0, 1)
-            session.claim("till")
-            with self.assertRaises(refusals.Busy):
-                session.shorten_log()
-            session.commit("till")
-            session.submit(1, 2, 2)
-            self.lost(session)
-        self.assertEqual(self.lines()[-2:], ["commit till", "submit 1 2 2"])
-        with Session.from_log(self.path) as session:
-            self.assertEqual(session.count(), Counts(1, 0, 1, 0, 0))
-
-    def test_a_short_log_with_work_in_hand(self) -> None:
-        with Session([*HEAD, "worker late 1"], log=self.path, on_full="rollover") as session:
-            early, first, second = (session.submit(1, it).element for it in range(3))
-            session.kill(early)
             session.claim("clerk")
             session.claim("late")
-            session.rollover()
-            session.kill(first)
+            session.release(2)
+            before = session.dump().lines
             session.shorten_log()
-            self.lost(session)
+            self.assertEqual(session.commit("clerk", Draft(15, 5)).unit, 0)
+        self.assertEqual(self.lines(), [FIRST, *before, "commit clerk 15:5:0:0:0"])
         for _life in range(2):
             with Session.from_log(self.path) as session:
-                self.assertEqual((session.units, session.count()), ({"late": second}, Counts(0, 1, 0, 0, 0)))
+                self.assertEqual([it.words[0] for it in session.reply(0)], [5])
+                self.assertEqual([session.read(it).words[0] for it in session.waiting(1)], [2, 3, 4])
+                self.assertEqual(session.count(), Counts(4, 0, 1, 0, 1))
                 self.lost(session)
         with Session.from_log(self.path) as session:
             with self.assertRaises(refusals.Lost) as lost:
-                session.commit("clerk")
-            self.assertEqual((lost.exception.element, session.abort("late")), (first, second))
+                session.commit("late")
+            self.assertEqual(lost.exception.element, 2)
             # It has heard of that, also in the next life.
-            session.claim("clerk")
-            session.kill(second)
+            work = session.claim("clerk")
+            assert work
+            self.assertEqual((work.element, work.attempt), (2, 2))
+            session.kill(2)
             self.lost(session)
         with Session.from_log(self.path) as session:
             with self.assertRaises(refusals.AlreadyAborted) as already:
                 session.abort("clerk")
-            self.assertEqual(already.exception.element, second)
+            self.assertEqual(already.exception.element, 2)
+            self.assertIsNone(session.last_work("late").work)
 
-    def test_a_log_with_no_room_to_roll(self) -> None:
-        with Session(["rows 4", "worker w 1"], log=self.path) as session:
-            session.submit(1, 1)
-            session.claim("w")
-            session.commit("w", *[Draft(2, it) for it in (5, 6, 7, 8)])
-            before = self.lines()
-            # The four are one family. Their root needs a row more for its copy.
-            with self.assertRaises(refusals.Full):
-                session.shorten_log()
-            self.assertEqual(self.lines(), before)
-            self.assertEqual(os.listdir(os.path.dirname(self.path)), ["orders.log"])
-            session.kill(4)
-            session.shorten_log()
-            self.assertEqual(session.count().waiting, 3)
-        with Session.from_log(self.path) as session:
-            self.assertEqual([session.read(it).words[0] for it in session.moved.values()], [6, 7, 8])
-
-    def test_ids_last_in_a_log(self) -> None:
-        early: list[int] = []
-        with Session(HEAD, log=self.path, on_full="rollover") as session:
-            for customer in range(40):
-                order = session.submit(1, customer, 10).element
-                if customer % 10 == 0:
-                    early.append(order)
-                    continue
-                try:
-                    session.take("clerk", order)
-                    session.commit("clerk", Draft(15, customer, 1))
-                except refusals.Full:
-                    session.take("clerk", order)
-                    session.commit("clerk", Draft(15, customer, 1))
-                if customer % 10 == 1:
-                    early.append(order)
-                else:
-                    session.collect(order)
-            rollovers = session.rollovers
-            self.assertGreater(rollovers, 1)
+    def test_workers_that_come(self) -> None:
+        # (as commands: the log's head ends before them, and what was refused behind it is refused again)
+        with Session([], log=self.path) as session:
+            session.join("clerk", 1)
+            with self.assertRaises(refusals.Order):
+                session.do(Command("limit", 2, read=str))
             self.lost(session)
-        for life in range(4):
-            with Session.from_log(self.path) as session:
-                self.assertEqual(session.rollovers, 0 if life == 3 else rollovers)
-                # The early orders wait; of those with a reply the order is told by its root.
-                self.assertEqual([session.read(it).words[0] for it in early[::2]], [0, 10, 20, 30])
-                replies = [[it.words[0] for it in session.reply(it)] for it in early[1::2]]
-                self.assertEqual(replies, [[1], [11], [21], [31]])
-                if life == 2:
-                    session.shorten_log()
-                self.lost(session)
+        with Session.from_log(self.path) as session:
+            self.assertIsNone(session.claim("clerk"))
+            self.assertIn("limit 3", session.dump().lines)
 
 
 if __name__ == "__main__":

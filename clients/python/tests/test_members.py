@@ -50,7 +50,7 @@ class Members(unittest.TestCase):
         self.comes(lambda: second.token)
         self.assertEqual(second.open_units, ["wa"])
         said = self.asked(second, "commit wa 15:1:2", "reply 0")
-        self.assertEqual(said, ["wa done 0 unit 128 outputs 128 1", "replies 0 128:1:2"])
+        self.assertEqual(said, ["wa done 0 unit 0 outputs 1 1", "replies 0 1:1:2"])
         self.assertEqual(first.member.stood[0], 1)
 
     def test_what_is_in_doubt_is_not_answered(self) -> None:
@@ -101,23 +101,54 @@ class Members(unittest.TestCase):
         self.assertEqual(self.asked(node, "submit 1 5 6"), ["submitted 1"])
         self.assertIsNone(node.why)
 
+    def test_a_record_has_so_many_lines_and_signs(self) -> None:
+        node = self.node("n1")
+        self.comes(lambda: node.token)
+        self.asked(node, *["count"] * 2500, *["\xff" * 1000] * 400)
+        records = self.store.records.values()
+        self.assertEqual(sum(len(it.lines) for it in records), 2900)
+        self.assertEqual(max(len(it.lines) for it in records), 1000)
+        self.assertLess(max(len(it.text()) for it in records), 1_000_000)
+        self.assertLess(len(records), 8)
+
     def test_the_log_is_made_short(self) -> None:
-        first = self.node("n1")
-        self.comes(lambda: first.token)
-        for at in range(60):
-            born = self.asked(first, f"submit 1 {at} 5")[0].split()[1]
-            self.asked(first, "claim wa", "commit wa 15:1:2", f"collect {born}")
-        self.comes(lambda: (self.store.the_base or Base(0, "", ())).place > 0)
-        base = self.store.the_base
-        assert base
-        self.assertEqual(min(self.store.records, default=base.place), base.place)
-        # One that comes now begins there, and answers the same.
-        second = self.node("n2")
-        self.comes(lambda: second.member.place() == first.member.place())
-        first.end()
-        self.comes(lambda: second.token)
-        self.assertRegex(self.asked(second, "submit 1 0 0")[0], r"submitted \d{10,}")
+        with mock.patch("covetrivet.member.MOST_LINES", 100):
+            first = self.node("n1")
+            self.comes(lambda: first.token)
+            # What is in hand, and what is lost, waits for nobody.
+            self.asked(first, "submit 1 7 5", "submit 1 8 5", "claim wa", "claim wb", "kill 1")
+            for at in range(60):
+                self.asked(first, f"submit 3 {at} 5", f"kill {at + 2}")
+            self.comes(lambda: (self.store.the_base or Base(0, "", ())).place > 0)
+            base = self.store.the_base
+            assert base
+            self.assertEqual(min(self.store.records, default=base.place), base.place)
+            self.comes(lambda: first.member.replica and first.member.replica.fed < 100)
+            # One that comes now begins there, and answers the same. It knows who has something in hand.
+            second = self.node("n2")
+            self.comes(lambda: second.member.place() == first.member.place())
+            first.end()
+            self.comes(lambda: second.token)
+        self.assertEqual(sorted(second.open_units), ["wa", "wb"])
+        said = self.asked(second, "submit 1 0 0", "abort wb", "commit wa 15:1:2", "reply 0")
+        done = "wa done 0 unit 0 outputs 63 1"
+        self.assertEqual(said, ["submitted 62", "wb already 1", done, "replies 0 63:1:2"])
         self.assertIsNone(second.fault)
+
+    def test_a_short_log_that_is_in_doubt(self) -> None:
+        # A leader that is deposed before the dump is in the log makes another one, once it leads again.
+        with mock.patch.multiple("covetrivet.member", MOST_LINES=10, SECONDS_TO_COMPACT=0.3):
+            node = self.node("n1")
+            self.comes(lambda: node.token)
+            self.asked(node, *["submit 1 5 6"] * 12)
+            self.comes(lambda: node.member.next_base)
+            self.store.next_term("n2")
+            node.ask("count")
+            self.comes(lambda: node.leader == "n2")
+            self.assertEqual((self.store.the_base or Base(9, "", ())).place, 0)
+            self.store.next_term(None)
+            self.comes(lambda: (self.store.the_base or Base(0, "", ())).place > 0)
+            self.assertEqual(self.asked(node, "submit 1 5 6"), ["submitted 12"])
 
     def test_one_that_is_behind_the_dump_begins_anew(self) -> None:
         node = self.node("n1")
@@ -126,11 +157,11 @@ class Members(unittest.TestCase):
         self.store.next_term("n2")
         self.comes(lambda: node.leader == "n2" or node.ask("count") is None)
         self.store.records.clear()
-        self.store.the_base = Base(9, "d0", [*HEAD, "alive 3 0 0 1:5:6:0:0", "restore"])
+        self.store.the_base = Base(9, "d0", [*HEAD, "numbers 4 0 0", "restore"])
         self.comes(lambda: node.member.place() == 9)
         self.store.next_term(None)
         self.comes(lambda: node.token)
-        self.assertEqual(self.asked(node, "errors"), ["errors"])
+        self.assertEqual(self.asked(node, "submit 1 5 6"), ["submitted 4"])
 
     def test_a_log_with_a_gap(self) -> None:
         node = self.node("n1")
@@ -160,36 +191,6 @@ class Members(unittest.TestCase):
         # Another one may lead.
         self.assertIn("has not answered in 1.0 seconds", str(node.fault))
         self.comes(lambda: self.store.holder is None)
-
-    def test_a_rollover_waits_for_nobody(self) -> None:
-        # A worker has its unit, and commits it behind the rollover, which is due after 48 elements.
-        first = self.node("n1")
-        self.comes(lambda: first.token)
-        self.asked(first, *(f"submit 1 {it} 5" for it in range(47)), "claim wa", "claim wb")
-        self.asked(first, "kill 1", "submit 1 47 5")
-        self.assertEqual(self.asked(first, "read 0", "abort wb")[1], "wb already 1")
-        self.assertIn(["rollover"], [list(it.lines) for it in self.store.records.values()])
-        # Another node that begins behind it knows who has something in hand.
-        self.comes(lambda: (self.store.the_base or Base(0, "", ())).place > 0)
-        second = self.node("n2")
-        self.comes(lambda: second.member.place() == first.member.place())
-        first.end()
-        self.comes(lambda: second.token)
-        self.assertEqual(second.open_units, ["wa"])
-        said = self.asked(second, "commit wa 15:1:2", "reply 0")
-        born = (1 << 32) + 128
-        self.assertEqual(said, [f"wa done 0 unit 128 outputs {born} 1", f"replies 0 {born}:1:2"])
-
-    def test_a_rollover_that_is_refused(self) -> None:
-        # A desk has a unit open. Lines go on, and it is tried again much later.
-        node = self.node("n1")
-        self.comes(lambda: node.token)
-        self.asked(node, "submit 2 0 5", "claim till", *(f"submit 1 {it} 5" for it in range(48)))
-        for _ in range(3):
-            self.assertRegex(self.asked(node, "claim wa", "abort wa")[1], r"wa aborted \d+")
-        self.assertRegex(self.asked(node, "commit till")[0], "till done 0 ")
-        rollovers = [it for it in self.store.records.values() if [*it.lines] == ["rollover"]]
-        self.assertEqual(len(rollovers), 1)
 
 
 if __name__ == "__main__":

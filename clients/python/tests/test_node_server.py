@@ -16,7 +16,7 @@ from covetrivet.shared_log import Token
 from memory_log import MemoryLog, Store
 from serving import Client, comes
 
-HEAD = ["rows 64", "units 64", "worker wa 1", "worker wb 1"]
+HEAD = ["worker wa 1", "worker wb 1"]
 
 
 class OneLog(MemoryLog):
@@ -31,13 +31,13 @@ class OneLog(MemoryLog):
 class Nodes:
     """Two nodes with a log in memory, in the event loop of a test."""
 
-    def __init__(self, folder: str, orphans: float | None) -> None:
+    def __init__(self, folder: str, orphans: float | None, limits: Limits) -> None:
         self.store, self.said = Store(), list[str]()
         self.logs = [OneLog(self.store, it) for it in ("n1", "n2")]
         self.logs[1].may_lead = False
         self.paths = [f"{folder}/{it}" for it in ("n1", "n2")]
         self.servers = [
-            NodeServer(log, log.who, HEAD, Limits(), orphans, self.said.append) for log in self.logs
+            NodeServer(log, log.who, HEAD, limits, orphans, self.said.append) for log in self.logs
         ]
 
     async def run(self, act: Callable[[Nodes], None]) -> None:
@@ -69,10 +69,10 @@ class Nodes:
         self.store.next_term(None)
 
 
-def with_nodes(act: Callable[[Nodes], None], orphans: float | None = None) -> None:
+def with_nodes(act: Callable[[Nodes], None], orphans: float | None = None, limits: Limits = Limits()) -> None:
     async def run() -> None:
         with tempfile.TemporaryDirectory() as folder:
-            await Nodes(folder, orphans).run(act)
+            await Nodes(folder, orphans, limits).run(act)
 
     loop.run(run())
 
@@ -100,7 +100,7 @@ class NodeServers(unittest.TestCase):
                     self.assertEqual(client.rest(), [NO_MORE])
             nodes.leads(1)
             with Client(nodes.paths[1]) as it:
-                self.assertEqual(it.ask("commit wa 15:1:2"), ["wa done 0 unit 64 outputs 64 1"])
+                self.assertEqual(it.ask("commit wa 15:1:2"), ["wa done 0 unit 0 outputs 1 1"])
             self.assertIn("leads from place 0", nodes.said)
             self.assertIn("leads no more: another node leads", nodes.said)
 
@@ -117,9 +117,9 @@ class NodeServers(unittest.TestCase):
             nodes.leads(1)
             with Client(nodes.paths[1]) as it:
                 # One comes back in time, and the other one's is aborted.
-                self.assertEqual(it.ask("commit wb"), ["wb done 1 unit 128 outputs 0 0"])
+                self.assertEqual(it.ask("commit wb"), ["wb done 1 unit 1 outputs 2 0"])
                 self.assertTrue(comes(lambda: nodes.servers[1].orphans.aborted == 1))
-                self.assertRegex(it.ask("claim wb")[0], "wb work 0 unit 129 attempt 2 ")
+                self.assertRegex(it.ask("claim wb")[0], "wb work 0 unit 2 attempt 2 ")
 
         with_nodes(act, 0.5)
 

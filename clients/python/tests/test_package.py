@@ -15,7 +15,7 @@ from pathlib import Path
 import covetrivet
 from covetrivet import NoProgram, Session, SessionEnded, program
 
-HEAD = ["rows 8"]
+HEAD = ["keep 8"]
 
 
 def command(*words: str, given: str = "", **environment: str) -> subprocess.CompletedProcess[str]:
@@ -52,10 +52,20 @@ class Programs(unittest.TestCase):
         # A copy of the package by itself, in no checkout.
         with tempfile.TemporaryDirectory() as folder:
             shutil.copytree(Path(covetrivet.__file__).parent, f"{folder}/covetrivet")
-            said = command(given="rows 8\ncount\n", PYTHONPATH=folder)
+            said = command(given="keep 8\ncount\n", PYTHONPATH=folder)
             self.assertEqual((said.returncode, said.stdout), (69, ""))
             self.assertIn("COVETRIVET_PROGRAM", said.stderr)
             self.assertNotIn("Traceback", said.stderr)
+
+    def test_no_server(self) -> None:
+        with tempfile.TemporaryDirectory() as folder:
+            shutil.copytree(Path(covetrivet.__file__).parent, f"{folder}/covetrivet")
+            for named in "", "/nowhere/covetrivetd":
+                said = command("serve", "--help", PYTHONPATH=folder, COVETRIVET_SERVER=named)
+                self.assertEqual((said.returncode, said.stdout), (69, ""))
+                self.assertIn("COVETRIVET_SERVER", said.stderr)
+                self.assertIn(named, said.stderr)
+                self.assertNotIn("Traceback", said.stderr)
 
     def test_the_program_of_a_checkout(self) -> None:
         with tempfile.TemporaryDirectory() as folder:
@@ -67,7 +77,7 @@ class Programs(unittest.TestCase):
             (top / "run").write_text(f'#!/bin/sh\n[ "$1" = --live ] && exec {found}\n')
             (top / "run").chmod(0o755)
             (top / "CHANGELOG.md").write_text("# Changes\n\n## 7.8.9\n\n## 7.8.8\n")
-            said = command(given="rows 8\nsubmit 1 5 6\n", PYTHONPATH=str(package.parent))
+            said = command(given="keep 8\nsubmit 1 5 6\n", PYTHONPATH=str(package.parent))
             self.assertEqual((said.stdout, said.stderr), ("submitted 0\n", ""))
             said = command("--version", PYTHONPATH=str(package.parent))
             self.assertEqual(said.stdout, "covetrivet 7.8.9\n")
@@ -89,7 +99,7 @@ class Programs(unittest.TestCase):
             slow = f"echo compiling >&2; while ! [ -e {told} ]; do sleep 0.05; done; exec {found}"
             client = f"""
 from covetrivet import Session
-with Session(["rows 8"], ["sh", "-c", {slow!r}]) as session:
+with Session(["keep 8"], ["sh", "-c", {slow!r}]) as session:
     print(session.count().waiting)
 """
             pipe = subprocess.PIPE
@@ -139,10 +149,9 @@ class Commands(unittest.TestCase):
 
     def test_help_names_each_command(self) -> None:
         words = re.findall("[a-z]+", command("--help").stdout)
-        wanted = "rows units limit spare server start worker alive submit claim next take prepare commit"
-        wanted += " abort drop turn kill cancel requeue release read reply collect family errors count"
-        wanted += " depth list room holds balance sum account drain rollover dump restore register send"
-        wanted += " receive last forget"
+        wanted = "limit max keep server start worker submit claim next take prepare commit abort drop turn"
+        wanted += " kill cancel requeue release read reply collect family errors count depth list holds"
+        wanted += " balance sum account drain dump restore register send receive last forget leave"
         self.assertEqual([it for it in wanted.split() if it not in words], [])
 
     def test_version(self) -> None:
@@ -151,11 +160,10 @@ class Commands(unittest.TestCase):
         self.assertRegex(covetrivet.__version__, r"^\d+\.\d+\.\d+$")
 
     def test_a_session(self) -> None:
-        lines = "rows 8\nunits 8\nworker packer 1\n"
+        lines = "keep 8\nworker packer 1\n"
         lines += "submit 1 5 6\nclaim packer\ncommit packer 15:5:6\n"
-        # (the client has rows and units 0 to 7, the worker 8 to 15)
-        wanted = "submitted 0\npacker work 0 unit 8 attempt 1 root 0 body 5:6:0:0\n"
-        wanted += "packer done 0 unit 8 outputs 8 1\n"
+        wanted = "submitted 0\npacker work 0 unit 0 attempt 1 root 0 body 5:6:0:0\n"
+        wanted += "packer done 0 unit 0 outputs 1 1\n"
         found = program.find()
         named = {program.VARIABLE: found[0]} if len(found) == 1 else {}
         self.assertEqual(command(given=lines, **named).stdout, wanted)

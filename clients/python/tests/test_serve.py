@@ -12,7 +12,7 @@ import time
 import unittest
 
 from covetrivet import program
-from serving import SECONDS, WIDE, Serving, comes
+from serving import SECONDS, Client, Serving, comes
 
 WORKERS = tuple(f"worker {it} 1" for it in ("a", "b", "c", "d"))
 COUNTED = "waiting 0 held 0 consumed 0 parked 0 killed 0"
@@ -20,7 +20,7 @@ COUNTED = "waiting 0 held 0 consumed 0 parked 0 killed 0"
 
 class ServeAnswers(unittest.TestCase):
     def test_two_clients_that_interleave(self) -> None:
-        with Serving([*WIDE, *WORKERS]) as server:
+        with Serving(WORKERS) as server:
             clients = server.clients(2)
             ids: list[list[str]] = [[], []]
             for step in range(1, 60):
@@ -35,7 +35,7 @@ class ServeAnswers(unittest.TestCase):
                 self.assertEqual({look.split(" ")[6] for look in looks}, {f"{1 - key}"})
 
     def test_a_dump_is_one_answer(self) -> None:
-        with Serving([*WIDE, *WORKERS]) as server:
+        with Serving(WORKERS) as server:
             one, two = server.clients(2)
             for _ in range(20):
                 one.send("submit 1 5 5", "dump", "count")
@@ -53,11 +53,11 @@ class ServeAnswers(unittest.TestCase):
         for byte in range(256):
             some = bytes([byte])
             lines = [some, some * 3, b"#" + some, b"# x" + some, b"count " + some, b" " + some, b" # x"]
-            lines += [b"dump", b"dump" + some, b"submit 1 1 1" + some, b"restore", b"rows 8", b"claim a"]
-            lines += [dice.randbytes(dice.choice((3, 207, 208, 209, 210))).replace(b"\n", b"")]
+            lines += [b"dump", b"dump" + some, b"submit 1 1 1" + some, b"restore", b"keep 8", b"claim a"]
+            lines += [dice.randbytes(dice.choice((3, 1022, 1023, 1024, 1025))).replace(b"\n", b"")]
             dice.shuffle(lines)
             pieces.append(b"\n".join([*lines, b""]))
-        head = [*WIDE, *WORKERS]
+        head = WORKERS
         # (a server's session has had its first command)
         given = "\n".join([*head, "count", ""]).encode("ascii") + b"".join(pieces)
         alone = subprocess.run(program.find(), input=given, capture_output=True, check=True).stdout
@@ -79,7 +79,7 @@ class ServeAnswers(unittest.TestCase):
         self.assertTrue([re.sub(r"line \d+", "line", it) for it in said] == unnumbered)
 
     def test_lines_go_in_by_their_order(self) -> None:
-        with Serving([*WIDE, *WORKERS]) as server:
+        with Serving(WORKERS) as server:
             many = server.clients(20)
             for it in range(200):
                 many[it % 20].send(f"submit 1 {it} 0")
@@ -88,14 +88,38 @@ class ServeAnswers(unittest.TestCase):
             self.assertEqual([it.split(" ")[6] for it in looks], [f"{it}" for it in range(200)])
 
     def test_a_client_that_says_no_more(self) -> None:
-        with Serving([*WIDE]) as server:
+        with Serving([]) as server:
             it = server.client()
             it.send(*["submit 1 5 5"] * 500)
             it.say_all()
             self.assertEqual(it.rest(), [f"submitted {at}" for at in range(500)])
 
+    def test_one_that_says_no_more_before_it_is_answered(self) -> None:
+        with Serving([]) as server:
+            it = server.client()
+            server.signal_session(signal.SIGSTOP)
+            it.send("count")
+            it.say_all()
+            self.assertTrue(comes(lambda: server.counted("lines_in_flight") >= 1))
+            server.signal_session(signal.SIGCONT)
+            self.assertEqual(it.rest(), [COUNTED])
+
+    def test_lines_that_come_in_pieces(self) -> None:
+        with Serving([]) as server:
+            it = server.client()
+            whole, dice = b"submit 1 5 6\n# any\n\nread 0\n" * 200, random.Random(1)
+            for _ in range(200):
+                cut = dice.randint(0, 40)
+                it.socket.sendall(whole[:cut])
+                whole = whole[cut:]
+                time.sleep(0.001)
+            it.socket.sendall(whole)
+            said = [it.line() for _ in range(400)]
+            self.assertEqual(said[::2], [f"submitted {at}" for at in range(200)])
+            self.assertEqual({look.split(" ")[0] for look in said[1::2]}, {"0"})
+
     def test_a_torn_last_line_is_not_performed(self) -> None:
-        with Serving([*WIDE]) as server:
+        with Serving([]) as server:
             it = server.client()
             it.socket.sendall(b"count\nsubmit 1 5")
             it.say_all()
@@ -107,13 +131,13 @@ class ServeAnswers(unittest.TestCase):
 class ServeBounds(unittest.TestCase):
     def test_a_line_that_is_too_long(self) -> None:
         refused = r"refused line \d+: 6 TooLong"
-        with Serving([*WIDE]) as server:
+        with Serving([]) as server:
             it = server.client()
-            for long in ("submit 1 5 " + "5" * 198, "#" * 209, " " * 209, "x" * 1_000_000):
+            for long in ("submit 1 5 " + "5" * 1013, "#" * 1024, " " * 1024, "x" * 1_000_000):
                 said = it.ask(long, "count")
                 self.assertRegex(said[0], refused)
                 self.assertEqual(said[1], COUNTED)
-            it.send("#" * 208, " " * 208, "count")
+            it.send("#" * 1023, " " * 1023, "count")
             self.assertEqual(it.line(), COUNTED)
             # It is refused once, also where it comes in pieces. The server doesn't keep it.
             before = server.memory()
@@ -124,7 +148,7 @@ class ServeBounds(unittest.TestCase):
             self.assertEqual(it.ask("count"), [COUNTED])
 
     def test_lines_that_are_not_answered(self) -> None:
-        with Serving([*WIDE], "--lines", "7") as server:
+        with Serving([], "--lines", "7") as server:
             one, two = server.clients(2)
             server.signal_session(signal.SIGSTOP)
             one.send(*["submit 1 5 5"] * 1000)
@@ -139,7 +163,7 @@ class ServeBounds(unittest.TestCase):
 
     def test_lines_are_shared(self) -> None:
         """Forty clients send a lot at once. Each has fewer lines with the program than one alone would."""
-        with Serving([*WIDE]) as server:
+        with Serving([]) as server:
             clients = server.clients(40)
             server.signal_session(signal.SIGSTOP)
             for it in clients:
@@ -152,8 +176,23 @@ class ServeBounds(unittest.TestCase):
             for it in clients:
                 self.assertEqual(len([it.line() for _ in range(100)]), 100)
 
+    def test_clients_have_turns(self) -> None:
+        """Four send a lot, all before the server reads any of it. None waits until another one is done."""
+        with Serving([]) as server:
+            clients = server.clients(4)
+            server.client().ask("count")
+            server.signal(signal.SIGSTOP)
+            for it in clients:
+                # (comments count as lines do)
+                it.send(*["# any", "submit 1 5 5"] * 32)
+            server.signal(signal.SIGCONT)
+            ids = [[int(it.line().split(" ")[1]) for _ in range(32)] for it in clients]
+            self.assertLess(max(min(it) for it in ids), 32)
+            runs = [sum(b - a != 1 for a, b in zip(it, it[1:])) for it in ids]
+            self.assertGreaterEqual(min(runs), 2, ids)
+
     def test_a_slow_client_is_let_go(self) -> None:
-        with Serving([*WIDE], "--unread", "100000") as server:
+        with Serving([], "--unread", "100000") as server:
             slow, other = server.clients(2)
             other.ask(*["submit 1 5 5"] * 2000)
             slow.send(*["dump"] * 60)
@@ -163,7 +202,7 @@ class ServeBounds(unittest.TestCase):
             self.assertEqual(server.counted("connections"), 1)
 
     def test_a_client_that_reads_nothing_is_let_go(self) -> None:
-        with Serving([*WIDE], "--slow", "2") as server:
+        with Serving([], "--slow", "2") as server:
             stuck, other = server.clients(2)
             stuck.socket.settimeout(0.5)
             with self.assertRaises(TimeoutError):
@@ -179,7 +218,7 @@ class ServeBounds(unittest.TestCase):
     def test_a_client_that_reads_slowly_stays(self) -> None:
         # It has far more answers to come than may be unread, and reads some of them each half a second, for
         # some six seconds: always more than the system keeps for it, so that the server sees it read.
-        with Serving([*WIDE], "--unread", "100000", "--slow", "2") as server:
+        with Serving([], "--unread", "100000", "--slow", "2") as server:
             it = server.client()
 
             def send() -> None:
@@ -194,8 +233,33 @@ class ServeBounds(unittest.TestCase):
                 self.assertEqual({it.line() for _ in range(6000)}, {COUNTED})
             sender.join()
 
+    def test_one_that_is_gone_takes_no_processor(self) -> None:
+        # It has sent more than may be in flight, and reads none of the answers.
+        with Serving([]) as server:
+            server.signal_session(signal.SIGSTOP)
+            with Client(server.path) as it:
+                it.send(*["submit 1 5 5"] * 3000)
+            self.assertTrue(comes(lambda: server.counted("lines_in_flight") >= 64))
+            before = server.processor()
+            time.sleep(1)
+            self.assertLess(server.processor() - before, 0.3)
+            server.signal_session(signal.SIGCONT)
+            self.assertTrue(comes(lambda: server.counted("connections") == 0))
+            # Of one that has sent comments alone, which wait as lines do, nothing is left either.
+            others = server.clients(8)
+            server.signal_session(signal.SIGSTOP)
+            for other in others:
+                other.send(*["count"] * 64)
+            self.assertTrue(comes(lambda: server.counted("lines_in_flight") >= 512))
+            with Client(server.path) as it:
+                it.send(*["# any"] * 5000)
+                time.sleep(0.3)
+            time.sleep(0.1)
+            server.signal_session(signal.SIGCONT)
+            self.assertTrue(comes(lambda: server.counted("connections") == 8))
+
     def test_too_many_connections(self) -> None:
-        with Serving([*WIDE], "--connections", "3") as server:
+        with Serving([], "--connections", "3") as server:
             kept = server.clients(3)
             self.assertEqual([it.ask("count") for it in kept], [[COUNTED]] * 3)
             many = "covetrivet: 3 connections are open, which is all there may be"
@@ -214,7 +278,7 @@ class ServeBounds(unittest.TestCase):
                 self.assertEqual(kept[-1].ask("count"), [COUNTED])
 
     def test_a_thousand_connections_of_which_fifty_are_stuck(self) -> None:
-        with Serving([*WIDE], "--connections", "1000") as server:
+        with Serving([], "--connections", "1000") as server:
             clients = server.clients(1000)
             stuck, others = clients[:50], clients[50:]
             for it in stuck:
@@ -232,7 +296,7 @@ class ServeBounds(unittest.TestCase):
         for option, mode in ((), 0o600), (("--mode", "0660"), 0o660), (("--mode", "666"), 0o666):
             before = os.umask(0o027)
             try:
-                with Serving([*WIDE], *option) as server:
+                with Serving([], *option) as server:
                     for path in (server.path, server.metrics):
                         self.assertEqual(stat.S_IMODE(os.stat(path).st_mode), mode)
             finally:

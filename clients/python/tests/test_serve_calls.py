@@ -1,6 +1,7 @@
 """A server, from the other side: `covetrivet call` and `top`, its metrics, and `connect`."""
 from __future__ import annotations
 
+import os
 import re
 import shlex
 import signal
@@ -14,9 +15,9 @@ import unittest
 from pathlib import Path
 
 from covetrivet import Disconnected, Draft, LogFault, SessionBroken, SessionClosed, connect, refusals, submit
-from serving import SECONDS, WIDE, Client, Serving, comes
+from serving import SECONDS, Client, Serving, comes
 
-WORKER = (*WIDE, "worker packer 1", "worker other 1")
+WORKER = ("worker packer 1", "worker other 1")
 COMMAND = (sys.executable, "-m", "covetrivet")
 PAGE = Path(__file__).resolve().parents[3] / "docs" / "SERVICE.md"
 
@@ -114,23 +115,27 @@ class ServeCalls(unittest.TestCase):
             self.assertEqual((said.returncode, said.stderr), (0, ""))
             self.assertEqual(said.stdout.split()[:4], ["waiting", "1", "held", "1"])
             self.assertRegex(said.stdout, r"\nstage +waiting +held +parked +oldest\n1 +1 +1 +0 +\d+\.\d s\n")
-            left = "client 254:1024, packer 256:1023, other 256:1024; spare blocks 256"
-            self.assertIn(f"\nrows:units left: {left}\n", said.stdout)
             self.assertRegex(said.stdout, r"(?m)^in hand for \d+\.\d s: packer$")
             self.assertRegex(said.stdout, r"(?m)^refused: Syntax 1$")
+            with Client(server.path) as it:
+                it.ask("count", "count")
+                shows = "--metrics", server.metrics, "--once", "--clients"
+                many = run("top", "--socket", server.path, *shows)
+            who = rf"(?m)^client \d+ \(user:{os.getuid()} process:{os.getpid()}\): 2 lines, 0 in flight$"
+            self.assertRegex(many.stdout, who)
             words = [*COMMAND, "top", "--socket", server.path, "--every", "0.1"]
             with subprocess.Popen(words, stdout=subprocess.PIPE, text=True) as again:
                 if again.stdout:
-                    shown = [again.stdout.readline().split() for _ in range(17)]
+                    shown = [again.stdout.readline().split() for _ in range(15)]
                 again.send_signal(signal.SIGINT)
                 self.assertEqual(again.wait(SECONDS), 0)
-            self.assertEqual(shown[8], ["waiting", "1", "+0.0/s"])
+            self.assertEqual(shown[7], ["waiting", "1", "+0.0/s"])
         self.assertEqual(run("top", "--socket", server.path, "--once").returncode, 69)
 
     def test_metrics(self) -> None:
         with Serving(WORKER) as server:
             it = server.client()
-            it.ask("submit 1 5 6", "claim packer", "claim packer", "claim nobody", "kill 9", "x" * 300)
+            it.ask("submit 1 5 6", "claim packer", "claim packer", "claim nobody", "kill 9", "x" * 1300)
             it.ask("submit 12 5 6", "submit 12 5 6")
             it.ask("read 0")
             wanted = {'answers_total{command="claim"}': 3, 'answers_total{command="other"}': 1}
@@ -141,15 +146,17 @@ class ServeCalls(unittest.TestCase):
             wanted['answers_total{command="read"}'] = 1
             for stage, state, many in (1, "held", 1), (12, "waiting", 2), (12, "parked", 0):
                 wanted[f'stage_elements{{stage="{stage}",state="{state}"}}'] = many
-            wanted |= {'rows_left{of="client"}': 253, 'rows_left{of="packer"}': 256, "spare_blocks_left": 256}
-            wanted |= {'units_left{of="client"}': 1024, 'units_left{of="packer"}': 1023}
             self.assertEqual({name: server.counted(name) for name in wanted}, wanted)
             self.assertGreater(server.counted("answer_seconds_sum"), 0)
             head, text = server.scraped()
             self.assertRegex(head, "^HTTP/1.0 200 OK\r\n")
             self.assertIn(f"Content-Length: {len(text)}", head)
-            self.assertIn('covetrivet_stage_elements{stage="15",state="waiting"} 0\n', text)
-            form = r"# TYPE \w+ (counter|gauge|summary)|\w+(\{\w+=\"\w+\"(,\w+=\"\w+\")*\})? [\d.]+"
+            # A stage that had any is told where it has none, too.
+            it.ask("cancel 1", "cancel 2")
+            none = 'covetrivet_stage_elements{stage="12",state="waiting"} 0\n'
+            self.assertIn(none, server.scraped()[1])
+            about = r"# (HELP \w+ .*\.|TYPE \w+ (counter|gauge|histogram))"
+            form = about + r"|\w+(\{\w+=\"[\w.+]+\"(,\w+=\"\w+\")*\})? [\d.]+"
             self.assertEqual([it for it in text.splitlines() if not re.fullmatch(form, it)], [])
             self.assertGreater(server.counted('unit_open_seconds{worker="packer"}'), 0)
             with Client(server.metrics) as other:
@@ -183,8 +190,9 @@ class ServeSessions(unittest.TestCase):
             with one.batch() as batch:
                 asked = [batch.add(submit(1, it)) for it in range(700)]
             self.assertEqual(two.read(asked[-1].value.element).words[0], 699)
-            # (also how the packer's last unit ended)
-            self.assertEqual(len(two.dump().lines), 700 + 8)
+            # (four settings, two workers, how the packer's last unit ended, an order and its reply, that they
+            # are over, two of what is settled, and the end)
+            self.assertEqual(len(two.dump().lines), 700 + 13)
             with self.assertRaises(LogFault):
                 one.shorten_log()
             with self.assertRaises(SessionClosed):
@@ -210,8 +218,9 @@ class ServeSessions(unittest.TestCase):
             self.assertEqual(len({*told.values()}), 800)
 
     def test_no_server(self) -> None:
-        with self.assertRaises(Disconnected), connect("/nowhere/it"):
+        with self.assertRaises(Disconnected) as none, connect("/nowhere/it"):
             pass
+        self.assertIsInstance(none.exception, OSError)
         with Serving(WORKER, "--connections", "1") as server, connect(server.path):
             with self.assertRaises(Disconnected) as caught, connect(server.path):
                 pass
@@ -268,8 +277,9 @@ class ServePage(unittest.TestCase):
                 for words, answers in calls:
                     words = words.replace("shop.sock", server.path).replace("shop.metrics", server.metrics)
                     said = run(*shlex.split(words))
-                    shown = re.sub(r"\d+ us", "N us", re.sub(r"[\d.]+ s$", "N s", said.stdout, flags=re.M))
-                    self.assertEqual(shown, textwrap.dedent(answers), words)
+                    shown = re.sub(r"\d+ us", "N us", re.sub(r" +[\d.]+ s$", " N s", said.stdout, flags=re.M))
+                    answers = re.sub(r" +N s$", " N s", textwrap.dedent(answers), flags=re.M)
+                    self.assertEqual(shown, answers, words)
                     self.assertEqual(said.returncode, 0)
                 shown = "".join(re.findall(r"(?m)^    (import covetrivet\n(?:(?:    .*)?\n)+)", page))
                 self.assertTrue(shown)

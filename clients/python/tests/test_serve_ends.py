@@ -14,10 +14,10 @@ import time
 import unittest
 
 from covetrivet import connect
-from serving import WIDE, Client, Serving, comes
+from serving import Client, Serving, comes
 
-TILL = (*WIDE, "server till eager 1 1 add")
-WORKER = (*WIDE, "worker packer 1", "worker other 1")
+TILL = ("server till eager 1 1 add",)
+WORKER = ("worker packer 1", "worker other 1")
 
 
 class ServeEnds(unittest.TestCase):
@@ -117,14 +117,14 @@ class ServeEnds(unittest.TestCase):
                 self.assertEqual({it.split(" ")[0] for it in lines[:-1]} - {"waiting"}, set())
 
     def test_the_session_ends_by_a_fault(self) -> None:
-        # (its first command is answered, by which the head is known to be taken)
+        # (its first command is answered, by which the head is known to be taken, and who has units open)
         counted = "waiting 0 held 0 consumed 0 parked 0 killed 0"
         twice = f"read it; echo {counted}; echo {counted}; cat"
         for act in ("read it; echo 'fault 3 Write é' >&2; exit 1", twice):
             with tempfile.TemporaryDirectory() as folder:
                 program = f"{folder}/words"
                 with open(program, "w", encoding="utf-8") as file:
-                    file.write(f"#!/bin/sh\nread it; echo {counted}\n{act}\n")
+                    file.write(f"#!/bin/sh\nread it; echo {counted}\nread it; echo holds\n{act}\n")
                 os.chmod(program, 0o755)
                 before = os.environ.get("COVETRIVET_PROGRAM")
                 os.environ["COVETRIVET_PROGRAM"] = program
@@ -179,16 +179,16 @@ class ServePlaces(unittest.TestCase):
                 self.assertEqual(file.read(), "kept")
 
     def test_heads(self) -> None:
-        with Serving([*WIDE, "worker packer 1", "submit 1 5 6", "claim packer"]) as server:
+        with Serving(["worker packer 1", "submit 1 5 6", "claim packer"]) as server:
             said = server.client().ask("submit 1 7 7", "abort packer")
             self.assertEqual(said, ["submitted 1", "packer aborted 0"])
-        with Serving([*WIDE, "alive 7 2 0 1:5:6"]) as server:
-            said = server.client().ask("read 0")
-            self.assertEqual(said, ["0 stage 1 root 0 key 5 amount 6 by client waiting 2"])
+        with Serving(["numbers 8 0 0", "element 7 1:5:6:0:0 7 client nobody 0 waiting 2"]) as server:
+            said = server.client().ask("read 7")
+            self.assertEqual(said, ["7 stage 1 root 7 key 5 amount 6 by client waiting 2"])
         with tempfile.TemporaryDirectory() as folder:
-            status, _, errors = Serving(["rows 8", "worker packer 99"], folder=folder).begin().end()
+            status, _, errors = Serving(["keep 8", "worker packer 1000"], folder=folder).begin().end()
             self.assertEqual(status, 65)
-            self.assertIn("worker packer 99", errors)
+            self.assertIn("worker packer 1000", errors)
         command = [sys.executable, "-m", "covetrivet", "serve", "--socket", "/nowhere/it", "--head"]
         for words, status in (["/nowhere/head"], 66), (["/dev/null"], 73), (["/dev/null", "--mode", "9"], 64):
             it = subprocess.run([*command, *words], capture_output=True, text=True, check=False)
@@ -216,7 +216,8 @@ class ServeOrphans(unittest.TestCase):
 
     def test_units_that_a_head_says_are_open(self) -> None:
         # Two have something in hand, or have lost it. One comes back in time.
-        head = [*WORKER, "held packer 0 1 0 1:5:5", "lost other 7"]
+        head = [*WORKER, "numbers 8 9 0", "hand packer 0 4", "hand other 7 5"]
+        head += ["element 0 1:5:5:0:0 0 client nobody 0 held 4 1"]
         with Serving(head, "--orphans", "abort:0.5") as server:
             it = server.client()
             self.assertRegex(it.ask("commit packer")[0], "packer done 0 ")
@@ -302,7 +303,7 @@ class ServeOrphans(unittest.TestCase):
                     time.sleep(0.01)
         """
         names, dice = "abcd", random.Random(5)
-        head = [*WIDE, "limit 7", *(f"worker {it} 1" for it in names)]
+        head = ["limit 7", *(f"worker {it} 1" for it in names)]
         with Serving(head, "--orphans", "abort:0.05") as server, connect(server.path) as session:
             words = [sys.executable, "-c", textwrap.dedent(worker), server.path]
             at_work = {it: subprocess.Popen([*words, it], stderr=subprocess.DEVNULL) for it in names}

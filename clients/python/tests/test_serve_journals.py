@@ -1,29 +1,21 @@
 """A server whose session has a journal: the session's process, the server and clients are killed."""
 from __future__ import annotations
 
-import asyncio
 import contextlib
 import itertools
 import os
 import random
 import signal
-import socket
 import tempfile
 import threading
 import time
 import unittest
-from collections.abc import Sequence
 from unittest import mock
 
-from covetrivet import Unknown, connect, loop, program, submit
-from covetrivet.connection import Connection, Limits
-from covetrivet.faults import SessionFault
-from covetrivet.pipe import Pipe
-from covetrivet.relay import Relay
-from covetrivet.server import Server
-from serving import SECONDS, WIDE, Client, Serving, comes
+from covetrivet import Unknown, connect, program, submit
+from serving import SECONDS, Client, Serving, comes
 
-HEAD = (*WIDE, "limit 7", "server till eager 2 1 add", "worker packer 1")
+HEAD = ("limit 7", "server till eager 2 1 add", "worker packer 1")
 # (by hand more: COVETRIVET_TEST_KILLS=300)
 KILLS, OF_ONE_JOURNAL = int(os.environ.get("COVETRIVET_TEST_KILLS", "9")), 9
 
@@ -93,9 +85,9 @@ class ServeJournals(unittest.TestCase):
             server.signal_session(signal.SIGKILL)
             for it in clients:
                 self.assertEqual([it.line() for _ in range(64)], ["unknown"] * 64)
-            # (six of the head and the first command; two ask for open units, at the start and behind it)
+            # (three of the head and the first command; two ask for open units, at the start and behind it)
             said = clients[0].ask("submit 1 5 6", "x")
-            self.assertEqual(said, ["submitted 0", "refused line 13: 1 Syntax"])
+            self.assertEqual(said, ["submitted 0", "refused line 8: 1 Syntax"])
 
     def test_the_server_is_killed(self) -> None:
         told = -1
@@ -126,7 +118,7 @@ class ServeJournals(unittest.TestCase):
                 self.assertEqual(server.end()[:2], (0, "final till 0\n"))
 
     def test_a_journal_that_is_none(self) -> None:
-        for text, status in (b"rows 8\n", 74), (b"", 0):
+        for text, status in (b"keep 8\n", 74), (b"", 0):
             with open(self.journal, "wb") as file:
                 file.write(text)
             server = self.server().begin()
@@ -138,16 +130,17 @@ class ServeJournals(unittest.TestCase):
             self.assertEqual("no journal" in said[2], status == 74)
 
     def test_a_head_that_is_refused(self) -> None:
-        bad = Serving([*HEAD, "worker late 99"], "--journal", self.journal, folder=self.folder)
+        bad = Serving([*HEAD, "worker late 1000"], "--journal", self.journal, folder=self.folder)
         self.assertEqual(bad.begin().end()[0], 65)
+        with open(self.journal, "rb") as file:
+            self.assertNotIn(b"late", file.read())
         with self.server() as server:
             self.assertEqual(server.client().ask("claim packer"), ["packer idle"])
 
     def test_a_session_that_ends_again_and_again(self) -> None:
         found = " ".join(program.find())
         # (what the server asks behind a start is answered, and nothing else)
-        asked = (f"read it; echo {name} refused 4294967295 NotThere" for name in ("till", "packer"))
-        nothing = "; ".join(asked)
+        nothing = "read it; echo holds"
         for act, why in (
             ("echo recovered 3; exit 1", "status 1"),
             (f"echo recovered 3; {nothing}; exit 1", "status 1"),
@@ -174,122 +167,6 @@ class ServeJournals(unittest.TestCase):
             with self.subTest(seed):
                 Killed(self, random.Random(seed)).run()
                 os.unlink(self.journal)
-
-
-class Relays(unittest.TestCase):
-    def test_a_write_that_comes_late(self) -> None:
-        """Lines that come once the program has ended are written to the next one alone, though a write was
-        asked for before.
-        """
-        loop.run(self.write_late())
-
-    async def write_late(self) -> None:
-        caller = Caller()
-        relay = Relay(Pipe(["cat"]), lambda *_: None, lambda _: relay.wait())
-        relay.ask(caller, [b"first"])
-        relay.pipe.process.kill()
-        relay.pipe.process.wait()
-        # In this order: the end of the program is read, a line comes, and then the write.
-        relay.read()
-        relay.ask(caller, [b"second"])
-        await asyncio.sleep(0)
-        relay.pipe.let_go()
-        relay.go_on(Pipe(["cat"]))
-        while len(caller.told) < 2:
-            await asyncio.sleep(0.01)
-        relay.leave()
-        relay.pipe.let_go()
-        self.assertEqual(caller.told, ["unknown", "second"])
-
-    def test_an_end_is_told_once(self) -> None:
-        """A program that ends behind an answer which isn't one, while a caller asks for more."""
-        loop.run(self.end_badly())
-
-    async def end_badly(self) -> None:
-        ends: list[SessionFault] = []
-        relay = Relay(Pipe(["printf", r"x\ny\n\377\n"]), lambda *_: None, ends.append)
-        caller = Eager(relay)
-        relay.ask(caller, [b"first"])
-        relay.ask(caller, [b"second"])
-        while not ends:
-            await asyncio.sleep(0.01)
-        await asyncio.sleep(0.05)
-        relay.pipe.let_go()
-        self.assertEqual((len(ends), caller.told), (1, ["x", "y"]))
-
-    def test_what_comes_alone_is_noted_in_time(self) -> None:
-        """Each line comes once the one before is answered. What the last answer says is noted before it
-        counts: where its client is gone, where a unit would be aborted, and where metrics are asked for.
-        """
-        with mock.patch("covetrivet.relay.MILLISECONDS_TO_RUSH", 5000):
-            loop.run(self.note())
-
-    async def note(self) -> None:
-        answers = r"s/claim \(.*\)/\1 work 0 unit 1/; s/commit \(.*\)/\1 done 0 unit 1/; s/^count$/unknown/"
-        pipe = Pipe(["sed", "-u", answers])
-        server = Server(lambda hear, on_end: Relay(pipe, hear, on_end), Limits(), 0.1)
-        ours, other = socket.socketpair()
-        Connection(ours, server)
-        other.setblocking(False)
-        open_units = server.holders.units
-        self.assertEqual(await self.asked(other, b"count", b"claim a"), b"a work 0 unit 1\n")
-        self.assertEqual([*open_units], [])
-        server.later(0, lambda: self.assertEqual([*open_units], ["a"]))
-        await asyncio.sleep(0.02)
-        self.assertEqual([*open_units], ["a"])
-        await self.asked(other, b"commit a", b"claim b")
-        self.assertIn('unit_open_seconds{worker="b"}', await server.tell())
-        await self.asked(other, b"commit b", b"claim c")
-        other.close()
-        await asyncio.sleep(0.05)
-        self.assertEqual([*open_units], ["c"])
-        await asyncio.sleep(0.3)
-        self.assertEqual(server.orphans.aborted, 1)
-        server.relay.leave()
-        pipe.let_go()
-
-    async def asked(self, other: socket.socket, *lines: bytes) -> bytes:
-        """Sends each line once the one before is answered, and returns the last answer."""
-        answer = b""
-        for it in lines:
-            other.send(it + b"\n")
-            answer = await asyncio.get_running_loop().sock_recv(other, 1000)
-        return answer
-
-    def test_metrics_whose_answers_were_lost(self) -> None:
-        """The elements are left out, and all else is told."""
-        loop.run(self.tell())
-
-    async def tell(self) -> None:
-        pipe = Pipe(["sed", "-u", "s/.*/unknown/"])
-        server = Server(lambda hear, on_end: Relay(pipe, hear, on_end), Limits(), None)
-        told = await server.tell()
-        server.relay.leave()
-        pipe.let_go()
-        self.assertIn("covetrivet_lines_in_flight 0\n", told)
-        self.assertNotIn("elements", told)
-
-
-class Caller:
-    """One that takes answers."""
-
-    def __init__(self) -> None:
-        self.told: list[str] = []
-
-    def answered(self, answers: Sequence[str]) -> None:
-        self.told += answers
-
-
-class Eager(Caller):
-    """One that asks for more behind its answers."""
-
-    def __init__(self, relay: Relay) -> None:
-        super().__init__()
-        self.relay = relay
-
-    def answered(self, answers: Sequence[str]) -> None:
-        super().answered(answers)
-        self.relay.ask(self, [b"more"])
 
 
 class Killed:
@@ -369,10 +246,11 @@ class Killed:
             client.ask("abort packer")
             self.work_off(client)
             alive = [client.line() for _ in range(int(client.ask("dump")[0].split(" ")[1]))]
-        words = [it.split(" ") for it in alive if it.startswith("> alive ")]
-        # (nothing but replies is left: `> alive ID 0 0 15:KEY:.. ROOT 1:KEY:..`)
-        found = {int(it[5].split(":")[1]): int(it[6]) for it in words}
-        self.test.assertEqual({it[5].split(":")[0] for it in words}, {"15"})
+        words = [it.split(" ") for it in alive if it.startswith("> element ")]
+        words = [it for it in words if it[8] in ("waiting", "held", "parked")]
+        # (nothing but replies is left: `> element ID 15:KEY:.. ROOT MAKER nobody 0 waiting 0`)
+        found = {int(it[3].split(":")[1]): int(it[4]) for it in words}
+        self.test.assertEqual({it[3].split(":")[0] for it in words}, {"15"})
         self.test.assertEqual(len(found), len(words))
         self.test.assertGreater(len(self.sure), 0)
         self.test.assertEqual({key: found.get(key) for key in self.sure}, self.sure)

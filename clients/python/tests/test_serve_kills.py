@@ -19,13 +19,13 @@ from pathlib import Path
 from unittest import mock
 
 from covetrivet import program
-from covetrivet.journal_lines import lines_in
+from covetrivet.journal import lines_in
 from covetrivet.lines import is_asked
 from covetrivet.wire import Answers
-from serving import SECONDS, WIDE, Client, Serving
+from serving import SECONDS, Client, Serving
 
 WORKERS = "packer", "other"
-HEAD = [*WIDE, "limit 7", "server till eager 2 1 add", *(f"worker {it} 1" for it in WORKERS)]
+HEAD = ["limit 7", "server till eager 2 1 add", *(f"worker {it} 1" for it in WORKERS)]
 # (by hand more: COVETRIVET_TEST_KILLS=300)
 KILLS, OF_ONE_JOURNAL = int(os.environ.get("COVETRIVET_TEST_KILLS", "12")), 25
 EARLY = Path(__file__).resolve().parents[3] / "tools" / "wrong_journals.py"

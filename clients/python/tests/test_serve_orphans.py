@@ -11,9 +11,9 @@ from unittest import mock
 from covetrivet import program
 from covetrivet.holders import Holders
 from covetrivet.relay import Asked, words_of
-from serving import WIDE, Client, Serving, comes
+from serving import Client, Serving, comes
 
-HEAD = (*WIDE, "limit 7", "server till eager 2 1 add", "worker packer 1", "worker other 1")
+HEAD = ("limit 7", "server till eager 2 1 add", "worker packer 1", "worker other 1")
 
 
 class Idle:
@@ -53,6 +53,14 @@ class Settled(unittest.TestCase):
         self.assertEqual(self.settle(["packer", "till"], *lines), {"packer": self.new, "till": self.new})
         self.assertEqual(self.settle([]), {})
 
+    def test_a_unit_that_is_lost(self) -> None:
+        # (a server hears of it by a `prepare` too)
+        for verb, answer, left in (
+            ("prepare", "packer ready", 2), ("prepare", "packer lost 7", 1), ("abort", "other already 7", 0),
+        ):  # fmt: skip
+            self.holders.hear(Asked(self.new, verb, answer.split()[0], 0), answer, 0)
+            self.assertEqual(len(self.holders.units), left)
+
     def test_one_of_which_nothing_is_known(self) -> None:
         self.assertEqual(self.settle(["till", "packer"], "count "), {"till": self.server, "packer": self.old})
 
@@ -89,13 +97,6 @@ class ServeOrphansAgain(unittest.TestCase):
             self.assertEqual(it.ask("claim other"), ["other idle"])
             self.assertRegex(it.ask("claim till")[0], "till work 2 unit .* attempt 2")
 
-    def test_units_behind_a_rollover(self) -> None:
-        # The journal begins with a dump then.
-        self.leave_work("submit 1 5 5", "claim packer", "rollover", "submit 1 6 6")
-        with self.server("--orphans", "abort:0") as server:
-            self.assertTrue(comes(lambda: server.counted("orphans_aborted_total") == 1))
-            self.assertRegex(server.client().ask("take other 0")[0], "other work 0 unit .* attempt 2")
-
     def test_they_are_kept(self) -> None:
         self.leave_work("submit 1 5 5", "claim packer")
         with self.server() as server:
@@ -118,11 +119,11 @@ class ServeOrphansAgain(unittest.TestCase):
             self.assertRegex(server.client().ask("claim other")[0], "other work 0 unit .* attempt 2")
 
     def muted(self) -> str:
-        """Returns a program that performs its lines, and tells four answers alone where a file is there."""
+        """Returns a program that performs its lines, and tells two answers alone where a file is there."""
         name, found = f"{self.folder}/muted", " ".join(program.find())
         with open(name, "w", encoding="ascii") as file:
             file.write(f'#!/bin/sh\n[ -e {self.folder}/mute ] || exec {found} "$@"\n')
-            file.write(f'rm {self.folder}/mute\n{found} "$@" | {{ sed -u 4q; sleep 100; }}\n')
+            file.write(f'rm {self.folder}/mute\n{found} "$@" | {{ sed -u 2q; sleep 100; }}\n')
         os.chmod(name, 0o755)
         return name
 
@@ -146,7 +147,7 @@ class ServeOrphansAgain(unittest.TestCase):
             with self.server("--orphans", "abort:0.2") as server:
                 other = server.client()
                 with server.client() as it:
-                    # (recovered, and one for each name: till, packer and other)
+                    # (recovered, and who has units open)
                     self.claim_unanswered(server, it)
                     # It is the client's unit while that is there.
                     self.assertEqual(other.ask("claim packer", "claim other"), ["packer busy", "other idle"])

@@ -277,11 +277,11 @@ class Full(socket.socket):
 class Lines(unittest.TestCase):
     def test_what_is_one_line(self) -> None:
         """What goes to the program as it came: whole, one, with an answer, and no longer than may be."""
-        for some in b"count\n", b" count \n", b"x" * 208 + b"\n", b"#\x01\n", b"\xff\n":
+        for some in b"count\n", b" count \n", b"x" * 1023 + b"\n", b"#\x01\n", b"\xff\n":
             self.assertTrue(is_line(some), some)
         for some in b"count", b"", b"\n", b"count\ncount\n", b"count\nc", b" \n", b"# c\n":
             self.assertFalse(is_line(some), some)
-        for some in b"x" * 209, b"#" * 209, b"x" * 16000:
+        for some in b"x" * 1024, b"#" * 1024, b"x" * 16000:
             self.assertFalse(is_line(some + b"\n"))
 
 

@@ -2,6 +2,7 @@
 use Rattle.std.proofs.Common.{◌≡◌, ◌≤◌, ◌∙◌, List, [], length, refl, ap, sym, subst, arith, inl, inr, ⊎_elim}
 use Rattle.tp_model.specs.declared.types.Limits.{Limits}
 use Rattle.tp_model.specs.declared.types.Refusal.TheVariants as refusals
+use Rattle.tp_model.specs.Steps.{AreLimits}
 use Rattle.tp_plain.specs.OneThread.{start}
 use Rattle.tp_rollover.specs.Thread.{thread_of}
 use Rattle.tp_manager.specs.Shown.{KeeperShown, PassShown}
@@ -35,32 +36,31 @@ none_of ps l long some none = let e = ap length none in omega (arith, long, some
 
 -- why it has not gone on
 pub unrolled : (h : Home) (k : Limits) (news : List PassShown) (f : Fault)
-    → AreFresh k news → length news ≡ k.parts → 1 ≤ k.parts
+    → AreLimits k → AreFresh k news → length news ≡ k.parts → 1 ≤ k.parts
     → IsUncarried (home_limits h) k h.passes.items news f → IsHomeUnrolled h k f
-unrolled h k news (faults.Refused refusals.NoMemory) fresh long some why = tt
-unrolled h k news (faults.Refused refusals.BadLimits) fresh long some why = inr (inl why)
-unrolled h k news (faults.Refused refusals.BadStage) fresh long some why = absurd why
-unrolled h k news (faults.Refused refusals.NotThere) fresh long some why = absurd why
-unrolled h k news (faults.Refused (refusals.Consumed u)) fresh long some why = absurd why
-unrolled h k news (faults.Refused refusals.AlreadyKilled) fresh long some why = absurd why
-unrolled h k news (faults.Refused refusals.Full) fresh long some why =
-    subst (λ n. WouldNotFit (home_limits h) h.passes.items n (start k)) long (why fresh)
-unrolled h k news (faults.Refused refusals.NotParked) fresh long some why = absurd why
-unrolled h k news (faults.Refused refusals.NoRound) fresh long some why = absurd why
-unrolled h k news (faults.Refused refusals.NotHeld) fresh long some why = absurd why
-unrolled h k news (faults.Refused refusals.NotWaiting) fresh long some why = absurd why
-unrolled h k news (faults.Refused refusals.NoUnit) fresh long some why = absurd why
-unrolled h k news faults.BadStage fresh long some why = absurd why
-unrolled h k news faults.Busy fresh long some why = absurd why
-unrolled h k news faults.NoOpen fresh long some why = absurd why
-unrolled h k news faults.TooMany fresh long some why = absurd why
-unrolled h k news faults.BadDraft fresh long some why = absurd why
-unrolled h k news faults.Idle fresh long some why = absurd why
-unrolled h k news faults.Lost fresh long some why = absurd why
-unrolled h k news faults.Nothing fresh long some why =
-    ⊎_elim (λ none. none) (λ none. absurd (none_of news k long some none)) why
-unrolled h k news faults.NoPart fresh long some why = absurd why
-unrolled h k news faults.NotAll fresh long some why = absurd why
-unrolled h k news faults.Unequal fresh long some why = λ limits.
+unrolled h k news (faults.Refused refusals.NoMemory) limits fresh long some why = tt
+unrolled h k news (faults.Refused refusals.BadLimits) limits fresh long some why = inr (inl why)
+unrolled h k news (faults.Refused refusals.BadStage) limits fresh long some why = absurd why
+unrolled h k news (faults.Refused refusals.NotThere) limits fresh long some why = absurd why
+unrolled h k news (faults.Refused (refusals.Consumed u)) limits fresh long some why = absurd why
+unrolled h k news (faults.Refused refusals.AlreadyKilled) limits fresh long some why = absurd why
+unrolled h k news (faults.Refused refusals.Full) limits fresh long some why =
     subst (λ n. WouldNotFit (home_limits h) h.passes.items n (start k)) long (why limits fresh)
-unrolled h k news faults.FullLost fresh long some why = absurd why
+unrolled h k news (faults.Refused refusals.NotParked) limits fresh long some why = absurd why
+unrolled h k news (faults.Refused refusals.NoRound) limits fresh long some why = absurd why
+unrolled h k news (faults.Refused refusals.NotHeld) limits fresh long some why = absurd why
+unrolled h k news (faults.Refused refusals.NotWaiting) limits fresh long some why = absurd why
+unrolled h k news (faults.Refused refusals.NoUnit) limits fresh long some why = absurd why
+unrolled h k news faults.BadStage limits fresh long some why = absurd why
+unrolled h k news faults.Busy limits fresh long some why = absurd why
+unrolled h k news faults.NoOpen limits fresh long some why = absurd why
+unrolled h k news faults.TooMany limits fresh long some why = absurd why
+unrolled h k news faults.BadDraft limits fresh long some why = absurd why
+unrolled h k news faults.Idle limits fresh long some why = absurd why
+unrolled h k news faults.Lost limits fresh long some why = absurd why
+unrolled h k news faults.Nothing limits fresh long some why =
+    ⊎_elim (λ none. none) (λ none. absurd (none_of news k long some none)) why
+unrolled h k news faults.NoPart limits fresh long some why = absurd why
+unrolled h k news faults.NotAll limits fresh long some why = absurd why
+unrolled h k news faults.Unequal limits fresh long some why = absurd why
+unrolled h k news faults.FullLost limits fresh long some why = absurd why

@@ -115,11 +115,9 @@ abbrev pub IsUncarried : Limits → Limits → List PassShown → List PassShown
 IsUncarried l k olds news (faults.Refused refusals.NoMemory) = Unit {0}
 IsUncarried l k olds news (faults.Refused refusals.BadLimits) = k.attempts ≢ l.attempts
 IsUncarried l k olds news (faults.Refused refusals.Full) =
-    AreFresh k news → WouldNotFit l olds (length news) (start k)
+    AreLimits k → AreFresh k news → WouldNotFit l olds (length news) (start k)
 IsUncarried l k olds news (faults.Refused other) = ⊥
 IsUncarried l k olds news faults.Nothing = LacksPass olds news
-IsUncarried l k olds news faults.Unequal =
-    AreLimits k → AreFresh k news → WouldNotFit l olds (length news) (start k)
 IsUncarried l k olds news other = ⊥
 
 -- It has gone on in a new manager with these limits, all of whose passes are at home: what a pass held, the
@@ -161,8 +159,6 @@ IsHomeUnrolled h l (faults.Refused refusals.Full) =
 IsHomeUnrolled h l (faults.Refused other) = ⊥
 IsHomeUnrolled h l faults.NotAll = ¬ AreAll h.keeper h.passes.items
 IsHomeUnrolled h l faults.Nothing = h.passes.items ≡ []
-IsHomeUnrolled h l faults.Unequal = AreLimits l
-    → WouldNotFit (home_limits h) h.passes.items l.parts (start l)
 IsHomeUnrolled h l other = ⊥
 
 -- a rollover's fault

@@ -1,5 +1,5 @@
 -- What making, opening, closing and handing back answer.
-use Rattle.std.specs.Prelude.{◌≡◌, ◌<◌, ◌≤◌, ℕ, ◌+◌, List, Option, Some, None}
+use Rattle.std.specs.Prelude.{◌≡◌, ◌<◌, ◌≤◌, ℕ, ◌+◌, List, Option, Some, None, length}
 use Rattle.std.specs.Arc.{arc_value}
 use Rattle.tp_model.specs.Steps.{rows_of}
 use Rattle.tp_model.specs.declared.types.Limits.{Limits}
@@ -57,12 +57,13 @@ IsOfHome (Some h) (Some c) = arc_value c.manager ≡ arc_value h.manager
 IsOfHome (Some h) None = Unit {0}
 IsOfHome None c = Unit {0}
 
--- the caller's pass is at home, and its handle leads to nothing; or the code isn't 0, and nothing has changed
+-- The caller's pass is at home, and its handle leads to nothing; or the code isn't 0, and nothing has changed:
+-- it is that of a want of memory only where as many passes are at home as the manager has.
 abbrev pub HandsBack : Option Home → Option Home → Option Caller → Option Caller → ℕ → Type 0
 HandsBack (Some h) (Some h') (Some c) None code = (code ≡ 0) × OnlyPasses h h'
     × TakesHome c.pass h.passes.items h'.passes.items
 HandsBack (Some h) (Some h') (Some c) (Some c') code = (code ≡ 3) × (c' ≡ c) × OnlyPasses h h'
-    × (h'.passes.items ≡ h.passes.items)
+    × (h'.passes.items ≡ h.passes.items) × ((home_limits h).parts ≤ length h.passes.items)
 HandsBack (Some h) (Some h') None c' code = (code ≡ 1) × (h' ≡ h) × (c' ≡ None)
 HandsBack (Some h) None c c' code = ⊥
 HandsBack None h' c c' code = (code ≡ 1) × (h' ≡ None) × (c' ≡ c)

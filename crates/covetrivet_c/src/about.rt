@@ -14,9 +14,9 @@ use std::mem::size_of;
 /// The version: 1,000 times the major, plus the minor, then 1,000 times that, plus the patch.
 #[unsafe(no_mangle)]
 pub extern "C" fn covetrivet_version() -> u32
-    ensures { result ≡ 23000 }
+    ensures { result ≡ 25000 }
 {
-    23_000
+    25_000
 }
 
 /// How many bytes a type that crosses takes, or what the library uses of a handle, by its place in this list,

@@ -1,5 +1,5 @@
 //! A manager with its keeper, and the passes that are at home.
-ghost use Rattle.std.specs.Prelude.{All};
+ghost use Rattle.std.specs.Prelude.{◌≤◌, All, vec_capacity};
 ghost use Rattle.std.specs.Arc.{arc_value};
 ghost use Rattle.tp_manager.specs.Shown.{IsKeptBy, IsOf};
 
@@ -12,7 +12,8 @@ use tp_manager::{Keeper, MakeFault, Manager, Pass};
 use tp_model::types::{Limits, Refusal};
 use tp_rollover::{Managed, Moved};
 
-/// An owner of a manager, its keeper, the passes that no caller has, and what the last rollover carried over.
+/// An owner of a manager, its keeper, the passes that no caller has, with room for all that there are, and what
+/// the last rollover carried over.
 #[derive(Drop)]
 pub struct Home {
     pub manager: Arc<Manager, Global>,
@@ -21,10 +22,11 @@ pub struct Home {
     pub moved: Vec<Moved>,
     pub ghost kept: { IsKeptBy (arc_value manager) keeper },
     pub ghost own: { All (IsOf (arc_value manager)) passes.items },
+    pub ghost room: { (arc_value manager).limits.parts ≤ vec_capacity passes },
 }
 
 impl Home {
-    ghost use Rattle.std.specs.Prelude.{◌≡◌, ◌<◌, IfOk, IfErr, MatchResult, length};
+    ghost use Rattle.std.specs.Prelude.{◌≡◌, ◌<◌, ◌≤◌, IfOk, IfErr, MatchResult, OnErr, length};
     ghost use Rattle.std.specs.List.{slice_index_or};
     ghost use Rattle.tp_model.specs.declared.types.Refusal.TheVariants as refusals;
     ghost use Rattle.covetrivet_c.specs.declared.fault.Fault.TheVariants as faults;
@@ -132,7 +134,7 @@ impl Home {
     }
 
     /// Takes a caller's pass home again. The caller comes back where there is no room for it, which is where
-    /// it isn't of this manager.
+    /// as many passes are at home as the manager has: so never one of its own.
     pub fn hand_back(&mut self, caller: Box<Caller, Global>) -> Result<(), Box<Caller, Global>>
         requires of { arc_value caller.value.manager ≡ arc_value self.old.manager }
         ensures same { (self.new.manager ≡ self.old.manager) × (self.new.keeper ≡ self.old.keeper)
@@ -140,6 +142,8 @@ impl Home {
         ensures back { MatchResult result
             (λ _. TakesHome caller.value.pass self.old.passes.items self.new.passes.items)
             (λ b. (self.new.passes.items ≡ self.old.passes.items) × (b.value ≡ caller.value)) }
+        ensures full { OnErr result
+            ((arc_value self.old.manager).limits.parts ≤ length self.old.passes.items) }
     {
         if self.passes.len() >= self.passes.capacity() {
             return Err(caller);

@@ -217,10 +217,15 @@ impl fmt::Display for Answer<'_> {
     }
 }
 
+/// How many bytes there is room for in a line before it grows.
+const ROOM: usize = 96;
+
 /// The line of an answer.
 pub fn line(alloc: Global, answer: Answer<'_>) -> Result<String, AllocError>
     ensures text { IfOk result (λ s. string_bytes s ≡ line (answer_text answer.entry)) }
     ensures line { IfOk result (λ s. IsLine (string_bytes s)) }
 {
-    format!(in alloc; "{answer}\n")
+    let mut text = String::with_capacity(alloc, ROOM)?;
+    write!(text, "{answer}\n")?;
+    Ok(text)
 }

@@ -1,9 +1,7 @@
 pub mod Alls
 pub mod Lies
 pub mod Lefts
-pub mod Receivings
 pub mod Listings
-pub mod StageLemmas
 pub mod Collections
 pub mod Finds
 pub mod Shows
@@ -22,6 +20,5 @@ pub mod Races
 pub mod Beginnings
 pub mod Pushes
 pub mod Rollovers
-pub mod Restores
 pub mod Began
 pub mod Managers

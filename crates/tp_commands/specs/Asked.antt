@@ -1,7 +1,6 @@
 -- What the script's own client is answered, and what its pass did for it. `old` is what the pass shows before
 -- the command, and `new` what it shows after it.
-use Rattle.std.specs.Prelude.{◌≡◌, ◌⊎◌, ℕ, zero, suc, ◌+◌, ◌-◌, ◌≤◌, ◌<◌, List, [], ◌∷◌, length, Option, Some}
-use Rattle.std.specs.Prelude.{None}
+use Rattle.std.specs.Prelude.{◌≡◌, ◌⊎◌, ℕ, zero, suc, ◌+◌, ◌≤◌, ◌<◌, List, [], ◌∷◌}
 use Rattle.tp_model.specs.declared.types.Counts.{Counts}
 use Rattle.tp_model.specs.declared.types.Element.{Element}
 use Rattle.tp_model.specs.declared.types.Limits.{Limits}
@@ -24,9 +23,7 @@ use Rattle.tp_manager.specs.Shown.{PassShown}
 use Rattle.tp_report.specs.declared.answer.Answer.{Answer}
 use Rattle.tp_report.specs.declared.answer.Answer.TheVariants as answer
 use Rattle.tp_report.specs.Answer.{answer_text, collected_text, counts_text, errors_text, family_text, line}
-use Rattle.tp_report.specs.Answer.{depths_text, list_text, replies_text}
-use Rattle.tp_report.specs.declared.answer.TheConstants.{MAX_LISTED}
-use Rattle.tp_report.specs.Looks.{depths_of, waiting_in, with_shown}
+use Rattle.tp_report.specs.Answer.{replies_text}
 use Rattle.tp_script.specs.declared.script.ClientAct.{ClientAct}
 use Rattle.tp_script.specs.declared.script.ClientAct.TheVariants as acts
 
@@ -181,30 +178,6 @@ TellsCount l zero old c new =
 TellsCount l (suc id) old c new = (before : Counts) × (between : PassShown) × (a : Answer)
     × TellsCount l id old before between × TellsRead l id between new a × (c ≡ with_read a before)
 
--- a read of this id showed this, if anything
-abbrev pub TellsLook : Limits → ℕ → PassShown → Option Look → PassShown → Type 0
-TellsLook l id old (Some look) new = TellsRead l id old new (answer.Read look)
-TellsLook l id old None new = TellsRead l id old new (answer.Refused refusals.NotThere)
-
--- the n ids from this one on were read, one after another, and showed these looks
-abbrev pub TellsLooks : Limits → ℕ → ℕ → PassShown → List Look → PassShown → Type 0
-TellsLooks l from zero old looks new = (looks ≡ []) × (new ≡ old)
-TellsLooks l from (suc n) old looks new = (before : List Look) × (between : PassShown) × (shown : Option Look)
-    × TellsLooks l from n old before between × TellsLook l (from + n) between shown new
-    × (looks ≡ with_shown before shown)
-
--- ids from this one on were read, until none was left or so many were found waiting in the stage as are
--- listed
-pub record ListsWaiting (l : Limits) (stage from : ℕ) (old : PassShown) (found : List ℕ) (new : PassShown)
-    : Type 0 where
-  pub many : ℕ
-  pub looks : List Look
-  pub reads : TellsLooks l from many old looks new
-  pub within : many ≤ rows_of l - from
-  pub found_is : found ≡ waiting_in stage looks
-  pub few : length found ≤ MAX_LISTED
-  pub whole : (many ≡ rows_of l - from) ⊎ (length found ≡ MAX_LISTED)
-
 -- ---- the client's line
 
 -- the line is the answer of such a call
@@ -234,5 +207,3 @@ TellsClient l (acts.Read id) = AnswerLine (TellsRead l id)
 TellsClient l (acts.Reply root) = FoundLine (TellsReplies l root 0) (replies_text root)
 TellsClient l acts.Errors = FoundLine (TellsErrors l 0) errors_text
 TellsClient l acts.Count = FoundLine (TellsCount l (rows_of l)) counts_text
-TellsClient l acts.Depth = FoundLine (TellsLooks l 0 (rows_of l)) (λ looks. depths_text (depths_of looks))
-TellsClient l (acts.List stage from) = FoundLine (ListsWaiting l stage from) (list_text stage)

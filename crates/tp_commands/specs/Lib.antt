@@ -2,12 +2,10 @@ pub mod Places
 pub mod Acting
 pub mod Asked
 pub mod Registers
-pub mod Received
 pub mod Ending
 pub mod Drains
 pub mod GivingUp
 pub mod Rollover
-pub mod Restore
 pub mod Scenes
 pub mod Together
 pub mod Told

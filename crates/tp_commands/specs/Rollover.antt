@@ -37,7 +37,7 @@ pub record BeginsAgain (old new : PlaceShown) : Type 0 where
   pub kept : new.is_dropped ≡ old.is_dropped
 
 -- No desk had a unit open. What was alive goes on in another manager with the same limits, whose passes are
--- together; there are as many of them, and no desk has a unit open. What a worker had in hand, its pass has
+-- together; there are as many of them, and no desk has a unit open. What another pass had in hand, it has
 -- in hand there (`Rolls`). What each element is called there and what that manager is then is computed of
 -- what was alive. The old manager's keeper and passes showed these at the last.
 pub record RolledOver (old : Stand) (moved : List Moved) (new : Stand) : Type 0 where

@@ -11,7 +11,7 @@ use Rattle.tp_manager.specs.Shown.{IsOf, KeeperShown, ManagerShown, PassShown}
 use Rattle.tp_commands.specs.declared.place.Place.{Place}
 use Rattle.tp_commands.specs.Acting.{PlaceShown, places_shown}
 
--- what is there: the client's pass, the places of desks, and the passes of workers and races
+-- what is there: the client's pass, the places of desks, and the passes of races
 pub record Scene : Type 0 where
   pub client : PassShown
   pub places : List PlaceShown

@@ -93,11 +93,11 @@ RacedAll m h plan raced keeper old text keeper' new =
     (done : Scene) × Raced m h plan raced old text done × Gathered m keeper keeper' done new
 
 -- of all passes the first is the client's, then comes one for each of so many servers, and the rest are those
--- of workers and races
+-- of races
 abbrev pub ArePasses : ℕ → Scene → List PassShown → Type 0
 ArePasses servers s passes = passes ≡ s.client ∷ (workers servers passes ++ s.racers)
 
--- the passes of workers and races: those after the client's and those of this many servers
+-- the passes of races: those after the client's and those of this many servers
 abbrev pub after_servers : ℕ → List PassShown → List PassShown
 after_servers servers passes = drop servers (drop 1 passes)
 

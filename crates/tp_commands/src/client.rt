@@ -14,7 +14,6 @@ ghost use Rattle.tp_commands.specs.Asked.{TellsClient, TellsCollected, TellsCoun
 ghost use Rattle.tp_commands.specs.Asked.{TellsKill, TellsRead, TellsRelease, TellsReplies, TellsRequeue};
 ghost use Rattle.tp_commands.specs.Asked.{TellsSubmit};
 
-use crate::stages::{depths, waiting};
 use std::alloc::{AllocError, Global};
 use std::string::String;
 use tp_manager::{Manager, Pass};
@@ -48,11 +47,6 @@ pub fn client_line(
         ClientAct::Family { root } => family(alloc, manager, client, root),
         ClientAct::Errors => errors(alloc, manager, client),
         ClientAct::Count => line(alloc, Answer::Count(count(manager, client))),
-        ClientAct::Depth => {
-            let depths = depths(manager, client);
-            line(alloc, Answer::Depth(depths.as_slice()))
-        }
-        ClientAct::List { stage, from } => waiting(alloc, manager, client, stage, from),
     }
 }
 

@@ -16,10 +16,7 @@ mod one_desk;
 mod place;
 mod race_lines;
 mod racing;
-mod receiving;
-mod restoring;
 pub mod rollover;
-mod stages;
 
 pub use client::{client_line, count, read, submit};
 pub use closing::give_up_all;
@@ -32,6 +29,4 @@ pub use one_desk::desk_in;
 pub use place::{Place, begin_again, end_all, places_for};
 pub use race_lines::race_next;
 pub use racing::Racing;
-pub use receiving::{Asked, has_sent, receive};
-pub use restoring::restore;
 pub use rollover::{gather_all, roll_over};

@@ -38,7 +38,7 @@ pub struct Racing<'r, 'h, 'm, R: Threads + Sync> {
     pub manager: &'m Manager,
     /// What is to be done.
     pub plan: Race,
-    /// How many passes of workers and of other races stand before its own.
+    /// How many passes of other races stand before its own.
     pub behind: usize,
 }
 

@@ -35,7 +35,7 @@ pub fn all_renamed(alloc: Global, moved: &[Moved]) -> Result<Vec<Renamed>, Alloc
     Ok(all)
 }
 
-/// The line of a rollover that was refused, or of a restore or a dump.
+/// The line of a rollover that was refused.
 pub fn refused_line(alloc: Global, why: RollFault) -> Result<String, AllocError>
     ensures text { IfOk result (λ text. string_bytes text ≡ line (roll_refused_text why)) }
 {
@@ -107,10 +107,10 @@ fn go_on(alloc: Global, managed: &mut Managed, own: usize) -> Result<Vec<Moved>,
 }
 
 /// Has what is alive, each element once, go on in a new manager with the same limits, in which the desks
-/// begin anew with the same registers. Answers what was carried over, by ascending ids. What a worker has in
-/// hand, its pass has in hand there. It is refused with `Busy` where a desk has a unit of work open, `Full`
-/// where the new manager has not the rows or the units, and `NoMemory`. Nothing has changed then, and all
-/// passes gather. The passes are the client's, then one for each server, then others.
+/// begin anew with the same registers. Answers what was carried over, by ascending ids. What a pass behind
+/// those of the servers has in hand, it has in hand there. It is refused with `Busy` where a desk has a unit
+/// of work open, `Full` where the new manager has not the rows or the units, and `NoMemory`. Nothing has
+/// changed then, and all passes gather. The passes are the client's, then one for each server, then others.
 pub fn roll_over(
     alloc: Global,
     managed: &mut Managed,

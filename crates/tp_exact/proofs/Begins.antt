@@ -1,7 +1,7 @@
 -- What is there before the first command.
 use Rattle.std.proofs.Common.{◌≡◌, ℕ, ◌+◌, ◌||◌, Bool, true, false, List, [], ◌∷◌, All, map, Option, None, IsSome, Result, Ok, Err, nat_le, refl, sym, ◌∙◌, ap, arith}
 use Rattle.std.specs.Prelude.{is_some, if◌then◌else◌}
-use Rattle.std.specs.List.{AllZip}
+use Rattle.std.specs.List.{AllZip, list_any}
 use Rattle.std.proofs.lemmas.Bool.{and_parts, leb-true}
 use Rattle.std.proofs.lemmas.List.Elements.{All-head, All-tail}
 use Rattle.std.proofs.lemmas.List.Sums.{sum_by-cons}
@@ -20,6 +20,7 @@ use Rattle.tp_script.specs.Script.{ServerView}
 use Rattle.tp_commands.specs.Acting.{PlaceShown}
 use Rattle.tp_commands.specs.Scenes.{IsNewPlace}
 use Rattle.tp_reference.specs.PlainReport.{new_desk}
+use Rattle.tp_reference.specs.Whole.{is_other}
 use Rattle.tp_exact.specs.Programs.{IsChecked}
 use Rattle.tp_exact.specs.Stands.{IsFor, IsServedBy}
 
@@ -29,30 +30,23 @@ pub none_raced : (a b : Bool) → a || b ≡ false → (a ≡ false) × (b ≡ f
 none_raced true b is = absurd cc
 none_raced false b is = (refl, is)
 
-none_needed : (a : Act) → is_race a ≡ false → racers a ≡ 0
-none_needed (act.Command c) raceless = refl
-none_needed (act.Race plan) raceless = absurd cc
-none_needed act.Drain raceless = refl
-none_needed act.DrainNext raceless = refl
-none_needed act.Rollover raceless = refl
-none_needed (act.Worker worker a) raceless = refl
-none_needed act.Account raceless = refl
-none_needed act.Dump raceless = refl
-none_needed act.Restore raceless = refl
-none_needed (act.Noted name a) raceless = refl
-none_needed (act.Last at) raceless = refl
-none_needed (act.Overview what) raceless = refl
-none_needed (act.Joined name) raceless = refl
-none_needed (act.Leave at name) raceless = refl
+none_needed : (a : Act) → is_other a ≡ false → (is_race a ≡ false) × (racers a ≡ 0)
+none_needed (act.Command c) covered = (refl, refl)
+none_needed (act.Race plan) covered = absurd cc
+none_needed act.Drain covered = (refl, refl)
+none_needed act.DrainNext covered = (refl, refl)
+none_needed act.Rollover covered = absurd cc
 
-pub no_racers : (all : List Act) → has_race all ≡ false → racing all ≡ 0
-no_racers [] raceless = refl
-no_racers (a ∷ others) raceless =
-    let parts = none_raced (is_race a) (has_race others) raceless in
+pub no_racers : (all : List Act) → list_any is_other all ≡ false → (has_race all ≡ false) × (racing all ≡ 0)
+no_racers [] covered = (refl, refl)
+no_racers (a ∷ others) covered =
+    let parts = none_raced (is_other a) (list_any is_other others) covered in
     let both : racing (a ∷ others) ≡ racers a + racing others = sum_by-cons racers a others in
     let one = none_needed a parts.0 in
     let rest = no_racers others parts.1 in
-    omega (arith, both, one, rest)
+    let first : racers a ≡ 0 = one.1 in
+    let more : racing others ≡ 0 = rest.1 in
+    (ap (λ b. b || has_race others) one.0 ∙ rest.0, omega (arith, both, first, more))
 
 -- ---- a recipe without a fault is of a server's stage
 

@@ -1,20 +1,18 @@
 -- Each command of the client where nobody else acts.
-use Rattle.std.proofs.Common.{◌≡◌, ℕ, List, Some, ◌∙◌, ap}
+use Rattle.std.proofs.Common.{◌≡◌, ℕ, List, ◌∙◌, ap}
 use Rattle.tp_model.specs.Steps.{rows_of}
 use Rattle.tp_plain.specs.OneThread.{State}
-use Rattle.tp_report.specs.Answer.{collected_text, counts_text, depths_text, errors_text, family_text, line, list_text, replies_text}
-use Rattle.tp_report.specs.Looks.{depths_of}
+use Rattle.tp_report.specs.Answer.{collected_text, counts_text, errors_text, family_text, line, replies_text}
 use Rattle.tp_script.specs.declared.script.ClientAct.TheVariants as acts
 use Rattle.tp_rollover.specs.Thread.{thread_of}
 use Rattle.tp_rollover.proofs.AloneSubmits.{both}
-use Rattle.tp_reference.specs.PlainClient.{counts_of, listed_of, member_in, parked_in, picked_of, replies_of, with_collected}
+use Rattle.tp_reference.specs.PlainClient.{counts_of, member_in, parked_in, picked_of, replies_of, with_collected}
 use Rattle.tp_exact.specs.Client.{ExactClient}
 use Rattle.tp_exact.proofs.Calls.{cancels, kills, reads, releases, requeues, submits}
 use Rattle.tp_exact.proofs.Errors.{all_errors}
 use Rattle.tp_exact.proofs.Replies.{all_replies}
 use Rattle.tp_exact.proofs.Families.{all_members}
 use Rattle.tp_exact.proofs.Counted.{counts_are}
-use Rattle.tp_exact.proofs.Staged.{all_listed, all_looks}
 use Rattle.tp_exact.proofs.Collects.{all_collected}
 
 -- the line of what was found, and the state behind it
@@ -48,11 +46,3 @@ exact_client acts.Count l keeper keeper' olds news h h' old new text a t =
     let s : State = thread_of l olds h in
     let r = counts_are l keeper olds h old (rows_of l) keeper' news h' t.found new a t.tells in
     listed counts_text text t.found (counts_of s) (thread_of l news h') s t.text_is r.0 r.1
-exact_client acts.Depth l keeper keeper' olds news h h' old new text a t =
-    let s : State = thread_of l olds h in
-    let r = all_looks l keeper olds h old keeper' news h' t.found new a t.tells in
-    listed (λ looks. depths_text (depths_of looks)) text t.found (picked_of (λ look. Some look) s) (thread_of l news h') s t.text_is r.0 r.1
-exact_client (acts.List stage from) l keeper keeper' olds news h h' old new text a t =
-    let s : State = thread_of l olds h in
-    let r = all_listed l keeper olds h old stage from keeper' news h' t.found new a t.tells in
-    listed (list_text stage) text t.found (listed_of stage from s) (thread_of l news h') s t.text_is r.0 r.1

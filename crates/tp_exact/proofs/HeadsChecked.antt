@@ -1,4 +1,4 @@
--- Each server of a session's or a script's head has a recipe without a fault.
+-- Each server of a script's head has a recipe without a fault.
 use Rattle.std.proofs.Common.{◌≡◌, ℕ, ◌+◌, ◌==◌, Bool, true, false, List, [], ◌∷◌, ◌++◌, length, Option, Some, None, Result, Ok, Err, nat_le, nat_lt, refl, subst}
 use Rattle.std.specs.Prelude.{if◌then◌else◌}
 use Rattle.std.proofs.lemmas.List.Elements.{All-nil}
@@ -7,36 +7,17 @@ use Rattle.tp_script.specs.declared.fault.LineFault.{LineFault}
 use Rattle.tp_script.specs.declared.fault.LineFault.TheVariants as fault
 use Rattle.tp_script.specs.declared.fault.Refused.{Refused}
 use Rattle.tp_script.specs.declared.head.Act.{Act}
-use Rattle.tp_script.specs.declared.head.Act.TheVariants as acts
-use Rattle.tp_script.specs.declared.head.Driver.TheVariants as drivers
+use Rattle.tp_script.specs.declared.head.Said.{Said}
+use Rattle.tp_script.specs.declared.head.Said.TheVariants as said
 use Rattle.tp_script.specs.declared.source.TheConstants.{MAX_SCRIPT_BYTES}
-use Rattle.tp_script.specs.Grammar.{body_words, head_at, head_words, line_words}
+use Rattle.tp_script.specs.Grammar.{body_words, head_words, line_words}
 use Rattle.tp_script.specs.LineWords.{require}
 use Rattle.tp_script.specs.Passes.{racers}
-use Rattle.tp_script.specs.Script.{HeadView, ScriptView, passes}
+use Rattle.tp_script.specs.Script.{ScriptView, passes}
 use Rattle.tp_script.specs.Text.{lines}
 use Rattle.tp_script.specs.Whole.{at_line, behind_account, in_body_words, in_head_words, line_at, lines_from, no_lines, script, with_act, with_said, words_line}
-use Rattle.tp_exact.specs.PlainSession.{read_head, read_line}
 use Rattle.tp_exact.specs.Programs.{IsChecked}
 use Rattle.tp_exact.proofs.Checked.{Good, went, went_to, words_good}
-
--- ---- a session's head
-
-abbrev Read : Type 0
-Read = HeadView × Option Act
-
-line_kept : (line : List ℕ) (h : HeadView) (t : Read) → head_at line h ≡ Ok t → Good h → Good t.0
-unfolding head_at
-line_kept line h t is good = let ws = went (line_words line) (λ ws. head_words drivers.Session ws h) t is in words_good drivers.Session ws.0 h t ws.2 good
-
-pub head_good : (past : ℕ) (all : List (List ℕ)) (h : HeadView) → Good h → Good (read_head past all h).head
-head_good past [] h good = good
-head_good past (line ∷ others) h good = go (λ g better. head_good (past + 1) others g better) (head_at line h) refl
-  where
-    go : ((g : HeadView) → Good g → Good (read_head (past + 1) others g).head) → (said : Result Read LineFault) → head_at line h ≡ said → Good (read_line past line others h (read_head (past + 1) others) said).head
-    go next (Ok (taken, None)) at = next taken (line_kept line h (taken, None) at good)
-    go next (Ok (taken, Some act)) at = good
-    go next (Err e) at = next h good
 
 -- ---- a script
 
@@ -50,24 +31,12 @@ module _ (s : ScriptView) (good : Good s.head) where
       let b = went (require (nat_le (passes s + racers a) MAX_PASSES) fault.BadLimits) (λ u. Ok (record s { acts = s.acts ++ a ∷ [] })) t is in
       subst Kept (went_to (record s { acts = s.acts ++ a ∷ [] }) t b.2) good
 
-  said_kept : (said : Option Act) (t : ScriptView) → with_said said s ≡ Ok t → Kept t
+  said_kept : (said : Option Said) (t : ScriptView) → with_said said s ≡ Ok t → Kept t
   said_kept None t is = subst Kept (went_to s t is) good
-  said_kept (Some acts.Account) t is = subst Kept (went_to (record s { account = true }) t is) good
-  said_kept (Some (acts.Command c)) t is = act_kept (acts.Command c) t is
-  said_kept (Some (acts.Race plan)) t is = act_kept (acts.Race plan) t is
-  said_kept (Some acts.Drain) t is = act_kept acts.Drain t is
-  said_kept (Some acts.DrainNext) t is = act_kept acts.DrainNext t is
-  said_kept (Some acts.Rollover) t is = act_kept acts.Rollover t is
-  said_kept (Some (acts.Worker worker act)) t is = act_kept (acts.Worker worker act) t is
-  said_kept (Some acts.Dump) t is = act_kept acts.Dump t is
-  said_kept (Some acts.Restore) t is = act_kept acts.Restore t is
-  said_kept (Some (acts.Noted name act)) t is = act_kept (acts.Noted name act) t is
-  said_kept (Some (acts.Last worker)) t is = act_kept (acts.Last worker) t is
-  said_kept (Some (acts.Overview what)) t is = act_kept (acts.Overview what) t is
-  said_kept (Some (acts.Joined name)) t is = act_kept (acts.Joined name) t is
-  said_kept (Some (acts.Leave worker name)) t is = act_kept (acts.Leave worker name) t is
+  said_kept (Some said.Account) t is = subst Kept (went_to (record s { account = true }) t is) good
+  said_kept (Some (said.Act a)) t is = act_kept a t is
 
-  behind_kept : (said : Result (Option Act) LineFault) (t : ScriptView) → behind_account said s ≡ Ok t → Kept t
+  behind_kept : (said : Result (Option Said) LineFault) (t : ScriptView) → behind_account said s ≡ Ok t → Kept t
   behind_kept (Ok None) t is = subst Kept (went_to s t is) good
   behind_kept (Ok (Some a)) t is = absurd cc
   behind_kept (Err fault.Syntax) t is = absurd cc
@@ -80,20 +49,20 @@ module _ (s : ScriptView) (good : Good s.head) where
 
 head_kept : (ws : List (List ℕ)) (s t : ScriptView) → in_head_words ws s ≡ Ok t → Good s.head → Good t.head
 head_kept ws s t is good =
-    let a = went (head_words drivers.Script ws s.head) (λ said. with_said said.1 (record s { head = said.0 })) t is in
-    said_kept (record s { head = a.0.0 }) (words_good drivers.Script ws s.head a.0 a.1 good) a.0.1 t a.2
+    let a = went (head_words ws s.head) (λ said. with_said said.1 (record s { head = said.0 })) t is in
+    said_kept (record s { head = a.0.0 }) (words_good ws s.head a.0 a.1 good) a.0.1 t a.2
 
 body_kept : (ws : List (List ℕ)) (s t : ScriptView) → in_body_words ws s ≡ Ok t → Good s.head → Good t.head
 body_kept ws s t is good =
-    let a = went (body_words drivers.Script ws s.head) (λ said. with_said said s) t is in
+    let a = went (body_words ws s.head) (λ said. with_said said s) t is in
     said_kept s good a.0 t a.2
 
 abbrev by_place : Bool → Bool → List (List ℕ) → ScriptView → Result ScriptView LineFault
-by_place account first ws s = if account then behind_account (body_words drivers.Script ws s.head) s
+by_place account first ws s = if account then behind_account (body_words ws s.head) s
     else if first then in_head_words ws s else in_body_words ws s
 
 place_kept : (account first : Bool) (ws : List (List ℕ)) (s t : ScriptView) → by_place account first ws s ≡ Ok t → Good s.head → Good t.head
-place_kept true first ws s t is good = behind_kept s good (body_words drivers.Script ws s.head) t is
+place_kept true first ws s t is good = behind_kept s good (body_words ws s.head) t is
 place_kept false true ws s t is good = head_kept ws s t is good
 place_kept false false ws s t is good = body_kept ws s t is good
 

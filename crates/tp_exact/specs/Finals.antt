@@ -1,11 +1,11 @@
--- The lines at the end of a script or a session: they are the computed ones.
+-- The lines at the end of a script: they are the computed ones.
 use Rattle.std.specs.Prelude.{◌≡◌, ℕ, List, length, map}
 use Rattle.tp_model.specs.declared.types.Limits.{Limits}
 use Rattle.tp_model.specs.declared.event.Event.{Event}
 use Rattle.tp_model.specs.Accounts.{account_of}
 use Rattle.tp_manager.specs.Shown.{KeeperShown, PassShown}
 use Rattle.tp_script.specs.Script.{HeadView}
-use Rattle.tp_session.specs.Conversed.{finals_of}
+use Rattle.tp_perform.specs.Performed.{finals_of}
 use Rattle.tp_reference.specs.declared.plain_desk.PlainDesk.{PlainDesk}
 use Rattle.tp_reference.specs.PlainClient.{counts_of}
 use Rattle.tp_reference.specs.PlainReport.{finals_below}

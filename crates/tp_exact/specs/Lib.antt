@@ -4,17 +4,4 @@ pub mod Stands
 pub mod Commands
 pub mod Finals
 pub mod Desks
-pub mod PlainWorkers
-pub mod PlainNotes
-pub mod Alive
-pub mod PlainOverviews
-pub mod PlainSession
-pub mod Repeats
-pub mod Sessions
-pub mod PlainScript
 pub mod Programs
-pub mod Dumps
-pub mod AliveReads
-pub mod NoteReads
-pub mod HeadReads
-pub mod WholeDumps

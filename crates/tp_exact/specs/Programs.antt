@@ -1,6 +1,5 @@
--- What the program writes of a script: it is computed of its bytes, and of what was refused in it.
-use Rattle.std.specs.Prelude.{◌≡◌, ℕ, false, List, [], Option, Result, Ok, Err}
-use Rattle.std.specs.List.{list_any}
+-- What the program writes of a script that has no race and no rollover: it is computed of its bytes.
+use Rattle.std.specs.Prelude.{◌≡◌, ℕ, false, List, Option, Result, Ok, Err}
 use Rattle.std.specs.Io.KnownBytes.{Appends, Keeps}
 use Rattle.tp_server.specs.Check.{check_of}
 use Rattle.tp_report.specs.Written.{AppendsFront}
@@ -8,25 +7,16 @@ use Rattle.tp_report.specs.declared.fault.Exit.{Exit}
 use Rattle.tp_report.specs.declared.fault.Exit.TheVariants as exits
 use Rattle.tp_report.specs.declared.fault.Fault.{Fault}
 use Rattle.tp_report.specs.declared.fault.Fault.TheVariants as faults
-use Rattle.tp_script.specs.Passes.{has_race}
 use Rattle.tp_script.specs.Script.{ScriptView, ServerView}
 use Rattle.tp_script.specs.Whole.{script}
 use Rattle.tp_script.specs.declared.fault.Refused.{Refused}
-use Rattle.tp_reference.specs.PlainReport as plain
+use Rattle.tp_reference.specs.PlainReport.{report_of_read}
 use Rattle.tp_reference.specs.Whole.{is_beyond}
-use Rattle.tp_session.specs.Performed.{Ran}
-use Rattle.tp_exact.specs.PlainScript.{script_report_of_read, script_of}
-use Rattle.tp_exact.specs.PlainSession.{Refusals}
-use Rattle.tp_exact.specs.Sessions.{AreUnforeseen, is_refusable}
+use Rattle.tp_perform.specs.Performed.{Ran}
 
 -- the server's recipe has no fault; a head that was read has only such
 abbrev pub IsChecked : ServerView → Type 0
 IsChecked server = check_of server.recipe ≡ Ok tt
-
--- the scripts that this is about: those without a race
-abbrev pub IsCovered : Result ScriptView Refused → Type 0
-IsCovered (Ok s) = has_race s.acts ≡ false
-IsCovered (Err refused) = Unit {0}
 
 -- how the program ends: it performed the script, or refused it
 abbrev pub exit_of : Result ScriptView Refused → Exit
@@ -40,21 +30,10 @@ WritesAs (Ok exit) wanted text before after = (exit ≡ wanted) × Appends befor
 WritesAs (Err faults.Read) wanted text before after = Keeps before after
 WritesAs (Err other) wanted text before after = AppendsFront before after text
 
--- so it is by what `tp_session::run` promises, whatever bytes it read, where these rollovers, dumps and
--- restores were refused as no line says
+-- So it is by what `tp_perform::run` promises, whatever bytes it read, unless these are a script with a race
+-- or a rollover. What is written is what `tp_reference::run_plain` writes of the same bytes.
 abbrev pub ExactProgram : Type 0
 ExactProgram =
     (outcome : Result Exit Fault) (bytes : List ℕ) (before after : Option (List ℕ))
-    → IsCovered (script bytes) → Ran outcome (script bytes) before after
-    → (refusals : Refusals) × AreUnforeseen refusals
-    × WritesAs outcome (exit_of (script bytes)) (script_report_of_read refusals (script bytes)) before after
-
--- without a rollover, a dump and a restore it is computed of the bytes alone
-abbrev pub ComputedOfScript : Type 0
-ComputedOfScript =
-    (s : ScriptView) (refusals : Refusals) → list_any is_refusable s.acts ≡ false
-    → script_of refusals s ≡ script_of [] s
-
--- of a script that `tp_reference::run_plain` runs both write the same
-abbrev pub SamePlain : Type 0
-SamePlain = (s : ScriptView) → is_beyond (Ok s) ≡ false → script_of [] s ≡ plain.report_of s
+    → is_beyond (script bytes) ≡ false → Ran outcome (script bytes) before after
+    → WritesAs outcome (exit_of (script bytes)) (report_of_read (script bytes)) before after

@@ -1,2 +1,3 @@
 pub mod Pictures
 pub mod Books
+pub mod Larger

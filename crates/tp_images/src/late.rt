@@ -1,4 +1,4 @@
-//! Pictures that come late: two passes of a manager, and desks that are used one call at a time.
+//! Pictures that come late: two passes of a manager, and desks that are used one call or one turn at a time.
 ghost use Rattle.std.specs.Prelude.{◌≡◌, None};
 ghost use Rattle.tp_workers.specs.Free.{IsFreePass};
 
@@ -9,7 +9,7 @@ use crate::servers::{Notifier, Resizer};
 use tp_desk::Desk;
 use tp_manager::{Keeper, Manager, Pass};
 use tp_model::types::{Claimed, Outcome};
-use tp_server::OwnServer;
+use tp_server::{OwnServer, Turned};
 use tp_workers::ProgramFault;
 
 /// A worker without a server resizes a picture, a notifier reports it, and a request is cancelled while
@@ -23,7 +23,47 @@ pub fn work<R: AllocGlobal + Print>(rt: &R) -> Result<(), ProgramFault> {
     let resized = resize(&manager, &mut worker, 8);
     let told = tell(rt, &manager, &mut worker)?;
     println!(rt; "late: {resized} resized, {told} notices")?;
-    cancel_at_work(rt, &manager, &mut front, &mut worker)
+    cancel_at_work(rt, &manager, &mut front, &mut worker)?;
+    take_in_turn(rt)
+}
+
+/// Two pictures, of which the first is too large for the space that is left. In turn it is declined, and isn't
+/// tried again before the other one.
+fn take_in_turn<R: AllocGlobal + Print>(rt: &R) -> Result<(), ProgramFault> {
+    let (manager, mut keeper) = Keeper::new(rt.alloc(), LIMITS.with_parts(2))?;
+    let mut front = keeper.pass(&manager)?;
+    let mut worker = keeper.pass(&manager)?;
+    manager.submit(&mut front, 2, [1, 8_000, 76, 7])?;
+    manager.submit(&mut front, 2, [1, 400, 76, 8])?;
+    let (first, second) = two_turns(rt, &manager, &mut worker)?;
+    tell_turn(rt, first)?;
+    tell_turn(rt, second)
+}
+
+/// Two turns of a resizer with little space.
+fn two_turns<R: AllocGlobal>(
+    rt: &R,
+    manager: &Manager,
+    worker: &mut Pass,
+) -> Result<(Turned, Turned), ProgramFault>
+    requires worker { IsFreePass manager.now worker.old }
+{
+    let mut resizer: Boxed = Box::new(rt.alloc(), OwnServer::new(Resizer, [1_000]))?;
+    let mut desk = Desk::new(manager, worker, &mut resizer);
+    let first = desk.turn_next();
+    let second = desk.turn_next();
+    desk.end();
+    Ok((first, second))
+}
+
+/// Tells what came of a turn.
+fn tell_turn<R: Print>(rt: &R, turned: Turned) -> Result<(), ProgramFault> {
+    match turned {
+        Turned::Done { element, .. } => println!(rt; "in turn: {element} was resized")?,
+        Turned::Refused { element, .. } => println!(rt; "in turn: {element} was declined")?,
+        _ => println!(rt; "in turn: nothing")?,
+    }
+    Ok(())
 }
 
 /// Cancels a request while the resizer works on it: the work is lost.

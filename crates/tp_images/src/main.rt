@@ -3,6 +3,7 @@
 
 mod day;
 mod delivery;
+mod larger;
 mod late;
 mod own_calls;
 mod servers;
@@ -11,5 +12,6 @@ use tp_workers::ProgramFault;
 
 fn main(rt: HostRuntime) -> Result<(), ProgramFault> {
     day::work(&rt)?;
-    late::work(&rt)
+    late::work(&rt)?;
+    larger::work(&rt)
 }

@@ -1,13 +1,13 @@
 -- A journal that has a text, and a text that gets longer.
-use Rattle.std.proofs.Common.{◌≡◌, inl, inr, ℕ, ◌<◌, ◌≤◌, ◌^◌, List, [], ◌++◌, length, take, drop, refl, sym, ◌∙◌, ap, subst, append_assoc}
+use Rattle.std.proofs.Common.{◌≡◌, inl, inr, ℕ, ◌<◌, ◌≤◌, ◌^◌, List, [], ◌++◌, decimal, length, take, drop, refl, sym, ◌∙◌, ap, subst, append_assoc}
 use Rattle.std.proofs.lemmas.List.Elements.{All-append, All-take}
 use Rattle.std.proofs.lemmas.List.{length-take-le, take_at}
 use Rattle.sha2.specs.Hashers.{Holds256}
 use Rattle.tp_journal.specs.Device.{LeavesOnly, Only}
 use Rattle.tp_journal.specs.Journal.{JournalHasText, Stands}
-use Rattle.tp_journal.specs.Text.{HasSealed, IsBatch, IsDamage, IsFrontOf, IsRecovered, IsSealed, IsSet, IsText, end_line, first_line, text_of, with_own_end}
+use Rattle.tp_journal.specs.Text.{HasSealed, IsBatch, IsDamage, IsFrontOf, IsRecovered, IsSealed, IsSet, IsText, end_line, first_line, sealed_batch, text_of, with_batch}
 use Rattle.tp_journal.specs.declared.journal.Journal.{Journal}
-use Rattle.tp_journal.proofs.Ends.{sealed-text}
+use Rattle.tp_journal.proofs.EndLines.{begun, sealed-text}
 use Rattle.tp_journal.proofs.Moments.{started}
 use Rattle.tp_journal.proofs.Texts.{rest-text, text-is_text}
 
@@ -22,20 +22,20 @@ idle seen may_leave moment left_since P d only_now durable here = started moment
 
 pub sealed-front : (text : List ℕ) → IsSealed text → IsFrontOf text first_line
 sealed-front text (inl is) = record { rest = []; whole = is }
-sealed-front text (inr (inner, front, is)) = record { rest = front.rest ++ end_line inner; whole = is ∙ ap (λ (l : List ℕ). l ++ end_line inner) front.whole ∙ append_assoc first_line front.rest (end_line inner) }
+sealed-front text (inr (begin, inner, digits, front, is)) = record { rest = front.rest ++ end_line begin inner; whole = is ∙ ap (λ (l : List ℕ). l ++ end_line begin inner) front.whole ∙ append_assoc first_line front.rest (end_line begin inner) }
 
-pub appended-text : (text batch bytes : List ℕ) → bytes ≡ batch ++ end_line (text ++ batch) → text ++ bytes ≡ with_own_end (text ++ batch)
-appended-text text batch bytes is = ap (λ (l : List ℕ). text ++ l) is ∙ sym (append_assoc text batch (end_line (text ++ batch)))
+pub appended-text : (text batch bytes : List ℕ) → bytes ≡ sealed_batch text batch → text ++ bytes ≡ with_batch text batch
+appended-text text batch bytes is = ap (λ (l : List ℕ). text ++ l) is ∙ sym (append_assoc text batch (end_line (decimal (length text)) (text ++ batch)))
 
-pub appended-sealed : (text batch : List ℕ) → IsSealed text → IsSealed (with_own_end (text ++ batch))
-appended-sealed text batch is =
+pub appended-sealed : (text batch : List ℕ) → length (text ++ batch) < 2 ^ 64 → IsSealed text → IsSealed (with_batch text batch)
+appended-sealed text batch short is =
     let front = sealed-front text is in
-    inr (text ++ batch, record { rest = front.rest ++ batch; whole = ap (λ (l : List ℕ). l ++ batch) front.whole ∙ append_assoc first_line front.rest batch }, refl)
+    inr (decimal (length text), text ++ batch, begun text batch short, record { rest = front.rest ++ batch; whole = ap (λ (l : List ℕ). l ++ batch) front.whole ∙ append_assoc first_line front.rest batch }, refl)
 
-pub bytes-text : (text batch bytes : List ℕ) → length (text ++ batch) < 2 ^ 64 → IsBatch batch → bytes ≡ batch ++ end_line (text ++ batch) → IsText bytes
-bytes-text text batch bytes short is same = subst IsText (sym same) (sealed-text batch (text ++ batch) is.plain short)
+pub bytes-text : (text batch bytes : List ℕ) → length (text ++ batch) < 2 ^ 64 → IsBatch batch → bytes ≡ sealed_batch text batch → IsText bytes
+bytes-text text batch bytes short is same = subst IsText (sym same) (sealed-text batch (decimal (length text)) (text ++ batch) is.plain (begun text batch short) short)
 
-pub replaced-text : (batch first bytes : List ℕ) → first ≡ first_line → bytes ≡ batch ++ end_line (first_line ++ batch) → first ++ bytes ≡ with_own_end (first_line ++ batch)
+pub replaced-text : (batch first bytes : List ℕ) → first ≡ first_line → bytes ≡ sealed_batch first_line batch → first ++ bytes ≡ with_batch first_line batch
 replaced-text batch first bytes first_is is = ap (λ (l : List ℕ). l ++ bytes) first_is ∙ appended-text first_line batch bytes is
 
 pub first_text : IsText first_line
@@ -44,10 +44,10 @@ first_text = text-is_text first_line
 pub front-text : (text front : List ℕ) → IsText text → IsFrontOf text front → IsText front
 front-text text front is f = subst IsText (ap (take (length front)) f.whole ∙ take_at front f.rest (length front) refl) (All-take IsSet (length front) text is)
 
-pub recovered-of : (bytes seen : List ℕ) (count : ℕ) → bytes ≡ seen → count ≤ length bytes → HasSealed (text_of bytes) (take count bytes) → (IsDamage (drop count bytes) → ⊥) → IsRecovered seen (take count bytes)
+pub recovered-of : (bytes seen : List ℕ) (count : ℕ) → bytes ≡ seen → count ≤ length bytes → HasSealed (text_of bytes) (take count bytes) → (IsDamage (decimal count) (drop count bytes) → ⊥) → IsRecovered seen (take count bytes)
 recovered-of bytes seen count same inside sealed whole =
-    subst (λ (file : List ℕ). IsRecovered file (take count bytes)) same (inr (sealed, λ damage. whole (subst (λ (n : ℕ). IsDamage (drop n bytes)) (length-take-le count bytes inside) damage)))
+    subst (λ (file : List ℕ). IsRecovered file (take count bytes)) same (inr (sealed, λ damage. whole (subst (λ (n : ℕ). IsDamage (decimal n) (drop n bytes)) (length-take-le count bytes inside) damage)))
 
-pub replaced-is_text : (batch : List ℕ) → IsBatch batch → length (first_line ++ batch) < 2 ^ 64 → IsText (with_own_end (first_line ++ batch))
+pub replaced-is_text : (batch : List ℕ) → IsBatch batch → length (first_line ++ batch) < 2 ^ 64 → IsText (with_batch first_line batch)
 replaced-is_text batch is short =
-    subst IsText (appended-text first_line batch (batch ++ end_line (first_line ++ batch)) refl) (All-append IsSet first_line (batch ++ end_line (first_line ++ batch)) first_text (sealed-text batch (first_line ++ batch) is.plain short))
+    subst IsText (appended-text first_line batch (sealed_batch first_line batch) refl) (All-append IsSet first_line (sealed_batch first_line batch) first_text (bytes-text first_line batch (sealed_batch first_line batch) short is refl))

@@ -1,6 +1,7 @@
 pub mod Texts
 mod Moments
-pub mod Ends
+pub mod EndLines
+mod EndWords
 mod Seals
 mod Damages
 pub mod Kept

@@ -5,12 +5,14 @@ use Rattle.std.proofs.Math.Seq.{take-append-add}
 use Rattle.std.proofs.lemmas.Bool.Decides.{Decides-eqb, nat_tests}
 use Rattle.std.proofs.lemmas.Slice.Eq.{starts_is}
 use Rattle.std.specs.List.{starts_with}
-use Rattle.tp_journal.specs.Text.{HasSealed, IsFrontOf, IsSealed, end_line, first_line, text_of, with_own_end}
-use Rattle.tp_journal.proofs.Ends.{end-marked}
+use Rattle.std.specs.Prelude.{All}
+use Rattle.tp_journal.specs.Reading.{IsEnd}
+use Rattle.tp_journal.specs.Text.{HasSealed, IsDigit, IsFrontOf, IsSealed, end_line, first_line, text_of, with_end}
+use Rattle.tp_journal.proofs.EndLines.{end-marked}
 
 -- no sealed front with its end at a place before this one is longer
 abbrev pub Longest : List ℕ → ℕ → ℕ → Type 0
-Longest text at count = (inner : List ℕ) → length first_line ≤ length inner → length inner < at → IsFrontOf text (with_own_end inner) → length (with_own_end inner) ≤ count
+Longest text at count = (begin inner : List ℕ) → All IsDigit begin → length first_line ≤ length inner → length inner < at → IsFrontOf text (with_end begin inner) → length (with_end begin inner) ≤ count
 
 front-of : (text front : List ℕ) → IsFrontOf text front → take (length front) text ≡ front
 front-of text front f = ap (take (length front)) f.whole ∙ take_at front f.rest (length front) refl
@@ -19,18 +21,30 @@ pub front-length : (text front : List ℕ) → IsFrontOf text front → length f
 front-length text front f = omega (arith, ap length f.whole, length-append front f.rest)
 
 -- a text with a front, and the bytes behind that
-inner-of : (text inner : List ℕ) → IsFrontOf text (with_own_end inner) → (take (length inner) text ≡ inner) × IsFrontOf (drop (length inner) text) (end_line inner)
-inner-of text inner f =
-    let whole : text ≡ inner ++ (end_line inner ++ f.rest) = f.whole ∙ append_assoc inner (end_line inner) f.rest in (
-      ap (take (length inner)) whole ∙ take_at inner (end_line inner ++ f.rest) (length inner) refl,
-      record { rest = f.rest; whole = ap (drop (length inner)) whole ∙ drop_at inner (end_line inner ++ f.rest) (length inner) refl },
+inner-of : (text begin inner : List ℕ) → IsFrontOf text (with_end begin inner) → (take (length inner) text ≡ inner) × IsFrontOf (drop (length inner) text) (end_line begin inner)
+inner-of text begin inner f =
+    let whole : text ≡ inner ++ (end_line begin inner ++ f.rest) = f.whole ∙ append_assoc inner (end_line begin inner) f.rest in (
+      ap (take (length inner)) whole ∙ take_at inner (end_line begin inner ++ f.rest) (length inner) refl,
+      record { rest = f.rest; whole = ap (drop (length inner)) whole ∙ drop_at inner (end_line begin inner ++ f.rest) (length inner) refl },
     )
 
+-- an end stands behind it
+end-of : (text begin inner : List ℕ) → All IsDigit begin → IsFrontOf text (with_end begin inner) → IsEnd text (length inner) (length (with_end begin inner))
+end-of text begin inner digits f =
+    let parts = inner-of text begin inner f in
+    record {
+      begin = begin;
+      digits = digits;
+      here = subst (λ l. IsFrontOf (drop (length inner) text) (end_line begin l)) (sym parts.0) parts.1;
+      behind = length-append inner (end_line begin inner) ∙ ap (λ l. length inner + length (end_line begin l)) (sym parts.0);
+      inside = front-length text (with_end begin inner) f;
+    }
+
 -- an end begins with a mark
-pub marked : (text inner : List ℕ) → IsFrontOf text (with_own_end inner) → (length inner < length text) × (get_or text (length inner) 0 ≡ 35)
-marked text inner f =
-    let rest = (inner-of text inner f).1 in
-    let mark = end-marked inner in
+pub marked : (text begin inner : List ℕ) → IsFrontOf text (with_end begin inner) → (length inner < length text) × (get_or text (length inner) 0 ≡ 35)
+marked text begin inner f =
+    let rest = (inner-of text begin inner f).1 in
+    let mark = end-marked begin inner in
     let is : drop (length inner) text ≡ 35 ∷ (mark.0 ++ rest.rest) = rest.whole ∙ ap (λ (l : List ℕ). l ++ rest.rest) mark.1 in
     (omega (arith, ap length is, length-drop (length inner) text), at (length inner) text (mark.0 ++ rest.rest) is)
   where
@@ -40,21 +54,16 @@ marked text inner f =
     at (suc n) (x ∷ l) more is = at n l more is
 
 pub longest-begun : (text : List ℕ) (at count : ℕ) → ((k : ℕ) → length first_line ≤ k → k < at → get_or text k 0 ≡ 35 → ⊥) → Longest text at count
-longest-begun text at count none inner le lt front = absurd (none (length inner) le lt (marked text inner front).1)
+longest-begun text at count none begin inner digits le lt front = absurd (none (length inner) le lt (marked text begin inner front).1)
 
-pub longest-next : (text line : List ℕ) (at next count longer : ℕ) → Longest text at count → count ≤ longer → at ≤ length text → line ≡ end_line (take at text)
-    → (IsFrontOf (drop at text) line → at + length line ≤ longer) → ((k : ℕ) → at + 1 ≤ k → k < next → get_or text k 0 ≡ 35 → ⊥) → Longest text next longer
-longest-next text line at next count longer old more inside line_is here none inner le lt front =
+pub longest-next : (text : List ℕ) (at next count longer : ℕ) → Longest text at count → count ≤ longer → ((m : ℕ) → IsEnd text at m → m ≤ longer)
+    → ((k : ℕ) → at + 1 ≤ k → k < next → get_or text k 0 ≡ 35 → ⊥) → Longest text next longer
+longest-next text at next count longer old more end none begin inner digits le lt front =
     ⊎_elim
-    (λ before. omega (arith, old inner le before front, more))
+    (λ before. omega (arith, old begin inner digits le before front, more))
     (λ not_before. ⊎_elim
-    (λ same.
-    let parts = inner-of text inner front in
-    let inner_is : take at text ≡ inner = ap (λ (n : ℕ). take n text) (sym same) ∙ parts.0 in
-    let end_is : line ≡ end_line inner = line_is ∙ ap end_line inner_is in
-    let found : at + length line ≤ longer = here (subst (λ (l : List ℕ). IsFrontOf (drop at text) l) (sym end_is) (subst (λ (n : ℕ). IsFrontOf (drop n text) (end_line inner)) same parts.1)) in
-    omega (arith, found, same, ap length end_is, length-append inner (end_line inner)))
-    (λ behind. absurd (none (length inner) behind lt (marked text inner front).1))
+    (λ same. end (length (with_end begin inner)) (subst (λ n. IsEnd text n (length (with_end begin inner))) same (end-of text begin inner digits front)))
+    (λ behind. absurd (none (length inner) behind lt (marked text begin inner front).1))
     (later at (length inner) not_before))
     (sooner at (length inner))
   where
@@ -69,18 +78,21 @@ longest-next text line at next count longer old more inside line_is here none in
     later (suc at) zero le = absurd (omega (arith, le))
     later (suc at) (suc n) le = ⊎_elim (λ is. inl (omega (arith, is))) (λ lt. inr (omega (arith, lt))) (later at n (omega (arith, le)))
 
-pub sealed-next : (text line : List ℕ) (at count longer : ℕ) → IsFrontOf text first_line → length first_line ≤ at → at ≤ length text → line ≡ end_line (take at text) → IsSealed (take count text)
-    → (longer ≡ count) ⊎ ((longer ≡ at + length line) × IsFrontOf (drop at text) line) → IsSealed (take longer text)
-sealed-next text line at count longer front begun inside line_is old (inl same) = subst (λ (n : ℕ). IsSealed (take n text)) (sym same) old
-sealed-next text line at count longer front begun inside line_is old (inr (is, here)) =
-    inr (take at text, first, ap (λ (n : ℕ). take n text) is ∙ both ∙ ap (λ (l : List ℕ). take at text ++ l) line_is)
+pub sealed-next : (text : List ℕ) (at count longer : ℕ) → IsFrontOf text first_line → length first_line ≤ at → at ≤ length text → IsSealed (take count text)
+    → (longer ≡ count) ⊎ IsEnd text at longer → IsSealed (take longer text)
+sealed-next text at count longer front begun inside old (inl same) = subst (λ (n : ℕ). IsSealed (take n text)) (sym same) old
+sealed-next text at count longer front begun inside old (inr is) =
+    inr (is.begin, take at text, is.digits, first, ap (λ (n : ℕ). take n text) is.behind ∙ both)
   where
+    line : List ℕ
+    line = end_line is.begin (take at text)
+
     long : length (take at text) ≡ at
     long = length-take-le at text inside
 
     both : take (at + length line) text ≡ take at text ++ line
-    both = ap (take (at + length line)) (sym (take-append-drop at text) ∙ ap (λ (l : List ℕ). take at text ++ l) here.whole ∙ sym (append_assoc (take at text) line here.rest))
-        ∙ take_at (take at text ++ line) here.rest (at + length line) (omega (arith, long, length-append (take at text) line))
+    both = ap (take (at + length line)) (sym (take-append-drop at text) ∙ ap (λ (l : List ℕ). take at text ++ l) is.here.whole ∙ sym (append_assoc (take at text) line is.here.rest))
+        ∙ take_at (take at text ++ line) is.here.rest (at + length line) (omega (arith, long, length-append (take at text) line))
 
     first : IsFrontOf (take at text) first_line
     first = record {
@@ -104,9 +116,9 @@ sealed-done text at count front over inside least is longest = record {
   where
     each : (t : List ℕ) → IsFrontOf text t → IsSealed t → length t ≤ length (take count text)
     each t of (inl is) = omega (arith, ap length is, least, length-take-le count text inside)
-    each t of (inr (inner, first, is)) =
-        let front : IsFrontOf text (with_own_end inner) = subst (IsFrontOf text) is of in
-        omega (arith, ap length is, length-take-le count text inside, longest inner (front-length inner first_line first) (omega (arith, over, (marked text inner front).0)) front)
+    each t of (inr (begin, inner, digits, first, is)) =
+        let front : IsFrontOf text (with_end begin inner) = subst (IsFrontOf text) is of in
+        omega (arith, ap length is, length-take-le count text inside, longest begin inner digits (front-length inner first_line first) (omega (arith, over, (marked text begin inner front).0)) front)
 
 pub larger : (a b m : ℕ) → m ≡ max a b → (m ≡ a) ⊎ (m ≡ b)
 larger a b m is = grind (arith, nat_tests)
@@ -125,21 +137,20 @@ taken-on text at next le =
     take_take (suc n) (suc m) [] le = refl
     take_take (suc n) (suc m) (x ∷ l) le = ap (λ (k : List ℕ). x ∷ k) (take_take n m l (omega (arith, le)))
 
--- a line that `starts_with` finds
-pub found-front : (text line : List ℕ) (at : ℕ) (r : Bool) → r ≡ starts_with (λ a b. a == b) (take (length text - at) (drop at text)) line → (r ≡ true → IsFrontOf (drop at text) line) × (IsFrontOf (drop at text) line → r ≡ true)
-found-front text line at r is =
-    let found = starts_is Decides-eqb (drop at text) line r (subst (λ (l : List ℕ). r ≡ starts_with (λ a b. a == b) l line) (slice-rest at text) is) in (
-      λ yes. record { rest = drop (length line) (drop at text); whole = found.0 yes },
+-- what `starts_with` finds
+pub starts-test : (text first : List ℕ) (r : Bool) → r ≡ starts_with (λ a b. a == b) text first → (r ≡ true → IsFrontOf text first) × (IsFrontOf text first → r ≡ true)
+starts-test text first r is =
+    let found = starts_is Decides-eqb text first r is in (
+      λ yes. record { rest = drop (length first) text; whole = found.0 yes },
       λ front. found.1 front.rest front.whole,
     )
 
--- the same of a whole text and the first line
+-- a line behind a place that `starts_with` finds
+pub found-front : (text line : List ℕ) (at : ℕ) (r : Bool) → r ≡ starts_with (λ a b. a == b) (take (length text - at) (drop at text)) line → (r ≡ true → IsFrontOf (drop at text) line) × (IsFrontOf (drop at text) line → r ≡ true)
+found-front text line at r is = starts-test (drop at text) line r (subst (λ (l : List ℕ). r ≡ starts_with (λ a b. a == b) l line) (slice-rest at text) is)
+
 pub first-test : (text : List ℕ) (r : Bool) → r ≡ starts_with (λ a b. a == b) text first_line → (r ≡ true → IsFrontOf text first_line) × (IsFrontOf text first_line → r ≡ true)
-first-test text r is =
-    let found = starts_is Decides-eqb text first_line r is in (
-      λ yes. record { rest = drop (length first_line) text; whole = found.0 yes },
-      λ front. found.1 front.rest front.whole,
-    )
+first-test text r is = starts-test text first_line r is
 
 pub sealed-in : (bytes : List ℕ) (len count : ℕ) → text_of bytes ≡ take len bytes → len ≤ length bytes → count ≤ length (take len bytes) → HasSealed (take len bytes) (take count (take len bytes)) → HasSealed (text_of bytes) (take count bytes)
 sealed-in bytes len count is inside le sealed =

@@ -3,7 +3,7 @@ use Rattle.std.proofs.Common.{◌≡◌, inl, ⊎_elim, ℕ, zero, suc, ◌+◌,
 use Rattle.std.proofs.lemmas.List.Elements.{All-append, All-cons, All-head, All-nil, All-tail}
 use Rattle.std.proofs.lemmas.Bool.{cases_eq}
 use Rattle.std.proofs.lemmas.Bool.Decides.{nat_tests}
-use Rattle.std.proofs.lemmas.List.{append-nil, length-take-le, take_at, drop_at, drop-drop, drop-replicate, replicate-append-replicate}
+use Rattle.std.proofs.lemmas.List.{append-nil, length-replicate, length-take-le, take_at, drop_at, drop-drop, drop-replicate, replicate-append-replicate}
 use Rattle.tp_journal.specs.Device.{EachMixed, HoldsBytes, Mixed}
 use Rattle.tp_journal.specs.Text.{HasTorn, IsAtRest, IsSet, IsText, text_of}
 
@@ -70,6 +70,16 @@ grown-rest text file new count r is = record {
 
 pub made-rest : (text file : List ℕ) (count : ℕ) → IsText text → file ≡ text ++ replicate count 0 → IsAtRest text file
 made-rest text file count is made = record { text_is = is; free = count; file_is = made }
+
+pub made-length : (text file : List ℕ) (count : ℕ) → file ≡ text ++ replicate count 0 → length file ≡ count + length text
+made-length text file count made =
+    let all = ap length made in
+    let both = length-append text (replicate count 0) in
+    let none = length-replicate {A = ℕ} count 0 in
+    omega (arith, all, both, none)
+
+pub at_most : (a b : ℕ) → a ≡ b → a ≤ b
+at_most a b is = omega (arith, is)
 
 -- ---- where the text ends
 

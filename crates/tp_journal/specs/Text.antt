@@ -1,6 +1,7 @@
 -- Texts, and the files that have them.
 use Rattle.std.specs.Prelude.{◌≡◌, ◌⊎◌, ◌≤◌, ℕ, List, [], ◌∷◌, ◌++◌, length, drop, replicate, All, codes}
-use Rattle.std.specs.Prelude.{if◌then◌else◌, ◌==◌, ◌||◌, false, Bool, decimal}
+use Rattle.std.specs.Prelude.{if◌then◌else◌, ◌==◌, ◌||◌, false, true, Bool, decimal}
+use Rattle.std.specs.Char.{is_ascii_digit}
 use Rattle.tp_journal.specs.Device.{EachMixed}
 use Rattle.hex.specs.Hex.{encode_lower}
 use Rattle.sha2.specs.Sha256.{sha256}
@@ -41,19 +42,40 @@ pub record IsBatch (batch : List ℕ) : Type 0 where
 
 -- the first line of a journal
 abbrev pub first_line : List ℕ
-first_line = codes "# covetrivet journal 2\n"
+first_line = codes "# covetrivet journal 4\n"
 
--- The line behind a text that ends it: how many bytes the text has, and their digest.
-unfoldable pub end_line : List ℕ → List ℕ
-end_line text = codes "# " ++ decimal (length text) ++ codes " " ++ encode_lower (sha256 text) ++ 23 ∷ 10 ∷ []
+abbrev pub IsDigit : ℕ → Type 0
+IsDigit b = is_ascii_digit b ≡ true
 
-abbrev pub with_own_end : List ℕ → List ℕ
-with_own_end text = text ++ end_line text
+-- what the line says that ends a text: how many bytes that has, and where its last batch begins
+abbrev pub end_first : ℕ → List ℕ
+end_first count = codes "# " ++ decimal count ++ codes " "
 
--- a text that has the first line, and after that ends with its own end
+abbrev pub end_words : List ℕ → List ℕ → List ℕ
+end_words begin text = end_first (length text) ++ (begin ++ codes " ")
+
+-- behind these words the digest of all before, and the byte that ends a batch
+abbrev pub end_last : List ℕ → List ℕ → List ℕ
+end_last text words = encode_lower (sha256 (text ++ words)) ++ 23 ∷ 10 ∷ []
+
+unfoldable pub end_line : List ℕ → List ℕ → List ℕ
+end_line begin text = end_words begin text ++ end_last text (end_words begin text)
+
+abbrev pub with_end : List ℕ → List ℕ → List ℕ
+with_end begin text = text ++ end_line begin text
+
+-- a batch behind a text, and its end
+abbrev pub sealed_batch : List ℕ → List ℕ → List ℕ
+sealed_batch text batch = batch ++ end_line (decimal (length text)) (text ++ batch)
+
+-- a text, and a batch behind it with its end
+abbrev pub with_batch : List ℕ → List ℕ → List ℕ
+with_batch text batch = with_end (decimal (length text)) (text ++ batch)
+
+-- a text that has the first line, and after that ends with an end of its own
 abbrev pub IsSealed : List ℕ → Type 0
-IsSealed text =
-    (text ≡ first_line) ⊎ ((inner : List ℕ) × IsFrontOf inner first_line × (text ≡ with_own_end inner))
+IsSealed text = (text ≡ first_line)
+    ⊎ ((begin inner : List ℕ) × All IsDigit begin × IsFrontOf inner first_line × (text ≡ with_end begin inner))
 
 -- the longest front of a text that is sealed
 pub record HasSealed (text sealed : List ℕ) : Type 0 where
@@ -74,23 +96,33 @@ pub record HasTorn (text bytes file : List ℕ) : Type 0 where
   pub file_is : file ≡ text ++ rest
   pub torn : EachMixed (replicate free 0) bytes rest
 
--- What is behind the sealed text is no torn batch: an end of a batch stands in it with nothing missing before
--- it, or with something behind it.
-pub record IsDamage (rest : List ℕ) : Type 0 where
+-- an end, up to its last two bytes, says that its batch begins elsewhere than at this place
+pub record BeginsElsewhere (begin front : List ℕ) : Type 0 where
+  pub before : List ℕ
+  pub told : List ℕ
+  pub digest : List ℕ
+  pub split : front ≡ (before ++ 32 ∷ told) ++ digest
+  pub digits : All IsDigit told
+  pub long : length digest ≡ 65
+  pub other : told ≡ begin → ⊥
+
+-- What is behind the sealed text, which ends at this place, is no torn batch: an end of a batch stands in it
+-- with nothing missing before it, or with something behind it, or one of a batch that begins elsewhere.
+pub record IsDamage (begin rest : List ℕ) : Type 0 where
   pub front : List ℕ
   pub back : List ℕ
   pub split : rest ≡ front ++ 23 ∷ 10 ∷ back
-  pub told : IsText front ⊎ (All (λ b. b ≡ 0) back → ⊥)
+  pub told : (IsText front ⊎ (All (λ b. b ≡ 0) back → ⊥)) ⊎ BeginsElsewhere begin front
 
 -- the longest sealed front of a file's text has so many bytes, and behind it is no torn batch
 pub record HasDamage (file : List ℕ) (count : ℕ) : Type 0 where
   pub text : List ℕ
   pub is_longest : HasSealed (text_of file) text
   pub long : length text ≡ count
-  pub is_damage : IsDamage (drop count file)
+  pub is_damage : IsDamage (decimal count) (drop count file)
 
 -- what is recovered of a file
 abbrev pub IsRecovered : List ℕ → List ℕ → Type 0
 IsRecovered file text =
     ((file ≡ []) × (text ≡ first_line))
-    ⊎ (HasSealed (text_of file) text × (IsDamage (drop (length text) file) → ⊥))
+    ⊎ (HasSealed (text_of file) text × (IsDamage (decimal (length text)) (drop (length text) file) → ⊥))

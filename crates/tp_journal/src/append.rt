@@ -1,11 +1,12 @@
 //! Batches that are appended, and a text that takes the place of all of them.
 ghost use Rattle.std.specs.Prelude.{◌≡◌, ◌⊎◌, ◌+◌, ◌<◌, ◌≤◌, ◌^◌, ◌++◌, true, false, length, OnOk, IsErrOf};
 ghost use Rattle.tp_journal.specs.declared.append.TheConstants.{MAX_LEN};
+ghost use Rattle.tp_journal.specs.declared.recovery.TheConstants.{STEP};
 ghost use Rattle.tp_journal.specs.declared.batch.Refusal.{Refusal};
 ghost use Rattle.tp_journal.specs.Device.{HasCause, LeavesOnly, Only};
 ghost use Rattle.tp_journal.specs.Journal.{IsJournalOpen, IsJournalSettled};
 ghost use Rattle.tp_journal.specs.Text.{HasTorn, IsAtRest, IsBatch, IsText};
-ghost use Rattle.tp_journal.specs.Text.{end_line, first_line, text_of, with_own_end};
+ghost use Rattle.tp_journal.specs.Text.{first_line, sealed_batch, text_of, with_batch};
 
 use crate::recovery::STEP;
 use crate::sealing::{FIRST_LINE, hasher_of, seal};
@@ -23,17 +24,16 @@ impl<D: Device> Journal<D> {
         requires open { IsJournalOpen D.seen D.may_leave self.old }
         ensures open { IsJournalOpen D.seen D.may_leave self.new }
         ensures acknowledged { OnOk result ((self.new.poisoned ≡ false)
-            × (text_of (D.seen self.new.device) ≡ with_own_end
-            (text_of (D.seen self.old.device) ++ batch.now))) }
+            × (text_of (D.seen self.new.device) ≡ with_batch (text_of (D.seen self.old.device)) batch.now)) }
         ensures accepted { OnOk result (IsBatch batch.now) }
         ensures refused { (why : Refusal) → IsErrOf result (AppendError.Refused why)
             → (self.new ≡ self.old) × (IsBatch batch.now → ⊥) }
         ensures any_moment { self.old.poisoned ≡ false
             → LeavesOnly D.moment D.left_since self.old.device self.new.device
             (HasTorn (text_of (D.seen self.old.device))
-            (batch.now ++ end_line (text_of (D.seen self.old.device) ++ batch.now))) }
+            (sealed_batch (text_of (D.seen self.old.device)) batch.now)) }
         ensures within { self.old.poisoned ≡ false → (self.new.device ≡ self.old.device)
-            ⊎ (length (with_own_end (text_of (D.seen self.old.device) ++ batch.now)) < 2 ^ 64) }
+            ⊎ (length (with_batch (text_of (D.seen self.old.device)) batch.now) < 2 ^ 64) }
         ensures poisoned { self.old.poisoned ≡ true
             → (self.new ≡ self.old) × IsErrOf result AppendError.Poisoned }
         ensures later { D.faults self.old.device ≤ D.faults self.new.device }
@@ -43,6 +43,8 @@ impl<D: Device> Journal<D> {
         ensures full { IsErrOf result AppendError.Full
             → (self.new ≡ self.old) × (MAX_LEN < self.old.len) }
         ensures had_failed { IsErrOf result AppendError.Poisoned → self.old.poisoned ≡ true }
+        ensures grows { self.old.poisoned ≡ false → self.new.len ≤ self.old.len + STEP
+            + length (sealed_batch (text_of (D.seen self.old.device)) batch.now) }
     {
         if self.poisoned {
             return Err(AppendError::Poisoned);
@@ -69,14 +71,14 @@ impl<D: Device> Journal<D> {
         requires open { IsJournalOpen D.seen D.may_leave self.old }
         ensures open { IsJournalOpen D.seen D.may_leave self.new }
         ensures acknowledged { OnOk result ((self.new.poisoned ≡ false)
-            × (text_of (D.seen self.new.device) ≡ with_own_end (first_line ++ batch.now))) }
+            × (text_of (D.seen self.new.device) ≡ with_batch first_line batch.now)) }
         ensures accepted { OnOk result (IsBatch batch.now) }
         ensures refused { (why : Refusal) → IsErrOf result (AppendError.Refused why)
             → (self.new ≡ self.old) × (IsBatch batch.now → ⊥) }
         ensures any_moment { self.old.poisoned ≡ false
             → LeavesOnly D.moment D.left_since self.old.device self.new.device
             (λ c. IsAtRest (text_of (D.seen self.old.device)) c
-            ⊎ IsAtRest (with_own_end (first_line ++ batch.now)) c) }
+            ⊎ IsAtRest (with_batch first_line batch.now) c) }
         ensures poisoned { self.old.poisoned ≡ true
             → (self.new ≡ self.old) × IsErrOf result AppendError.Poisoned }
         ensures later { D.faults self.old.device ≤ D.faults self.new.device }
@@ -86,6 +88,8 @@ impl<D: Device> Journal<D> {
         ensures memory { IsErrOf result AppendError.Memory → self.new ≡ self.old }
         ensures not_full { IsErrOf result AppendError.Full → ⊥ }
         ensures had_failed { IsErrOf result AppendError.Poisoned → self.old.poisoned ≡ true }
+        ensures grows { OnOk result
+            (self.new.len ≤ STEP + length (with_batch first_line batch.now)) }
     {
         if self.poisoned {
             return Err(AppendError::Poisoned);
@@ -117,6 +121,7 @@ impl<D: Device> Journal<D> {
             (D.seen self.new.device)) }
         ensures durable { OnOk result (Only (D.seen self.new.device) (D.may_leave self.new.device)) }
         ensures len { OnOk result (self.new.len ≡ length (D.seen self.new.device)) }
+        ensures grows { self.new.len ≤ self.old.len + STEP + length bytes.now }
         ensures any_moment { LeavesOnly D.moment D.left_since self.old.device self.new.device
             (HasTorn (text_of (D.seen self.old.device)) bytes.now) }
         ensures cause { HasCause (D.faults self.old.device) (D.faults self.new.device) result }

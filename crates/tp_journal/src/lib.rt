@@ -2,14 +2,16 @@
 //!
 //! Its file has a text, and behind it bytes 0 that are on the disk before anything is written over them. So
 //! what a crash leaves of a write is a front of what was written, up to the first 0. Each batch ends with a
-//! line that has the number of bytes before it and their digest. So what is recovered is the acknowledged
-//! batches, or these and the one that was being appended.
+//! line that says how many bytes stand before it, where the batch begins, and the digest of all before. So
+//! what is recovered is the acknowledged batches, or these and the one that was being appended; and where
+//! something is missing before a batch that was, that is told.
 #![tactic(auto)]
 
 mod append;
 mod batch;
 mod damage;
 mod device;
+mod ends;
 mod file;
 mod journal;
 mod laws;

@@ -1,11 +1,12 @@
 //! What is recovered of a file that a crash may have left.
-ghost use Rattle.std.specs.Prelude.{◌≡◌, ◌⊎◌, ◌<◌, ◌≤◌, List, ℕ, All, drop, length, take, IfOk, OnOk};
-ghost use Rattle.std.specs.Prelude.{IsErrOf};
+ghost use Rattle.std.specs.Prelude.{◌≡◌, ◌⊎◌, ◌<◌, ◌≤◌, List, ℕ, All, decimal, drop, length, take, IfOk};
+ghost use Rattle.std.specs.Prelude.{◌+◌, ◌-◌, IsErrOf, OnOk, get_or};
 ghost use Rattle.tp_journal.specs.Device.{LeavesOnly};
 ghost use Rattle.tp_journal.specs.Journal.{LeavesRecovered, Stands};
 ghost use Rattle.tp_journal.specs.Text.{HasDamage, HasSealed, IsAtRest, IsDamage, IsFrontOf, IsRecovered};
-ghost use Rattle.tp_journal.specs.Text.{IsSealed, IsText, first_line, text_of};
+ghost use Rattle.tp_journal.specs.Text.{IsSealed, IsSet, IsText, first_line, text_of};
 ghost use Rattle.tp_journal.specs.declared.recovery.OpenError.TheVariants.{Memory};
+ghost use Rattle.tp_journal.specs.declared.recovery.TheConstants.{STEP};
 
 use crate::damage::is_damaged;
 use crate::sealing::{FIRST_LINE, sealed_len};
@@ -60,6 +61,9 @@ pub fn recover<D: Device>(alloc: Global, device: &mut D, bytes: &[u8]) -> Result
     ensures found { IfOk result (λ found. IsRecovered (D.seen device.old) found.text.items) }
     ensures cut { IfOk result (λ found.
         All (λ b. b ≡ 0) (drop found.cut (drop (length found.text.items) (D.seen device.old)))) }
+    ensures least { IfOk result (λ found. 0 < found.cut
+        → IsSet (get_or (drop (length found.text.items) (D.seen device.old)) (found.cut - 1) 0)) }
+    ensures len { IfOk result (λ found. found.len ≡ STEP + length found.text.items) }
     ensures stands { IfOk result (λ found. Stands D.seen D.may_leave found.text.items found.len device.new) }
     ensures any_moment { LeavesOnly D.moment D.left_since device.old device.new
         (LeavesRecovered (D.seen device.old) (D.may_leave device.old)) }
@@ -85,7 +89,7 @@ pub fn recover<D: Device>(alloc: Global, device: &mut D, bytes: &[u8]) -> Result
 fn examine(alloc: Global, bytes: &[u8]) -> Result<usize, OpenError>
     ensures inside { IfOk result (λ count. count ≤ length bytes.now) }
     ensures sealed { IfOk result (λ count. HasSealed (text_of bytes.now) (take count bytes.now)) }
-    ensures whole { IfOk result (λ count. IsDamage (drop count bytes.now) → ⊥) }
+    ensures whole { IfOk result (λ count. IsDamage (decimal count) (drop count bytes.now) → ⊥) }
     ensures foreign { IsErrOf result OpenError.Foreign → IsFrontOf (text_of bytes.now) first_line → ⊥ }
     ensures version { IsErrOf result OpenError.Version → IsFrontOf (text_of bytes.now) first_line → ⊥ }
     ensures damaged { (count : ℕ) → IsErrOf result (OpenError.Damaged count) → HasDamage bytes.now count }
@@ -96,7 +100,8 @@ fn examine(alloc: Global, bytes: &[u8]) -> Result<usize, OpenError>
         return Err(other_kind(text));
     }
     let count = sealed_len(alloc, text)?;
-    if is_damaged(&bytes[count..]) {
+    let begin = format!(in alloc; "{count}")?;
+    if is_damaged(&bytes[count..], begin.as_bytes()) {
         return Err(OpenError::Damaged(count));
     }
     Ok(count)
@@ -123,6 +128,7 @@ fn make<D: Device>(
     requires text { IsText text.now }
     requires sealed { IsSealed text.now }
     ensures found { IfOk result (λ found. (found.text.items ≡ text.now) × (found.cut ≡ cut)) }
+    ensures len { IfOk result (λ found. found.len ≡ STEP + length text.now) }
     ensures stands { IfOk result (λ found. Stands D.seen D.may_leave found.text.items found.len device.new) }
     ensures any_moment { LeavesOnly D.moment D.left_since device.old device.new
         (λ c. D.may_leave device.old c ⊎ IsAtRest text.now c) }

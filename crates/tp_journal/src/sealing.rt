@@ -1,28 +1,39 @@
 //! The line that ends a text, and the longest front of a text that has its end.
-ghost use Rattle.std.specs.Prelude.{◌≡◌, ◌⊎◌, ◌+◌, ◌<◌, ◌≤◌, ◌^◌, ◌++◌, ℕ, List, drop, get_or, length, take};
-ghost use Rattle.std.specs.Prelude.{IfOk, OnOk, IsErrOf};
+ghost use Rattle.std.specs.Prelude.{◌≡◌, ◌⊎◌, ◌+◌, ◌<◌, ◌≤◌, ◌^◌, ◌++◌, ℕ, List, decimal, drop, get_or, length};
+ghost use Rattle.std.specs.Prelude.{IfOk, IsErrOf, OnOk, take};
 ghost use Rattle.tp_journal.specs.declared.batch.Refusal.{Refusal};
 ghost use Rattle.sha2.specs.Hashers.{Holds256};
-ghost use Rattle.tp_journal.specs.Text.{HasSealed, IsBatch, IsFrontOf, end_line, first_line, with_own_end};
+ghost use Rattle.tp_journal.specs.Text.{HasSealed, IsBatch, IsFrontOf, end_line, first_line, sealed_batch};
+ghost use Rattle.tp_journal.specs.Text.{with_batch};
+ghost use Rattle.tp_journal.specs.Reading.{IsEnd};
 
 use crate::AppendError;
 use crate::batch::check;
+use crate::ends::{end_at, first_words, last_words};
 use sha2::{Digest, Sha256};
 use std::alloc::{AllocError, Global};
 
 /// The first line of a journal.
-pub const FIRST_LINE: &[u8] = b"# covetrivet journal 2\n";
+pub const FIRST_LINE: &[u8] = b"# covetrivet journal 4\n";
 
-/// The line that ends a text of so many bytes, which the hasher has been given.
+/// The line that ends a text of so many bytes, which the hasher has been given. Its last batch begins behind
+/// so many.
 #[tactic(auto, unfolding(crate::specs::Text::end_line))]
-pub(crate) fn end_line(alloc: Global, hasher: &Sha256, count: usize) -> Result<Vec<u8>, AllocError>
+fn end_line(
+    alloc: Global,
+    hasher: &Sha256,
+    begin: usize,
+    count: usize,
+) -> Result<Vec<u8>, AllocError>
     ensures { (text : List ℕ) → Holds256 hasher.now text → length text ≡ count
-        → IfOk result (λ line. line.items ≡ end_line text) }
+        → IfOk result (λ line. line.items ≡ end_line (decimal begin) text) }
 {
-    let digest = hasher.clone()?.finalize();
-    let hex = hex::encode(alloc, &digest)?;
-    let line = format!(in alloc; "# {count} {hex}\u{17}\n")?;
-    Ok(line.into_bytes())
+    let mut line = first_words(alloc, count)?;
+    let begin = format!(in alloc; "{begin} ")?;
+    line.extend_from_slice(begin.as_bytes())?;
+    let last = last_words(alloc, hasher, &line)?;
+    line.extend_from_slice(&last)?;
+    Ok(line)
 }
 
 /// A hasher that was given these bytes.
@@ -52,9 +63,9 @@ pub(crate) fn seal(
     ensures accepted { OnOk result (IsBatch batch.now) }
     ensures refused { (why : Refusal) → IsErrOf result (AppendError.Refused why) → IsBatch batch.now → ⊥ }
     ensures bytes { (text : List ℕ) → Holds256 hasher.now text → length text ≡ end
-        → IfOk result (λ ready. ready.bytes.items ≡ batch.now ++ end_line (text ++ batch.now)) }
+        → IfOk result (λ ready. ready.bytes.items ≡ sealed_batch text batch.now) }
     ensures hasher { (text : List ℕ) → Holds256 hasher.now text → length text ≡ end
-        → IfOk result (λ ready. Holds256 ready.hasher (with_own_end (text ++ batch.now))) }
+        → IfOk result (λ ready. Holds256 ready.hasher (with_batch text batch.now)) }
     ensures not_failed { IsErrOf result AppendError.Failed → ⊥ }
     ensures not_poisoned { IsErrOf result AppendError.Poisoned → ⊥ }
     ensures not_full { IsErrOf result AppendError.Full → ⊥ }
@@ -64,7 +75,7 @@ pub(crate) fn seal(
     }
     let mut hasher = hasher.clone()?;
     hasher.update(batch);
-    let line = end_line(alloc, &hasher, end + batch.len())?;
+    let line = end_line(alloc, &hasher, end, end + batch.len())?;
     hasher.update(&line);
     let mut bytes = batch.to_vec(alloc)?;
     bytes.extend_from_slice(&line)?;
@@ -81,8 +92,7 @@ pub(crate) fn sealed_len(alloc: Global, text: &[u8]) -> Result<usize, AllocError
     let mut at = next_mark(text, FIRST_LINE.len());
     let mut hasher = hasher_of(&text[..at]);
     while at < text.len() {
-        let line = end_line(alloc, &hasher, at)?;
-        count = longer(text, count, at, &line);
+        count = longer(alloc, &hasher, text, at, count)?;
         let next = next_mark(text, at + 1);
         hasher.update(&text[at..next]);
         at = next;
@@ -104,19 +114,25 @@ fn next_mark(text: &[u8], from: usize) -> usize
     at
 }
 
-/// How long the longer front is: this many bytes, or up to the end of a line, if that stands at this place.
-fn longer(text: &[u8], count: usize, at: usize, line: &[u8]) -> usize
+/// How long the longer front is: this many bytes, or up to the end of a line that ends what is before this
+/// place, if that stands there.
+fn longer(
+    alloc: Global,
+    hasher: &Sha256,
+    text: &[u8],
+    at: usize,
+    count: usize,
+) -> Result<usize, AllocError>
     requires at { at ≤ length text.now }
     requires count { count ≤ length text.now }
-    ensures inside { result ≤ length text.now }
-    ensures no_less { count ≤ result }
-    ensures line { IsFrontOf (drop at text.now) line.now → at + length line.now ≤ result }
-    ensures which { (result ≡ count)
-        ⊎ ((result ≡ at + length line.now) × IsFrontOf (drop at text.now) line.now) }
+    requires hashed { Holds256 hasher.now (take at text.now) }
+    ensures inside { IfOk result (λ n. n ≤ length text.now) }
+    ensures no_less { IfOk result (λ n. count ≤ n) }
+    ensures which { IfOk result (λ n. (n ≡ count) ⊎ IsEnd text.now at n) }
+    ensures end { IfOk result (λ n. (m : ℕ) → IsEnd text.now at m → m ≤ n) }
 {
-    if text[at..].starts_with(line) {
-        count.max(at + line.len())
-    } else {
-        count
+    match end_at(alloc, hasher, text, at)? {
+        Some(end) => Ok(count.max(end)),
+        None => Ok(count),
     }
 }

@@ -1,7 +1,7 @@
-pub mod EventsLemmas
+pub mod DownsLemmas
 pub mod KeptLemmas
+pub mod LeadLemmas
 pub mod LinesLemmas
-pub mod NumbersLemmas
+pub mod LivesLemmas
 pub mod OwnLemmas
-pub mod ShortLemmas
-pub mod SureLemmas
+pub mod ProgramLemmas

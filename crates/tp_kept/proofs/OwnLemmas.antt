@@ -5,11 +5,11 @@ use Rattle.std.proofs.lemmas.Bool.{eqb-true}
 use Rattle.std.proofs.lemmas.Bool.Decides.{nat_tests}
 use Rattle.std.proofs.lemmas.Fmt.{decimal_by_steps}
 use Rattle.std.proofs.lemmas.List.{drop_at}
-use Rattle.std.proofs.lemmas.List.Elements.{All-append, All-cons, All-get_or, All-head, All-nil, All-tail}
+use Rattle.std.proofs.lemmas.List.Elements.{All-append, All-cons, All-get_or, All-head, All-nil, All-tail, All-weaker}
 use Rattle.hex.specs.Hex.{encode_with, lower_digits, encode_lower}
 use Rattle.sha2.specs.Sha256.{sha256}
-use Rattle.tp_journal.specs.Text.{IsBatch, IsPlain, IsSealed, end_line, first_line, with_own_end}
-use Rattle.tp_journal.proofs.Ends.{IsByte, sha_bytes}
+use Rattle.tp_journal.specs.Text.{IsBatch, IsDigit, IsPlain, IsSealed, end_first, end_line, end_words, first_line, with_batch}
+use Rattle.tp_journal.proofs.EndLines.{IsByte, begun, sha_bytes}
 use Rattle.tp_kept.specs.Kept.{lines_in}
 use Rattle.tp_kept.specs.Lines.{given_from, given_in, is_own}
 use Rattle.tp_kept.proofs.LinesLemmas.{given_line}
@@ -49,16 +49,23 @@ decimal_in = decimal_by_steps (λ n ds. All IsIn ds)
     (λ n lt. All-cons IsIn (48 + n) [] (digit_in n lt) (All-nil IsIn))
     (λ n ds le all. All-append IsIn ds ((48 + n % 10) ∷ []) all (All-cons IsIn (48 + n % 10) [] (digit_in (n % 10) (omega arith)) (All-nil IsIn)))
 
+number_in : (b : ℕ) → IsDigit b → IsIn b
+number_in b digit = grind (arith, nat_tests)
+
+space_in : All IsIn (32 ∷ [])
+space_in = each_in (32 ∷ []) (refl, tt)
+
 -- its only end of a line is the last byte, and the byte before that ends a batch
-pub own_line : (text : List ℕ) → length text < 2 ^ 64 → (front : List ℕ) × All IsIn (front ++ 23 ∷ []) × (end_line text ≡ (front ++ 23 ∷ []) ++ 10 ∷ [])
+pub own_line : (begin text : List ℕ) → All IsDigit begin → length text < 2 ^ 64 → (front : List ℕ) × All IsIn (front ++ 23 ∷ []) × (end_line begin text ≡ (front ++ 23 ∷ []) ++ 10 ∷ [])
 unfolding end_line
-own_line text short =
-    let words = decimal (length text) in
-    let hex = encode_lower (sha256 text) in
-    let spaced : All IsIn (words ++ 32 ∷ []) = All-append IsIn words (32 ∷ []) (decimal_in (length text) short) (each_in (32 ∷ []) (refl, tt)) in
-    let body : All IsIn (words ++ 32 ∷ [] ++ hex) = All-append IsIn (words ++ 32 ∷ []) hex spaced (hex_in (sha256 text) (sha_bytes text)) in
-    let front : List ℕ = 35 ∷ 32 ∷ (words ++ 32 ∷ [] ++ hex) in
-    (front, All-append IsIn front (23 ∷ []) (All-append IsIn (35 ∷ 32 ∷ []) (words ++ 32 ∷ [] ++ hex) (each_in (35 ∷ 32 ∷ []) (refl, (refl, tt))) body) (each_in (23 ∷ []) (refl, tt)), sym (append_assoc front (23 ∷ []) (10 ∷ [])))
+own_line begin text digits short =
+    let hex = encode_lower (sha256 (text ++ end_words begin text)) in
+    let number : All IsIn (35 ∷ 32 ∷ decimal (length text)) = All-append IsIn (35 ∷ 32 ∷ []) (decimal (length text)) (each_in (35 ∷ 32 ∷ []) (refl, (refl, tt))) (decimal_in (length text) short) in
+    let first : All IsIn (end_first (length text)) = All-append IsIn (35 ∷ 32 ∷ decimal (length text)) (32 ∷ []) number space_in in
+    let told : All IsIn (begin ++ 32 ∷ []) = All-append IsIn begin (32 ∷ []) (All-weaker IsDigit IsIn number_in begin digits) space_in in
+    let front : List ℕ = end_words begin text ++ hex in
+    let all : All IsIn front = All-append IsIn (end_words begin text) hex (All-append IsIn (end_first (length text)) (begin ++ 32 ∷ []) first told) (hex_in (sha256 (text ++ end_words begin text)) (sha_bytes (text ++ end_words begin text))) in
+    (front, All-append IsIn front (23 ∷ []) all (each_in (23 ∷ []) (refl, tt)), sym (append_assoc front (23 ∷ []) (10 ∷ []) ∙ append_assoc (end_words begin text) hex (23 ∷ 10 ∷ [])))
 
 own_there : (front : List ℕ) → is_own (front ++ 23 ∷ []) ≡ true
 own_there [] = refl
@@ -68,9 +75,9 @@ own_there (b ∷ bs) = rw (own_there bs) (or_true (b == 23))
     or_true true = refl
     or_true false = refl
 
-pub given_own_line : (text : List ℕ) → length text < 2 ^ 64 → given_in (end_line text) ≡ []
-given_own_line text short =
-    let line = own_line text short in
+pub given_own_line : (begin text : List ℕ) → All IsDigit begin → length text < 2 ^ 64 → given_in (end_line begin text) ≡ []
+given_own_line begin text digits short =
+    let line = own_line begin text digits short in
     ap given_in line.2 ∙ (given_line [] (line.0 ++ 23 ∷ []) [] line.1 ∙ ap (λ (b : Bool). (if b then [] else (line.0 ++ 23 ∷ []) ++ 10 ∷ []) ++ []) (own_there line.0))
 
 -- ---- batches
@@ -114,12 +121,12 @@ record Behind (text : List ℕ) : Type 0 where
 
 behind : (text : List ℕ) → length text < 2 ^ 64 → IsSealed text → Behind text
 behind text short (inl is) = record { rest = []; text_is = is ∙ sym (append-nil first_line); ends = inl refl }
-behind text short (inr (inner, front, is)) =
-    let less : length inner < 2 ^ 64 = omega (arith, short, ap length is, length-append inner (end_line inner)) in
-    let own = own_line inner less in
+behind text short (inr (begin, inner, digits, front, is)) =
+    let less : length inner < 2 ^ 64 = omega (arith, short, ap length is, length-append inner (end_line begin inner)) in
+    let own = own_line begin inner digits less in
     record {
-      rest = front.rest ++ end_line inner;
-      text_is = is ∙ (ap (λ l. l ++ end_line inner) front.whole ∙ append_assoc first_line front.rest (end_line inner));
+      rest = front.rest ++ end_line begin inner;
+      text_is = is ∙ (ap (λ l. l ++ end_line begin inner) front.whole ∙ append_assoc first_line front.rest (end_line begin inner));
       ends = inr (front.rest ++ (own.0 ++ 23 ∷ []), ap (λ l. front.rest ++ l) own.2 ∙ sym (append_assoc front.rest (own.0 ++ 23 ∷ []) (10 ∷ [])));
     }
 
@@ -136,13 +143,13 @@ given_batch batch is =
     ap given_in is.ends ∙ (given_plain [] is.front (All-nil IsPlain) (all_front is.front (10 ∷ []) (subst (All IsPlain) is.ends is.plain)) ∙ sym is.ends)
 
 -- a batch with its end adds its lines
-pub lines_with : (text batch : List ℕ) → IsSealed text → IsBatch batch → length (text ++ batch) < 2 ^ 64 → lines_in (with_own_end (text ++ batch)) ≡ lines_in text ++ batch
+pub lines_with : (text batch : List ℕ) → IsSealed text → IsBatch batch → length (text ++ batch) < 2 ^ 64 → lines_in (with_batch text batch) ≡ lines_in text ++ batch
 lines_with text batch is_sealed is short =
     let at = behind text (omega (arith, short, length-append text batch)) is_sealed in
-    let own : List ℕ = end_line (text ++ batch) in
-    let whole : with_own_end (text ++ batch) ≡ first_line ++ (at.rest ++ (batch ++ own)) =
+    let own : List ℕ = end_line (decimal (length text)) (text ++ batch) in
+    let whole : with_batch text batch ≡ first_line ++ (at.rest ++ (batch ++ own)) =
     append_assoc text batch own ∙ (ap (λ l. l ++ (batch ++ own)) at.text_is ∙ append_assoc first_line at.rest (batch ++ own)) in
     let here : drop (length first_line) text ≡ at.rest = ap (drop (length first_line)) at.text_is ∙ drop_at first_line at.rest (length first_line) refl in
     let added : given_in (batch ++ own) ≡ batch =
-    given_rest batch own (inr (is.front, is.ends)) ∙ (ap (λ l. given_in batch ++ l) (given_own_line (text ++ batch) short) ∙ (append-nil (given_in batch) ∙ given_batch batch is)) in
+    given_rest batch own (inr (is.front, is.ends)) ∙ (ap (λ l. given_in batch ++ l) (given_own_line (decimal (length text)) (text ++ batch) (begun text batch short) short) ∙ (append-nil (given_in batch) ∙ given_batch batch is)) in
     ap (λ l. given_in (drop (length first_line) l)) whole ∙ (ap given_in (drop_at first_line (at.rest ++ (batch ++ own)) (length first_line) refl) ∙ (given_rest at.rest (batch ++ own) at.ends ∙ (ap (λ l. given_in at.rest ++ l) added ∙ ap (λ l. given_in l ++ batch) (sym here))))

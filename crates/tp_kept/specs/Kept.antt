@@ -1,30 +1,68 @@
 -- How a kept session stands to its journal.
-use Rattle.std.specs.Prelude.{◌≡◌, ◌⊎◌, ℕ, Bool, List, ◌++◌, Option, Some, drop, false, length}
+use Rattle.std.specs.Prelude.{◌≡◌, ◌==◌, ℕ, All, List, [], ◌++◌, Option, None, codes, decimal, drop, false, length}
+use Rattle.std.specs.Prelude.{if◌then◌else◌}
 use Rattle.std.specs.Option.{option_map}
-use Rattle.tp_journal.specs.Journal.{IsJournalOpen}
+use Rattle.tp_journal.specs.Journal.{IsJournalSettled}
 use Rattle.tp_journal.specs.Text.{IsRecovered, first_line, text_of}
 use Rattle.tp_journal.specs.declared.journal.Journal.{Journal}
-use Rattle.tp_kept.specs.Lines.{downs, given_in}
+use Rattle.tp_journal.specs.declared.device.Device as devices
+use Rattle.tp_script.specs.Fault.{◌<>◌}
+use Rattle.tp_session.specs.Conversed.{step_of}
+use Rattle.tp_kept.specs.Lines.{IsTheirs, IsWhole, downs, given_in}
+use Rattle.tp_kept.specs.Lives.{Life, StandsFor, answers_of, goes_on}
+use Rattle.tp_kept.specs.declared.kept.Kept.{Kept}
 
 -- the lines of a journal's text
 abbrev pub lines_in : List ℕ → List ℕ
 lines_in text = given_in (drop (length first_line) text)
 
--- Whatever a crash leaves of a file, what is recovered of it has these lines, and perhaps some more; or it is
--- what was tried to put in their place.
-abbrev pub KeepsLines : (List ℕ → Type 0) → Option (List ℕ) → List ℕ → Type 0
-KeepsLines may_leave tried lines = (file recovered : List ℕ) → may_leave file → IsRecovered file recovered
-    → ((more : List ℕ) × (lines_in recovered ≡ lines ++ more)) ⊎ (tried ≡ Some (lines_in recovered))
+-- Whatever a crash leaves of a file, what is recovered of it stands for this life, or for one that some more
+-- lines have led to, which were put down and not answered.
+abbrev pub KeepsLife : (List ℕ → Type 0) → Life → Type 0
+KeepsLife may_leave l = (file recovered : List ℕ) → may_leave file → IsRecovered file recovered
+    → (more : List ℕ) × IsWhole more × StandsFor (lines_in recovered) (goes_on more l)
 
--- The journal has these lines, on the disk; after a fault it has them too, and perhaps some of the next, or
--- what was tried to put in their place.
+-- the journal stands for this life, and all of it is on the disk
 pub record IsKept {D : Type 0} (seen : D → List ℕ) (may_leave : D → List ℕ → Type 0) (journal : Journal D)
-    (failed : Bool) (tried : Option (List ℕ)) (lines : List ℕ) : Type 0 where
-  pub is_open : IsJournalOpen seen may_leave journal
-  pub keeps : KeepsLines (may_leave journal.device) tried lines
-  pub fine : failed ≡ false → (journal.poisoned ≡ false) × (lines_in (text_of (seen journal.device)) ≡ lines)
+    (l : Life) : Type 0 where
+  pub settled : IsJournalSettled seen may_leave journal
+  pub fine : journal.poisoned ≡ false
+  pub stands : StandsFor (lines_in (text_of (seen journal.device))) l
+  pub keeps : KeepsLife (may_leave journal.device) l
 
--- the bytes that are to come: lines that are ready, and then what a reader has as it is put down behind a
--- line
-abbrev pub coming : List ℕ → List ℕ → Option (List ℕ) → Option (List ℕ)
-coming ready line rest = option_map (λ more. ready ++ downs line more) rest
+-- the life of a kept session
+abbrev pub life : {D : Type 0} {keeps : devices.Ghosts D} → Kept D keeps → Life
+life k = record { lines = k.counted; session = k.session }
+
+-- What holds of a kept session between two calls, unless something has failed: all that was answered is in
+-- the journal, on the disk.
+pub record IsReady {D : Type 0} {keeps : devices.Ghosts D}
+    (seen : D → List ℕ) (may_leave : D → List ℕ → Type 0) (k : Kept D keeps) : Type 0 where
+  pub theirs : All IsTheirs k.line.items
+  pub kept : k.cause ≡ None → IsKept seen may_leave k.journal (life k)
+
+-- These bytes were taken, behind what was there of a line: lines have ended, which have led from one life to
+-- the next; this they were answered.
+pub record Takes (bytes text : List ℕ) {D : Type 0} {keeps : devices.Ghosts D}
+    (old new : Kept D keeps) : Type 0 where
+  pub added : List ℕ
+  pub whole : IsWhole added
+  pub follows : (more : List ℕ) → downs old.line.items (bytes ++ more) ≡ added ++ downs new.line.items more
+  pub leads : life new ≡ goes_on added (life old)
+  pub answers : text ≡ (step_of old.counted added old.session).0
+
+-- the bytes that are to come: what a reader has, as it is put down behind a line
+abbrev pub coming : List ℕ → Option (List ℕ) → Option (List ℕ)
+coming line rest = option_map (λ more. downs line more) rest
+
+-- how many bytes were cut off behind them, if any were
+abbrev pub cut_text : ℕ → List ℕ
+cut_text cut = if cut == 0 then [] else codes " cut " <> decimal cut
+
+-- the first answer: how many lines the journal stands for
+abbrev pub recovered_text : ℕ → ℕ → List ℕ
+recovered_text cut lines = codes "recovered " <> decimal lines <> cut_text cut <> codes "\n"
+
+-- all that is written to these bytes
+abbrev pub written_to : ℕ → List ℕ → Life → List ℕ
+written_to cut bytes l = recovered_text cut l.lines ++ answers_of bytes l

@@ -1,12 +1,9 @@
--- What the lines are that take the place of others.
-use Rattle.std.specs.Prelude.{◌≡◌, ◌<◌, ◌^◌, ℕ, All, List, flat_map, length}
-use Rattle.tp_report.specs.Answer.{line}
-use Rattle.tp_session.specs.Dump.{dump_text}
-use Rattle.tp_session.specs.Heard.{IsInLine}
-use Rattle.tp_kept.specs.Short.{unquoted}
+-- What holds of all that is put down.
+use Rattle.std.specs.Prelude.{◌≡◌, ℕ, List, []}
+use Rattle.tp_kept.specs.Lines.{downs}
+use Rattle.tp_kept.specs.Lives.{Life, answers_of}
 
--- Of what a dump of these lines is told, these lines are left, each with its end.
-abbrev pub UnquotesDumps : Type 0
-UnquotesDumps =
-    (lines : List (List ℕ)) → length lines < 2 ^ 64 → All IsInLine lines
-    → unquoted (dump_text lines) ≡ flat_map line lines
+-- Bytes are answered as they were sent: that a journal has other bytes for some, and no more of a long line than
+-- tells so, changes no answer.
+abbrev pub AnswersAsSent : Type 0
+AnswersAsSent = (bytes : List ℕ) (l : Life) → answers_of (downs [] bytes) l ≡ answers_of bytes l

@@ -1,7 +1,5 @@
-pub mod Events
 pub mod Kept
 pub mod Laws
 pub mod Lines
+pub mod Lives
 pub mod Numbers
-pub mod Ready
-pub mod Short

@@ -1,45 +1,32 @@
 -- Lines as they are put down in a journal, and as they are taken out of it.
-use Rattle.std.specs.Prelude.{◌≡◌, ◌⊎◌, ℕ, Bool, true, false, All, List, [], ◌∷◌, ◌++◌, if◌then◌else◌}
-use Rattle.std.specs.Prelude.{◌==◌, ◌&&◌, nat_lt, length, codes}
-use Rattle.std.specs.List.{list_any, starts_with}
-use Rattle.tp_journal.specs.Text.{IsPlain, is_reserved}
-use Rattle.tp_session.specs.declared.reading.TheConstants.{MAX_KEPT}
+use Rattle.std.specs.Prelude.{◌≡◌, ◌⊎◌, ◌||◌, ℕ, Bool, true, false, All, List, [], ◌∷◌, ◌++◌, if◌then◌else◌}
+use Rattle.std.specs.Prelude.{◌==◌, nat_lt, length}
+use Rattle.std.specs.List.{list_any}
+use Rattle.tp_journal.specs.Text.{is_reserved}
+use Rattle.tp_wire.specs.declared.reading.TheConstants.{MAX_KEPT}
 
--- a byte as it is put down: for one that a journal doesn't take, 1
+-- a byte that marks the line in front of a dump
+abbrev pub is_mark : ℕ → Bool
+is_mark b = b == 2
+
+-- a byte that no line of a client has in a journal
+abbrev pub is_ours : ℕ → Bool
+is_ours b = is_reserved b || is_mark b
+
+abbrev pub IsTheirs : ℕ → Type 0
+IsTheirs b = is_ours b ≡ false
+
+-- a byte as it is put down: for one of ours, 1, which no line may have either
 abbrev pub put_down : ℕ → ℕ
-put_down b = if is_reserved b then 1 else b
+put_down b = if is_ours b then 1 else b
 
 -- a byte more of a line as it is put down, of which no more is kept than tells that it is too long
 abbrev pub longer : List ℕ → ℕ → List ℕ
 longer line b = if nat_lt (length line) MAX_KEPT then line ++ put_down b ∷ [] else line
 
--- one list begins with another
-abbrev pub begins : List ℕ → List ℕ → Bool
-begins [] bs = true
-begins (x ∷ xs) [] = false
-begins (x ∷ xs) (b ∷ bs) = (x == b) && begins xs bs
-
--- so do bytes, as the code tests it
-abbrev pub opens : List ℕ → List ℕ → Bool
-opens p bytes = starts_with (λ a b. a == b) bytes p
-
--- a line `dump` of the session's own, which stands before each line that may ask for a rollover
-abbrev pub own_dump : List ℕ
-own_dump = codes "dump\n"
-
--- what stands before a line
-abbrev pub text_before : List ℕ → List ℕ
-text_before line = if opens (codes "rollover") line then own_dump else []
-
--- a line that would be taken for one that says how many lines a journal had has another text: both are
--- comments
-abbrev pub plain_line : List ℕ → List ℕ
-plain_line line =
-    if opens (codes "# covetrivet: ") line && nat_lt (length line) MAX_KEPT then codes "#" else line
-
--- a line as it is put down, with its end
+-- a line with its end
 abbrev pub shut : List ℕ → List ℕ
-shut line = text_before line ++ plain_line line ++ 10 ∷ []
+shut line = line ++ 10 ∷ []
 
 -- a last line has an end too
 abbrev pub ended : List ℕ → List ℕ
@@ -64,9 +51,13 @@ given_from line (b ∷ bs) = if b == 10 then (if is_own line then [] else line +
 abbrev pub given_in : List ℕ → List ℕ
 given_in text = given_from [] text
 
--- lines with neither a byte 0 nor 23, each with its end
+-- whole lines: none, or the last one has its end
+abbrev pub IsWhole : List ℕ → Type 0
+IsWhole lines = (lines ≡ []) ⊎ ((front : List ℕ) × (lines ≡ front ++ 10 ∷ []))
+
+-- whole lines of a client
 abbrev pub AreWholeLines : List ℕ → Type 0
-AreWholeLines lines = All IsPlain lines × ((lines ≡ []) ⊎ ((front : List ℕ) × (lines ≡ front ++ 10 ∷ [])))
+AreWholeLines lines = All IsTheirs lines × IsWhole lines
 
 -- The bytes were taken, behind what was there of a line: these lines have ended, and what follows is put down
 -- as it would be behind them all.

@@ -1,8 +1,5 @@
--- The numbers of lines in answers, as a client has them.
-use Rattle.std.specs.Prelude.{ℕ, Bool, true, false, List, [], ◌∷◌, ◌++◌, ◌+◌, ◌-◌, ◌*◌, ◌^◌, codes}
-use Rattle.std.specs.Prelude.{decimal, drop, length, min, if◌then◌else◌}
-use Rattle.std.specs.Prelude.{◌==◌, ◌&&◌, nat_le}
-use Rattle.tp_kept.specs.Lines.{opens}
+-- Numbers in the line in front of a dump.
+use Rattle.std.specs.Prelude.{ℕ, Bool, List, [], ◌∷◌, ◌+◌, ◌-◌, ◌*◌, ◌^◌, min, if◌then◌else◌, ◌&&◌, nat_le}
 
 -- no more than fits
 abbrev pub most : ℕ → ℕ
@@ -20,33 +17,3 @@ number_from n (b ∷ bs) = if is_digit b then number_from (most (most (n * 10) +
 abbrev pub behind_number : List ℕ → List ℕ
 behind_number [] = []
 behind_number (b ∷ bs) = if is_digit b then behind_number bs else b ∷ bs
-
-abbrev pub refused : List ℕ
-refused = codes "refused line "
-
--- so many lines more, and so many less
-abbrev pub count_moved : ℕ → ℕ → ℕ → ℕ
-count_moved more less n = most (n + more) - less
-
--- an answer
-abbrev pub renumbered_line : ℕ → ℕ → List ℕ → List ℕ
-renumbered_line more less line =
-    if opens refused line then
-    refused ++ decimal (count_moved more less (number_from 0 (drop (length refused) line)))
-    ++ behind_number (drop (length refused) line)
-    else line
-
--- answers, each with its end, behind what is there of one
-abbrev pub renumbered_from : ℕ → ℕ → List ℕ → List ℕ → List ℕ
-renumbered_from more less line [] = []
-renumbered_from more less line (b ∷ bs) =
-    if b == 10 then (renumbered_line more less line ++ 10 ∷ []) ++ renumbered_from more less [] bs
-    else renumbered_from more less (line ++ b ∷ []) bs
-
-abbrev pub renumbered : ℕ → ℕ → List ℕ → List ℕ
-renumbered more less answers = renumbered_from more less [] answers
-
--- what of answers is written: nothing where they were told before, and else they with a client's numbers
-abbrev pub shown_of : Bool → ℕ → ℕ → List ℕ → List ℕ
-shown_of true more less answers = []
-shown_of false more less answers = if more == less then answers else renumbered more less answers

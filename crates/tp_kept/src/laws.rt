@@ -1,8 +1,7 @@
-//! What the lines are that take the place of others. These functions do nothing: their contracts are the
-//! laws.
-ghost use Rattle.tp_kept.specs.Laws.{UnquotesDumps};
+//! The law of what is put down. The function does nothing: its contract is the law.
+ghost use Rattle.tp_kept.specs.Laws.{AnswersAsSent};
 
-/// Of what a dump is told, the lines of the dump are left.
-pub fn unquoted_dump()
-    ensures { UnquotesDumps }
+/// With a journal a session answers what it is sent exactly as one without that stands where it does.
+pub fn answers_as_sent()
+    ensures { AnswersAsSent }
 {}

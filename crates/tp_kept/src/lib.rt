@@ -2,22 +2,17 @@
 #![tactic(auto)]
 
 mod cause;
-mod counting;
-mod events;
-mod filling;
 mod kept;
 mod laws;
+mod leading;
 mod lines;
-mod numbering;
+mod numbers;
 mod program;
-mod short;
 mod shortening;
-mod stage;
-mod sure;
-mod wire;
-mod writing;
+mod taking;
 
 pub use cause::Cause;
 pub use kept::Kept;
-pub use laws::unquoted_dump;
-pub use program::{keep_session, keep_to_end};
+pub use laws::answers_as_sent;
+pub use leading::Unled;
+pub use program::{Ended, keep, keep_session, keep_to_end};

@@ -1,65 +1,36 @@
 //! Lines as they are put down in a journal, and as they are taken out of it.
 ghost use Rattle.std.specs.Prelude.{◌≡◌, ◌==◌, ◌≤◌, ◌∷◌, ◌++◌, [], All, OnOk, IfOk, position, vec_len};
-ghost use Rattle.std.specs.Prelude.{codes, length, nat_lt, ◌&&◌};
-ghost use Rattle.tp_journal.specs.Text.{IsPlain};
-ghost use Rattle.tp_kept.specs.Lines.{Puts, given_in, is_own, opens, plain_line, put_down, shut};
-ghost use Rattle.tp_session.specs.declared.reading.TheConstants.{MAX_KEPT};
+ghost use Rattle.tp_kept.specs.Lines.{IsTheirs, Puts, given_in, is_own, put_down, shut};
+ghost use Rattle.tp_wire.specs.declared.reading.TheConstants.{MAX_KEPT};
 
 use std::alloc::{AllocError, Global};
-use tp_session::MAX_KEPT;
+use tp_wire::MAX_KEPT;
 
 /// The byte that ends a batch of a journal: a line that has it is the journal's own.
 const END: u8 = 23;
 
-/// What stands for a byte that a journal doesn't take.
+/// The byte that marks the line in front of a dump.
+pub(crate) const MARK: u8 = 2;
+
+/// What stands for a byte that no line of a client has in a journal.
 const STANDS_FOR: u8 = 1;
 
 /// A byte of a line as it is put down.
 fn put_down(byte: u8) -> u8
     ensures { result ≡ put_down byte }
 {
-    if byte == 0 || byte == END {
+    if byte == 0 || byte == END || byte == MARK {
         STANDS_FOR
     } else {
         byte
     }
 }
 
-/// A line `dump` of the session's own.
-pub(crate) const OWN_DUMP: &[u8] = b"dump\n";
-
-/// How a line begins that asks for a rollover. (A longer word is a faulty line: no harm is done.)
-pub(crate) const ROLLOVER: &[u8] = b"rollover";
-
-/// How the line of a journal begins that says for how many lines those behind it stand.
-pub(crate) const COUNTED: &[u8] = b"# covetrivet: ";
-
-/// Whether a line would be taken for one that says for how many lines others stand.
-fn is_counted(line: &[u8]) -> bool
-    ensures { result ≡ (opens (codes "# covetrivet: ") line.now && nat_lt (length line.now) MAX_KEPT) }
-{
-    line.starts_with(COUNTED) && line.len() < MAX_KEPT
-}
-
-/// A line's text as it is put down.
-fn plain_line(line: &[u8]) -> &[u8]
-    ensures { result.now ≡ plain_line line.now }
-{
-    if is_counted(line) {
-        return b"#";
-    }
-    line
-}
-
-/// Puts a line down, with its end, and before one that may ask for a rollover a line `dump`: its answer is
-/// what makes the journal short.
+/// Puts a line down, with its end.
 fn shut(line: &[u8], ready: &mut Vec<u8>) -> Result<(), AllocError>
     ensures { OnOk result (ready.new.items ≡ ready.old.items ++ shut line.now) }
 {
-    if line.starts_with(ROLLOVER) {
-        ready.extend_from_slice(OWN_DUMP)?;
-    }
-    ready.extend_from_slice(plain_line(line))?;
+    ready.extend_from_slice(line)?;
     ready.push(b'\n')?;
     Ok(())
 }
@@ -67,9 +38,9 @@ fn shut(line: &[u8], ready: &mut Vec<u8>) -> Result<(), AllocError>
 /// Takes a byte, behind what is there of a line.
 fn put_byte(line: &mut Vec<u8>, byte: u8, ready: &mut Vec<u8>) -> Result<(), AllocError>
     requires short { vec_len line.old ≤ MAX_KEPT }
-    requires plain { All IsPlain line.old.items }
+    requires plain { All IsTheirs line.old.items }
     ensures short { vec_len line.new ≤ MAX_KEPT }
-    ensures plain { All IsPlain line.new.items }
+    ensures plain { All IsTheirs line.new.items }
     ensures put { OnOk result
         (Puts (byte ∷ []) line.old.items ready.old.items line.new.items ready.new.items) }
 {
@@ -84,9 +55,9 @@ fn put_byte(line: &mut Vec<u8>, byte: u8, ready: &mut Vec<u8>) -> Result<(), All
 
 /// Takes what is there of a line as a whole one.
 pub(crate) fn end(line: &mut Vec<u8>, ready: &mut Vec<u8>) -> Result<(), AllocError>
-    requires plain { All IsPlain line.old.items }
+    requires plain { All IsTheirs line.old.items }
     ensures short { vec_len line.new ≤ vec_len line.old }
-    ensures plain { All IsPlain line.new.items }
+    ensures plain { All IsTheirs line.new.items }
     ensures ended { OnOk result ((ready.new.items ≡ ready.old.items ++ shut line.old.items)
         × (line.new.items ≡ [])) }
 {
@@ -98,9 +69,9 @@ pub(crate) fn end(line: &mut Vec<u8>, ready: &mut Vec<u8>) -> Result<(), AllocEr
 /// Takes bytes, behind what is there of a line: those lines that have ended, and what is there of the next.
 pub(crate) fn put(line: &mut Vec<u8>, bytes: &[u8], ready: &mut Vec<u8>) -> Result<(), AllocError>
     requires short { vec_len line.old ≤ MAX_KEPT }
-    requires plain { All IsPlain line.old.items }
+    requires plain { All IsTheirs line.old.items }
     ensures short { vec_len line.new ≤ MAX_KEPT }
-    ensures plain { All IsPlain line.new.items }
+    ensures plain { All IsTheirs line.new.items }
     ensures put { OnOk result (Puts bytes.now line.old.items ready.old.items line.new.items ready.new.items) }
 {
     for byte in bytes {

@@ -1,243 +1,89 @@
-//! A journal is made short: the lines of a dump take the place of those up to the rollover behind it.
-ghost use Rattle.std.specs.Prelude.{◌≡◌, ◌⊎◌, ◌++◌, [], None, IfOk, OnErr, OnOk, codes, drop, false, true};
-ghost use Rattle.tp_kept.specs.Lines.{opens};
+//! A journal is made short: the session's own dump takes the place of its lines.
+ghost use Rattle.std.specs.Prelude.{◌≡◌, ◌++◌, IfOk, None, OnErr, OnOk, string_bytes, true};
 ghost use Rattle.std.specs.Option.{is_some};
-ghost use Rattle.std.specs.Io.KnownBytes.{Appends};
-ghost use Rattle.tp_report.specs.Written.{AppendsFront};
-ghost use Rattle.tp_kept.specs.Events.{contents_of, lacks_memory, told, bytes_written};
-ghost use Rattle.tp_kept.specs.Kept.{coming};
-ghost use Rattle.tp_kept.specs.Numbers.{renumbered, shown_of};
-ghost use Rattle.tp_kept.specs.Ready.{IsReady};
-ghost use Rattle.tp_kept.specs.declared.stage.Stage.TheVariants as Stage;
+ghost use Rattle.tp_kept.specs.Kept.{IsReady, KeepsLife, life};
+ghost use Rattle.tp_kept.specs.Lives.{short};
+ghost use Rattle.tp_session.specs.Session.{has_begun};
 
 use crate::cause::Cause;
-use crate::counting::count;
-use crate::events::{MUTED, NUMBERED, RESUMED, ROLLED, SHORTENED, SHOWN, TAKEN, TRIED};
 use crate::kept::Kept;
-use crate::numbering::numbered;
-use crate::short::{is_dumped, is_rolled, short};
-use crate::stage::Stage;
-use crate::writing::write_noted;
+use crate::numbers::marking;
 use std::alloc::{AllocError, Global};
+use std::string::String;
 use tp_journal::{AppendError, Device};
-use tp_report::Sink;
-use tp_script::{Failed, Source};
+use tp_session::Session;
 
-/// These, and behind them those.
-fn joined(alloc: Global, lines: &[u8], ready: &[u8]) -> Result<Vec<u8>, AllocError>
-    ensures { IfOk result (λ v. v.items ≡ lines.now ++ ready.now) }
+/// How many bytes of lines a journal may have behind a small dump before it is made short.
+pub(crate) const LEAST_ROOM: usize = 1_048_576;
+
+/// A session in as many lines as it takes, which stand for so many of clients.
+fn short(alloc: Global, session: &Session, counted: u64) -> Result<String, AllocError>
+    ensures { IfOk result (λ text. string_bytes text
+        ≡ short (record { lines = counted; session = session.now })) }
 {
-    let mut text = lines.to_vec(alloc)?;
-    text.extend_from_slice(ready)?;
+    let dump = session.dumped(alloc)?;
+    let mut text = marking(alloc, dump.lines, counted)?;
+    text.push_str(dump.text.as_str())?;
     Ok(text)
 }
 
-impl<R: Source + Drop, W: Sink + Drop, D: Device + Drop> Kept<R, W, D> {
-    /// Takes what a `dump` of the session's own is told.
-    pub(crate) fn take(&mut self, answers: &[u8]) -> Result<(), Failed>
+impl<D: Device + Drop> Kept<D> {
+    /// Makes the journal short where its lines behind the last dump are longer than that and than a
+    /// mebibyte: the dump of the session takes their place. Answers nothing, and changes nothing of the
+    /// session. Where memory for it can't be had the journal stays as it is.
+    pub fn shorten(&mut self) -> Result<(), Cause>
         requires ready { IsReady D.seen D.may_leave self.old }
-        requires own { self.old.stage ≡ Stage.Dump }
-        requires sure { lacks_memory answers.now ≡ false }
-        ensures is_ready { IsReady D.seen D.may_leave self.new }
-        ensures told { OnOk result (Appends (contents_of self.old.log.events (W.contents self.old.writer))
-            (contents_of self.new.log.events (W.contents self.new.writer)) answers.now) }
-        ensures front { OnErr result
-            (AppendsFront (contents_of self.old.log.events (W.contents self.old.writer))
-            (contents_of self.new.log.events (W.contents self.new.writer)) answers.now) }
-        ensures rest { coming (drop self.new.at self.new.ready.items) self.new.line.items
-            (R.rest self.new.reader)
-            ≡ coming (drop self.old.at self.old.ready.items) self.old.line.items (R.rest self.old.reader) }
-        ensures asked { self.new.asked ≡ self.old.asked }
-        ensures cause { OnErr result (is_some self.new.cause ≡ true) }
-    {
-        if self.dump.extend_from_slice(answers).is_err() {
-            self.cause = Some(Cause::NoMemory);
-            return Err(Failed);
-        }
-        self.log.note(&[TAKEN, 0, 1], answers);
-        Ok(())
-    }
-
-    /// Looks whether the dump at the front of the journal was restored. Where it wasn't, nothing of it is
-    /// lost silently: the session ends.
-    pub(crate) fn expect_restored(&mut self, answers: &[u8]) -> Result<(), Failed>
-        requires ready { IsReady D.seen D.may_leave self.old }
-        requires fine { self.old.cause ≡ None }
-        ensures is_ready { IsReady D.seen D.may_leave self.new }
-        ensures contents { contents_of self.new.log.events (W.contents self.new.writer)
-            ≡ contents_of self.old.log.events (W.contents self.old.writer) }
-        ensures rest { coming (drop self.new.at self.new.ready.items) self.new.line.items
-            (R.rest self.new.reader)
-            ≡ coming (drop self.old.at self.old.ready.items) self.old.line.items (R.rest self.old.reader) }
-        ensures asked { self.new.asked ≡ self.old.asked }
+        ensures ready { IsReady D.seen D.may_leave self.new }
+        ensures same { (life self.new ≡ life self.old) × (self.new.line ≡ self.old.line) }
         ensures fine { OnOk result (self.new.cause ≡ None) }
+        ensures keeps { self.old.cause ≡ None
+            → KeepsLife (D.may_leave self.new.journal.device) (life self.old) }
         ensures cause { OnErr result (is_some self.new.cause ≡ true) }
-        ensures restored { OnOk result (self.old.restoring ≡ true
-            → (answers.now ≡ []) ⊎ (opens (codes "restored ") answers.now ≡ true)) }
     {
-        if !self.restoring || answers.is_empty() {
+        if let Some(cause) = self.cause {
+            return Err(cause);
+        }
+        if self.behind <= self.room || !self.session.has_begun() {
             return Ok(());
         }
-        if !answers.starts_with(b"restored ") {
-            self.cause = Some(Cause::Unrestored);
-            return Err(Failed);
-        }
-        self.restoring = false;
-        Ok(())
-    }
-
-    /// Looks whether a rollover has succeeded behind it.
-    pub(crate) fn look(&mut self, answers: &[u8])
-        requires ready { IsReady D.seen D.may_leave self.old }
-        ensures is_ready { IsReady D.seen D.may_leave self.new }
-        ensures contents { contents_of self.new.log.events (W.contents self.new.writer)
-            ≡ contents_of self.old.log.events (W.contents self.old.writer) }
-        ensures rest { coming (drop self.new.at self.new.ready.items) self.new.line.items
-            (R.rest self.new.reader)
-            ≡ coming (drop self.old.at self.old.ready.items) self.old.line.items (R.rest self.old.reader) }
-        ensures asked { self.new.asked ≡ self.old.asked }
-        ensures cause { self.new.cause ≡ self.old.cause }
-    {
-        if self.stage == Stage::Rollover && is_rolled(answers) && is_dumped(&self.dump) {
-            self.log.note(&[ROLLED, 0, 1], answers);
-            self.due = true;
-        }
-    }
-
-    /// Writes answers with the numbers that the client's lines have.
-    fn say_numbered(&mut self, answers: &[u8]) -> Result<(), Failed>
-        requires ready { IsReady D.seen D.may_leave self.old }
-        requires fine { self.old.cause ≡ None }
-        requires resumed { self.old.recovering ≡ false }
-        requires sure { lacks_memory answers.now ≡ false }
-        ensures is_ready { IsReady D.seen D.may_leave self.new }
-        ensures told { OnOk result (Appends (contents_of self.old.log.events (W.contents self.old.writer))
-            (contents_of self.new.log.events (W.contents self.new.writer)) answers.now) }
-        ensures front { OnErr result
-            (AppendsFront (contents_of self.old.log.events (W.contents self.old.writer))
-            (contents_of self.new.log.events (W.contents self.new.writer)) answers.now) }
-        ensures rest { coming (drop self.new.at self.new.ready.items) self.new.line.items
-            (R.rest self.new.reader)
-            ≡ coming (drop self.old.at self.old.ready.items) self.old.line.items (R.rest self.old.reader) }
-        ensures asked { self.new.asked ≡ self.old.asked }
-        ensures written { OnOk result (bytes_written self.new.log.events
-            ≡ bytes_written self.old.log.events ++ renumbered self.old.more self.old.less answers.now) }
-        ensures cause { OnErr result (is_some self.new.cause ≡ true) }
-    {
-        let Ok(text) = numbered(self.alloc, answers, self.more, self.less) else {
-            self.cause = Some(Cause::NoMemory);
-            return Err(Failed);
-        };
-        self.log.note(&[NUMBERED, 0, 1], answers);
-        match write_noted(&mut self.writer, &mut self.log, RESUMED, &text) {
-            Ok(()) => Ok(()),
-            Err(Failed) => {
-                self.cause = Some(Cause::Write);
-                Err(Failed)
-            }
-        }
-    }
-
-    /// Writes answers, unless they were told before.
-    pub(crate) fn say(&mut self, answers: &[u8]) -> Result<(), Failed>
-        requires ready { IsReady D.seen D.may_leave self.old }
-        requires fine { self.old.cause ≡ None }
-        requires sure { lacks_memory answers.now ≡ false }
-        ensures is_ready { IsReady D.seen D.may_leave self.new }
-        ensures told { OnOk result (Appends (contents_of self.old.log.events (W.contents self.old.writer))
-            (contents_of self.new.log.events (W.contents self.new.writer)) answers.now) }
-        ensures front { OnErr result
-            (AppendsFront (contents_of self.old.log.events (W.contents self.old.writer))
-            (contents_of self.new.log.events (W.contents self.new.writer)) answers.now) }
-        ensures rest { coming (drop self.new.at self.new.ready.items) self.new.line.items
-            (R.rest self.new.reader)
-            ≡ coming (drop self.old.at self.old.ready.items) self.old.line.items (R.rest self.old.reader) }
-        ensures asked { self.new.asked ≡ self.old.asked }
-        ensures written { OnOk result (bytes_written self.new.log.events
-            ≡ bytes_written self.old.log.events ++ shown_of self.old.recovering self.old.more self.old.less
-            answers.now) }
-        ensures cause { OnErr result (is_some self.new.cause ≡ true) }
-    {
-        if self.recovering {
-            self.log.note(&[MUTED, 0, 1], answers);
-            return Ok(());
-        }
-        if self.more != self.less {
-            return self.say_numbered(answers);
-        }
-        match write_noted(&mut self.writer, &mut self.log, SHOWN, answers) {
-            Ok(()) => Ok(()),
-            Err(Failed) => {
-                self.cause = Some(Cause::Write);
-                Err(Failed)
-            }
-        }
-    }
-
-    /// Has the lines of the dump take the place of those that the session was given, where a rollover has
-    /// succeeded behind it. A crash leaves the old text or the new one.
-    pub(crate) fn shorten(&mut self) -> Result<(), Failed>
-        requires ready { IsReady D.seen D.may_leave self.old }
-        requires fine { self.old.cause ≡ None }
-        ensures is_ready { IsReady D.seen D.may_leave self.new }
-        ensures contents { contents_of self.new.log.events (W.contents self.new.writer)
-            ≡ contents_of self.old.log.events (W.contents self.old.writer) }
-        ensures rest { coming (drop self.new.at self.new.ready.items) self.new.line.items
-            (R.rest self.new.reader)
-            ≡ coming (drop self.old.at self.old.ready.items) self.old.line.items (R.rest self.old.reader) }
-        ensures asked { self.new.asked ≡ self.old.asked }
-        ensures fine { OnOk result (self.new.cause ≡ None) }
-        ensures cause { OnErr result (is_some self.new.cause ≡ true) }
-    {
-        if !self.due {
-            return Ok(());
-        }
-        self.replace()
-    }
-
-    /// The same, where it has.
-    fn replace(&mut self) -> Result<(), Failed>
-        requires ready { IsReady D.seen D.may_leave self.old }
-        requires fine { self.old.cause ≡ None }
-        requires due { self.old.due ≡ true }
-        ensures is_ready { IsReady D.seen D.may_leave self.new }
-        ensures same { (self.new.writer ≡ self.old.writer) × (self.new.asked ≡ self.old.asked)
-            × (self.new.reader ≡ self.old.reader) × (self.new.line ≡ self.old.line)
-            × (self.new.ready ≡ self.old.ready) × (self.new.at ≡ self.old.at)
-            × (self.new.recovering ≡ self.old.recovering)
-            × (told self.new.log.events ≡ told self.old.log.events)
-            × (bytes_written self.new.log.events ≡ bytes_written self.old.log.events) }
-        ensures fine { OnOk result (self.new.cause ≡ None) }
-        ensures cause { OnErr result (is_some self.new.cause ≡ true) }
-    {
-        let left = &self.ready[self.at..];
-        let counted = self.counted.saturating_sub(count(left));
-        let Ok(lines) = short(self.alloc, &self.dump, counted) else {
-            self.cause = Some(Cause::NoMemory);
-            return Err(Failed);
-        };
-        let Ok(text) = joined(self.alloc, &lines, left) else {
-            self.cause = Some(Cause::NoMemory);
-            return Err(Failed);
-        };
-        match self.journal.replace(self.alloc, &text) {
-            Ok(()) => {
-                self.log.note(&[SHORTENED, 0, 1], &lines);
-                self.due = false;
+        match short(self.alloc, &self.session, self.counted) {
+            Ok(text) => self.replace(text.as_bytes()),
+            Err(_) => {
+                self.room = self.room.saturating_mul(2);
                 Ok(())
             }
-            Err(AppendError::Memory) => {
-                self.cause = Some(Cause::NoMemory);
-                Err(Failed)
+        }
+    }
+
+    /// Puts the lines of a dump of the session into the place of all.
+    fn replace(&mut self, text: &[u8]) -> Result<(), Cause>
+        requires ready { IsReady D.seen D.may_leave self.old }
+        requires fine { self.old.cause ≡ None }
+        requires begun { has_begun self.old.session.phase ≡ true }
+        requires short { text.now ≡ short (life self.old) }
+        ensures ready { IsReady D.seen D.may_leave self.new }
+        ensures same { (life self.new ≡ life self.old) × (self.new.line ≡ self.old.line) }
+        ensures fine { OnOk result (self.new.cause ≡ None) }
+        ensures keeps { KeepsLife (D.may_leave self.new.journal.device) (life self.old) }
+        ensures cause { OnErr result (is_some self.new.cause ≡ true) }
+    {
+        match self.journal.replace(self.alloc, text) {
+            Ok(()) => {
+                self.behind = 0;
+                self.room = text.len().max(LEAST_ROOM);
+                Ok(())
             }
             Err(AppendError::Failed) => {
-                self.log.note(&[TRIED, 0, 1], &text);
                 self.cause = Some(Cause::Journal);
-                Err(Failed)
+                Err(Cause::Journal)
+            }
+            Err(AppendError::Memory) => {
+                self.room = self.room.saturating_mul(2);
+                Ok(())
             }
             Err(AppendError::Refused(_)) => {
-                // No line of a dump has such a byte: the journal stays as it is.
-                self.due = false;
+                // No line of a dump has such a byte.
+                self.room = self.room.saturating_mul(2);
                 Ok(())
             }
             Err(AppendError::Full) => unreachable!(),

@@ -128,7 +128,7 @@ impl PartialEq for Name {
     ghost laws = { on_per (λ n. n.letters) (partial_equiv_from_equiv nat_list_eq_equiv) };
 
     fn eq(&self, other: &Self) -> bool {
-        self.as_str() == other.as_str()
+        self.letters.as_slice() == other.letters.as_slice()
     }
 }
 
@@ -157,6 +157,6 @@ impl Ord for Name {
     ghost matches_eq = { λ a b. texts_ties a.letters b.letters };
 
     fn cmp(&self, other: &Self) -> Ordering {
-        self.as_str().cmp(other.as_str())
+        self.letters.as_slice().cmp(other.letters.as_slice())
     }
 }

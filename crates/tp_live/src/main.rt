@@ -13,7 +13,8 @@ use std::process::ExitCode;
 use tp_kept::keep_session;
 use tp_report::{Fault, StdSink, write_fault};
 use tp_script::StdSource;
-use tp_session::{Pipes, converse_to_end};
+use tp_session::converse_to_end;
+use tp_wire::Pipes;
 
 fn main(rt: HostRuntime) -> ExitCode {
     let mut words = match env::args(&rt) {

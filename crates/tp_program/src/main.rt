@@ -6,9 +6,9 @@
 
 use std::io;
 use std::process::ExitCode;
+use tp_perform::run_to_end;
 use tp_report::StdSink;
 use tp_script::StdSource;
-use tp_session::run_to_end;
 
 fn main(rt: HostRuntime) -> ExitCode {
     ExitCode::from(run_to_end(

@@ -1,6 +1,5 @@
 -- Listings, one id after the other.
-use Rattle.std.proofs.Common.{◌≡◌, ℕ, zero, suc, ◌+◌, ◌≤◌, List, [], ◌∷◌, Option, Some, None, length, refl, sym, ap, ◌∙◌, add-one, arith}
-use Rattle.std.proofs.lemmas.List.{length-append}
+use Rattle.std.proofs.Common.{◌≡◌, ℕ, ◌+◌, [], Option, refl, add-one, arith}
 use Rattle.tp_model.specs.declared.types.Counts.{Counts}
 use Rattle.tp_model.specs.declared.types.Look.{Look}
 use Rattle.tp_model.specs.declared.types.Status.{Status}
@@ -8,7 +7,6 @@ use Rattle.tp_model.specs.declared.types.Status.TheVariants.{Waiting, Held, Cons
 use Rattle.tp_model.specs.Accounts.{all_in, one_more}
 use Rattle.tp_plain.specs.Computed.{read_of}
 use Rattle.tp_plain.specs.OneThread as thread
-use Rattle.tp_report.specs.Looks.{with_shown}
 use Rattle.tp_reference.specs.PlainClient.{picked, picked_below, with_last, count_read, counts_below}
 
 -- nothing is picked below the first id
@@ -21,28 +19,6 @@ pub picked_more : {A : Type 0} (pick : Look → Option A) (m : thread.State) (id
     → picked_below pick m (id + 1) ≡ with_last (picked_below pick m id) (picked pick (read_of m id))
 unfolding picked_below
 picked_more pick m id = rw (add-one id) refl
-
--- each id adds one at most
-one_last : {A : Type 0} (xs : List A) (o : Option A) (n : ℕ) → length xs ≤ n → length (with_last xs o) ≤ n + 1
-one_last xs None n few = omega (arith, few)
-one_last xs (Some x) n few = omega (arith, few, length-append xs (x ∷ []))
-
-pub picked_few : {A : Type 0} (pick : Look → Option A) (m : thread.State) (n : ℕ) → length (picked_below pick m n) ≤ n
-unfolding picked_below
-picked_few pick m zero = omega arith
-picked_few pick m (suc n) =
-    let one = one_last (picked_below pick m n) (picked pick (read_of m n)) n (picked_few pick m n) in
-    omega (arith, one)
-
--- the looks so far, and what one read more shows
-shown_last : (looks : List Look) (o : Option Look) → with_shown looks o ≡ with_last looks o
-shown_last looks None = refl
-shown_last looks (Some look) = refl
-
-pub shown_more : (m : thread.State) (id : ℕ) (o : Option Look) → o ≡ picked (λ look. Some look) (read_of m id) → with_shown (picked_below (λ look. Some look) m id) o ≡ picked_below (λ look. Some look) m (id + 1)
-shown_more m id o is =
-    shown_last (picked_below (λ look. Some look) m id) o
-    ∙ (ap (with_last (picked_below (λ look. Some look) m id)) is ∙ sym (picked_more (λ look. Some look) m id))
 
 -- nothing is counted below the first id
 pub counts_none : (m : thread.State) → counts_below m 0 ≡ record { waiting = 0; held = 0; consumed = 0; parked = 0; killed = 0 }

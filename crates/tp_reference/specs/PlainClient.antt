@@ -1,7 +1,7 @@
 -- What the script's own client is answered where nobody else acts: each command with its line, computed. The
 -- client acts through pass 0.
 use Rattle.std.specs.Prelude.{ℕ, zero, suc, ◌==◌, ◌&&◌, if◌then◌else◌, List, [], ◌∷◌, ◌++◌, Bool, Option}
-use Rattle.std.specs.Prelude.{Some, None, Result, Ok, Err, nat_le, take}
+use Rattle.std.specs.Prelude.{Some, None, Result, Ok, Err}
 use Rattle.std.specs.List.{fold}
 use Rattle.tp_model.specs.declared.types.TheConstants.{REPLY_STAGE}
 use Rattle.tp_model.specs.declared.types.Cancelled.{Cancelled}
@@ -20,10 +20,7 @@ use Rattle.tp_plain.specs.OneThread as thread
 use Rattle.tp_report.specs.declared.answer.Answer.{Answer}
 use Rattle.tp_report.specs.declared.answer.Answer.TheVariants as answer
 use Rattle.tp_report.specs.Answer.{answer_text, collected_text, counts_text, errors_text, family_text, line}
-use Rattle.tp_report.specs.Answer.{depths_text, list_text, replies_text}
-use Rattle.tp_report.specs.declared.answer.TheConstants.{MAX_LISTED}
-use Rattle.tp_report.specs.declared.depth.Depth.{Depth}
-use Rattle.tp_report.specs.Looks.{depths_of, is_at}
+use Rattle.tp_report.specs.Answer.{replies_text}
 use Rattle.tp_script.specs.declared.script.ClientAct.{ClientAct}
 use Rattle.tp_script.specs.declared.script.ClientAct.TheVariants as acts
 
@@ -95,19 +92,6 @@ member_in root look = if look.element.root == root then Some look else None
 abbrev pub parked_in : Look → Option ℕ
 parked_in look = if is_parked look.status then Some look.element.id else None
 
--- an element from this id on that waits in this stage
-abbrev pub waiting_from : ℕ → ℕ → Look → Option ℕ
-waiting_from stage from look =
-    if is_at stage is_waiting look && nat_le from look.element.id then Some look.element.id else None
-
--- those that wait in a stage from an id on, as many as are listed
-abbrev pub listed_of : ℕ → ℕ → thread.State → List ℕ
-listed_of stage from m = take MAX_LISTED (picked_of (waiting_from stage from) m)
-
--- how deep each stage is
-abbrev pub depths_in : thread.State → List Depth
-depths_in m = depths_of (picked_of (λ look. Some look) m)
-
 -- the replies to a request
 abbrev pub replies_of : ℕ → thread.State → List Element
 replies_of root m = picked_of (reply_shown root) m
@@ -149,5 +133,3 @@ client_step (acts.Collect root) m =
 client_step (acts.Family root) m = (line (family_text root (picked_of (member_in root) m)), m)
 client_step acts.Errors m = (line (errors_text (picked_of parked_in m)), m)
 client_step acts.Count m = (line (counts_text (counts_of m)), m)
-client_step acts.Depth m = (line (depths_text (depths_in m)), m)
-client_step (acts.List stage from) m = (line (list_text stage (listed_of stage from m)), m)

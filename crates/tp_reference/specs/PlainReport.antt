@@ -1,5 +1,4 @@
--- What is reported of a script: the run of one thread over its commands. It covers those of the client and of
--- servers: no workers, races, rollovers, dumps and restores.
+-- What is reported of a script: the run of one thread over its commands, which has no races and rollovers.
 use Rattle.std.specs.Prelude.{ℕ, zero, suc, ◌+◌, ◌*◌, ◌||◌, Bool, true, false, if◌then◌else◌, List, [], ◌∷◌}
 use Rattle.std.specs.Prelude.{◌++◌, length, map, Option, Some, None, Result, Ok, Err, slice_get, slice_set}
 use Rattle.std.specs.Prelude.{sum_by}

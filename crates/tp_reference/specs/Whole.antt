@@ -1,5 +1,5 @@
 -- What the whole run over the manager of one thread leaves.
-use Rattle.std.specs.Prelude.{◌≡◌, ◌||◌, ◌==◌, not, ℕ, Bool, true, false, List, length, Option, Result, Ok}
+use Rattle.std.specs.Prelude.{◌≡◌, ℕ, Bool, true, false, List, Option, Result, Ok}
 use Rattle.std.specs.Prelude.{Err}
 use Rattle.std.specs.Prelude.{IsOk, IsErr}
 use Rattle.std.specs.List.{list_any}
@@ -15,17 +15,16 @@ use Rattle.tp_reference.specs.declared.plain.PlainExit.{PlainExit}
 use Rattle.tp_reference.specs.declared.plain.PlainExit.TheVariants as exits
 use Rattle.tp_reference.specs.PlainReport.{report_of_read}
 
--- what one thread and one manager don't do: races, rollovers, and what is asked of workers, dumps and
--- restores
+-- what one thread and one manager don't do: races and rollovers
 abbrev pub is_other : Act → Bool
 is_other (act.Command c) = false
 is_other act.Drain = false
 is_other act.DrainNext = false
 is_other other = true
 
--- whether there is such in what was read, or a worker
+-- whether there is such in what was read
 abbrev pub is_beyond : Result ScriptView Refused → Bool
-is_beyond (Ok s) = not (length s.head.workers == 0) || list_any is_other s.acts
+is_beyond (Ok s) = list_any is_other s.acts
 is_beyond (Err r) = false
 
 -- Without fault the report is written and nothing else, where memory ran out or a write failed a prefix of

@@ -10,7 +10,6 @@ ghost use Rattle.tp_reference.specs.PlainClient.{killed_as, member_in, parked_in
 ghost use Rattle.tp_reference.specs.PlainClient.{released_as, replies_of, reply_shown, requeued_as};
 ghost use Rattle.tp_reference.specs.PlainClient.{submitted_as, with_collected, with_last};
 
-use crate::stages::{depths, waiting};
 use std::alloc::{AllocError, Global};
 use std::string::String;
 use tp_model::types::{Body, Counts, Element, Look, REPLY_STAGE, Refusal, Status};
@@ -178,7 +177,7 @@ fn parked_in(look: Look) -> Option<u32>
 }
 
 /// Adds what there is.
-pub(crate) fn push_some<T: Drop>(found: &mut Vec<T>, one: Option<T>) -> Result<(), AllocError>
+fn push_some<T: Drop>(found: &mut Vec<T>, one: Option<T>) -> Result<(), AllocError>
     ensures { OnOk result (found.new.items ≡ with_last found.old.items one) }
 {
     match one {
@@ -321,14 +320,5 @@ pub(crate) fn client_line(
             line(alloc, Answer::Errors(parked.as_slice()))
         }
         ClientAct::Count => line(alloc, Answer::Count(counts(plain))),
-        ClientAct::Depth => {
-            let depths = depths(plain);
-            line(alloc, Answer::Depth(depths.as_slice()))
-        }
-        ClientAct::List { stage, from } => {
-            let ids = waiting(plain, alloc, stage, from)?;
-            let ids = ids.as_slice();
-            line(alloc, Answer::List { stage, ids })
-        }
     }
 }

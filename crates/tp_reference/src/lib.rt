@@ -11,6 +11,5 @@ mod plain;
 mod plain_desk;
 mod plain_report;
 mod plain_run;
-mod stages;
 
 pub use plain::{PlainExit, run_plain};

@@ -18,14 +18,13 @@ pub enum PlainExit {
     Done,
     /// The script was refused, and the refusal written.
     Refused,
-    /// There is a race among its commands, which takes several threads, or a rollover, a dump or a restore,
-    /// which take two managers, or a worker. Nothing was run, and nothing written.
+    /// There is a race among its commands, which takes several threads, or a rollover, which takes two
+    /// managers. Nothing was run, and nothing written.
     NotRun,
 }
 
 /// Reads a script, runs it over the manager of one thread, and writes its report and nothing else. A script
-/// with a worker, a race, a rollover, a dump or a restore isn't run. The reader is asked at most 100,000
-/// times.
+/// with a race or a rollover isn't run. The reader is asked at most 100,000 times.
 pub fn run_plain<R: Source, W: Sink>(
     alloc: Global,
     reader: &mut R,
@@ -65,7 +64,8 @@ fn is_other(act: &Act) -> bool
         Act::Command(_) => false,
         Act::Drain => false,
         Act::DrainNext => false,
-        _ => true,
+        Act::Race(_) => true,
+        Act::Rollover => true,
     }
 }
 
@@ -76,12 +76,9 @@ fn has_other(acts: &[Act]) -> bool
     acts.iter().any(|act| is_other(act))
 }
 
-/// Whether a script has such, or a worker.
+/// Whether a script has such.
 fn is_beyond(script: &Script) -> bool
     ensures { result ≡ is_beyond (Ok (script_view script.now)) }
 {
-    if !script.head.workers.is_empty() {
-        return true;
-    }
     has_other(script.acts.as_slice())
 }

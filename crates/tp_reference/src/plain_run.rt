@@ -1,6 +1,6 @@
 //! A script over the manager of one thread.
 ghost use Rattle.std.specs.Prelude.{◌≡◌, ◌+◌, ◌<◌, ◌≤◌, map, length, string_bytes, vec_len, IfOk, slice_get};
-ghost use Rattle.tp_script.specs.Ranges.{IsInRange, IsScriptAct};
+ghost use Rattle.tp_script.specs.Ranges.{IsActInRange, IsInRange};
 ghost use Rattle.tp_script.specs.declared.script.TheConstants.{MAX_SERVERS};
 ghost use Rattle.tp_script.specs.Script.{head_view, server_view};
 ghost use Rattle.tp_reference.specs.PlainReport.{act_step, balance_answer, begin, command_step};
@@ -167,8 +167,7 @@ impl PlainRun {
         act: &Act,
     ) -> Result<String, AllocError>
         requires ready { IsSetUp (map server_view script.now.head.servers.items) self.old }
-        requires in_range { IsScriptAct (vec_len script.now.head.servers) (vec_len script.now.head.workers)
-            act.now }
+        requires in_range { IsActInRange (vec_len script.now.head.servers) act.now }
         ensures step { IfOk result (λ text.
             act_step (map server_view script.now.head.servers.items) act.now (state self.old)
             ≡ (string_bytes text, state self.new)) }

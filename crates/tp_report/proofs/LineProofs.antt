@@ -1,6 +1,5 @@
 -- Lines that are written one after the other.
 use Rattle.std.proofs.Common.{◌≡◌, ℕ, ◌+◌, ◌≤◌, zero, suc, List, [], ◌++◌, Option, refl, sym, ap, ◌∙◌, append-nil, append_assoc, arith, subst}
-use Rattle.std.specs.Prelude.{OnErr, OnOk, Result, Ok, Err}
 use Rattle.std.specs.Io.KnownBytes.{Appends}
 use Rattle.tp_report.specs.Written.{AppendsFront}
 use Rattle.tp_report.specs.Lines.{AreLines, IsLine, Writes, WritesFront}

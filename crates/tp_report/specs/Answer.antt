@@ -14,7 +14,6 @@ use Rattle.tp_server.specs.Names.{declined_name}
 use Rattle.tp_report.specs.declared.answer.Answer.{Answer}
 use Rattle.tp_report.specs.declared.answer.Answer.TheVariants as answer
 use Rattle.tp_report.specs.declared.answer.Renamed.{Renamed}
-use Rattle.tp_report.specs.declared.depth.Depth.{Depth}
 use Rattle.tp_report.specs.declared.answer.ServerAnswer.{ServerAnswer}
 use Rattle.tp_report.specs.declared.answer.ServerAnswer.TheVariants as server
 use Rattle.tp_server.specs.declared.turned.Turned.{Turned}
@@ -178,22 +177,6 @@ ids_text ids = flat_map (λ id. codes " " <> decimal id) ids
 abbrev pub errors_text : List ℕ → List ℕ
 errors_text ids = codes "errors" <> ids_text ids
 
--- the elements that wait in a stage
-abbrev pub list_text : ℕ → List ℕ → List ℕ
-list_text stage ids = (codes "list " <> decimal stage) <> ids_text ids
-
--- how many elements of a stage wait, are held and are parked; nothing where there are none
-abbrev pub is_empty : Depth → Bool
-is_empty d = (d.waiting == 0) && (d.held == 0) && (d.parked == 0)
-
-abbrev pub depth_text : Depth → List ℕ
-depth_text d = if is_empty d then [] else codes " " <> decimal d.stage <> codes ":" <> decimal d.waiting
-    <> codes ":" <> decimal d.held <> codes ":" <> decimal d.parked
-
--- the stages in which there is anything
-abbrev pub depths_text : List Depth → List ℕ
-depths_text depths = codes "depth" <> flat_map depth_text depths
-
 -- how many elements have each status
 abbrev pub counts_text : Counts → List ℕ
 counts_text c = codes "waiting " <> decimal c.waiting <> codes " held " <> decimal c.held
@@ -247,8 +230,6 @@ answer_text (answer.Errors ids) = errors_text ids.now
 answer_text (answer.Balance name k value) = balance_text name.now k value
 answer_text (answer.Sum k sum) = codes "sum " <> decimal k <> codes " " <> decimal sum
 answer_text (answer.Count all) = counts_text all
-answer_text (answer.Depth depths) = depths_text depths.now
-answer_text (answer.List stage ids) = list_text stage ids.now
 answer_text (answer.Account all) = account_text all
 answer_text (answer.Raced submitted) = codes "race submitted " <> decimal submitted
 answer_text answer.Drained = codes "drained"

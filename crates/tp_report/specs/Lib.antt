@@ -1,5 +1,3 @@
-pub mod Looks
-pub mod Depths
 pub mod Answer
 pub mod Written
 pub mod Lines

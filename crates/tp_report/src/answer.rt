@@ -4,7 +4,6 @@ ghost use Rattle.tp_script.specs.Fault.{refused_text};
 ghost use Rattle.tp_report.specs.Answer.{answer_text, line};
 ghost use Rattle.tp_report.specs.Lines.{IsLine};
 
-use crate::depth::Depth;
 use std::alloc::{AllocError, Global};
 use std::string::String;
 use tp_model::types::{Counts, Element, Look, Refusal};
@@ -46,9 +45,6 @@ pub enum ServerAnswer {
     /// The desk had been dropped before, and nothing was done.
     Ended,
 }
-
-/// How many ids a list has at most.
-pub const MAX_LISTED: usize = 200;
 
 /// An element that a rollover carried over: its id in the old manager, and in the new one.
 #[derive(Clone, Copy)]
@@ -124,13 +120,6 @@ pub enum Answer<'a> {
     },
     /// How many elements have each status.
     Count(Counts),
-    /// How many elements of each stage wait, are held and are parked.
-    Depth(&'a [Depth]),
-    /// The ids of elements that wait in this stage.
-    List {
-        stage: u8,
-        ids: &'a [u32],
-    },
     /// How many elements are born at the end, and how many have each status.
     Account(Counts),
     /// How many submits of a race's clients were accepted.

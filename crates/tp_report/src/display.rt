@@ -4,14 +4,12 @@ ghost use Rattle.std.specs.Fmt.{WritesOnOk};
 ghost use Rattle.std.specs.List.{flat_map};
 ghost use Rattle.tp_report.specs.Answer.{turned_text, server_text, refusal_name, refusal_number};
 ghost use Rattle.tp_report.specs.Answer.{refusal_text, maker_text, status_text, is_short, more_words_text};
-ghost use Rattle.tp_report.specs.Answer.{element_text, look_text, reply_text, replies_text, collected_text};
+ghost use Rattle.tp_report.specs.Answer.{element_text, look_text, replies_text, collected_text};
 ghost use Rattle.tp_report.specs.Answer.{state_text, member_text, family_text, errors_text, counts_text};
 ghost use Rattle.tp_report.specs.Answer.{account_text, balance_text, final_text, answer_text};
-ghost use Rattle.tp_report.specs.Answer.{depth_text, depths_text, ids_text, list_text, renamed_text};
-ghost use Rattle.tp_report.specs.Answer.{reply_text, rolled_text};
+ghost use Rattle.tp_report.specs.Answer.{ids_text, renamed_text, reply_text, rolled_text};
 
 use crate::answer::{Answer, Renamed, ServerAnswer};
-use crate::depth::Depth;
 use std::fmt;
 use tp_model::types::{Body, Counts, Element, Look, Refusal, Status};
 use tp_server::Turned;
@@ -279,41 +277,6 @@ fn errors<W: fmt::Write>(f: &mut fmt::Formatter<W>, ids: &[u32]) -> fmt::Result
     each_id(f, ids)
 }
 
-// The elements that wait in a stage.
-fn list<W: fmt::Write>(f: &mut fmt::Formatter<W>, stage: u8, ids: &[u32]) -> fmt::Result
-    ensures { WritesOnOk W.write_str_gives f.old result (list_text stage ids.now) f.new }
-{
-    write!(f, "list {stage}")?;
-    each_id(f, ids)
-}
-
-// A stage, where anything waits in it, is held or is parked.
-fn depth<W: fmt::Write>(f: &mut fmt::Formatter<W>, depth: &Depth) -> fmt::Result
-    ensures { WritesOnOk W.write_str_gives f.old result (depth_text depth.now) f.new }
-{
-    let Depth {
-        stage,
-        waiting,
-        held,
-        parked,
-    } = *depth;
-    if waiting == 0 && held == 0 && parked == 0 {
-        return Ok(());
-    }
-    write!(f, " {stage}:{waiting}:{held}:{parked}")
-}
-
-// The stages in which there is anything.
-fn depths<W: fmt::Write>(f: &mut fmt::Formatter<W>, depths: &[Depth]) -> fmt::Result
-    ensures { WritesOnOk W.write_str_gives f.old result (depths_text depths.now) f.new }
-{
-    write!(f, "depth")?;
-    for stage in depths {
-        depth(f, stage)?;
-    }
-    Ok(())
-}
-
 // A register of a server.
 fn balance<W: fmt::Write>(
     f: &mut fmt::Formatter<W>,
@@ -411,8 +374,6 @@ impl fmt::Display for Answer<'_> {
             Answer::Balance { name, k, value } => balance(f, name, k, value),
             Answer::Sum { k, sum } => write!(f, "sum {k} {sum}"),
             Answer::Count(all) => counts(f, all),
-            Answer::Depth(all) => depths(f, all),
-            Answer::List { stage, ids } => list(f, stage, ids),
             Answer::Account(all) => account(f, all),
             Answer::Raced { submitted } => write!(f, "race submitted {submitted}"),
             Answer::Drained => write!(f, "drained"),

@@ -3,15 +3,13 @@
 
 mod account;
 mod answer;
-mod depth;
 mod display;
 mod fault;
 mod refusal;
 mod sink;
 
 pub use account::account_line;
-pub use answer::{Answer, MAX_LISTED, Renamed, ServerAnswer, line, refused_line};
-pub use depth::{Depth, add_shown, no_depths};
+pub use answer::{Answer, Renamed, ServerAnswer, line, refused_line};
 pub use fault::{Exit, Fault, RunFault, exit_status, fault_of, write_fault};
 pub use refusal::write_refusal;
 pub use sink::{Sink, StdSink, write_all};

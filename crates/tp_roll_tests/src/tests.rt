@@ -203,13 +203,13 @@ fn another_limit(rt: HostRuntime) {
     );
 }
 
-/// What was submitted to the new manager before is no element of the old one.
+/// What was submitted to the new manager before is no element of the old one: there is no room beside it.
 #[test]
 fn not_a_new_one(rt: HostRuntime) {
     let before = [(0, Submits(1, body(10), 0))];
     let after = [(0, waits(0, 1, 0, 10)), (1, Takes(0))];
     let new = side(&before, &[]);
-    rolls(&rt, &[side(&before, &after), new], Err(RollFault::Unequal));
+    rolls(&rt, &[side(&before, &after), new], Err(RollFault::Full));
 }
 
 #[test]

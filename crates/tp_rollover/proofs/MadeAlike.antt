@@ -122,6 +122,3 @@ all_free l ps h free c d less = sym (hand_is l ps h c d less) ∙ free c less
 pub unless_so : {A B : Type 0} (r : Result A Stop) (value : A → B) (computed : Option B) (Wrong : Type 0) (P : A → Type 0) → AgreesUnless Wrong r value computed → ((x : A) → computed ≡ Some (value x) → P x) → IfOk r P
 unless_so (Ok x) value computed Wrong P agrees so = so x agrees
 unless_so (Err e) value computed Wrong P agrees so = tt
-
-pub unless_none : {A B : Type 0} (r : Result A Stop) (value : A → B) (computed : Option B) (Wrong : Type 0) → r ≡ Err stops.Full → AgreesUnless Wrong r value computed → computed ≡ None
-unless_none r value computed Wrong full agrees = subst (λ z. AgreesUnless Wrong z value computed) full agrees

@@ -1,5 +1,5 @@
 -- All passes of a manager.
-use Rattle.std.proofs.Common.{◌≡◌, ℕ, ◌+◌, ◌*◌, ◌≤◌, All, Option, Some, Err, List, [], ◌∷◌, ◌++◌, sym, ◌∙◌, ap, subst, arith, length, refl, inl, inr, ⊎_elim}
+use Rattle.std.proofs.Common.{◌≡◌, ℕ, ◌+◌, ◌*◌, ◌≤◌, All, Option, Some, Err, List, [], ◌∷◌, ◌++◌, sym, ◌∙◌, ap, subst, arith, length, refl, ⊎_elim}
 use Rattle.std.proofs.lemmas.List.{length-append, with_items_is}
 use Rattle.std.specs.Vec.{with_items}
 use Rattle.tp_model.specs.declared.types.Limits.{Limits}
@@ -12,14 +12,15 @@ use Rattle.tp_rollover.specs.Anew.{made_anew}
 use Rattle.tp_rollover.specs.Answers.{Rolls}
 use Rattle.tp_rollover.specs.Survivors.{Restores}
 use Rattle.tp_rollover.specs.Carries.{AreFresh, Carries, DiffersAnew, IsAsComputed, IsUncomputed, WouldNotFit}
-use Rattle.tp_rollover.specs.Faults.{AreFree, IsDue, IsLate, IsRestoreDue, MayBegin}
-use Rattle.tp_rollover.specs.Lone.{lone}
-use Rattle.tp_rollover.specs.Survivors.{AreUnheld}
-use Rattle.tp_rollover.specs.Managed.{FindsRoom, fault_anew, IsManaged, IsNewPass, IsRefusedFor, IsUnrestored}
+use Rattle.tp_rollover.specs.Faults.{IsDue, IsRestoreDue, MayBegin, fault_anew, fault_of}
+use Rattle.tp_rollover.specs.Lone.{AgreesUnless, lone}
+use Rattle.tp_rollover.specs.Managed.{FindsRoom, IsManaged, IsNewPass, IsRefusedFor, IsUnrestored}
 use Rattle.tp_rollover.specs.declared.managed.Managed.{Managed}
 use Rattle.tp_rollover.specs.declared.moved.Moved.{Moved}
 use Rattle.tp_rollover.specs.declared.moved.RollFault.{RollFault}
 use Rattle.tp_rollover.specs.declared.moved.RollFault.TheVariants.{BadLimits, Busy, Full, NoMemory, NoPass, Unequal}
+use Rattle.tp_rollover.specs.declared.stops.Stop.{Stop}
+use Rattle.tp_rollover.specs.declared.stops.Stop.TheVariants as stops
 use Rattle.tp_rollover.specs.declared.survivors.Survivor.{Survivor}
 use Rattle.tp_rollover.proofs.Assembly.{all_in}
 
@@ -37,14 +38,14 @@ all_more old new ps p next given all =
 not_empty : (ps : List PassShown) → 1 ≤ length ps → ps ≡ [] → ⊥
 not_empty ps some none = let e = ap length none in omega (arith, some, e)
 
-pub refused_for : (l k : Limits) (olds news news' : List PassShown) (fault : RollFault) → k.attempts ≡ l.attempts → 1 ≤ length olds → 1 ≤ length news
-    → (fault ≡ Full → WouldNotFit l olds l.parts (start l)) → (fault ≡ Unequal → WouldNotFit l olds l.parts (start l)) → IsDue l k olds news news' fault → IsRefusedFor l olds (fault_anew fault)
-refused_for l k olds news news' NoMemory same some some' short differs due = tt
-refused_for l k olds news news' BadLimits same some some' short differs due = due same
-refused_for l k olds news news' NoPass same some some' short differs due = ⊎_elim (λ none. not_empty olds some none) (λ none. not_empty news some' none) due.1
-refused_for l k olds news news' Busy same some some' short differs due = due
-refused_for l k olds news news' Full same some some' short differs due = short refl
-refused_for l k olds news news' Unequal same some some' short differs due = differs refl
+pub refused_for : (l k : Limits) (olds news : List PassShown) (fault : RollFault) → k.attempts ≡ l.attempts → 1 ≤ length olds → 1 ≤ length news
+    → AreLimits k → AreFresh k news → (WouldNotFit l olds (length news) (start k) → WouldNotFit l olds l.parts (start l)) → IsDue l k olds news fault → IsRefusedFor l olds fault
+refused_for l k olds news NoMemory same some some' limits fresh unfit due = tt
+refused_for l k olds news BadLimits same some some' limits fresh unfit due = due same
+refused_for l k olds news NoPass same some some' limits fresh unfit due = ⊎_elim (λ none. not_empty olds some none) (λ none. not_empty news some' none) due.1
+refused_for l k olds news Busy same some some' limits fresh unfit due = due
+refused_for l k olds news Full same some some' limits fresh unfit due = unfit (due.1 limits fresh)
+refused_for l k olds news Unequal same some some' limits fresh unfit due = due
 
 -- none of these, where there is room and memory
 pub not_refused : (l : Limits) (passes : List PassShown) (fault : RollFault) → (fault ≡ NoMemory → ⊥) → FindsRoom l passes → IsRefusedFor l passes fault → ⊥
@@ -56,13 +57,13 @@ not_refused l passes Full memory room due = room due
 not_refused l passes Unequal memory room due = due
 
 -- and those that none of descriptions can be made for
-pub unrestored_for : (l k : Limits) (survivors : List Survivor) (news news' : List PassShown) (fault : RollFault) → AreLimits l → 1 ≤ length news → IsRestoreDue k survivors news news' fault → IsUnrestored l fault
-unrestored_for l k survivors news news' NoMemory limits some due = limits
-unrestored_for l k survivors news news' BadLimits limits some due = absurd due
-unrestored_for l k survivors news news' NoPass limits some due = absurd (not_empty news some due)
-unrestored_for l k survivors news news' Busy limits some due = absurd due
-unrestored_for l k survivors news news' Full limits some due = limits
-unrestored_for l k survivors news news' Unequal limits some due = limits
+pub unrestored_for : (l k : Limits) (survivors : List Survivor) (news : List PassShown) (fault : RollFault) → AreLimits l → 1 ≤ length news → IsRestoreDue k survivors news fault → IsUnrestored l fault
+unrestored_for l k survivors news NoMemory limits some due = limits
+unrestored_for l k survivors news BadLimits limits some due = absurd due
+unrestored_for l k survivors news NoPass limits some due = absurd (not_empty news some due)
+unrestored_for l k survivors news Busy limits some due = absurd due
+unrestored_for l k survivors news Full limits some due = limits
+unrestored_for l k survivors news Unequal limits some due = limits
 
 -- what doesn't fit into a manager with the same limits, by as many passes
 pub unfit_same : (l k : Limits) (p q : ℕ) (olds : List PassShown) → k ≡ l → q ≡ p → WouldNotFit l olds q (start k) → WouldNotFit l olds p (start l)
@@ -76,23 +77,23 @@ pub uncomputed_anew : (l k : Limits) (p q : ℕ) (survivors : List Survivor) →
 uncomputed_anew l k p q survivors same long none = subst (λ n. IsUncomputed l n survivors (start l)) long (subst (λ z. IsUncomputed z q survivors (start z)) same none)
 
 -- a fault that comes after the first calls is due
-pub late_due : (l k : Limits) (olds news news' : List PassShown) (Is : Type 0) (fault : RollFault) → MayBegin l k olds news → (Is → ¬ AreFree olds)
-    → (fault ≡ Unequal → AreLimits k → AreFresh k news → WouldNotFit l olds (length news) (start k)) → IsLate k news' Is fault → IsDue l k olds news news' fault
-late_due l k olds news news' Is NoMemory may held differs late = (may, tt)
-late_due l k olds news news' Is BadLimits may held differs late = absurd late
-late_due l k olds news news' Is NoPass may held differs late = absurd late
-late_due l k olds news news' Is Busy may held differs late = absurd late
-late_due l k olds news news' Is Full may held differs late = (may, ⊎_elim (λ short. inl short) (λ low. inr (held low.0, low.1)) late)
-late_due l k olds news news' Is Unequal may held differs late = (may, differs refl)
+pub late_due : (l k : Limits) (olds news : List PassShown) (stop : Stop) → MayBegin l k olds news
+    → ((stop ≡ stops.NoMemory → ⊥) → AreLimits k → AreFresh k news → WouldNotFit l olds (length news) (start k)) → IsDue l k olds news (fault_anew stop)
+late_due l k olds news stops.NoMemory may unfit = may
+late_due l k olds news stops.Full may unfit = (may, unfit (λ is. cc))
+late_due l k olds news stops.Unequal may unfit = (may, unfit (λ is. cc))
 
-pub restore_due : (k : Limits) (survivors : List Survivor) (news news' : List PassShown) (Is : Type 0) (fault : RollFault) → (Is → ¬ AreUnheld survivors)
-    → (fault ≡ Unequal → AreFresh k news → DiffersAnew k (length news) survivors (start k) × (AreLimits k → IsUncomputed k (length news) survivors (start k))) → IsLate k news' Is fault → IsRestoreDue k survivors news news' fault
-restore_due k survivors news news' Is NoMemory held differs late = tt
-restore_due k survivors news news' Is BadLimits held differs late = absurd late
-restore_due k survivors news news' Is NoPass held differs late = absurd late
-restore_due k survivors news news' Is Busy held differs late = absurd late
-restore_due k survivors news news' Is Full held differs late = ⊎_elim (λ short. inl short) (λ low. inr (held low.0, low.1)) late
-restore_due k survivors news news' Is Unequal held differs late = differs refl
+pub restore_due : (k : Limits) (survivors : List Survivor) (news : List PassShown) (stop : Stop)
+    → (stop ≡ stops.Unequal → AreFresh k news → DiffersAnew k (length news) survivors (start k) × (AreLimits k → IsUncomputed k (length news) survivors (start k))) → IsRestoreDue k survivors news (fault_of stop)
+restore_due k survivors news stops.NoMemory differs = tt
+restore_due k survivors news stops.Full differs = tt
+restore_due k survivors news stops.Unequal differs = differs refl
+
+-- where it is told as full nothing is computed
+pub as_computed : {A C B : Type 0} (stop : Stop) (Wrong : Type 0) (value : A → B) (value' : C → B) (computed : Option B) → AgreesUnless Wrong (Err stop) value computed → IsAsComputed (Err (fault_of stop)) value' computed
+as_computed stops.NoMemory Wrong value value' computed agrees = tt
+as_computed stops.Full Wrong value value' computed agrees = agrees
+as_computed stops.Unequal Wrong value value' computed agrees = tt
 
 -- passes that are new are fresh
 fresh_new : (m : ManagerShown) (p : PassShown) → IsNewPass p → IsOf m p → IsFresh m.limits p

@@ -64,12 +64,6 @@ pub record StaysManaged (old new : Managed) : Type 0 where
   pub given : new.keeper.given ≡ old.keeper.given
   pub passes : AllZip Stays old.passes.items new.passes.items
 
--- What a rollover into a new manager is refused with. Unequal comes only where nothing is computed, and that
--- is where what is alive finds no room.
-abbrev pub fault_anew : RollFault → RollFault
-fault_anew Unequal = Full
-fault_anew other = other
-
 -- Which fault a manager with these limits and passes is refused with: one of these two, Full only where what
 -- is alive finds no room in a new manager.
 abbrev pub IsRefusedFor : Limits → List PassShown → RollFault → Type 0

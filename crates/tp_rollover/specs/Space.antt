@@ -1,5 +1,5 @@
 -- The memory of a rollover, which is lent to it. l and k are the limits of the old and of the new manager.
-use Rattle.std.specs.Prelude.{ℕ, ◌<◌, ◌≤◌, All, List, vec_capacity}
+use Rattle.std.specs.Prelude.{◌≡◌, ℕ, ◌<◌, ◌≤◌, All, List, vec_capacity}
 use Rattle.tp_model.specs.declared.types.Limits.{Limits}
 use Rattle.tp_model.specs.Steps.{rows_of}
 use Rattle.tp_rollover.specs.declared.moved.Moved.{Moved}
@@ -23,6 +23,21 @@ pub record HasRestoreSpace (l k : Limits) (n : ℕ) (space : RestoreSpace) : Typ
 pub record HasSpace (l k : Limits) (space : Space) : Type 0 where
   pub survey : HasSurveySpace l space.survey
   pub restore : HasRestoreSpace l k (rows_of l) space.restore
+
+-- it holds just that, and no more
+pub record TakesSurveySpace (l : Limits) (space : SurveySpace) : Type 0 where
+  pub ids : vec_capacity space.ids ≡ rows_of l
+  pub found : vec_capacity space.found ≡ rows_of l
+
+pub record TakesRestoreSpace (l k : Limits) (n : ℕ) (space : RestoreSpace) : Type 0 where
+  pub moved : vec_capacity space.moved ≡ n
+  pub families : vec_capacity space.families ≡ rows_of l
+  pub new_roots : vec_capacity space.new_roots ≡ rows_of l
+  pub old_roots : vec_capacity space.old_roots ≡ rows_of k
+
+pub record TakesSpace (l k : Limits) (space : Space) : Type 0 where
+  pub survey : TakesSurveySpace l space.survey
+  pub restore : TakesRestoreSpace l k (rows_of l) space.restore
 
 -- it holds no less than before
 pub record KeepsSurveySpace (old new : SurveySpace) : Type 0 where

@@ -26,11 +26,11 @@ mod stops;
 mod surveying;
 pub mod survivors;
 
-pub use managed::{Managed, Successor, succeed, succeed_in};
+pub use managed::{Managed, Successor};
 pub use moved::{Moved, RollFault};
 pub use passes::has_open;
-pub use restoring::{restore, restore_in};
-pub use rolling::{roll_over, roll_over_in};
+pub use restoring::restore;
+pub use rolling::roll_over;
 pub use space::{RestoreSpace, Space, SurveySpace};
-pub use surveying::{survey, survey_in};
-pub use survivors::{Survivor, are_held};
+pub use surveying::survey;
+pub use survivors::Survivor;

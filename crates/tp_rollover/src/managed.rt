@@ -1,5 +1,6 @@
 //! A manager with its keeper and all its passes, which goes on in a new one by itself.
 ghost use Rattle.std.specs.Prelude.{◌≡◌, ◌↔◌, ◌+◌, ◌≤◌, All, Err, IfErr, IfOk, IsOk, OnOk, [], length};
+ghost use Rattle.std.specs.Prelude.{vec_capacity};
 ghost use Rattle.std.specs.List.{AllZip};
 ghost use Rattle.tp_model.specs.Steps.{AreLimits};
 ghost use Rattle.tp_manager.specs.Accounts.{AreAll};
@@ -15,7 +16,7 @@ ghost use Rattle.tp_rollover.specs.Bounds.{most_successor_steps, old_steps, surv
 ghost use Rattle.tp_rollover.specs.Carries.{Carries, IsAsComputed, IsUnlike};
 ghost use Rattle.tp_rollover.specs.Faults.{AreFree};
 ghost use Rattle.tp_rollover.specs.Managed.{GoesOnAnew, IsManaged, IsNewManaged, IsNewPass, IsRefusedFor};
-ghost use Rattle.tp_rollover.specs.Managed.{fault_anew, FindsRoom, IsUnrestored, IsUnsurveyed, StaysManaged};
+ghost use Rattle.tp_rollover.specs.Managed.{FindsRoom, IsUnrestored, IsUnsurveyed, StaysManaged};
 ghost use Rattle.tp_rollover.specs.Space.{HasSpace, HasSurveySpace, KeepsSpace, KeepsSurveySpace};
 ghost use Rattle.tp_rollover.specs.Survivors.{AreInHand, AreSurvivors, Restores};
 
@@ -57,6 +58,7 @@ fn all_passes(
     ensures given { IfOk result (λ passes. AreAll keeper.new passes.items) }
     ensures new { IfOk result (λ passes. All IsNewPass passes.items) }
     ensures all { IfOk result (λ passes. length passes.items ≡ manager.now.limits.parts) }
+    ensures room { IfOk result (λ passes. manager.now.limits.parts ≤ vec_capacity passes) }
     ensures steps { IfOk result (λ passes.
         made_by_all keeper.new passes.items ≡ keeper.old.steps + manager.now.limits.parts) }
 {
@@ -67,20 +69,8 @@ fn all_passes(
     Ok(passes)
 }
 
-/// What a rollover into a new manager is refused with: where it isn't alike nothing is computed, and so what
-/// is alive finds no room.
-fn fault_anew(fault: RollFault) -> RollFault
-    ensures { result ≡ fault_anew fault }
-{
-    match fault {
-        RollFault::Unequal => RollFault::Full,
-        other => other,
-    }
-}
-
-/// What `succeed` does, in a space that is lent (`roll_over_in`), and into `next`, a new manager of the same
-/// limits, which is used up.
-pub fn succeed_in(
+/// What is alive in this manager goes on in `next`, a new one with the same limits, in a space that is lent.
+fn succeed_in(
     space: &mut Space,
     old: &Manager,
     old_keeper: &mut Keeper,
@@ -107,6 +97,7 @@ pub fn succeed_in(
     ensures fault { IfErr result (IsRefusedFor old.now.limits old_passes.old) }
     ensures memory { result ≡ Err refusals.NoMemory → ¬ HasSpace old.now.limits old.now.limits space.old }
     ensures space { KeepsSpace space.old space.new }
+    ensures nothing { IfErr result (λ fault. space.new.restore.moved.items ≡ []) }
     ensures steps { IfOk result (λ next. let n = length space.new.restore.moved.items in
         let l = old.now.limits in
         AllMake (old_steps l l.parts n + give_up_steps l l.parts old_passes.old)
@@ -129,54 +120,6 @@ pub fn succeed_in(
         &mut new.passes,
     ) {
         Ok(()) => Ok(new),
-        Err(fault) => Err(fault_anew(fault)),
-    }
-}
-
-/// What is alive in this manager goes on in a new one with the same limits (`roll_over`). Where it is
-/// refused, the old passes have done nothing but look. The caller lends all of them, in order of number.
-pub fn succeed(
-    alloc: Global,
-    old: &Manager,
-    old_keeper: &mut Keeper,
-    old_passes: &mut [Pass],
-) -> Result<Successor, RollFault>
-    requires keeper { IsKeptBy old.now old_keeper.old }
-    requires limits { AreLimits old.now.limits }
-    requires own { All (IsOf old.now) old_passes.old }
-    requires all { AreAll old_keeper.old old_passes.old }
-    requires parts { length old_passes.old ≡ old.now.limits.parts }
-    ensures keeper { IsKeptBy old.now old_keeper.new × (old_keeper.new.given ≡ old_keeper.old.given) }
-    ensures own { All (IsOf old.now) old_passes.new }
-    ensures all { AreAll old_keeper.new old_passes.new }
-    ensures managed { IfOk result (λ next. IsManaged next.managed) }
-    ensures limits { IfOk result (λ next. next.managed.manager.limits ≡ old.now.limits) }
-    ensures rolls { IfOk result (λ next. Rolls old.now.limits next.managed.manager.limits old_keeper.new
-        next.managed.keeper old_passes.old old_passes.new next.managed.passes.items next.moved.items) }
-    ensures carries { IfOk result (λ next. let l = old.now.limits in
-        Carries l old_passes.old l.parts (start l) next.moved.items
-        (thread_of l next.managed.passes.items next.managed.keeper.seen)) }
-    ensures stays { IfErr result (λ fault. AllZip Stays old_passes.old old_passes.new) }
-    ensures fault { IfErr result (IsRefusedFor old.now.limits old_passes.old) }
-    ensures steps { IfOk result (λ next. let n = length next.moved.items in let l = old.now.limits in
-        AllMake (old_steps l l.parts n + give_up_steps l l.parts old_passes.old)
-        old_keeper.old old_passes.old old_keeper.new old_passes.new
-        × (made_by_all next.managed.keeper next.managed.passes.items ≤ most_successor_steps l n)) }
-    ensures replayed { IfOk result (λ next. made_by_all next.managed.keeper next.managed.passes.items
-        ≤ successor_steps old.now.limits next.managed.keeper.seen next.moved.items) }
-    ensures refused_steps { IfErr result (λ fault. let l = old.now.limits in
-        let n = alive_after l.attempts old_keeper.new.seen in
-        AllMake (survey_steps l l.parts n) old_keeper.old old_passes.old old_keeper.new old_passes.new) }
-{
-    let Ok(new) = Managed::new(alloc, old.limits()) else {
-        return Err(RollFault::NoMemory);
-    };
-    let mut space = Space::empty(alloc);
-    match succeed_in(&mut space, old, old_keeper, old_passes, new) {
-        Ok(managed) => Ok(Successor {
-            managed,
-            moved: space.into_moved(),
-        }),
         Err(fault) => Err(fault),
     }
 }
@@ -190,6 +133,7 @@ impl Managed {
         ensures seen { IfOk result (λ made. made.keeper.seen ≡ []) }
         ensures free { IfOk result (λ made. AreFree made.passes.items) }
         ensures new { IfOk result (λ made. All IsNewPass made.passes.items) }
+        ensures room { IfOk result (λ made. limits.parts ≤ vec_capacity made.passes) }
         ensures steps { IfOk result (λ made. made_by_all made.keeper made.passes.items ≡ limits.parts) }
         ensures bad { (result ≡ Err faults.BadLimits) ↔ (¬ AreLimits limits) }
         ensures part { ¬ (result ≡ Err faults.NoPart) }
@@ -225,13 +169,12 @@ impl Managed {
             AllMake (survey_steps l l.parts n)
             self.old.keeper self.old.passes.items self.new.keeper self.new.passes.items) }
     {
-        let answer = succeed(alloc, &self.manager, &mut self.keeper, &mut self.passes);
-        match answer {
-            Ok(next) => {
-                let Successor { managed, moved } = next;
-                *self = managed;
-                Ok(moved)
-            }
+        let Ok(next) = Managed::new(alloc, self.manager.limits()) else {
+            return Err(RollFault::NoMemory);
+        };
+        let mut space = Space::empty(alloc);
+        match self.roll_over_into(&mut space, next) {
+            Ok(()) => Ok(space.into_moved()),
             Err(fault) => Err(fault),
         }
     }
@@ -239,7 +182,7 @@ impl Managed {
     /// What `roll_over` does, in a space that is lent, and into `next`, a new manager of the same limits,
     /// which is used up. `NoMemory` only where the space is too small, and more couldn't be had: never in one
     /// that `Space::new` made for these limits, however often it was lent. So it succeeds where what is alive
-    /// finds room (`succeeds`).
+    /// finds room (`succeeds`). What was carried over stands in the space then, and nothing where it is refused.
     pub fn roll_over_into(&mut self, space: &mut Space, next: Managed) -> Result<(), RollFault>
         requires managed { IsManaged self.old }
         requires next { IsNewManaged self.old.manager.limits next }
@@ -253,6 +196,7 @@ impl Managed {
         ensures succeeds { let l = self.old.manager.limits in
             HasSpace l l space.old → FindsRoom l self.old.passes.items → IsOk result }
         ensures space { KeepsSpace space.old space.new }
+        ensures nothing { IfErr result (λ fault. space.new.restore.moved.items ≡ []) }
         ensures steps { OnOk result (made_by_all self.new.keeper self.new.passes.items
             ≤ most_successor_steps self.old.manager.limits (length space.new.restore.moved.items)) }
         ensures replayed { OnOk result (made_by_all self.new.keeper self.new.passes.items
@@ -278,7 +222,7 @@ impl Managed {
         }
     }
 
-    /// What `survey` finds, in a space that is lent (`survey_in`).
+    /// What `survey` finds, in a space that is lent: it stands in `space.found` then.
     pub fn survey_in(&mut self, space: &mut SurveySpace) -> Result<(), RollFault>
         requires managed { IsManaged self.old }
         ensures managed { IsManaged self.new }

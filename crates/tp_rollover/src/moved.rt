@@ -24,11 +24,9 @@ pub enum RollFault {
     /// A pass of the old manager has a unit of work open. No call of this crate tells it: what a pass has in
     /// hand is carried over. It is for callers who can't go on with it.
     Busy,
-    /// The new manager has not the rows or the units for what is alive. One of its passes has no unit left
-    /// then, or one while an element is in hand, or fewer than four rows and no spare block.
+    /// The new manager has not the rows or the units for what is alive, beside what stands there.
     Full,
-    /// What stands in the new manager isn't what is alive in the old one, or what was described: something
-    /// had happened there before, or descriptions contradict each other or its limits. In a rollover into a
-    /// manager in which nothing had happened this would be an error of this crate; it came in no test.
+    /// What stands in the manager isn't what was described: something had happened there before, or
+    /// descriptions contradict each other or its limits. A rollover never answers it.
     Unequal,
 }

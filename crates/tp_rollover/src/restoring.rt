@@ -28,8 +28,8 @@ use crate::moved::{Moved, RollFault};
 use crate::passes::has_open;
 use crate::replays::replay_all;
 use crate::space::RestoreSpace;
-use crate::stops::{Stop, fault_after};
-use crate::survivors::{Survivor, are_held};
+use crate::stops::{Stop, fault_of};
+use crate::survivors::Survivor;
 use std::alloc::Global;
 use tp_manager::{Keeper, Manager, Pass};
 
@@ -198,48 +198,6 @@ pub(crate) fn stand_again(
     Ok(())
 }
 
-/// What `restore` makes, in a space that is lent: what each is there stands in `space.moved` then. `NoMemory`
-/// only where the space is too small for so many elements and this manager, and more couldn't be had. It has
-/// no less memory then.
-pub fn restore_in(
-    space: &mut RestoreSpace,
-    manager: &Manager,
-    keeper: &mut Keeper,
-    passes: &mut [Pass],
-    survivors: &[Survivor],
-) -> Result<(), RollFault>
-    requires keeper { IsKeptBy manager.now keeper.old }
-    requires own { All (IsOf manager.now) passes.old }
-    requires all { AreAll keeper.old passes.old }
-    ensures keeper { IsKeptBy manager.now keeper.new × (keeper.new.given ≡ keeper.old.given) }
-    ensures own { All (IsOf manager.now) passes.new }
-    ensures all { AreAll keeper.new passes.new }
-    ensures restored { OnOk result
-        (Restores manager.now.limits keeper.new passes.new survivors.now space.new.moved.items) }
-    ensures computed { AreFresh manager.now.limits passes.old → IsAsComputed result
-        (λ _. (space.new.moved.items, lone manager.now keeper.new passes.new))
-        (made_anew manager.now.limits (length passes.old) survivors.now (start manager.now.limits)) }
-    ensures due { IfErr result
-        (IsRestoreDue manager.now.limits survivors.now passes.old passes.new) }
-    ensures no_pass { (result ≡ Err faults.NoPass) ↔ (passes.old ≡ []) }
-    ensures memory { result ≡ Err faults.NoMemory → let k = manager.now.limits in
-        ¬ HasRestoreSpace k k (length survivors.now) space.old }
-    ensures space { KeepsRestoreSpace space.old space.new }
-    ensures steps { AllMake (most_new_steps manager.now.limits keeper.old.given (length survivors.now))
-        keeper.old passes.old keeper.new passes.new }
-    ensures replayed { OnOk result
-        (AllMake (new_steps manager.now.limits keeper.old.given keeper.new.seen space.new.moved.items)
-        keeper.old passes.old keeper.new passes.new) }
-{
-    if passes.len() == 0 {
-        return Err(RollFault::NoPass);
-    }
-    match stand_again(space, manager, survivors, manager, keeper, passes) {
-        Ok(()) => Ok(()),
-        Err(stop) => Err(fault_after(stop, manager, passes, are_held(survivors))),
-    }
-}
-
 /// What was described (`survey`), each element once, is made alive in this manager, and nothing else is. What
 /// each is there, in their order. Each goes on as an element of the pass in whose part it was, by the limits
 /// of this manager. What a pass held, the pass of the same number has in hand, in the same attempt; no other
@@ -266,8 +224,7 @@ pub fn restore(
     ensures computed { AreFresh manager.now.limits passes.old → IsAsComputed result
         (λ moved. (moved.items, lone manager.now keeper.new passes.new))
         (made_anew manager.now.limits (length passes.old) survivors.now (start manager.now.limits)) }
-    ensures due { IfErr result
-        (IsRestoreDue manager.now.limits survivors.now passes.old passes.new) }
+    ensures due { IfErr result (IsRestoreDue manager.now.limits survivors.now passes.old) }
     ensures no_pass { (result ≡ Err faults.NoPass) ↔ (passes.old ≡ []) }
     ensures steps { AllMake (most_new_steps manager.now.limits keeper.old.given (length survivors.now))
         keeper.old passes.old keeper.new passes.new }
@@ -275,9 +232,12 @@ pub fn restore(
         AllMake (new_steps manager.now.limits keeper.old.given keeper.new.seen moved.items)
         keeper.old passes.old keeper.new passes.new) }
 {
+    if passes.len() == 0 {
+        return Err(RollFault::NoPass);
+    }
     let mut space = RestoreSpace::empty(alloc);
-    match restore_in(&mut space, manager, keeper, passes, survivors) {
+    match stand_again(&mut space, manager, survivors, manager, keeper, passes) {
         Ok(()) => Ok(space.into_moved()),
-        Err(fault) => Err(fault),
+        Err(stop) => Err(fault_of(stop)),
     }
 }

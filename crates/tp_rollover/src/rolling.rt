@@ -1,5 +1,5 @@
 //! The rollover.
-ghost use Rattle.std.specs.Prelude.{◌≤◌, ◌≡◌, ◌≢◌, ◌+◌, All, Err, IfErr, IfOk, OnOk, length, true, false};
+ghost use Rattle.std.specs.Prelude.{◌≤◌, ◌≡◌, ◌≢◌, ◌+◌, [], All, Err, IfErr, IfOk, OnOk, length, true, false};
 ghost use Rattle.std.specs.List.{AllZip};
 ghost use Rattle.tp_model.specs.Steps.{AreLimits};
 ghost use Rattle.tp_manager.specs.Accounts.{AreAll};
@@ -18,10 +18,10 @@ ghost use Rattle.tp_rollover.specs.Space.{HasSpace, KeepsSpace};
 
 use crate::closing::bury;
 use crate::moved::{Moved, RollFault};
-use crate::passes::{has_open, lacks_pass};
+use crate::passes::lacks_pass;
 use crate::restoring::stand_again;
 use crate::space::Space;
-use crate::stops::{Stop, fault_after};
+use crate::stops::{Stop, fault_anew};
 use crate::surveying::find_all;
 use std::alloc::Global;
 use tp_manager::{Keeper, Manager, Pass};
@@ -73,9 +73,7 @@ fn prepare(
     ensures memory { IfErr result (λ stop. stop ≡ stops.NoMemory
         → ¬ HasSpace old.now.limits new.now.limits space.old) }
     ensures space { KeepsSpace space.old space.new }
-    ensures would_not_fit { AreFresh new.now.limits new_passes.old → result ≡ Err stops.Full
-        → WouldNotFit old.now.limits old_passes.old (length new_passes.old) (start new.now.limits) }
-    ensures unequal { AreLimits new.now.limits → AreFresh new.now.limits new_passes.old
+    ensures unfit { AreLimits new.now.limits → AreFresh new.now.limits new_passes.old
         → IfErr result (λ stop. stop ≢ stops.NoMemory
         → WouldNotFit old.now.limits old_passes.old (length new_passes.old) (start new.now.limits)) }
     ensures ready { OnOk result
@@ -93,10 +91,10 @@ fn prepare(
     )
 }
 
-/// What `roll_over` does, in a space that is lent: what was carried over stands there then (`Space::moved`).
-/// `NoMemory` only where the space is too small for these two managers, and more couldn't be had. It has no
-/// less memory then.
-pub fn roll_over_in(
+/// What `roll_over` does, in a space that is lent: what was carried over stands there then, and nothing where it
+/// is refused. `NoMemory` only where the space is too small for these two managers, and more couldn't be had.
+/// It has no less memory then.
+pub(crate) fn roll_over_in(
     space: &mut Space,
     old: &Manager,
     old_keeper: &mut Keeper,
@@ -118,17 +116,16 @@ pub fn roll_over_in(
     ensures computed { AreFresh new.now.limits new_passes.old → OnOk result
         (Carries old.now.limits old_passes.old (length new_passes.old) (start new.now.limits)
         space.new.restore.moved.items (lone new.now new_keeper.new new_passes.new)) }
-    ensures would_not_fit { AreFresh new.now.limits new_passes.old → result ≡ Err faults.Full
-        → WouldNotFit old.now.limits old_passes.old (length new_passes.old) (start new.now.limits) }
     ensures refused { IfErr result (λ fault. AllZip Stays old_passes.old old_passes.new) }
-    ensures due { IfErr result (λ fault. IsDue old.now.limits new.now.limits old_passes.old new_passes.old
-        new_passes.new fault) }
+    ensures due { IfErr result
+        (IsDue old.now.limits new.now.limits old_passes.old new_passes.old) }
     ensures bad_limits { new.now.limits.attempts ≢ old.now.limits.attempts → result ≡ Err faults.BadLimits }
     ensures no_pass { new.now.limits.attempts ≡ old.now.limits.attempts
         → LacksPass old_passes.old new_passes.old
         → result ≡ Err faults.NoPass }
     ensures memory { result ≡ Err faults.NoMemory → ¬ HasSpace old.now.limits new.now.limits space.old }
     ensures space { KeepsSpace space.old space.new }
+    ensures nothing { IfErr result (λ fault. space.new.restore.moved.items ≡ []) }
     ensures steps { OnOk result (let n = length space.new.restore.moved.items in
         AllMake (old_steps old.now.limits old_keeper.old.given n
         + give_up_steps old.now.limits old_keeper.old.given old_passes.old)
@@ -146,12 +143,13 @@ pub fn roll_over_in(
         new_keeper.old new_passes.old new_keeper.new new_passes.new) }
 {
     if !are_alike(old, new) {
+        space.restore.moved.clear();
         return Err(RollFault::BadLimits);
     }
     if lacks_pass(old_passes, new_passes) {
+        space.restore.moved.clear();
         return Err(RollFault::NoPass);
     }
-    let is_held = has_open(old_passes);
     match prepare(
         space, old, old_keeper, old_passes, new, new_keeper, new_passes,
     ) {
@@ -159,7 +157,10 @@ pub fn roll_over_in(
             bury(old, old_keeper, old_passes, &space.restore.moved);
             Ok(())
         }
-        Err(stop) => Err(fault_after(stop, new, new_passes, is_held)),
+        Err(stop) => {
+            space.restore.moved.clear();
+            Err(fault_anew(stop))
+        }
     }
 }
 
@@ -193,11 +194,9 @@ pub fn roll_over(
     ensures computed { AreFresh new.now.limits new_passes.old → IfOk result (λ moved.
         Carries old.now.limits old_passes.old (length new_passes.old) (start new.now.limits) moved.items
         (lone new.now new_keeper.new new_passes.new)) }
-    ensures would_not_fit { AreFresh new.now.limits new_passes.old → result ≡ Err faults.Full
-        → WouldNotFit old.now.limits old_passes.old (length new_passes.old) (start new.now.limits) }
     ensures refused { IfErr result (λ fault. AllZip Stays old_passes.old old_passes.new) }
-    ensures due { IfErr result (λ fault. IsDue old.now.limits new.now.limits old_passes.old new_passes.old
-        new_passes.new fault) }
+    ensures due { IfErr result
+        (IsDue old.now.limits new.now.limits old_passes.old new_passes.old) }
     ensures bad_limits { new.now.limits.attempts ≢ old.now.limits.attempts → result ≡ Err faults.BadLimits }
     ensures no_pass { new.now.limits.attempts ≡ old.now.limits.attempts
         → LacksPass old_passes.old new_passes.old

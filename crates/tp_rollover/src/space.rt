@@ -2,6 +2,7 @@
 ghost use Rattle.std.specs.Prelude.{◌≡◌, ◌<◌, ◌≤◌, IfOk, OnErr, OnOk, replicate, vec_capacity};
 ghost use Rattle.tp_model.specs.Steps.{rows_of};
 ghost use Rattle.tp_rollover.specs.Space.{HasRestoreSpace, HasSpace, HasSurveySpace};
+ghost use Rattle.tp_rollover.specs.Space.{TakesRestoreSpace, TakesSpace, TakesSurveySpace};
 
 use crate::births::Family;
 use crate::moved::Moved;
@@ -9,7 +10,7 @@ use crate::survivors::Survivor;
 use std::alloc::{AllocError, Global};
 use tp_model::types::{BLOCK_ROWS, Limits};
 
-/// What a survey writes into (`survey_in`), again and again: what it has written, the next one clears.
+/// What a survey writes into (`Managed::survey_in`), again and again: what it has written, the next one clears.
 #[derive(Drop)]
 pub struct SurveySpace {
     pub(crate) ids: Vec<u32>,
@@ -17,7 +18,7 @@ pub struct SurveySpace {
     pub found: Vec<Survivor>,
 }
 
-/// What a restoration writes into (`restore_in`), again and again.
+/// What a restoration writes into, again and again.
 #[derive(Drop)]
 pub struct RestoreSpace {
     /// What the last restoration made.
@@ -27,7 +28,8 @@ pub struct RestoreSpace {
     pub(crate) old_roots: Vec<Option<u32>>,
 }
 
-/// What a rollover writes into (`roll_over_in`), again and again: what it has written, the next one clears.
+/// What a rollover writes into (`Managed::roll_over_into`), again and again: what it has written, the next one
+/// clears.
 #[derive(Drop)]
 pub struct Space {
     pub survey: SurveySpace,
@@ -67,9 +69,10 @@ impl SurveySpace {
         }
     }
 
-    /// All that a survey of a manager with these limits needs.
+    /// All that a survey of a manager with these limits needs, and no more.
     pub fn new(alloc: Global, limits: Limits) -> Result<SurveySpace, AllocError>
-        ensures { IfOk result (HasSurveySpace limits) }
+        ensures has { IfOk result (HasSurveySpace limits) }
+        ensures takes { IfOk result (TakesSurveySpace limits) }
     {
         let rows = rows_of(limits);
         Ok(SurveySpace {
@@ -98,21 +101,16 @@ impl RestoreSpace {
         }
     }
 
-    /// All that is needed to restore so many elements in a manager with these limits.
-    pub fn new(alloc: Global, limits: Limits, survivors: usize) -> Result<RestoreSpace, AllocError>
-        ensures { IfOk result (HasRestoreSpace limits limits survivors) }
-    {
-        RestoreSpace::between(alloc, limits, limits, survivors)
-    }
-
-    /// The same, where they are described by the limits `old`.
+    /// All that is needed to restore so many elements, which are described by the limits `old`, in a manager
+    /// with the limits `new`, and no more.
     fn between(
         alloc: Global,
         old: Limits,
         new: Limits,
         survivors: usize,
     ) -> Result<RestoreSpace, AllocError>
-        ensures { IfOk result (HasRestoreSpace old new survivors) }
+        ensures has { IfOk result (HasRestoreSpace old new survivors) }
+        ensures takes { IfOk result (TakesRestoreSpace old new survivors) }
     {
         let rows = rows_of(old);
         Ok(RestoreSpace {
@@ -146,9 +144,10 @@ impl Space {
         }
     }
 
-    /// All that a rollover needs, from a manager with these limits into one with those.
+    /// All that a rollover needs, from a manager with these limits into one with those, and no more.
     pub fn new(alloc: Global, old: Limits, new: Limits) -> Result<Space, AllocError>
-        ensures { IfOk result (HasSpace old new) }
+        ensures has { IfOk result (HasSpace old new) }
+        ensures takes { IfOk result (TakesSpace old new) }
     {
         Ok(Space {
             survey: SurveySpace::new(alloc, old)?,
@@ -156,7 +155,7 @@ impl Space {
         })
     }
 
-    /// What the last rollover carried over.
+    /// What the last rollover carried over: nothing where it was refused.
     pub fn moved(&self) -> &[Moved]
         ensures { result.now ≡ self.now.restore.moved.items }
     {

@@ -120,7 +120,7 @@ pub(crate) fn find_all(
 /// What `survey` finds, in a space that is lent: it stands in `space.found` then. `NoPass` exactly where no
 /// pass was given out; `NoMemory` only where the space is too small for this manager, and more couldn't be
 /// had. It has no less memory then.
-pub fn survey_in(
+pub(crate) fn survey_in(
     space: &mut SurveySpace,
     manager: &Manager,
     keeper: &mut Keeper,

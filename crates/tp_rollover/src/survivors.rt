@@ -6,7 +6,7 @@ ghost use Rattle.tp_manager.specs.Shown.{IsOf};
 ghost use Rattle.tp_rollover.specs.Thread.{Stays};
 ghost use Rattle.tp_rollover.specs.Bounds.{PassMakes, describe_steps};
 ghost use Rattle.tp_rollover.specs.Finding.{AreDescribed, AreLiving, IsDescribed, StandsLiving, StopsLooking};
-ghost use Rattle.tp_rollover.specs.Survivors.{AreUnheld, HasNoAttempt, IsLiving, IsStanding};
+ghost use Rattle.tp_rollover.specs.Survivors.{HasNoAttempt, IsLiving, IsStanding};
 ghost use Rattle.tp_rollover.specs.Told.{HoldsAsSeen};
 ghost use Rattle.tp_rollover.specs.declared.stops.Stop.TheVariants as stops;
 
@@ -58,19 +58,6 @@ fn standing(limits: Limits, status: Status) -> Option<(Status, Option<u16>)>
         Status::Parked { attempts: _ } => Some((status, None)),
         Status::Killed => None,
     }
-}
-
-/// Whether a pass holds one of these.
-pub fn are_held(survivors: &[Survivor]) -> bool
-    ensures held { result ≡ true → ¬ AreUnheld survivors.now }
-    ensures unheld { result ≡ false → AreUnheld survivors.now }
-{
-    for place in 0..survivors.len() {
-        if survivors[place].holder.is_some() {
-            return true;
-        }
-    }
-    false
 }
 
 /// Describes the element with this id, which was found alive.

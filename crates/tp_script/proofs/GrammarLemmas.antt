@@ -1,7 +1,7 @@
 -- Servers by name, and outputs one after the other.
 use Rattle.std.proofs.Common.{◌≡◌, ℕ, suc, ◌≤◌, ◌<◌, Bool, true, false, List, [], ◌∷◌, ◌++◌, length, map, get_or, Option, Some, Result, Ok, Err, refl, sym, ap, ◌∙◌, append_assoc, arith, position, Bor}
 use Rattle.std.proofs.Common.{zero, ◌&&◌, not, rules, tests, ◌==◌, nat_lt}
-use Rattle.std.specs.Prelude.{nat_le, IsOk, OnErr}
+use Rattle.std.specs.Prelude.{nat_le, IsOk}
 use Rattle.std.specs.List.{list_all}
 use Rattle.std.specs.Str.{IsAscii, IsUtf8}
 use Rattle.std.proofs.lemmas.Str.{IsUtf8-from_ascii}
@@ -12,16 +12,11 @@ use Rattle.tp_script.specs.declared.fault.LineError.{LineError}
 use Rattle.tp_script.specs.declared.fault.LineError.TheVariants as errors
 use Rattle.tp_server.specs.declared.recipe.Output.{Output}
 use Rattle.tp_script.specs.declared.script.ScriptServer.{ScriptServer}
-use Rattle.tp_script.specs.declared.head.AliveLine.{AliveLine}
-use Rattle.tp_script.specs.declared.head.LostLine.{LostLine}
-use Rattle.tp_script.specs.declared.notes.ClientNote.{ClientNote}
-use Rattle.tp_script.specs.declared.notes.EndLine.{EndLine}
-use Rattle.tp_script.specs.declared.notes.RequestNote.{RequestNote}
 use Rattle.std.proofs.Common.{set}
 use Rattle.std.specs.Prelude.{slice_get, option_map}
-use Rattle.std.proofs.lemmas.List.{map-set, set-get_or}
+use Rattle.std.proofs.lemmas.List.{map-set}
 use Rattle.std.proofs.lemmas.Option.{slice_get-map, slice_get_read}
-use Rattle.tp_script.specs.Script.{SettingsView, ServerView, HeadView, WorkerView, server_view}
+use Rattle.tp_script.specs.Script.{SettingsView, HeadView, server_view}
 use Rattle.tp_script.specs.LineWords.{◌>>=◌, output_at, outputs_at, is_name}
 use Rattle.tp_script.specs.Reading.{Fails, Gives}
 use Rattle.tp_script.specs.ServerLines.{with_start, begin_at}
@@ -82,27 +77,17 @@ text_is_ok w (Err e) h text = absurd (h text)
 
 -- ---- a register that begins with a value
 
-pub begins_at : (settings : SettingsView) (items : List ScriptServer) (workers : List WorkerView) (alive : List AliveLine) (lost : List LostLine) (clients : List ClientNote) (requests : List RequestNote) (ends : List EndLine) (place k v : ℕ) (old new : ScriptServer) (r : Result (Unit {0}) LineError) → place < length items → old ≡ get_or items place old
+pub begins_at : (settings : SettingsView) (items : List ScriptServer) (place k v : ℕ) (old new : ScriptServer) (r : Result (Unit {0}) LineError) → place < length items → old ≡ get_or items place old
     → Gives (λ _. server_view new) r (with_start k v (server_view old))
-    → Gives {X = Unit {0}} {Y = HeadView} (λ _. record { settings = settings; servers = map server_view (set items place new); workers = workers; alive = alive; lost = lost; clients = clients; requests = requests; ends = ends }) r (begin_at place k v (record { settings = settings; servers = map server_view items; workers = workers; alive = alive; lost = lost; clients = clients; requests = requests; ends = ends }))
+    → Gives {X = Unit {0}} {Y = HeadView} (λ _. record { settings = settings; servers = map server_view (set items place new) }) r (begin_at place k v (record { settings = settings; servers = map server_view items }))
 unfolding begin_at
-begins_at settings items workers alive lost clients requests ends place k v old new (Ok u) lt at given =
+begins_at settings items place k v old new (Ok u) lt at given =
     let look : slice_get (map server_view items) place ≡ Some (server_view old) = slice_get-map server_view items place ∙ ap (λ (o : Option ScriptServer). option_map server_view o) (slice_get_read items (length items) place old refl lt at) in
     rw (look, given, map-set) refl
-begins_at settings items workers alive lost clients requests ends place k v old new (Err errors.NoMemory) lt at given = tt
-begins_at settings items workers alive lost clients requests ends place k v old new (Err (errors.Fault f)) lt at given =
+begins_at settings items place k v old new (Err errors.NoMemory) lt at given = tt
+begins_at settings items place k v old new (Err (errors.Fault f)) lt at given =
     let look : slice_get (map server_view items) place ≡ Some (server_view old) = slice_get-map server_view items place ∙ ap (λ (o : Option ScriptServer). option_map server_view o) (slice_get_read items (length items) place old refl lt at) in
     rw (look, given) refl
-
--- where that is refused, the servers stay as they were
-pub servers_kept : (items : List ScriptServer) (place : ℕ) (old new : ScriptServer) → old ≡ get_or items place old → server_view new ≡ server_view old → map server_view (set items place new) ≡ map server_view items
-servers_kept items place old new at same = map-set server_view items place new ∙ ap (λ v. set (map server_view items) place v) same ∙ sym (map-set server_view items place old) ∙ ap (λ (o : ScriptServer). map server_view (set items place o)) at ∙ ap (map server_view) (set-get_or items place old)
-
-pub begins_kept : (settings : SettingsView) (items : List ScriptServer) (workers : List WorkerView) (alive : List AliveLine) (lost : List LostLine) (clients : List ClientNote) (requests : List RequestNote) (ends : List EndLine) (place : ℕ) (old new : ScriptServer) (r : Result (Unit {0}) LineError) → old ≡ get_or items place old
-    → OnErr r (server_view new ≡ server_view old)
-    → OnErr r (◌≡◌ {A = HeadView} (record { settings = settings; servers = map server_view (set items place new); workers = workers; alive = alive; lost = lost; clients = clients; requests = requests; ends = ends }) (record { settings = settings; servers = map server_view items; workers = workers; alive = alive; lost = lost; clients = clients; requests = requests; ends = ends }))
-begins_kept settings items workers alive lost clients requests ends place old new (Ok u) at kept = tt
-begins_kept settings items workers alive lost clients requests ends place old new (Err e) at kept = ap (λ (servers : List ServerView). record { settings = settings; servers = servers; workers = workers; alive = alive; lost = lost; clients = clients; requests = requests; ends = ends }) (servers_kept items place old new at kept)
 
 -- a list has room for one more, also as it is shown
 pub room_shown : {A B : Type 0} (f : A → B) (xs : List A) (n most : ℕ) → n ≡ length xs → n < most → nat_lt (length (map f xs)) most ≡ true

@@ -4,7 +4,3 @@ pub mod TextLemmas
 pub mod GrammarLemmas
 pub mod LinesLemmas
 pub mod FirstWords
-pub mod DraftLemmas
-pub mod AliveLemmas
-pub mod OnceLemmas
-pub mod PlaceLemmas

@@ -6,8 +6,6 @@ use Rattle.tp_script.specs.declared.fault.LineFault.{LineFault}
 use Rattle.tp_script.specs.declared.fault.LineFault.TheVariants.{Syntax, BadNumber, BadName}
 use Rattle.tp_script.specs.declared.head.Act.{Act}
 use Rattle.tp_script.specs.declared.head.Act.TheVariants as act
-use Rattle.tp_script.specs.declared.head.Driver.{Driver}
-use Rattle.tp_script.specs.declared.head.Driver.TheVariants as drivers
 use Rattle.tp_script.specs.declared.keyword.Verb.{Verb}
 use Rattle.tp_script.specs.declared.keyword.Verb.TheVariants as verb
 use Rattle.tp_script.specs.declared.script.Command.{Command}
@@ -18,7 +16,7 @@ use Rattle.tp_script.specs.declared.script.Race.{Race}
 use Rattle.tp_model.specs.declared.types.TheConstants.{MAX_PART_ROWS, MAX_PASSES, MAX_STAGE}
 use Rattle.tp_script.specs.Script.{HeadView}
 use Rattle.tp_script.specs.ServerLines.{server_at}
-use Rattle.tp_script.specs.LineWords.{◌>>=◌, require, no_word, one_word, two, number_at, any_stage_at}
+use Rattle.tp_script.specs.LineWords.{◌>>=◌, require, no_word, one_word, two, number_at}
 use Rattle.tp_script.specs.LineWords.{body_numbers, is_name}
 
 -- the server of this name
@@ -69,13 +67,6 @@ abbrev pub list_words : List (List ℕ) → Result (List ℕ × List ℕ) LineFa
 list_words (stage ∷ []) = Ok (stage, codes "0")
 list_words (stage ∷ from ∷ []) = Ok (stage, from)
 list_words ws = Err Syntax
-
--- `list STAGE FROM`
-unfoldable pub list_at : List ℕ × List ℕ → Result Command LineFault
-list_at (stage, from) = do
-  stage ← any_stage_at stage
-  from ← number_at (2 ^ 32 - 1) from
-  Ok (Client (client.List stage from))
 
 -- `take NAME ID`
 unfoldable pub take_at : List ℕ × List ℕ → HeadView → Result Command LineFault
@@ -142,14 +133,9 @@ race_at w = do
     turns = turns;
   })
 
--- a race is a script's
-abbrev pub given_by : Driver → Race → Result Act LineFault
-given_by drivers.Script race = Ok (act.Race race)
-given_by drivers.Session race = Err Syntax
-
 -- `race CLIENTS SUBMITS STAGE KEY AMOUNT KILLERS TURNS`
-unfoldable pub race_said : Driver → List (List ℕ) → Result Act LineFault
-race_said driver ws = race_words ws >>= λ w. race_at w >>= λ race. given_by driver race
+unfoldable pub race_said : List (List ℕ) → Result Act LineFault
+race_said ws = race_words ws >>= λ w. race_at w >>= λ race. Ok (act.Race race)
 
 -- `drain` or `drain next`
 abbrev pub drain_at : List (List ℕ) → Result Act LineFault
@@ -174,8 +160,6 @@ command_at verb.Collect ws s = one_id ws >>= λ root. Ok (Client (client.Collect
 command_at verb.Family ws s = one_id ws >>= λ root. Ok (Client (client.Family root))
 command_at verb.Errors ws s = no_word ws >>= λ _. Ok (Client client.Errors)
 command_at verb.Count ws s = no_word ws >>= λ _. Ok (Client client.Count)
-command_at verb.Depth ws s = no_word ws >>= λ _. Ok (Client client.Depth)
-command_at verb.List ws s = list_words ws >>= λ w. list_at w
 command_at (verb.Desk act) ws s = one_server ws s >>= λ server. Ok (Desk server act)
 command_at verb.Take ws s = two ws >>= λ w. take_at w s
 command_at verb.Balance ws s = two ws >>= λ w. balance_at w s

@@ -3,7 +3,6 @@ use Rattle.std.specs.Prelude.{ℕ, ◌-◌, ◌^◌, List, [], ◌∷◌, length
 use Rattle.std.specs.Prelude.{None, Result, Ok, Err, nat_le, ◌==◌, if◌then◌else◌, codes, count_by}
 use Rattle.std.specs.List.{slice_split, list_all}
 use Rattle.std.specs.Str.{bytes_eq}
-use Rattle.tp_model.specs.declared.types.TheConstants.{REPLY_STAGE}
 use Rattle.tp_server.specs.declared.recipe.Act.{Act}
 use Rattle.tp_server.specs.declared.recipe.Act.TheVariants.{Add, Take, Pass}
 use Rattle.tp_server.specs.declared.recipe.Output.{Output}
@@ -80,19 +79,6 @@ ordinal_at w = do
   n ← number_at (2 ^ 64 - 1) w
   _ ← require (nat_le 1 n) BadNumber
   Ok n
-
--- a stage, that of replies too
-unfoldable pub any_stage_at : List ℕ → Result ℕ LineFault
-any_stage_at w = do
-  stage ← number_at REPLY_STAGE w
-  _ ← require (nat_le 1 stage) BadNumber
-  Ok stage
-
--- an id, or `gone`
-unfoldable pub id_or_gone : List ℕ → Result (Option ℕ) LineFault
-id_or_gone w = if bytes_eq w (codes "gone") then Ok None else do
-  id ← number_at (2 ^ 32 - 1) w
-  Ok (Some id)
 
 -- the four words of a body
 unfoldable pub body_numbers : List ℕ × List ℕ × List ℕ × List ℕ → Result (List ℕ) LineFault

@@ -14,12 +14,6 @@ use Rattle.tp_script.specs.ServerLines as lines
 use Rattle.tp_script.specs.declared.commands.RaceWords.{RaceWords}
 use Rattle.tp_script.specs.declared.commands.SubmitWords.{SubmitWords}
 use Rattle.tp_script.specs.Commands as commands
-use Rattle.tp_script.specs.declared.alive.AliveWords.{AliveWords}
-use Rattle.tp_script.specs.Alive as alive
-use Rattle.tp_script.specs.declared.clients.ClientWords.{ClientWords}
-use Rattle.tp_script.specs.Clients as clients
-use Rattle.tp_script.specs.declared.ends.EndWords.{EndWords}
-use Rattle.tp_script.specs.Ends as ends
 
 -- a fault is the one that is said, and a lack of memory may always come
 abbrev pub Fails : {Y : Type 0} → LineError → Result Y LineFault → Type 0
@@ -59,39 +53,6 @@ submit_view w = record {
   amount = w.amount.now;
   word_two = w.word_two.now;
   word_three = w.word_three.now;
-}
-
--- the words of an `alive` line, without where they lie in memory
-abbrev pub alive_view : AliveWords → alive.AliveWords
-alive_view w = record {
-  id = w.id.now;
-  attempts = w.attempts.now;
-  rounds = w.rounds.now;
-  draft = w.draft.now;
-  root = w.root.now;
-  root_draft = w.root_draft.now;
-}
-
--- the words of a `client` line, without where they lie in memory
-abbrev pub client_view : ClientWords → clients.ClientWords
-client_view w = record {
-  name = w.name.now;
-  sent = w.sent.now;
-  element = w.element.now;
-  received = w.received.now;
-  reply = w.reply.now;
-  root = w.root.now;
-  body = w.body.now;
-}
-
--- the words of an `ended` line, without where they lie in memory
-abbrev pub end_view : EndWords → ends.EndWords
-end_view w = record {
-  ending = w.ending;
-  element = w.element.now;
-  unit = w.unit.now;
-  first = w.first.now;
-  count = w.count.now;
 }
 
 -- the words of a race line, without where they lie in memory

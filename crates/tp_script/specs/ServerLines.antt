@@ -1,8 +1,8 @@
 -- The lines that make servers.
-use Rattle.std.specs.Prelude.{ℕ, ◌-◌, ◌^◌, List, [], ◌∷◌, ◌++◌, length, Bool, not, ◌&&◌, Option, Result}
+use Rattle.std.specs.Prelude.{ℕ, ◌-◌, ◌^◌, List, [], ◌∷◌, ◌++◌, length, ◌&&◌, Result}
 use Rattle.std.specs.Prelude.{Ok, Err}
 use Rattle.std.specs.Prelude.{nat_lt, nat_le, replicate, slice_set, position, slice_get, is_none, is_ok}
-use Rattle.std.specs.List.{list_all, list_any}
+use Rattle.std.specs.List.{list_all}
 use Rattle.std.specs.Str.{bytes_eq}
 use Rattle.tp_server.specs.declared.recipe.Act.{Act}
 use Rattle.tp_server.specs.declared.recipe.Recipe.{Recipe}
@@ -14,8 +14,6 @@ use Rattle.tp_script.specs.declared.script.TheConstants.{MAX_SERVERS}
 use Rattle.tp_script.specs.LineWords.{◌>>=◌, require, known, number_at, is_name, kind_at, act_and_place}
 use Rattle.tp_script.specs.LineWords.{has_two_colons}
 use Rattle.tp_script.specs.LineWords.{outputs_at}
-use Rattle.tp_script.specs.Notes.{NameView}
-use Rattle.tp_script.specs.Once.{is_note_of}
 use Rattle.tp_script.specs.Script.{HeadView, ServerView}
 use Rattle.tp_model.specs.declared.types.TheConstants.{MAX_OUTPUTS}
 
@@ -50,27 +48,11 @@ shape_at (name ∷ kind ∷ stage ∷ registers ∷ act ∷ outputs) = do
   })
 shape_at ws = Err Syntax
 
--- the place of the worker of this name, if there is one
-abbrev pub worker_at : List ℕ → HeadView → Option ℕ
-worker_at name h = position (λ w. bytes_eq w.name name) h.workers
-
--- whether notes are kept of a client of this name
-abbrev pub has_client : List ℕ → HeadView → Bool
-has_client name h = list_any (is_note_of name) h.clients
-
--- a name that no server and no worker has
-unfoldable pub free_name : List ℕ → HeadView → Result NameView LineFault
-free_name name h = do
-  _ ← require (is_name name && is_none (position (λ server. bytes_eq server.name name) h.servers)) BadName
-  _ ← require (is_none (worker_at name h)) BadName
-  Ok (record { letters = name })
-
--- a name that no client has either
-unfoldable pub new_name : List ℕ → HeadView → Result NameView LineFault
+-- a name that no server has
+unfoldable pub new_name : List ℕ → HeadView → Result (List ℕ) LineFault
 new_name name h = do
-  free ← free_name name h
-  _ ← require (not (has_client name h)) BadName
-  Ok free
+  _ ← require (is_name name && is_none (position (λ server. bytes_eq server.name name) h.servers)) BadName
+  Ok name
 
 -- the numbers of a server line
 unfoldable pub recipe_at : Shape → Result Recipe LineFault
@@ -104,7 +86,7 @@ server_said ws h = do
   recipe ← recipe_at shape
   _ ← require (nat_lt (length h.servers) MAX_SERVERS) BadLimits
   registers ← registers_for recipe
-  Ok (record { name = name.letters; kind = shape.kind; recipe = recipe; registers = registers })
+  Ok (record { name = name; kind = shape.kind; recipe = recipe; registers = registers })
 
 -- `server NAME KIND STAGE REGISTERS ACT OUT..`
 unfoldable pub server_line : List (List ℕ) → HeadView → Result HeadView LineFault

@@ -8,8 +8,8 @@ use Rattle.tp_script.specs.declared.fault.LineFault.{LineFault}
 use Rattle.tp_script.specs.declared.fault.LineFault.TheVariants.{Syntax, BadLimits, TooLong, Order}
 use Rattle.tp_script.specs.declared.fault.Refused.{Refused}
 use Rattle.tp_script.specs.declared.head.Act.{Act}
-use Rattle.tp_script.specs.declared.head.Act.TheVariants as act
-use Rattle.tp_script.specs.declared.head.Driver.TheVariants as drivers
+use Rattle.tp_script.specs.declared.head.Said.{Said}
+use Rattle.tp_script.specs.declared.head.Said.TheVariants as said
 use Rattle.tp_script.specs.Grammar.{body_words, head_words, line_words}
 use Rattle.tp_script.specs.Passes.{racers}
 use Rattle.tp_script.specs.Script.{ScriptView, no_head, passes}
@@ -24,14 +24,14 @@ with_act a s = do
   _ ← require (nat_le (passes s + racers a) MAX_PASSES) BadLimits
   Ok (record s { acts = s.acts ++ a ∷ [] })
 
--- the same of what a line asks for; `account` is asked for at the end
-abbrev pub with_said : Option Act → ScriptView → Result ScriptView LineFault
+-- the same of what a line says; the account is told at the end
+abbrev pub with_said : Option Said → ScriptView → Result ScriptView LineFault
 with_said None s = Ok s
-with_said (Some act.Account) s = Ok (record s { account = true })
-with_said (Some a) s = with_act a s
+with_said (Some said.Account) s = Ok (record s { account = true })
+with_said (Some (said.Act a)) s = with_act a s
 
 -- a line after `account` is out of order, whatever it says, unless it says nothing that a line could
-abbrev pub behind_account : Result (Option Act) LineFault → ScriptView → Result ScriptView LineFault
+abbrev pub behind_account : Result (Option Said) LineFault → ScriptView → Result ScriptView LineFault
 behind_account (Ok None) s = Ok s
 behind_account (Err Syntax) s = Err Syntax
 behind_account said s = Err Order
@@ -40,16 +40,15 @@ behind_account said s = Err Order
 
 -- the words of a line of the head, up to the first command
 abbrev pub in_head_words : List (List ℕ) → ScriptView → Result ScriptView LineFault
-in_head_words ws s =
-    head_words drivers.Script ws s.head >>= λ said. with_said said.1 (record s { head = said.0 })
+in_head_words ws s = head_words ws s.head >>= λ read. with_said read.1 (record s { head = read.0 })
 
 -- and behind it
 abbrev pub in_body_words : List (List ℕ) → ScriptView → Result ScriptView LineFault
-in_body_words ws s = body_words drivers.Script ws s.head >>= λ said. with_said said s
+in_body_words ws s = body_words ws s.head >>= λ read. with_said read s
 
 -- the words of a line: behind `account`, in the head, or behind it
 unfoldable pub words_line : List (List ℕ) → ScriptView → Result ScriptView LineFault
-words_line ws s = if s.account then behind_account (body_words drivers.Script ws s.head) s
+words_line ws s = if s.account then behind_account (body_words ws s.head) s
     else if length s.acts == 0 then in_head_words ws s else in_body_words ws s
 
 unfoldable pub line_at : List ℕ → ScriptView → Result ScriptView LineFault

@@ -3,16 +3,16 @@ ghost use Rattle.std.specs.Prelude.{◌<◌, ◌≤◌, ℕ, map, vec_len, IfOk}
 ghost use Rattle.tp_model.specs.declared.types.TheConstants.{MAX_STAGE};
 ghost use Rattle.tp_script.specs.Commands.{server_named, one_server, one_id, submit_at, submit_body};
 ghost use Rattle.tp_script.specs.Commands.{submit_words};
-ghost use Rattle.tp_script.specs.Commands.{balance_at, command_at, drain_at, given_by, list_at, list_words};
+ghost use Rattle.tp_script.specs.Commands.{balance_at, command_at, drain_at};
 ghost use Rattle.tp_script.specs.Commands.{race_at, race_said, race_words, rollover_at, stage_at, take_at};
-ghost use Rattle.tp_script.specs.Ranges.{IsActOf, IsInRange, IsRaceInRange};
+ghost use Rattle.tp_script.specs.Ranges.{IsActInRange, IsInRange, IsRaceInRange};
 ghost use Rattle.tp_script.specs.Reading.{Gives, submit_view, race_view};
 ghost use Rattle.tp_script.specs.Script.{head_view};
 
 use crate::fault::{LineError, LineFault};
-use crate::head::{Act, Driver, Head};
+use crate::head::{Act, Head};
 use crate::keyword::Verb;
-use crate::line_words::{any_stage_at, body_of, is, is_name, none, number_at, one, two};
+use crate::line_words::{body_of, is, is_name, none, number_at, one, two};
 use crate::script::{ClientAct, Command, DeskAct, Race};
 use tp_model::types::{Body, MAX_PART_ROWS, MAX_PASSES, MAX_STAGE};
 
@@ -25,18 +25,18 @@ fn one_id(words: &[&[u8]]) -> Result<u32, LineError>
     Ok(id as u32)
 }
 
-/// The words of a submit line, each in its place.
+// The words of a submit line, each in its place.
 #[derive(Clone, Copy)]
-pub(crate) struct SubmitWords<'a> {
-    pub stage: &'a [u8],
-    pub key: &'a [u8],
-    pub amount: &'a [u8],
-    pub word_two: &'a [u8],
-    pub word_three: &'a [u8],
+struct SubmitWords<'a> {
+    stage: &'a [u8],
+    key: &'a [u8],
+    amount: &'a [u8],
+    word_two: &'a [u8],
+    word_three: &'a [u8],
 }
 
-/// STAGE KEY AMOUNT, with words 2 and 3 of the body after; missing ones are 0.
-pub(crate) fn submit_words<'a>(words: &[&'a [u8]]) -> Result<SubmitWords<'a>, LineError>
+// STAGE KEY AMOUNT, with words 2 and 3 of the body after; missing ones are 0.
+fn submit_words<'a>(words: &[&'a [u8]]) -> Result<SubmitWords<'a>, LineError>
     ensures { Gives submit_view result (submit_words (map (λ x. x.now) words.now)) }
 {
     let (stage, key, amount, word_two, word_three) = match words {
@@ -55,8 +55,8 @@ pub(crate) fn submit_words<'a>(words: &[&'a [u8]]) -> Result<SubmitWords<'a>, Li
 }
 
 impl SubmitWords<'_> {
-    /// The body that they say.
-    pub(crate) fn body(self) -> Result<Body, LineError>
+    // The body that they say.
+    fn body(self) -> Result<Body, LineError>
         ensures { Gives (λ body. body) result (submit_body (submit_view self.entry)) }
     {
         body_of((self.key, self.amount, self.word_two, self.word_three))
@@ -72,28 +72,6 @@ fn submit_at(words: SubmitWords<'_>) -> Result<Command, LineError>
     let stage = number_at(words.stage, 255)? as u8;
     let body = words.body()?;
     Ok(Command::Client(ClientAct::Submit { stage, body }))
-}
-
-// STAGE, and FROM after it; it is 0 where it is missing.
-fn list_words<'a>(words: &[&'a [u8]]) -> Result<(&'a [u8], &'a [u8]), LineError>
-    ensures { Gives (λ w. (w.0.now, w.1.now)) result (list_words (map (λ x. x.now) words.now)) }
-{
-    match words {
-        [stage] => Ok((*stage, b"0".as_slice())),
-        [stage, from] => Ok((*stage, *from)),
-        _ => Err(LineFault::Syntax.into()),
-    }
-}
-
-// `list STAGE FROM`
-#[tactic(auto, unfolding(crate::specs::Commands::list_at))]
-fn list_at(words: (&[u8], &[u8])) -> Result<Command, LineError>
-    ensures gives { Gives (λ c. c) result (list_at (words.entry.0.now, words.entry.1.now)) }
-    ensures in_range { IfOk result (λ c. (servers : ℕ) → IsInRange servers c) }
-{
-    let stage = any_stage_at(words.0)?;
-    let from = number_at(words.1, u64::from(u32::MAX))? as u32;
-    Ok(Command::Client(ClientAct::List { stage, from }))
 }
 
 // The words of a race line, each in its place.
@@ -126,9 +104,9 @@ fn race_words<'a>(words: &[&'a [u8]]) -> Result<RaceWords<'a>, LineError>
     })
 }
 
-/// A stage that clients may submit to.
+// A stage that clients may submit to.
 #[tactic(auto, unfolding(crate::specs::Commands::stage_at))]
-pub(crate) fn stage_at(word: &[u8]) -> Result<u8, LineError>
+fn stage_at(word: &[u8]) -> Result<u8, LineError>
     ensures gives { Gives (λ n. n) result (stage_at word.now) }
     ensures bounds { IfOk result (λ n. (1 ≤ n) × (n ≤ MAX_STAGE)) }
 {
@@ -163,32 +141,20 @@ fn race_at(words: RaceWords<'_>) -> Result<Race, LineError>
     })
 }
 
-// A race is a script's.
-fn given_by(driver: Driver, race: Race) -> Result<Act, LineError>
-    requires { IsRaceInRange race }
-    ensures gives { Gives (λ a. a) result (given_by driver race) }
-    ensures in_range { (servers : ℕ) → (workers : ℕ) → IfOk result (λ a. IsActOf driver servers workers a) }
-{
-    match driver {
-        Driver::Script => Ok(Act::Race(race)),
-        Driver::Session => Err(LineFault::Syntax.into()),
-    }
-}
-
 /// `race CLIENTS SUBMITS STAGE KEY AMOUNT KILLERS TURNS`
 #[tactic(auto, unfolding(crate::specs::Commands::race_said))]
-pub(crate) fn race_said(driver: Driver, words: &[&[u8]]) -> Result<Act, LineError>
-    ensures gives { Gives (λ a. a) result (race_said driver (map (λ x. x.now) words.now)) }
-    ensures in_range { (servers : ℕ) → (workers : ℕ) → IfOk result (λ a. IsActOf driver servers workers a) }
+pub(crate) fn race_said(words: &[&[u8]]) -> Result<Act, LineError>
+    ensures gives { Gives (λ a. a) result (race_said (map (λ x. x.now) words.now)) }
+    ensures in_range { (servers : ℕ) → IfOk result (IsActInRange servers) }
 {
-    given_by(driver, race_at(race_words(words)?)?)
+    let race = race_at(race_words(words)?)?;
+    Ok(Act::Race(race))
 }
 
 /// `drain` or `drain next`
 pub(crate) fn drain_at(words: &[&[u8]]) -> Result<Act, LineError>
     ensures gives { Gives (λ a. a) result (drain_at (map (λ x. x.now) words.now)) }
-    ensures in_range { (driver : Driver) → (servers : ℕ) → (workers : ℕ)
-        → IfOk result (λ a. IsActOf driver servers workers a) }
+    ensures in_range { (servers : ℕ) → IfOk result (IsActInRange servers) }
 {
     match words {
         [] => Ok(Act::Drain),
@@ -206,8 +172,7 @@ pub(crate) fn drain_at(words: &[&[u8]]) -> Result<Act, LineError>
 /// `rollover`
 pub(crate) fn rollover_at(words: &[&[u8]]) -> Result<Act, LineError>
     ensures gives { Gives (λ a. a) result (rollover_at (map (λ x. x.now) words.now)) }
-    ensures in_range { (driver : Driver) → (servers : ℕ) → (workers : ℕ)
-        → IfOk result (λ a. IsActOf driver servers workers a) }
+    ensures in_range { (servers : ℕ) → IfOk result (IsActInRange servers) }
 {
     none(words)?;
     Ok(Act::Rollover)
@@ -294,11 +259,6 @@ impl Head {
                 none(words)?;
                 Ok(Command::Client(ClientAct::Count))
             }
-            Verb::Depth => {
-                none(words)?;
-                Ok(Command::Client(ClientAct::Depth))
-            }
-            Verb::List => list_at(list_words(words)?),
             Verb::Desk(act) => Ok(Command::Desk {
                 server: self.one_server(words)?,
                 act,

@@ -24,26 +24,21 @@ pub enum ReadFault {
 /// What is wrong with a line. Of several faults the first in this order counts: 6, 1, 7, 5, 2, 3, 4.
 #[derive(Clone, Copy, Debug, PartialEq, Eq)]
 pub enum LineFault {
-    /// 1: an unknown first word, kind, act or ending, a wrong number of words, a byte that isn't allowed, an
-    /// output without exactly two colons, a draft without two to four, or a body without three.
+    /// 1: an unknown first word, kind or act, a wrong number of words, a byte that isn't allowed, or an output
+    /// without exactly two colons.
     Syntax,
-    /// 2: a number word that isn't 1 to 20 digits, or outside its bounds, or a second `request` line of one
-    /// root.
+    /// 2: a number word that isn't 1 to 20 digits, or outside its bounds.
     BadNumber,
-    /// 3: a setting outside its range, too many servers, workers, clients or elements that are alive, or a
-    /// race with which too many passes are needed.
+    /// 3: a setting outside its range, too many servers, or a race with which too many passes are needed.
     BadLimits,
     /// 4: a recipe that is refused, or a `start` of a register that the server doesn't have.
     BadRecipe,
-    /// 5: a name that isn't 1 to 8 small letters, that another server, worker or client has, or that none
-    /// has, a command that workers don't have, or a second line of one client, or of what one worker has in
-    /// hand, or of how its last unit ended.
+    /// 5: a name that isn't 1 to 8 small letters, that another server has, or that none has.
     BadName,
-    /// 6: a line above 208 bytes, or a script above 65,536 bytes.
+    /// 6: a line above 200 bytes, or a script above 65,536 bytes.
     TooLong,
-    /// 7: a setting after a server, a line of the head or `restore` after a command, another first command
-    /// than `restore` where the head says what that brings back, or in a script that is no session a line of
-    /// any kind after `account`.
+    /// 7: a setting after a server, a line of the head after a command, or a line of any kind after
+    /// `account`.
     Order,
 }
 

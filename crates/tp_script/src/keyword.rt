@@ -2,7 +2,7 @@
 ghost use Rattle.std.specs.Prelude.{◌≡◌};
 ghost use Rattle.tp_script.specs.Keyword.{keyword};
 
-use crate::script::{DeskAct, Overview};
+use crate::script::DeskAct;
 
 /// What a line is, by its first word.
 #[derive(Clone, Copy)]
@@ -13,28 +13,6 @@ pub enum Keyword {
     Spare,
     Server,
     Start,
-    /// The line names a worker.
-    Worker,
-    /// The line says how many places there are for workers.
-    Workers,
-    /// The line says that a worker leaves.
-    Leave,
-    /// The line says that an element is alive.
-    Alive,
-    /// The line says that an element is in a worker's hand.
-    Held,
-    /// The line says that a worker's unit of work was lost.
-    Lost,
-    /// The line says what is noted of a client.
-    Client,
-    /// The line says that a root is a client's request.
-    Request,
-    /// The line says how a worker's last unit of work ended.
-    Ended,
-    /// The line asks that notes be kept of a client, in the head and behind it.
-    Register,
-    /// The line is a command of a client of whom notes are kept.
-    Noted(NotedVerb),
     /// The line is a command.
     Do(Verb),
     /// The line asks for a race.
@@ -43,14 +21,8 @@ pub enum Keyword {
     Drain,
     /// The line asks for a rollover.
     Rollover,
-    /// The line asks that what the head says be alive again.
-    Restore,
-    /// The line asks for the lines that lead to this state.
-    Dump,
     /// The line asks for the account.
     Account,
-    /// The line asks what is left to all passes, or what they have in hand.
-    Overview(Overview),
 }
 
 /// What a command is, by its first word.
@@ -67,8 +39,6 @@ pub enum Verb {
     Family,
     Errors,
     Count,
-    Depth,
-    List,
     /// A server's desk does this.
     Desk(DeskAct),
     Take,
@@ -76,37 +46,14 @@ pub enum Verb {
     Sum,
 }
 
-/// What a command of a client of whom notes are kept is, by its first word.
-#[derive(Clone, Copy)]
-pub enum NotedVerb {
-    Send,
-    Receive,
-    Last,
-    Forget,
-}
-
 /// The first words that lines may have: how each is written, and what the line is.
-const FIRST_WORDS: [(&str, Keyword); 51] = [
+const FIRST_WORDS: [(&str, Keyword); 31] = [
     ("rows", Keyword::Rows),
     ("units", Keyword::Units),
     ("limit", Keyword::Limit),
     ("spare", Keyword::Spare),
     ("server", Keyword::Server),
     ("start", Keyword::Start),
-    ("worker", Keyword::Worker),
-    ("workers", Keyword::Workers),
-    ("leave", Keyword::Leave),
-    ("alive", Keyword::Alive),
-    ("held", Keyword::Held),
-    ("lost", Keyword::Lost),
-    ("client", Keyword::Client),
-    ("request", Keyword::Request),
-    ("ended", Keyword::Ended),
-    ("register", Keyword::Register),
-    ("send", Keyword::Noted(NotedVerb::Send)),
-    ("receive", Keyword::Noted(NotedVerb::Receive)),
-    ("last", Keyword::Noted(NotedVerb::Last)),
-    ("forget", Keyword::Noted(NotedVerb::Forget)),
     ("submit", Keyword::Do(Verb::Submit)),
     ("turn", Keyword::Do(Verb::Desk(DeskAct::Turn))),
     ("reply", Keyword::Do(Verb::Reply)),
@@ -128,16 +75,10 @@ const FIRST_WORDS: [(&str, Keyword); 51] = [
     ("balance", Keyword::Do(Verb::Balance)),
     ("sum", Keyword::Do(Verb::Sum)),
     ("count", Keyword::Do(Verb::Count)),
-    ("depth", Keyword::Do(Verb::Depth)),
-    ("list", Keyword::Do(Verb::List)),
     ("race", Keyword::Race),
     ("drain", Keyword::Drain),
     ("rollover", Keyword::Rollover),
-    ("restore", Keyword::Restore),
-    ("dump", Keyword::Dump),
     ("account", Keyword::Account),
-    ("room", Keyword::Overview(Overview::Room)),
-    ("holds", Keyword::Overview(Overview::Holds)),
 ];
 
 impl Keyword {

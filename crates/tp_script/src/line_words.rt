@@ -1,5 +1,5 @@
 //! What the words of a line say.
-ghost use Rattle.tp_model.specs.declared.types.TheConstants.{MAX_OUTPUTS, REPLY_STAGE};
+ghost use Rattle.tp_model.specs.declared.types.TheConstants.{MAX_OUTPUTS};
 ghost use Rattle.std.specs.Prelude.{◌≡◌, ◌≤◌, ◌-◌, ◌^◌, ◌&&◌, map, length, IfOk, IsTrue, nat_le};
 ghost use Rattle.std.specs.List.{list_all};
 ghost use Rattle.std.specs.Str.{bytes_eq};
@@ -8,8 +8,7 @@ ghost use Rattle.tp_script.specs.LineWords.{no_word, one_word, two, three, numbe
 ghost use Rattle.tp_script.specs.LineWords.{act_named};
 ghost use Rattle.tp_script.specs.LineWords.{place_at, act_words, act_and_place, key_at, amount_at};
 ghost use Rattle.tp_script.specs.LineWords.{has_two_colons};
-ghost use Rattle.tp_script.specs.LineWords.{any_stage_at, body_at, body_numbers, four, id_or_gone};
-ghost use Rattle.tp_script.specs.LineWords.{ordinal_at};
+ghost use Rattle.tp_script.specs.LineWords.{body_numbers};
 ghost use Rattle.tp_script.specs.LineWords.{output_at, outputs_at};
 
 use crate::fault::{LineError, LineFault};
@@ -17,7 +16,7 @@ use crate::script::Kind;
 use crate::text::{number, parts};
 use arrayvec::ArrayVec;
 use std::alloc::Global;
-use tp_model::types::{Body, REPLY_STAGE};
+use tp_model::types::Body;
 use tp_server::{Act, AmountFrom, KeyFrom, Output};
 
 /// No word of a line after the first.
@@ -60,16 +59,6 @@ pub(crate) fn three<'a>(words: &[&'a [u8]]) -> Result<(&'a [u8], &'a [u8], &'a [
     }
 }
 
-// The four words of a line after the first.
-fn four<'a>(words: &[&'a [u8]]) -> Result<(&'a [u8], &'a [u8], &'a [u8], &'a [u8]), LineError>
-    ensures { Gives (λ x. (x.0.now, x.1.now, x.2.now, x.3.now)) result (four (map (λ x. x.now) words.now)) }
-{
-    match words {
-        [a, b, c, d] => Ok((*a, *b, *c, *d)),
-        _ => Err(LineFault::Syntax.into()),
-    }
-}
-
 /// The number of a word, up to a bound.
 pub(crate) fn number_at(word: &[u8], most: u64) -> Result<u64, LineError>
     ensures gives { Gives (λ n. n) result (number_at most word.now) }
@@ -78,43 +67,6 @@ pub(crate) fn number_at(word: &[u8], most: u64) -> Result<u64, LineError>
     match number(word, most) {
         Some(n) => Ok(n),
         None => Err(LineFault::BadNumber.into()),
-    }
-}
-
-/// The number of a word, which counts from 1.
-#[tactic(auto, unfolding(crate::specs::LineWords::ordinal_at))]
-pub(crate) fn ordinal_at(word: &[u8]) -> Result<u64, LineError>
-    ensures { Gives (λ n. n) result (ordinal_at word.now) }
-{
-    let n = number_at(word, u64::MAX)?;
-    if n < 1 {
-        return Err(LineFault::BadNumber.into());
-    }
-    Ok(n)
-}
-
-/// A stage, that of replies too.
-#[tactic(auto, unfolding(crate::specs::LineWords::any_stage_at))]
-pub(crate) fn any_stage_at(word: &[u8]) -> Result<u8, LineError>
-    ensures gives { Gives (λ n. n) result (any_stage_at word.now) }
-    ensures bounds { IfOk result (λ n. (1 ≤ n) × (n ≤ REPLY_STAGE)) }
-{
-    let stage = number_at(word, u64::from(REPLY_STAGE))?;
-    if stage < 1 {
-        return Err(LineFault::BadNumber.into());
-    }
-    Ok(stage as u8)
-}
-
-/// An id, or `gone`.
-#[tactic(auto, unfolding(crate::specs::LineWords::id_or_gone))]
-pub(crate) fn id_or_gone(word: &[u8]) -> Result<Option<u32>, LineError>
-    ensures { Gives (λ id. id) result (id_or_gone word.now) }
-{
-    if is(word, "gone") {
-        Ok(None)
-    } else {
-        Ok(Some(number_at(word, u64::from(u32::MAX))? as u32))
     }
 }
 
@@ -130,15 +82,6 @@ pub(crate) fn body_of(words: (&[u8], &[u8], &[u8], &[u8])) -> Result<Body, LineE
         number_at(words.2, u64::MAX)?,
         number_at(words.3, u64::MAX)?,
     ])
-}
-
-/// `W0:W1:W2:W3`, a whole body.
-#[tactic(auto, unfolding(crate::specs::LineWords::body_at))]
-pub(crate) fn body_at(alloc: Global, word: &[u8]) -> Result<Body, LineError>
-    ensures { Gives (λ body. body) result (body_at word.now) }
-{
-    let parts = parts(alloc, word, b':')?;
-    body_of(four(parts.as_slice())?)
 }
 
 /// A name as text.

@@ -40,7 +40,7 @@ pub enum Kind {
 /// A server line, with the start lines of that server.
 #[derive(Drop)]
 pub struct ScriptServer {
-    /// 1 to 8 small letters, which no other server or worker has.
+    /// 1 to 8 small letters, which no other server has.
     pub name: String,
     /// How it keeps prepared work.
     pub kind: Kind,
@@ -77,10 +77,6 @@ pub enum ClientAct {
     Errors,
     /// It counts the elements by status.
     Count,
-    /// It counts what waits, is held and is parked in each stage.
-    Depth,
-    /// It lists the elements that wait in a stage, from an id on.
-    List { stage: u8, from: u32 },
 }
 
 /// What a server's desk does.
@@ -102,15 +98,6 @@ pub enum DeskAct {
     Abort,
     /// It is dropped.
     Drop,
-}
-
-/// What is told of all passes at once: the client's, the servers' and the workers'.
-#[derive(Clone, Copy)]
-pub enum Overview {
-    /// The rows and the units that are left to each, and the spare blocks that are left.
-    Room,
-    /// What each has in hand.
-    Holds,
 }
 
 /// The servers take turns while clients submit and killers kill, each on a thread of its own.

@@ -1,13 +1,13 @@
 //! The lines that make servers.
 ghost use Rattle.tp_model.specs.declared.types.TheConstants.{MAX_OUTPUTS};
-ghost use Rattle.std.specs.Prelude.{◌≡◌, ◌≤◌, ◌<◌, map, length, IfOk, IfSome, OnErr, OnOk, position, vec_len};
-ghost use Rattle.std.specs.Prelude.{string_bytes, replicate, false, Ok, is_ok};
+ghost use Rattle.std.specs.Prelude.{◌≡◌, ◌≤◌, ◌<◌, map, length, IfOk, IfSome, OnOk, position, vec_len};
+ghost use Rattle.std.specs.Prelude.{string_bytes, replicate, Ok, is_ok};
 ghost use Rattle.std.specs.Str.{bytes_eq};
 ghost use Rattle.tp_server.specs.Check.{check_of};
 ghost use Rattle.tp_script.specs.LineWords.{of_three_words};
 ghost use Rattle.tp_script.specs.Reading.{Gives, GivesHead, shape_view};
 ghost use Rattle.tp_script.specs.Script.{head_view, server_view};
-ghost use Rattle.tp_script.specs.ServerLines.{free_name, has_client, new_name, server_at, shape_at};
+ghost use Rattle.tp_script.specs.ServerLines.{new_name, server_at, shape_at};
 ghost use Rattle.tp_script.specs.ServerLines.{recipe_at, registers_for};
 ghost use Rattle.tp_script.specs.ServerLines.{server_line, server_said, with_server, with_start, begin_at};
 ghost use Rattle.tp_script.specs.ServerLines.{start_line};
@@ -15,8 +15,9 @@ ghost use Rattle.tp_script.specs.declared.script.TheConstants.{MAX_SERVERS};
 
 use crate::fault::{LineError, LineFault};
 use crate::head::Head;
-use crate::line_words::{act_at, all_outputs, is_name, kind_at, number_at, outputs_at, three};
-use crate::notes::Name;
+use crate::line_words::{
+    act_at, all_outputs, is_name, kind_at, name_text, number_at, outputs_at, three,
+};
 use crate::script::{Kind, MAX_SERVERS, ScriptServer};
 use std::alloc::Global;
 use std::string::String;
@@ -26,7 +27,7 @@ use tp_server::{Act, Recipe, Registers};
 /// The words of a server line, each in its place.
 #[derive(Clone, Copy)]
 pub(crate) struct Shape<'a> {
-    pub name: &'a [u8],
+    name: &'a [u8],
     kind: Kind,
     stage: &'a [u8],
     registers: &'a [u8],
@@ -128,32 +129,15 @@ impl Head {
         }
     }
 
-    /// A name that no server and no worker has.
-    #[tactic(auto, unfolding(crate::specs::ServerLines::free_name))]
-    pub(crate) fn free_name(&self, name: &[u8]) -> Result<Name, LineError>
-        ensures gives { Gives (λ x. x) result (free_name name.now (head_view self.now)) }
-        ensures same { IfOk result (λ x. x.letters ≡ name.now) }
+    // A name that no server has.
+    #[tactic(auto, unfolding(crate::specs::ServerLines::new_name))]
+    fn new_name(&self, alloc: Global, name: &[u8]) -> Result<String, LineError>
+        ensures { Gives (λ x. string_bytes x) result (new_name name.now (head_view self.now)) }
     {
         if !is_name(name) || self.place(name).is_some() {
             return Err(LineFault::BadName.into());
         }
-        if self.worker_at(name).is_some() {
-            return Err(LineFault::BadName.into());
-        }
-        Ok(Name::of(name))
-    }
-
-    /// A name that no client has either.
-    #[tactic(auto, unfolding(crate::specs::ServerLines::new_name))]
-    pub(crate) fn new_name(&self, name: &[u8]) -> Result<Name, LineError>
-        ensures gives { Gives (λ x. x) result (new_name name.now (head_view self.now)) }
-        ensures fresh { IfOk result (λ x. has_client x.letters (head_view self.now) ≡ false) }
-    {
-        let free = self.free_name(name)?;
-        if self.has_client(name) {
-            return Err(LineFault::BadName.into());
-        }
-        Ok(free)
+        Ok(String::from_str(alloc, name_text(name))?)
     }
 
     // Adds a server.
@@ -161,7 +145,6 @@ impl Head {
         requires { vec_len self.old.servers < MAX_SERVERS }
         ensures gives { GivesHead self.new result
             (Ok (with_server (server_view server) (head_view self.old))) }
-        ensures kept { OnErr result (head_view self.new ≡ head_view self.old) }
     {
         self.servers.push(server)?;
         Ok(())
@@ -175,8 +158,7 @@ impl Head {
         ensures room { IfOk result (λ _. vec_len self.now.servers < MAX_SERVERS) }
     {
         let shape = shape_at(alloc, words)?;
-        let name = self.new_name(shape.name)?;
-        let name = String::from_str(alloc, name.as_str())?;
+        let name = self.new_name(alloc, shape.name)?;
         let recipe = recipe_at(alloc, &shape)?;
         if self.servers.len() >= MAX_SERVERS {
             return Err(LineFault::BadLimits.into());
@@ -196,7 +178,6 @@ impl Head {
     pub(crate) fn server_line(&mut self, alloc: Global, words: &[&[u8]]) -> Result<(), LineError>
         ensures gives { GivesHead self.new result (server_line (map (λ x. x.now) words.now)
             (head_view self.old)) }
-        ensures kept { OnErr result (head_view self.new ≡ head_view self.old) }
     {
         let server = self.server_said(alloc, words)?;
         self.with_server(server)
@@ -207,7 +188,6 @@ impl Head {
     pub(crate) fn start_line(&mut self, words: &[&[u8]]) -> Result<(), LineError>
         ensures gives { GivesHead self.new result
             (of_three_words (λ w. start_line w (head_view self.old)) (map (λ x. x.now) words.now)) }
-        ensures kept { OnErr result (head_view self.new ≡ head_view self.old) }
     {
         let (name, k, v) = three(words)?;
         if !is_name(name) {
@@ -223,7 +203,6 @@ impl Head {
     fn begin_at(&mut self, place: usize, k: u64, v: u64) -> Result<(), LineError>
         requires { place < vec_len self.old.servers }
         ensures gives { GivesHead self.new result (begin_at place k v (head_view self.old)) }
-        ensures kept { OnErr result (head_view self.new ≡ head_view self.old) }
     {
         self.servers[place].begin(k, v)
     }
@@ -234,7 +213,6 @@ impl ScriptServer {
     #[tactic(auto, unfolding(crate::specs::ServerLines::with_start))]
     fn begin(&mut self, k: u64, v: u64) -> Result<(), LineError>
         ensures gives { Gives (λ _. server_view self.new) result (with_start k v (server_view self.old)) }
-        ensures kept { OnErr result (server_view self.new ≡ server_view self.old) }
     {
         if k >= u64::from(self.registers.len()) {
             return Err(LineFault::BadRecipe.into());

@@ -1,5 +1,5 @@
 //! The settings of a head, each a line of its own.
-ghost use Rattle.std.specs.Prelude.{◌≡◌, ◌≤◌, map, IfOk, OnErr};
+ghost use Rattle.std.specs.Prelude.{◌≡◌, ◌≤◌, map, IfOk};
 ghost use Rattle.tp_script.specs.Grammar.{limit_line, rows_line, setting_at, spare_line, units_line};
 ghost use Rattle.tp_script.specs.LineWords.{of_one_word};
 ghost use Rattle.tp_script.specs.Reading.{Gives, GivesHead};
@@ -32,7 +32,6 @@ impl Head {
     pub(crate) fn rows_line(&mut self, words: &[&[u8]]) -> Result<(), LineError>
         ensures gives { GivesHead self.new result
             (of_one_word (λ w. rows_line w (head_view self.old)) (map (λ x. x.now) words.now)) }
-        ensures kept { OnErr result (head_view self.new ≡ head_view self.old) }
     {
         self.settings.rows = self.setting_at(one(words)?, 1, MAX_PART_ROWS)?;
         Ok(())
@@ -43,7 +42,6 @@ impl Head {
     pub(crate) fn units_line(&mut self, words: &[&[u8]]) -> Result<(), LineError>
         ensures gives { GivesHead self.new result
             (of_one_word (λ w. units_line w (head_view self.old)) (map (λ x. x.now) words.now)) }
-        ensures kept { OnErr result (head_view self.new ≡ head_view self.old) }
     {
         self.settings.units = self.setting_at(one(words)?, 1, MAX_UNITS)?;
         Ok(())
@@ -54,7 +52,6 @@ impl Head {
     pub(crate) fn limit_line(&mut self, words: &[&[u8]]) -> Result<(), LineError>
         ensures gives { GivesHead self.new result
             (of_one_word (λ w. limit_line w (head_view self.old)) (map (λ x. x.now) words.now)) }
-        ensures kept { OnErr result (head_view self.new ≡ head_view self.old) }
     {
         self.settings.attempts = self.setting_at(one(words)?, 1, u16::from(MAX_ATTEMPTS))? as u8;
         Ok(())
@@ -65,7 +62,6 @@ impl Head {
     pub(crate) fn spare_line(&mut self, words: &[&[u8]]) -> Result<(), LineError>
         ensures gives { GivesHead self.new result
             (of_one_word (λ w. spare_line w (head_view self.old)) (map (λ x. x.now) words.now)) }
-        ensures kept { OnErr result (head_view self.new ≡ head_view self.old) }
     {
         self.settings.spare = self.setting_at(one(words)?, 0, MAX_BLOCKS)?;
         Ok(())

@@ -3,21 +3,20 @@ ghost use Rattle.std.specs.Prelude.{◌≡◌, ◌+◌, ◌≤◌, Result, Optio
 ghost use Rattle.std.specs.List.{All};
 ghost use Rattle.tp_model.specs.declared.types.TheConstants.{MAX_PASSES};
 ghost use Rattle.tp_script.specs.declared.fault.LineFault.{LineFault};
-ghost use Rattle.tp_script.specs.declared.head.Act.{Act};
-ghost use Rattle.tp_script.specs.declared.head.Driver.TheVariants as drivers;
+ghost use Rattle.tp_script.specs.declared.head.Said.{Said};
 ghost use Rattle.tp_script.specs.Passes.{has_race, racing};
-ghost use Rattle.tp_script.specs.Ranges.{IsScriptAct, IsScriptAct-prop};
+ghost use Rattle.tp_script.specs.Ranges.{IsActInRange, IsActInRange-prop, IsSaidInRange};
 
 use crate::fault::{LineError, LineFault};
 use crate::grammar::line_words;
-use crate::head::{Act, Driver, Head};
+use crate::head::{Act, Head, Said};
 use std::alloc::Global;
 use tp_model::types::MAX_PASSES;
 
 /// A script that was read.
 #[derive(Drop)]
 pub struct Script {
-    /// Its settings, servers and workers, and what it says is alive, in hand or lost.
+    /// Its settings and servers.
     pub head: Head,
     /// What its commands ask for, in their order.
     pub acts: Vec<Act>,
@@ -26,8 +25,8 @@ pub struct Script {
     // How many passes its races need.
     racers: u16,
     ghost racers_counted: { racers ≡ racing acts.items },
-    ghost few_passes: { 1 + vec_len head.servers + vec_len head.workers + racers ≤ MAX_PASSES },
-    ghost acts_in_range: { All (IsScriptAct (vec_len head.servers) (vec_len head.workers)) acts.items } by { Prim.hlevel IsScriptAct-prop },
+    ghost few_passes: { 1 + vec_len head.servers + racers ≤ MAX_PASSES },
+    ghost acts_in_range: { All (IsActInRange (vec_len head.servers)) acts.items } by { Prim.hlevel IsActInRange-prop },
 }
 
 impl Script {
@@ -49,19 +48,18 @@ impl Script {
         }
     }
 
-    /// How many passes it needs: the client's, one for each server and each worker, and those of its races.
+    /// How many passes it needs: the client's, one for each server, and those of its races.
     pub fn passes(&self) -> u16
         ensures value { result ≡ passes (script_view self.now) }
         ensures bound { result ≤ MAX_PASSES }
     {
-        1 + self.head.servers.len() as u16 + self.head.workers.len() as u16 + self.racers
+        1 + self.head.servers.len() as u16 + self.racers
     }
 
     /// How many passes its races need, 0 without races.
     pub fn racers(&self) -> u16
         ensures value { result ≡ racing self.now.acts.items }
-        ensures bound { 1 + vec_len self.now.head.servers + vec_len self.now.head.workers + result
-            ≤ MAX_PASSES }
+        ensures bound { 1 + vec_len self.now.head.servers + result ≤ MAX_PASSES }
     {
         self.racers
     }
@@ -76,7 +74,7 @@ impl Script {
     // Adds what a command asks for, unless the script needs more passes then than there can be.
     #[tactic(auto, unfolding(crate::specs::Whole::with_act), using(std::proofs::lemmas::List::Sums::sum_by_push, crate::proofs::ScriptLemmas::all_in_range_push))]
     fn add(&mut self, act: Act) -> Result<(), LineError>
-        requires { IsScriptAct (vec_len self.old.head.servers) (vec_len self.old.head.workers) act }
+        requires { IsActInRange (vec_len self.old.head.servers) act }
         ensures { GivesScript self.new result (with_act act (script_view self.old)) }
     {
         let racers = act.racers();
@@ -88,33 +86,33 @@ impl Script {
         Ok(())
     }
 
-    // Adds what a line asks for, if it asks for something.
-    fn add_said(&mut self, said: Option<Act>) -> Result<(), LineError>
-        requires { IfSome said (IsScriptAct (vec_len self.old.head.servers) (vec_len self.old.head.workers)) }
+    // Adds what a line says, if it says something.
+    fn add_said(&mut self, said: Option<Said>) -> Result<(), LineError>
+        requires { IfSome said (IsSaidInRange (vec_len self.old.head.servers)) }
         ensures { GivesScript self.new result (with_said said (script_view self.old)) }
     {
         match said {
             None => Ok(()),
-            Some(Act::Account) => {
+            Some(Said::Account) => {
                 self.account = true;
                 Ok(())
             }
-            Some(act) => self.add(act),
+            Some(Said::Act(act)) => self.add(act),
         }
     }
 
     // What the words of a line of the head say, up to the first command.
     #[tactic(auto, using(crate::proofs::ScriptLemmas::racing_none, crate::proofs::ScriptLemmas::all_in_range_none))]
-    fn head_words(&mut self, alloc: Global, words: &[&[u8]]) -> Result<Option<Act>, LineError>
+    fn head_words(&mut self, alloc: Global, words: &[&[u8]]) -> Result<Option<Said>, LineError>
         requires { vec_len self.old.acts ≡ 0 }
-        ensures gives { Gives (λ a. (head_view self.new.head, a)) result
-            (head_words drivers.Script (map (λ x. x.now) words.now) (head_view self.old.head)) }
+        ensures gives { Gives (λ s. (head_view self.new.head, s)) result
+            (head_words (map (λ x. x.now) words.now) (head_view self.old.head)) }
         ensures in_range { IfOk result (λ said. IfSome said
-            (IsScriptAct (vec_len self.new.head.servers) (vec_len self.new.head.workers))) }
+            (IsSaidInRange (vec_len self.new.head.servers))) }
         ensures acts { self.new.acts ≡ self.old.acts }
         ensures account { self.new.account ≡ self.old.account }
     {
-        self.head.head_words(alloc, Driver::Script, words)
+        self.head.head_words(alloc, words)
     }
 
     // What the words of a line say.
@@ -124,12 +122,12 @@ impl Script {
             (words_line (map (λ x. x.now) words.now) (script_view self.old)) }
     {
         if self.account {
-            return Script::behind_account(self.head.body_words(alloc, Driver::Script, words));
+            return Script::behind_account(self.head.body_words(alloc, words));
         }
         let said = if self.acts.is_empty() {
             self.head_words(alloc, words)?
         } else {
-            self.head.body_words(alloc, Driver::Script, words)?
+            self.head.body_words(alloc, words)?
         };
         self.add_said(said)
     }
@@ -144,8 +142,8 @@ impl Script {
     }
 
     // What a line is behind `account`, which said this.
-    fn behind_account(read: Result<Option<Act>, LineError>) -> Result<(), LineError>
-        ensures { (said : Result (Option Act) LineFault) → (s : ScriptView) → Gives (λ a. a) read said
+    fn behind_account(read: Result<Option<Said>, LineError>) -> Result<(), LineError>
+        ensures { (said : Result (Option Said) LineFault) → (s : ScriptView) → Gives (λ a. a) read said
             → Gives (λ _. s) result (behind_account said s) }
     {
         match read {

@@ -1,154 +1,115 @@
--- Line after line of a session, read and answered.
-use Rattle.std.proofs.Common.{◌≡◌, ◌∙◌, ℕ, ◌+◌, true, false, List, [], ◌∷◌, ◌++◌, Option, Some, None, Ok, refl, sym, ap, subst, arith, append-nil, append_assoc, length}
-use Rattle.std.proofs.lemmas.List.{length-append}
+-- Lines that are answered one after another.
+use Rattle.std.proofs.Common.{◌≡◌, ◌∙◌, ℕ, ◌+◌, ◌<◌, List, [], ◌++◌, Option, Some, None, Err, refl, sym, ap, subst, arith, append-nil, append_assoc, length, take, inl, inr, true, false}
+use Rattle.std.specs.Prelude.{IfSome}
+use Rattle.std.proofs.lemmas.Bool.{cases_lt, lt-leb}
+use Rattle.std.proofs.lemmas.List.{length-take, take_all}
 use Rattle.tp_report.specs.Written.{AppendsFront}
-use Rattle.tp_script.specs.Script.{HeadView}
-use Rattle.tp_script.specs.Grammar.{head_at}
-use Rattle.tp_script.specs.declared.head.Head.{Head}
-use Rattle.tp_session.specs.Conversed.{HeadRead, TakesHeadLine}
-use Rattle.tp_session.specs.Heard.{Hears, HearsFront, IsAllOf, Next, Tells}
-use Rattle.tp_session.specs.Live.{Live, TellsAct}
-use Rattle.tp_session.specs.Reading.{to_come, unused}
-use Rattle.tp_session.specs.Told.{BodyTold, HeadLine, HeadLines, HeadLinesTold, LineTold, Now, now, said_now}
-use Rattle.tp_session.specs.declared.first.First.{First}
-use Rattle.tp_session.specs.declared.reading.Lines.{Lines}
-use Rattle.tp_session.proofs.CommandLemmas.{command_keeps}
-use Rattle.tp_session.proofs.HeardLemmas.{Hears-none, Hears-then, hears_all, hears_some}
-use Rattle.tp_session.proofs.LineLemmas.{body_more, head_more, kept_body, kept_head}
-use Rattle.tp_session.proofs.ToldLemmas.{told_front, told_more, told_none, told_then}
+use Rattle.tp_script.specs.LineWords.{◌>>=◌}
+use Rattle.tp_script.specs.declared.fault.LineFault.TheVariants.{TooLong}
+use Rattle.tp_lines.specs.Grammar.{line_words, words_said}
+use Rattle.tp_lines.specs.declared.grammar.TheConstants.{MAX_LINE}
+use Rattle.tp_wire.specs.Heard.{Next, Tells, heard}
+use Rattle.tp_wire.specs.Reading.{to_come, unused}
+use Rattle.tp_wire.specs.declared.reading.Lines.{Lines}
+use Rattle.tp_wire.specs.declared.reading.TheConstants.{MAX_KEPT}
+use Rattle.tp_wire.proofs.ToldLemmas.{told_front, told_more, told_none, told_then}
+use Rattle.tp_session.specs.Conversed.{Attends, AttendsFront, Goes, SoFar, step_of}
+use Rattle.tp_session.specs.Session.{line_step, lines_step, or_refused, read_step_of}
+use Rattle.tp_session.specs.State.{SessionState}
 
--- what is to come is what is unused, and the rest
+-- ---- a line that is too long says as much as its front
+
+long_words : (line : List ℕ) → MAX_LINE < length line → line_words line ≡ Err TooLong
+unfolding line_words
+long_words line long = rw (lt-leb (length line) MAX_LINE long) refl
+
+pub kept_words : (line : List ℕ) → line_words (take MAX_KEPT line) ≡ line_words line
+kept_words line = elim (cases_lt MAX_LINE (length line)) [
+  | inl long ↦ long_words (take MAX_KEPT line) (omega (arith, length-take MAX_KEPT line, long)) ∙ sym (long_words line long)
+  | inr short ↦ ap line_words (take_all MAX_KEPT line (omega (arith, short)))
+]
+
+kept_step : (n : ℕ) (kept line : List ℕ) (s : SessionState) → kept ≡ take MAX_KEPT line → line_step n kept s ≡ line_step n line s
+kept_step n kept line s is =
+    ap (λ r. or_refused n s (read_step_of (r >>= λ ws. words_said ws) s)) (ap line_words is ∙ kept_words line)
+
+-- ---- one line more
+
+goes_none : (past : ℕ) (a : Option (List ℕ)) (s : SessionState) → Goes past a s [] past a s
+goes_none past None s = tt
+goes_none past (Some x) s = refl
+
+goes_next : (past n : ℕ) (a b c : Option (List ℕ)) (old mid : SessionState) (text kept : List ℕ) → Goes past a old text n b mid → Next true b kept c
+    → Goes past a old (text ++ (line_step (n + 1) kept mid).0) (n + 1) c (line_step (n + 1) kept mid).1
+goes_next past n None b c old mid text kept so_far next = tt
+goes_next past n (Some x) None c old mid text kept so_far next = absurd so_far
+goes_next past n (Some x) (Some y) None old mid text kept so_far next = absurd next.2
+goes_next past n (Some x) (Some y) (Some z) old mid text kept so_far next =
+    let one = line_step (n + 1) next.0 mid in
+    let rest = lines_step (n + 1) (heard z) one.1 in
+    so_far ∙ ap (λ ls. (text ++ (lines_step n ls mid).0, (lines_step n ls mid).1)) next.2
+    ∙ ap (λ w. (w, rest.1)) (sym (append_assoc text one.0 rest.0))
+    ∙ ap (λ t. ((text ++ t.0) ++ (lines_step (n + 1) (heard z) t.1).0, (lines_step (n + 1) (heard z) t.1).1)) (sym (kept_step (n + 1) kept next.0 mid next.1))
+
+goes_end : (past n : ℕ) (a b c : Option (List ℕ)) (old mid : SessionState) (text kept : List ℕ) → Goes past a old text n b mid → Next false b kept c
+    → IfSome a (λ bytes. step_of past bytes old ≡ (text, mid))
+goes_end past n None b c old mid text kept so_far next = tt
+goes_end past n (Some x) None c old mid text kept so_far next = absurd so_far
+goes_end past n (Some x) (Some y) None old mid text kept so_far next = absurd next.0
+goes_end past n (Some x) (Some y) (Some z) old mid text kept so_far next =
+    so_far ∙ ap (λ ls. (text ++ (lines_step n ls mid).0, (lines_step n ls mid).1)) (next.0 ∙ next.1) ∙ ap (λ w. (w, mid)) (append-nil text)
+
+-- ---- and what was told
+
 pub come_same : (old new : Lines) (rest : Option (List ℕ)) → unused new ≡ unused old → to_come new rest ≡ to_come old rest
 come_same old new None is = refl
 come_same old new (Some bytes) is = ap (λ u. Some (u ++ bytes)) is
 
--- ---- the head
+pub so_far_none : (past : ℕ) (a w : Option (List ℕ)) (s : SessionState) (prior : List ℕ) → SoFar past a s past a s (λ text. Tells w w prior (prior ++ text))
+so_far_none past a w s prior = record {
+  text = [];
+  goes = goes_none past a s;
+  told = subst (Tells w w prior) (sym (append-nil prior)) (told_none w prior);
+}
 
-abbrev pub HeadSoFar : Option (List ℕ) → Option (List ℕ) → ℕ → HeadView → HeadView → Option (List ℕ) → Option (List ℕ) → List ℕ → List ℕ → Type 0
-HeadSoFar a b n old new w x answers prior =
-    HeadLinesTold (λ taken. Hears a taken b × (length taken ≡ n)) old new (λ text. Tells w x answers (prior ++ text))
-
--- a line of the head more
-pub head_next : (a b b' b'' : Option (List ℕ)) (n : ℕ) (old mid new : HeadView) (w x y : Option (List ℕ)) (kept answers answers' answers'' prior : List ℕ)
-    → HeadSoFar a b n old mid w x answers prior → Next true b kept b' → Tells x y answers' answers → b'' ≡ b'
-    → TakesHeadLine None (n + 1) (head_at kept mid) mid answers' new answers'' → HeadSoFar a b'' (n + 1) old new w y answers'' prior
-head_next a b b' b'' n old mid new w x y kept answers answers' answers'' prior so_far next told same takes =
-    let one = subst (λ said. HeadLine (n + 1) said mid takes.0 new) (kept_head kept next.0 mid next.1) takes.1 in
-    let number : n + 1 ≡ 0 + length so_far.taken + 1 = omega (arith, so_far.heard.1) in
+pub so_far_next : (past n : ℕ) (a b b' b'' w x y : Option (List ℕ)) (old mid new : SessionState) (kept answers answers' answers'' prior : List ℕ)
+    → SoFar past a old n b mid (λ text. Tells w x answers (prior ++ text)) → Next true b kept b' → Tells x y answers' answers → b'' ≡ b'
+    → new ≡ (line_step (n + 1) kept mid).1 → answers'' ≡ answers' ++ (line_step (n + 1) kept mid).0
+    → SoFar past a old (n + 1) b'' new (λ text. Tells w y answers'' (prior ++ text))
+so_far_next past n a b b' b'' w x y old mid new kept answers answers' answers'' prior so_far next told same leaves more =
+    let one = line_step (n + 1) kept mid in
     record {
-      taken = so_far.taken ++ next.0 ∷ [];
-      heard = (subst (Hears a (so_far.taken ++ next.0 ∷ [])) (sym same) (Hears-then a b b' so_far.taken (next.0 ∷ []) so_far.heard.0 next.2), omega (arith, length-append so_far.taken (next.0 ∷ []), so_far.heard.1));
-      text = so_far.text ++ takes.0;
-      lines = head_more 0 (n + 1) so_far.taken next.0 old mid new so_far.text takes.0 number so_far.lines one;
-      told = subst (Tells w y answers'') (append_assoc prior so_far.text takes.0)
-          (told_more w y answers'' answers' (prior ++ so_far.text) takes.0 takes.2 (told_then w x y answers' answers (prior ++ so_far.text) so_far.told told));
+      text = so_far.text ++ one.0;
+      goes = subst (λ left. Goes past a old (so_far.text ++ one.0) (n + 1) left new) (sym same)
+          (subst (λ s. Goes past a old (so_far.text ++ one.0) (n + 1) b' s) (sym leaves) (goes_next past n a b b' old mid so_far.text kept so_far.goes next));
+      told = subst (Tells w y answers'') (append_assoc prior so_far.text one.0)
+          (told_more w y answers'' answers' (prior ++ so_far.text) one.0 more (told_then w x y answers' answers (prior ++ so_far.text) so_far.told told));
     }
 
--- the end of the input
-pub head_end : (a b b' : Option (List ℕ)) (n : ℕ) (old new : HeadView) (w x y : Option (List ℕ)) (kept answers answers' prior : List ℕ)
-    → HeadSoFar a b n old new w x answers prior → Next false b kept b' → Tells x y answers' answers → HeadRead None a b' old new (λ text. Tells w y answers' (prior ++ text))
-head_end a b b' n old new w x y kept answers answers' prior so_far next told = (
-  next.1,
-  record {
-    taken = so_far.taken;
-    heard = subst (λ ls. Hears a ls b') (append-nil so_far.taken) (Hears-then a b b' so_far.taken [] so_far.heard.0 next.0);
-    text = so_far.text;
-    lines = so_far.lines;
-    told = told_then w x y answers' answers (prior ++ so_far.text) so_far.told told;
-  },
-)
+attends : (past : ℕ) (a w y : Option (List ℕ)) (old mid : SessionState) (text answers prior : List ℕ) → IfSome a (λ bytes. step_of past bytes old ≡ (text, mid)) → Tells w y answers (prior ++ text)
+    → Attends past a old mid (λ t. Tells w y answers (prior ++ t))
+attends past None w y old mid text answers prior is told = tt
+attends past (Some x) w y old mid text answers prior is told =
+    (sym (ap (λ p. p.1) is), subst (λ t. Tells w y answers (prior ++ t)) (sym (ap (λ p. p.0) is)) told)
 
--- the first command
-pub head_command : (a b b' b'' : Option (List ℕ)) (f : First) (old mid new : HeadView) (w x y : Option (List ℕ)) (kept answers answers' answers'' prior : List ℕ)
-    → HeadSoFar a b f.past old mid w x answers prior → Next true b kept b' → Tells x y answers' answers → b'' ≡ b'
-    → TakesHeadLine (Some f.act) (f.past + 1) (head_at kept mid) mid answers' new answers'' → HeadRead (Some f) a b'' old new (λ text. Tells w y answers'' (prior ++ text))
-head_command a b b' b'' f old mid new w x y kept answers answers' answers'' prior so_far next told same takes =
-    let said : head_at next.0 mid ≡ Ok (new, Some f.act) = sym (kept_head kept next.0 mid next.1) ∙ takes.0 in
-    let is : new ≡ mid = command_keeps next.0 mid new f.act said in (
-      next.0,
-      ap (λ h. head_at next.0 h) is ∙ said,
-      record {
-        taken = so_far.taken;
-        heard = (subst (Hears a (so_far.taken ++ next.0 ∷ [])) (sym same) (Hears-then a b b' so_far.taken (next.0 ∷ []) so_far.heard.0 next.2), so_far.heard.1);
-        text = so_far.text;
-        lines = subst (λ h. HeadLines 0 so_far.taken old so_far.text h) (sym is) so_far.lines;
-        told = subst (λ l. Tells w y l (prior ++ so_far.text)) (sym takes.1) (told_then w x y answers' answers (prior ++ so_far.text) so_far.told told);
-      },
-    )
+pub so_far_end : (past n : ℕ) (a b b' w x y : Option (List ℕ)) (old mid : SessionState) (kept answers answers' prior : List ℕ)
+    → SoFar past a old n b mid (λ text. Tells w x answers (prior ++ text)) → Next false b kept b' → Tells x y answers' answers → Attends past a old mid (λ text. Tells w y answers' (prior ++ text))
+so_far_end past n a b b' w x y old mid kept answers answers' prior so_far next told =
+    attends past a w y old mid so_far.text answers' prior (goes_end past n a b b' old mid so_far.text kept so_far.goes next) (told_then w x y answers' answers (prior ++ so_far.text) so_far.told told)
 
--- after a fault
-pub head_front : (a b : Option (List ℕ)) (n : ℕ) (old new : HeadView) (w x y : Option (List ℕ)) (answers prior : List ℕ)
-    → HeadSoFar a b n old new w x answers prior → AppendsFront x y answers → HeadLinesTold (HearsFront a) old new (λ text. AppendsFront w y (prior ++ text))
-head_front a b n old new w x y answers prior so_far front = record {
-  taken = so_far.taken;
-  heard = hears_some a b so_far.taken so_far.heard.0;
-  text = so_far.text;
-  lines = so_far.lines;
-  told = told_front w x y answers (prior ++ so_far.text) so_far.told front;
-}
+-- a front of a text is one of a longer text
+pub front_longer : (a b : Option (List ℕ)) (xs ys : List ℕ) → AppendsFront a b xs → AppendsFront a b (xs ++ ys)
+front_longer a b xs ys q = (q.0 ++ ys, (q.1.0, ap (λ w. w ++ ys) q.1.1 ∙ append_assoc q.1.0 q.0 ys, q.1.2))
 
--- ---- behind the head
+attends_front : (past n : ℕ) (a b w y : Option (List ℕ)) (old mid : SessionState) (text prior : List ℕ) → Goes past a old text n b mid → AppendsFront w y (prior ++ text)
+    → AttendsFront past a old (λ t. AppendsFront w y (prior ++ t))
+attends_front past n None b w y old mid text prior goes front = tt
+attends_front past n (Some x) None w y old mid text prior goes front = absurd goes
+attends_front past n (Some x) (Some z) w y old mid text prior goes front =
+    let rest = (step_of n z mid).0 in
+    subst (λ t. AppendsFront w y (prior ++ t)) (sym (ap (λ p. p.0) goes)) (subst (λ t. AppendsFront w y t) (append_assoc prior text rest) (front_longer w y (prior ++ text) rest front))
 
-module _ (past : ℕ) where
-  abbrev pub BodySoFar : Option (List ℕ) → Option (List ℕ) → ℕ → Now → Now → Option (List ℕ) → Option (List ℕ) → List ℕ → List ℕ → Type 0
-  BodySoFar a b n old new w x answers prior =
-      BodyTold past None (λ taken. Hears a taken b × (n ≡ past + length taken)) old new (λ text. Tells w x answers (prior ++ text))
-
-  pub body_none : (a : Option (List ℕ)) (old : Now) (w : Option (List ℕ)) (prior : List ℕ) → BodySoFar a a past old old w w prior prior
-  body_none a old w prior = record {
-    taken = [];
-    heard = (Hears-none a, omega arith);
-    text = [];
-    lines = (refl, refl);
-    told = subst (Tells w w prior) (sym (append-nil prior)) (told_none w prior);
-  }
-
-  -- a line more
-  pub body_next : (a b b' b'' : Option (List ℕ)) (n : ℕ) (old mid new : Now) (w x y : Option (List ℕ)) (kept answers answers' answers'' prior : List ℕ)
-      → BodySoFar a b n old mid w x answers prior → Next true b kept b' → Tells x y answers' answers → b'' ≡ b'
-      → (text : List ℕ) × (answers'' ≡ answers' ++ text) × LineTold (n + 1) (said_now kept mid) mid text new → BodySoFar a b'' (n + 1) old new w y answers'' prior
-  body_next a b b' b'' n old mid new w x y kept answers answers' answers'' prior so_far next told same answered =
-      let one = subst (λ said. LineTold (n + 1) said mid answered.0 new) (kept_body kept next.0 mid next.1) answered.2 in
-      let number : n + 1 ≡ past + length so_far.taken + 1 = omega (arith, so_far.heard.1) in
-      record {
-        taken = so_far.taken ++ next.0 ∷ [];
-        heard = (subst (Hears a (so_far.taken ++ next.0 ∷ [])) (sym same) (Hears-then a b b' so_far.taken (next.0 ∷ []) so_far.heard.0 next.2), omega (arith, length-append so_far.taken (next.0 ∷ []), so_far.heard.1));
-        text = so_far.text ++ answered.0;
-        lines = body_more past (n + 1) so_far.taken next.0 old mid new so_far.text answered.0 number so_far.lines one;
-        told = subst (Tells w y answers'') (append_assoc prior so_far.text answered.0)
-            (told_more w y answers'' answers' (prior ++ so_far.text) answered.0 answered.1 (told_then w x y answers' answers (prior ++ so_far.text) so_far.told told));
-      }
-
-  -- the end of the input
-  pub body_end : (a b b' : Option (List ℕ)) (n : ℕ) (old new : Now) (w x y : Option (List ℕ)) (kept answers answers' prior : List ℕ)
-      → BodySoFar a b n old new w x answers prior → Next false b kept b' → Tells x y answers' answers → BodyTold past None (IsAllOf a) old new (λ text. Tells w y answers' (prior ++ text))
-  body_end a b b' n old new w x y kept answers answers' prior so_far next told = record {
-    taken = so_far.taken;
-    heard = hears_all a b' so_far.taken (subst (λ ls. Hears a ls b') (append-nil so_far.taken) (Hears-then a b b' so_far.taken [] so_far.heard.0 next.0)) next.1;
-    text = so_far.text;
-    lines = so_far.lines;
-    told = told_then w x y answers' answers (prior ++ so_far.text) so_far.told told;
-  }
-
-  -- after a fault
-  pub body_front : (a b : Option (List ℕ)) (n : ℕ) (old new : Now) (w x y : Option (List ℕ)) (answers prior : List ℕ)
-      → BodySoFar a b n old new w x answers prior → AppendsFront x y answers → BodyTold past None (HearsFront a) old new (λ text. AppendsFront w y (prior ++ text))
-  body_front a b n old new w x y answers prior so_far front = record {
-    taken = so_far.taken;
-    heard = hears_some a b so_far.taken so_far.heard.0;
-    text = so_far.text;
-    lines = so_far.lines;
-    told = told_front w x y answers (prior ++ so_far.text) so_far.told front;
-  }
-
--- the first command, and then others
-pub body_begun : (head : Head) (f : First) (a a' : Option (List ℕ)) (Heard : Option (List ℕ) → List (List ℕ) → Type 0) (old mid : Live) (new : Now) (answers answers' : List ℕ) (Told : List ℕ → Type 0) → a' ≡ a
-    → (text : List ℕ) × (answers' ≡ answers ++ text) × TellsAct head f.act old text mid
-    → BodyTold (f.past + 1) None (Heard a') (now head mid) new (λ text. Told (answers' ++ text)) → BodyTold f.past (Some f.act) (Heard a) (now head old) new (λ text. Told (answers ++ text))
-body_begun head f a a' Heard old mid new answers answers' Told same one others = record {
-  taken = others.taken;
-  heard = subst (λ come. Heard come others.taken) same others.heard;
-  text = one.0 ++ others.text;
-  lines = (one.0, others.text, mid, one.2, others.lines, refl);
-  told = subst Told (ap (λ l. l ++ others.text) one.1 ∙ append_assoc answers one.0 others.text) others.told;
-}
+pub so_far_front : (past n : ℕ) (a b w x y : Option (List ℕ)) (old mid : SessionState) (answers prior : List ℕ)
+    → SoFar past a old n b mid (λ text. Tells w x answers (prior ++ text)) → AppendsFront x y answers → AttendsFront past a old (λ text. AppendsFront w y (prior ++ text))
+so_far_front past n a b w x y old mid answers prior so_far front =
+    attends_front past n a b w y old mid so_far.text prior so_far.goes (told_front w x y answers (prior ++ so_far.text) so_far.told front)

@@ -1,151 +1,141 @@
--- What a client of whom notes are kept is told, and what the session's own pass did for it.
-use Rattle.std.specs.Prelude.{◌≡◌, ℕ, Bool, true, false, List, Option, Some, None, codes, decimal, length}
-use Rattle.std.specs.Prelude.{nat_lt}
-use Rattle.std.specs.Prelude.{slice_get}
-use Rattle.tp_model.specs.declared.types.Element.{Element}
-use Rattle.tp_model.specs.declared.types.Limits.{Limits}
-use Rattle.tp_model.specs.declared.types.Refusal.{Refusal}
-use Rattle.tp_model.specs.declared.types.Refusal.TheVariants as refusals
-use Rattle.tp_manager.specs.Shown.{PassShown}
-use Rattle.tp_commands.specs.Asked.{TellsSubmit}
-use Rattle.tp_commands.specs.Received.{TellsReceived, asks_for, has_sent}
-use Rattle.tp_report.specs.Answer.{answer_text, line}
-use Rattle.tp_report.specs.declared.answer.Answer.{Answer}
-use Rattle.tp_report.specs.declared.answer.Answer.TheVariants as answer
-use Rattle.tp_script.specs.Fault.{◌<>◌}
-use Rattle.tp_script.specs.Notes.{NameView}
-use Rattle.tp_script.specs.declared.notes.ClientNote.{ClientNote}
-use Rattle.tp_script.specs.declared.notes.NotedAct.{NotedAct}
-use Rattle.tp_script.specs.declared.notes.NotedAct.TheVariants as acts
-use Rattle.tp_script.specs.declared.notes.RequestNote.{RequestNote}
-use Rattle.tp_script.specs.declared.notes.TheConstants.{MAX_CLIENTS}
-use Rattle.tp_session.specs.Answers.{body_text}
-use Rattle.tp_session.specs.NoteTexts.{forgotten_text, id_text, last_text, received_text, registered_text}
-use Rattle.tp_session.specs.NoteTexts.{last_reply_text, sent_text}
-use Rattle.tp_session.specs.Notes.{NotesView, client_place, number_standing, with_new_client, with_received}
-use Rattle.tp_session.specs.Notes.{with_sent}
-use Rattle.tp_session.specs.Notes.{without_client}
-use Rattle.tp_session.specs.declared.notes.Standing.{Standing}
-use Rattle.tp_session.specs.declared.notes.Standing.TheVariants.{Next, Again, Earlier, Later}
+-- What clients that may crash are told, and what is noted of them.
+use Rattle.std.specs.Prelude.{ℕ, ◌+◌, ◌==◌, nat_lt, Bool, false, if◌then◌else◌, List, [], ◌∷◌}
+use Rattle.std.specs.Prelude.{Option, Some, None, Result, Ok, Err}
+use Rattle.tp_script.specs.declared.fault.LineFault.TheVariants.{BadName}
+use Rattle.tp_store.specs.Calls.{collect_of, submit_of}
+use Rattle.tp_store.specs.Elements.{Entry, element_at, is_group}
+use Rattle.tp_store.specs.Listing.{first_of}
+use Rattle.tp_store.specs.declared.group.Group.TheVariants.{Owned, Replies}
+use Rattle.tp_store.specs.State.{State}
+use Rattle.tp_store.specs.declared.answers.Refusal.{Refusal}
+use Rattle.tp_store.specs.declared.answers.Refusal.TheVariants.{NotThere}
+use Rattle.tp_store.specs.declared.element.Element.{Element}
+use Rattle.tp_answers.specs.Answer.{answer_text, line}
+use Rattle.tp_answers.specs.NoteTexts.{forgotten_text, last_client_text, received_text, registered_text, sent_text}
+use Rattle.tp_answers.specs.declared.answer.Answer.TheVariants as answer
+use Rattle.tp_answers.specs.declared.notes.ReceivedAs.TheVariants as received
+use Rattle.tp_answers.specs.declared.notes.SentAs.TheVariants as sent
+use Rattle.tp_lines.specs.Names.{NameView}
+use Rattle.tp_lines.specs.declared.line.ClientNote.{ClientNote}
+use Rattle.tp_session.specs.Roles.{client_at, is_of_worker, with_client, without}
+use Rattle.tp_session.specs.Said.{Step, just}
+use Rattle.tp_session.specs.State.{SessionState, with_store}
+use Rattle.tp_session.specs.declared.standing.Standing.{Standing}
+use Rattle.tp_session.specs.declared.standing.Standing.TheVariants.{Next, Again, Before, Behind}
 
--- what the session's own pass shows, and what is noted
-pub record Noting : Type 0 where
-  pub pass : PassShown
-  pub notes : NotesView
+-- how a number stands to how many were made: it is the next one, the last one, one before, or one behind
+abbrev pub standing_of : ℕ → ℕ → Standing
+standing_of number made =
+    if number == made + 1 then Next
+    else if number == made then Again
+    else if nat_lt number made then Before else Behind
 
-abbrev pub noting : PassShown → NotesView → Noting
-noting pass notes = record { pass = pass; notes = notes }
+-- ---- coming and going
 
--- one thing that is told, and done: from what is there before to what is there after
-abbrev pub ClientTelling : Type 1
-ClientTelling = Noting → List ℕ → Noting → Type 0
+-- a client that has sent and received nothing
+abbrev pub new_note : ℕ → ClientNote
+new_note owner = record {
+  owner = owner;
+  sent = 0;
+  element = 0;
+  received = 0;
+  reply = 0;
+  root = 0;
+  body = 0 ∷ 0 ∷ 0 ∷ 0 ∷ [];
+}
 
--- nothing was done, and this is told
-abbrev pub JustTells : List ℕ → ClientTelling
-JustTells what old text new = (text ≡ line what) × (new ≡ old)
+-- a client of this name is known
+abbrev pub registered_as : Option ClientNote → NameView → SessionState → SessionState
+registered_as (Some c) name s = s
+registered_as None name s = record (with_client name (new_note s.owners) s) { owners = s.owners + 1 }
 
--- only what is noted has changed
-abbrev pub NowNotes : List ℕ → NotesView → ClientTelling
-NowNotes what notes old text new = (text ≡ line what) × (new ≡ record old { notes = notes })
+abbrev pub registered : NameView → SessionState → SessionState
+registered name s = registered_as (client_at name s) name s
 
--- it was refused
-abbrev pub TellsRefusal : Refusal → ClientTelling
-TellsRefusal why = JustTells (answer_text (answer.Refused why))
+-- a name that a server or a worker has is no client's
+abbrev pub if_client : NameView → SessionState → Step → Step
+if_client name s step = if is_of_worker name s then Err BadName else step
+
+abbrev pub register_step : NameView → SessionState → Step
+register_step name s = if_client name s (Ok (line (registered_text name), registered name s))
+
+-- the step of a client that is registered
+abbrev pub of_note : Option ClientNote → (ClientNote → SessionState → Step) → SessionState → Step
+of_note None does s = just (answer_text (answer.Refused NotThere)) s
+of_note (Some c) does s = does c s
+
+abbrev pub of_client : NameView → (ClientNote → SessionState → Step) → SessionState → Step
+of_client name does s = if_client name s (of_note (client_at name s) does s)
+
+abbrev pub forget_by : NameView → ClientNote → SessionState → Step
+forget_by name c s = Ok (line (forgotten_text name), record s { clients = without name s.clients })
+
+abbrev pub forget_step : NameView → SessionState → Step
+forget_step name s = of_client name (forget_by name) s
+
+abbrev pub last_by : NameView → ClientNote → SessionState → Step
+last_by name c s = just (last_client_text name c) s
 
 -- ---- sends
 
--- a gap in the numbers
-abbrev pub gap_text : List ℕ
-gap_text = codes "refused 15 Gap"
+abbrev pub sent_as : NameView → ℕ → ClientNote → Result ℕ Refusal → State → SessionState → Step
+sent_as name number c (Ok id) store s = Ok (
+  line (sent_text name number (sent.Element id)),
+  with_client name (record c { sent = number; element = id }) (with_store store s),
+)
+sent_as name number c (Err why) store s = Ok (line (answer_text (answer.Refused why)), with_store store s)
 
--- what is noted, and told, of a submit
-abbrev pub sent_by : ℕ → NameView → ℕ → ClientNote → Answer → NotesView → NotesView
-sent_by place name number c (answer.Submitted id) n = with_sent place name number c id n
-sent_by place name number c other n = n
+abbrev pub send_by : NameView → ℕ → ℕ → List ℕ → Standing → ClientNote → SessionState → Step
+send_by name number stage body Next c s =
+    let done = submit_of stage body (Some c.owner) s.store in sent_as name number c done.0 done.1 s
+send_by name number stage body Again c s = just (sent_text name number (sent.Element c.element)) s
+send_by name number stage body Before c s = just (sent_text name number sent.Before) s
+send_by name number stage body Behind c s = just (answer_text answer.Gap) s
 
-abbrev pub send_text : NameView → ℕ → Answer → List ℕ
-send_text name number (answer.Submitted id) = sent_text name number (decimal id)
-send_text name number other = answer_text other
-
--- the element was submitted, and that is noted; or the submit was refused
-pub record Sends (l : Limits) (name : NameView) (place : ℕ) (c : ClientNote) (number stage : ℕ)
-    (body : List ℕ)
-    (old : Noting) (text : List ℕ) (new : Noting) : Type 0 where
-  pub a : Answer
-  pub submits : TellsSubmit l stage body old.pass new.pass a
-  pub notes : new.notes ≡ sent_by place name number c a old.notes
-  pub text_is : text ≡ line (send_text name number a)
-
--- by how the number stands to the client's count: only the next one submits
-abbrev pub SendBy : Standing → Limits → NameView → ℕ → List ℕ → ℕ → ℕ → ClientNote → ClientTelling
-SendBy Next l name stage body number place c = Sends l name place c number stage body
-SendBy Again l name stage body number place c = JustTells (sent_text name number (id_text c.element))
-SendBy Earlier l name stage body number place c = JustTells (sent_text name number (codes "done"))
-SendBy Later l name stage body number place c = JustTells gap_text
+abbrev pub send_step : NameView → ℕ → ℕ → List ℕ → SessionState → Step
+send_step name number stage body s =
+    of_client name (λ c. send_by name number stage body (standing_of number c.sent) c) s
 
 -- ---- receives
 
--- what is noted, and told, of a reply that was taken, or of none
-abbrev pub received_by : ℕ → ℕ → ClientNote → Option Element → NotesView → NotesView
-received_by place number c None n = n
-received_by place number c (Some e) n = with_received place number c e n
+-- the note, when this reply was received
+abbrev pub with_reply : ℕ → ℕ → Element → ClientNote → ClientNote
+with_reply number id e c = record c { received = number; reply = id; root = e.root; body = e.body }
 
-abbrev pub taken_text : Option Element → List ℕ
-taken_text None = codes "none"
-taken_text (Some e) = decimal e.id <> codes " " <> decimal e.root <> codes " " <> body_text e.body
+abbrev pub received_as : NameView → ℕ → ℕ → ClientNote → Result Element Refusal → State → SessionState → Step
+received_as name number id c (Ok e) store s = Ok (
+  line (received_text name number (received.Reply id e.root e.body)),
+  with_client name (with_reply number id e c) (with_store store s),
+)
+received_as name number id c (Err why) store s = just (received_text name number received.Nothing) s
 
--- the least reply that was asked for was taken, and that is noted; or there was none
-pub record ReceivesNoted (l : Limits) (name : NameView) (root : Option ℕ) (place : ℕ) (c : ClientNote)
-    (number : ℕ)
-    (old : Noting) (text : List ℕ) (new : Noting) : Type 0 where
-  pub found : Option Element
-  pub takes : TellsReceived l (λ r. asks_for old.notes.requests name root r) old.pass found new.pass
-  pub notes : new.notes ≡ received_by place number c found old.notes
-  pub text_is : text ≡ line (received_text name number (taken_text found))
+-- the reply that was found is taken
+abbrev pub receive_found : NameView → ℕ → ClientNote → Option Entry → SessionState → Step
+receive_found name number c None s = just (received_text name number received.Nothing) s
+receive_found name number c (Some e) s =
+    let done = collect_of e.0 s.store in received_as name number e.0 c done.0 done.1 s
 
--- whether the client may ask for that: for any reply, or for those to a request that it has sent
-abbrev pub is_its_own : List RequestNote → NameView → Option ℕ → Bool
-is_its_own requests name None = true
-is_its_own requests name (Some root) = has_sent requests name root
+-- whether the element with this id is a request of this client
+abbrev pub is_own_at : ℕ → ℕ → Option Element → Bool
+is_own_at owner root None = false
+is_own_at owner root (Some e) = if e.root == root then is_group owner e.owner else false
 
-abbrev pub NextReceive : Bool → Limits → NameView → Option ℕ → ℕ → ℕ → ClientNote → ClientTelling
-NextReceive true l name root number place c = ReceivesNoted l name root place c number
-NextReceive false l name root number place c = TellsRefusal refusals.NotThere
+-- any reply to its requests, or to this one
+abbrev pub receive_next : NameView → ℕ → Option ℕ → ClientNote → SessionState → Step
+receive_next name number None c s =
+    receive_found name number c (first_of (Owned c.owner) 0 s.store.elements) s
+receive_next name number (Some root) c s =
+    if is_own_at c.owner root (element_at root s.store.elements)
+    then receive_found name number c (first_of (Replies root) 0 s.store.elements) s
+    else just (answer_text (answer.Refused NotThere)) s
 
--- by how the number stands to the client's count: only the next one takes a reply
-abbrev pub ReceiveBy : Standing → Limits → NameView → Option ℕ → ℕ → ℕ → ClientNote → ClientTelling
-ReceiveBy Next l name root number place c old =
-    NextReceive (is_its_own old.notes.requests name root) l name root number place c old
-ReceiveBy Again l name root number place c old = JustTells (received_text name number (last_reply_text c)) old
-ReceiveBy Earlier l name root number place c old = JustTells (received_text name number (codes "done")) old
-ReceiveBy Later l name root number place c old = JustTells gap_text old
+abbrev pub receive_by : NameView → ℕ → Option ℕ → Standing → ClientNote → SessionState → Step
+receive_by name number root Next c s = receive_next name number root c s
+receive_by name number root Again c s =
+    just (received_text name number (received.Reply c.reply c.root c.body)) s
+receive_by name number root Before c s = just (received_text name number received.Before) s
+receive_by name number root Behind c s = just (answer_text answer.Gap) s
 
--- ---- all of them
-
--- a client is registered once; there may be so many
-abbrev pub RegisterBy : Option ℕ → Bool → NameView → ClientTelling
-RegisterBy (Some place) room name old = JustTells (registered_text name) old
-RegisterBy None true name old = NowNotes (registered_text name) (with_new_client name old.notes) old
-RegisterBy None false name old = TellsRefusal refusals.Full old
-
--- that, of a client that is registered
-abbrev pub OfClient : Option ℕ → (ℕ → ClientNote → ClientTelling) → ClientTelling
-OfClient None Told old = TellsRefusal refusals.NotThere old
-OfClient (Some place) Told old = λ text new. (c : ClientNote)
-    × (slice_get old.notes.clients place ≡ Some c) × Told place c old text new
-
--- what the client of this name is told
-abbrev pub NotedDoes : Limits → NameView → NotedAct → ClientTelling
-NotedDoes l name acts.Register old =
-    RegisterBy (client_place name old.notes.clients) (nat_lt (length old.notes.clients) MAX_CLIENTS) name old
-NotedDoes l name (acts.Send number stage body) old =
-    OfClient (client_place name old.notes.clients)
-    (λ place c. SendBy (number_standing number c.sent) l name stage body number place c) old
-NotedDoes l name (acts.Receive number root) old =
-    OfClient (client_place name old.notes.clients)
-    (λ place c. ReceiveBy (number_standing number c.received) l name root number place c) old
-NotedDoes l name acts.Last old =
-    OfClient (client_place name old.notes.clients) (λ place c. JustTells (last_text c)) old
-NotedDoes l name acts.Forget old =
-    OfClient (client_place name old.notes.clients)
-    (λ place c o. NowNotes (forgotten_text name) (without_client name o.notes) o) old
+abbrev pub receive_step : NameView → ℕ → Option ℕ → SessionState → Step
+receive_step name number root s =
+    of_client name (λ c. receive_by name number root (standing_of number c.received) c) s

@@ -1,215 +1,314 @@
-//! What a line of a session asks for, performed, and the line of its answer. All passes gather after it.
-ghost use Rattle.std.specs.Prelude.{◌≡◌, ◌<◌, ◌||◌, IfOk, IfSome, is_some, slice_get};
-ghost use Rattle.std.specs.Prelude.{string_bytes};
-ghost use Rattle.std.specs.Prelude.{vec_len};
-ghost use Rattle.std.specs.List.{list_any};
-ghost use Rattle.tp_commands.specs.Acting.{work_in};
-ghost use Rattle.tp_script.specs.Ranges.{IsActInRange};
-ghost use Rattle.tp_workers.specs.Free.{IsFreePass};
-ghost use Rattle.tp_session.specs.Hands.{has_unit};
-ghost use Rattle.tp_session.specs.Left.{ActDone, Reaches, began_in};
-ghost use Rattle.tp_session.specs.Live.{AccountTold, ClientCounts, IsHeldBySession, Leads, LiveGathers};
-ghost use Rattle.tp_session.specs.Live.{TellsAccount, TellsAct, WorkerDid, WorkerTold};
+//! What servers and workers do, and what is told of them.
+ghost use Rattle.std.specs.Prelude.{◌≡◌, ◌++◌, IfSome, OnOk, Some, map, string_bytes};
+ghost use Rattle.std.specs.List.{flat_map, sum_by};
+ghost use Rattle.tp_answers.specs.OverviewTexts.{holder_view};
+ghost use Rattle.tp_session.specs.Roles.{server_at, with_worker, worker_at};
+ghost use Rattle.tp_session.specs.Said.{Says};
+ghost use Rattle.tp_session.specs.Session.{act_by, act_step, at_server, balance_at, drain_step, holds_step};
+ghost use Rattle.tp_session.specs.Session.{hand_holders, last_as, leave_by, register_or_zero, server_holders, sum_step};
+ghost use Rattle.tp_session.specs.Session.{worker_holders};
+ghost use Rattle.tp_session.specs.Servers.{gives_outputs};
+ghost use Rattle.tp_session.specs.Workers.{is_of_server};
 
-use crate::answers::worker_line;
-use crate::comings::{joined_line, leave_told};
-use crate::commands::{command_told, drain_told};
-use crate::dump::dump_told;
-use crate::hand::{Holding, WorkerAnswer, worker_act};
-use crate::held::Held;
-use crate::noted_acts::{last_told, noted_told};
-use crate::overview_acts::overview_told;
-use crate::restoring::restore_told;
-use crate::rolling::rollover_told;
+use crate::drains::{MAX_ROUNDS_OF_DRAIN, drain};
+use crate::hand::{Hand, attempt_in, hand_told};
+use crate::requests::told;
+use crate::server::Server;
+use crate::session::Session;
+use crate::worker::Worker;
 use std::alloc::{AllocError, Global};
+use std::collections::BTreeMap;
 use std::string::String;
-use tp_commands::{Place, count};
-use tp_desk::Order;
-use tp_manager::{Manager, Pass};
-use tp_report::{Answer, line};
-use tp_script::{Act, Head, WorkerAct};
-use tp_server::Server;
+use tp_answers::{Answer, Holder};
+use tp_lines::{Act, Name};
+use tp_script::{LineError, LineFault};
+use tp_server::Order;
+use tp_store::store::Store;
 
-/// All passes gather.
-pub(crate) fn gather(head: &Head, held: &mut Held)
-    requires held { IsHeldBySession behaviour registers pending head.now held.old }
-    ensures held { IsHeldBySession behaviour registers pending head.now held.new }
-    ensures began { began_in registers held.new ≡ began_in registers held.old }
-    ensures gathers { Leads behaviour registers pending LiveGathers held.old held.new }
-{
-    let managed = &mut held.managed;
-    managed
-        .keeper
-        .gather(&managed.manager, managed.passes.as_mut_slice());
-}
-
-/// Has a worker do what is asked.
-pub(crate) fn worker_does(
-    head: &Head,
-    held: &mut Held,
-    worker: usize,
-    act: &WorkerAct,
-) -> WorkerAnswer
-    requires held { IsHeldBySession behaviour registers pending head.now held.old }
-    requires within { worker < vec_len head.now.workers }
-    ensures held { IsHeldBySession behaviour registers pending head.now held.new }
-    ensures began { began_in registers held.new ≡ began_in registers held.old }
-    ensures does { IfSome (slice_get head.now.workers.items worker) (λ it.
-        Leads behaviour registers pending (λ old done. WorkerDid it act.now worker old result done)
-        held.old held.new) }
-{
-    let stage = head.workers[worker].stage;
-    let at = 1 + held.servers.len() + worker;
-    let work = held.works[worker];
-    let pass = &mut held.managed.passes[at];
-    let answer = worker_act(
-        &held.managed.manager,
-        stage,
-        pass,
-        &mut held.works[worker],
-        act,
-    );
-    held.notes.note_end(worker, work, answer);
-    answer
-}
-
-/// The same, after which all gather. Answers the worker's line.
-fn worker_told(
-    alloc: Global,
-    head: &Head,
-    held: &mut Held,
-    worker: usize,
-    act: &WorkerAct,
-) -> Result<String, AllocError>
-    requires held { IsHeldBySession behaviour registers pending head.now held.old }
-    requires within { worker < vec_len head.now.workers }
-    ensures held { IsHeldBySession behaviour registers pending head.now held.new }
-    ensures began { began_in registers held.new ≡ began_in registers held.old }
-    ensures tells { IfOk result (λ text. Leads behaviour registers pending (λ old new.
-        WorkerTold head.now.workers.items act.now worker old (string_bytes text) new) held.old held.new) }
-{
-    let answer = worker_does(head, held, worker, act);
-    gather(head, held);
-    worker_line(alloc, head.workers[worker].name.as_str(), answer)
-}
-
-/// Whether a worker has a unit of work in hand.
-fn has_work(works: &[Holding]) -> bool
-    ensures { result ≡ list_any has_unit works.now }
-{
-    works.iter().any(|work| work.has_unit())
-}
-
-/// Whether the desk at a place has something in hand.
-fn has_open(place: &Place) -> bool
-    ensures { result ≡ is_some (work_in place.now.aside) }
-{
-    match &place.aside {
-        Some(aside) => aside.has_open(),
-        None => false,
-    }
-}
-
-/// Whether a server's desk has something in hand.
-pub(crate) fn has_place(places: &[Place]) -> bool
-    ensures { result ≡ list_any (λ p. is_some (work_in p.aside)) places.now }
-{
-    for i in 0..places.len() {
-        if has_open(&places[i]) {
-            return true;
-        }
-    }
-    false
-}
-
-/// Whether a unit of work is open.
-pub(crate) fn is_open(places: &[Place], works: &[Holding]) -> bool
-    ensures { result ≡ (list_any has_unit works.now || list_any (λ p. is_some (work_in p.aside)) places.now) }
-{
-    if has_work(works) {
-        return true;
-    }
-    has_place(places)
-}
-
-/// The line of `account`. Nothing is counted while a unit of work is open.
-fn account_line(
-    alloc: Global,
-    manager: &Manager,
-    client: &mut Pass,
-    is_open: bool,
-) -> Result<String, AllocError>
-    requires client { IsFreePass manager.now client.old }
-    ensures client { IsFreePass manager.now client.new }
-    ensures number { client.new.number ≡ client.old.number }
-    ensures tells { IfOk result (λ text.
-        TellsAccount manager.now is_open client.old (string_bytes text) client.new) }
-{
-    if is_open {
-        return line(alloc, Answer::Busy);
-    }
-    let counts = count(manager, client);
-    line(alloc, Answer::Account(counts))
-}
-
-/// The client counts the elements, unless a unit of work is open. Answers the line.
-fn client_counts(alloc: Global, head: &Head, held: &mut Held) -> Result<String, AllocError>
-    requires held { IsHeldBySession behaviour registers pending head.now held.old }
-    ensures held { IsHeldBySession behaviour registers pending head.now held.new }
-    ensures began { began_in registers held.new ≡ began_in registers held.old }
-    ensures counts { IfOk result (λ text. Leads behaviour registers pending (λ old done.
-        ClientCounts old (string_bytes text) done) held.old held.new) }
-{
-    let is_open = is_open(held.places.as_slice(), held.works.as_slice());
-    account_line(
-        alloc,
-        &held.managed.manager,
-        &mut held.managed.passes[0],
-        is_open,
-    )
-}
-
-/// The same, after which all gather.
-fn account_told(alloc: Global, head: &Head, held: &mut Held) -> Result<String, AllocError>
-    requires held { IsHeldBySession behaviour registers pending head.now held.old }
-    ensures held { IsHeldBySession behaviour registers pending head.now held.new }
-    ensures began { began_in registers held.new ≡ began_in registers held.old }
-    ensures tells { IfOk result (λ text. Leads behaviour registers pending (λ old new.
-        AccountTold old (string_bytes text) new) held.old held.new) }
-{
-    let text = client_counts(alloc, head, held)?;
-    gather(head, held);
-    Ok(text)
-}
-
-/// Has done what a line asks for, after which all passes gather, and answers the line of its answer.
-pub fn act_line(
-    alloc: Global,
-    head: &Head,
-    held: &mut Held,
-    act: &Act,
-) -> Result<String, AllocError>
-    requires held { IsHeldBySession behaviour registers pending head.now held.old }
-    requires in_range { IsActInRange (vec_len head.now.servers) (vec_len head.now.workers) act.now }
-    ensures held { IsHeldBySession behaviour registers pending head.now held.new }
-    ensures went { Reaches behaviour registers pending (ActDone head.now act.now) held.old held.new }
-    ensures tells { IfOk result (λ text. Leads behaviour registers pending (λ old new.
-        TellsAct head.now act.now old (string_bytes text) new) held.old held.new) }
+/// Whether a server alone does it.
+fn is_of_server(act: &Act) -> bool
+    ensures { result ≡ is_of_server act.now }
 {
     match act {
-        Act::Command(command) => command_told(alloc, head, held, *command),
-        Act::Race(_) => unreachable!(),
-        Act::Drain => drain_told(alloc, head, held, Order::LeastFirst),
-        Act::DrainNext => drain_told(alloc, head, held, Order::InTurn),
-        Act::Rollover => rollover_told(alloc, head, held),
-        Act::Worker { worker, act } => worker_told(alloc, head, held, *worker, act),
-        Act::Account => account_told(alloc, head, held),
-        Act::Dump => dump_told(alloc, head, held),
-        Act::Restore => restore_told(alloc, head, held),
-        Act::Noted { name, act } => noted_told(alloc, head, held, name, *act),
-        Act::Last { worker } => last_told(alloc, head, held, *worker),
-        Act::Overview(what) => overview_told(alloc, head, held, *what),
-        Act::Joined { name } => joined_line(alloc, name),
-        Act::Leave { worker, name } => leave_told(alloc, head, held, *worker, name),
+        Act::Turn => true,
+        Act::Prepare => true,
+        Act::Drop => true,
+        Act::Claim => false,
+        Act::Next => false,
+        Act::Take { .. } => false,
+        Act::Commit { .. } => false,
+        Act::Abort => false,
+    }
+}
+
+/// Whether it is a commit with outputs.
+fn gives_outputs(act: &Act) -> bool
+    ensures { result ≡ gives_outputs act.now }
+{
+    match act {
+        Act::Commit { drafts } => !drafts.is_empty(),
+        Act::Turn => false,
+        Act::Prepare => false,
+        Act::Drop => false,
+        Act::Claim => false,
+        Act::Next => false,
+        Act::Take { .. } => false,
+        Act::Abort => false,
+    }
+}
+
+impl Session {
+    /// The worker of this name stands so.
+    pub(crate) fn keep_worker(&mut self, name: &Name, worker: Worker) -> Result<(), AllocError>
+        ensures { OnOk result (self.new ≡ with_worker name.now worker self.old) }
+    {
+        match self.workers.insert(name.copy(), worker) {
+            Ok(_) => Ok(()),
+            Err(_) => Err(AllocError),
+        }
+    }
+
+    /// Has a server or a worker do this.
+    pub(crate) fn act(&mut self, alloc: Global, name: &Name, act: &Act) -> Result<String, LineError>
+        ensures { Says string_bytes result self.new self.old (act_step name.now act.now self.old) }
+    {
+        match self.worker_at(name) {
+            Some(worker) => self.act_of_worker(alloc, name, worker, act),
+            None => self.act_of_server(alloc, name, act),
+        }
+    }
+
+    /// Has a worker do this.
+    fn act_of_worker(
+        &mut self,
+        alloc: Global,
+        name: &Name,
+        worker: Worker,
+        act: &Act,
+    ) -> Result<String, LineError>
+        ensures { Says string_bytes result self.new self.old
+            (act_by name.now act.now (Some worker) self.old) }
+    {
+        if is_of_server(act) {
+            return Err(LineError::Fault(LineFault::BadName));
+        }
+        let mut worker = worker;
+        let answer = match worker.act(&mut self.store, act) {
+            Ok(answer) => answer,
+            Err(_) => return Err(LineError::NoMemory),
+        };
+        match self.keep_worker(name, worker) {
+            Ok(()) => {}
+            Err(_) => return Err(LineError::NoMemory),
+        }
+        told(alloc, Answer::Named { name, told: answer })
+    }
+
+    /// Has a server do this.
+    fn act_of_server(&mut self, alloc: Global, name: &Name, act: &Act) -> Result<String, LineError>
+        ensures { Says string_bytes result self.new self.old
+            (at_server (server_at name.now self.old) act.now self.old) }
+    {
+        let Some(place) = self.server_at(name) else {
+            return Err(LineError::Fault(LineFault::BadName));
+        };
+        if gives_outputs(act) {
+            return Err(LineError::Fault(LineFault::Syntax));
+        }
+        let answer = match self.servers[place].act(&mut self.store, act) {
+            Ok(answer) => answer,
+            Err(_) => return Err(LineError::NoMemory),
+        };
+        told(
+            alloc,
+            Answer::Named {
+                name: self.servers[place].name(),
+                told: answer,
+            },
+        )
+    }
+
+    /// `leave NAME`
+    pub(crate) fn leave(&mut self, alloc: Global, name: &Name) -> Result<String, LineError>
+        ensures { Says string_bytes result self.new self.old
+            (leave_by name.now (worker_at name.now self.old) self.old) }
+    {
+        let Some(worker) = self.worker_at(name) else {
+            return Err(LineError::Fault(LineFault::BadName));
+        };
+        let mut worker = worker;
+        let answer = match worker.act(&mut self.store, &Act::Abort) {
+            Ok(answer) => answer,
+            Err(_) => return Err(LineError::NoMemory),
+        };
+        let _ = self.workers.remove(name);
+        told(alloc, Answer::Left { name, told: answer })
+    }
+
+    /// `last NAME`
+    pub(crate) fn last(&self, alloc: Global, name: &Name) -> Result<String, LineError>
+        ensures { Says string_bytes result self.now self.now
+            (last_as name.now (worker_at name.now self.now) self.now) }
+    {
+        match self.worker_at(name) {
+            Some(worker) => told(
+                alloc,
+                Answer::LastWorker {
+                    name,
+                    hand: hand_told(worker.hand, &self.store),
+                    end: worker.end,
+                },
+            ),
+            None => self.last_of_client(alloc, name),
+        }
+    }
+
+    /// `balance NAME K`
+    pub(crate) fn balance(&self, alloc: Global, name: &Name, k: u64) -> Result<String, LineError>
+        ensures { Says string_bytes result self.now self.now
+            (balance_at k (server_at name.now self.now) self.now) }
+    {
+        let Some(place) = self.server_at(name) else {
+            return Err(LineError::Fault(LineFault::BadName));
+        };
+        let server = &self.servers[place];
+        told(
+            alloc,
+            Answer::Balance {
+                name: server.name(),
+                k,
+                value: server.register(k),
+            },
+        )
+    }
+
+    /// `sum K`
+    pub(crate) fn sum(&self, alloc: Global, k: u64) -> Result<String, LineError>
+        ensures { Says string_bytes result self.now self.now (sum_step k self.now) }
+    {
+        match sum_of(self.servers.as_slice(), k) {
+            Some(sum) => told(alloc, Answer::Sum { k, sum }),
+            None => Err(LineError::NoMemory),
+        }
+    }
+
+    /// `drain`, `drain next`
+    pub(crate) fn drain(&mut self, alloc: Global, order: Order) -> Result<String, LineError>
+        ensures { Says string_bytes result self.new self.old (drain_step order self.old) }
+    {
+        match drain(
+            self.servers.as_mut_slice(),
+            &mut self.store,
+            order,
+            MAX_ROUNDS_OF_DRAIN,
+        ) {
+            Ok(true) => told(alloc, Answer::DrainedSoFar),
+            Ok(false) => told(alloc, Answer::Drained),
+            Err(_) => Err(LineError::NoMemory),
+        }
+    }
+
+    /// `holds`
+    pub(crate) fn holds(&self, alloc: Global) -> Result<String, LineError>
+        ensures { Says string_bytes result self.now self.now (holds_step self.now) }
+    {
+        let mut holders = Vec::new(alloc);
+        match add_servers(&mut holders, self.servers.as_slice(), &self.store) {
+            Ok(()) => {}
+            Err(_) => return Err(LineError::NoMemory),
+        }
+        match add_workers(&mut holders, &self.workers, &self.store) {
+            Ok(()) => {}
+            Err(_) => return Err(LineError::NoMemory),
+        }
+        told(alloc, Answer::Holds(holders.as_slice()))
+    }
+}
+
+/// Adds what one has in hand, if it is something.
+fn add_holder<'a>(
+    holders: &mut Vec<Holder<'a>>,
+    name: &'a Name,
+    hand: Option<Hand>,
+    store: &Store,
+) -> Result<(), AllocError>
+    ensures { OnOk result (map holder_view holders.new.items
+        ≡ map holder_view holders.old.items ++ hand_holders name.now hand store.now) }
+{
+    let Some(hand) = hand else {
+        return Ok(());
+    };
+    let attempt = match hand.held(store) {
+        Some(element) => Some(attempt_in(element.status)),
+        None => None,
+    };
+    let holder = Holder {
+        name,
+        id: hand.id,
+        unit: hand.unit,
+        attempt,
+    };
+    match holders.push(holder) {
+        Ok(()) => Ok(()),
+        Err(_) => Err(AllocError),
+    }
+}
+
+/// Adds what servers have in hand.
+fn add_servers<'a>(
+    holders: &mut Vec<Holder<'a>>,
+    servers: &'a [Server],
+    store: &Store,
+) -> Result<(), AllocError>
+    ensures { OnOk result (map holder_view holders.new.items
+        ≡ map holder_view holders.old.items ++ flat_map (server_holders store.now) servers.now) }
+{
+    for server in servers {
+        match add_holder(holders, server.name(), server.hand(), store) {
+            Ok(()) => {}
+            Err(_) => return Err(AllocError),
+        }
+    }
+    Ok(())
+}
+
+/// Adds what workers have in hand.
+fn add_workers<'a>(
+    holders: &mut Vec<Holder<'a>>,
+    workers: &'a BTreeMap<Name, Worker>,
+    store: &Store,
+) -> Result<(), AllocError>
+    ensures { OnOk result (map holder_view holders.new.items
+        ≡ map holder_view holders.old.items ++ flat_map (worker_holders store.now) workers.now.entries) }
+{
+    for (name, worker) in workers {
+        match add_holder(holders, name, worker.hand, store) {
+            Ok(()) => {}
+            Err(_) => return Err(AllocError),
+        }
+    }
+    Ok(())
+}
+
+/// Register k of a server; 0 where it has no such register.
+fn register_or_zero(server: &Server, k: u64) -> u64
+    ensures { result ≡ register_or_zero k server.now }
+{
+    match server.register(k) {
+        Some(value) => value,
+        None => 0,
+    }
+}
+
+/// The sum of register k over servers, if 128 bits have it.
+fn sum_of(servers: &[Server], k: u64) -> Option<u128>
+    ensures { IfSome result (λ sum. sum ≡ sum_by (register_or_zero k) servers.now) }
+{
+    let Some((first, others)) = servers.split_first() else {
+        return Some(0);
+    };
+    match sum_of(others, k) {
+        Some(sum) => u128::from(register_or_zero(first, k)).checked_add(sum),
+        None => None,
     }
 }

@@ -1,6 +1,7 @@
 pub mod Places
 pub mod Groupings
 pub mod Finding
+pub mod Queued
 pub mod Placing
 pub mod Looking
 pub mod Progress
@@ -22,10 +23,12 @@ pub mod Accounted
 pub mod Wholes
 pub mod Keeping
 pub mod Newborn
+pub mod Outputs
 pub mod Striking
 pub mod Listed
 pub mod Restored
 pub mod Owning
+pub mod Walked
 pub mod Recounted
 pub mod PutBack
 pub mod Resettled

@@ -42,7 +42,7 @@ alive_is e g h = go e.status h
 
 module _ (of : Element → Option ℕ) (request : IsOfRequest of) (root : ℕ) where
   -- what the index has is one of the group
-  had : (i : ℕ) (x : Option Element) → stands (unless_own of) root i x ≡ true → stands (λ j. of) root i x ≡ true
+  pub had : (i : ℕ) (x : Option Element) → stands (unless_own of) root i x ≡ true → stands (λ j. of) root i x ≡ true
   had i None h = absurd cc
   had i (Some e) h = go (e.root == i) h
     where
@@ -51,7 +51,7 @@ module _ (of : Element → Option ℕ) (request : IsOfRequest of) (root : ℕ) w
       go false h = h
 
   -- and it has each but the own one
-  others : (i : ℕ) (x : Option Element) → root ≢ i → stands (unless_own of) root i x ≡ false → stands (λ j. of) root i x ≡ false
+  pub others : (i : ℕ) (x : Option Element) → root ≢ i → stands (unless_own of) root i x ≡ false → stands (λ j. of) root i x ≡ false
   others i None other h = refl
   others i (Some e) other h = go (e.root == i) refl h (is_group root (of e)) refl
     where

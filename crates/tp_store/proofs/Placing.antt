@@ -165,9 +165,12 @@ pub record IsReplaced (id : ℕ) (v : Element) (es ns : List Entry) : Type 0 whe
   pub at : IsPutAt id (Some v) es ns
   pub sorted : AreSorted ns
 
-pub replaced : (id : ℕ) (e v : Element) (es ns : List Entry) → AreSorted es → element_at id es ≡ Some e → ns ≡ set_value (is_at (nat_cmp id)) es v → IsReplaced id v es ns
-replaced id e v es ns sorted found is = record {
-  put_is = is ∙ written id e v es sorted found;
-  at = λ q. ap (element_at q) is ∙ written_at id q e v es found;
-  sorted = subst (λ ks. IsStrictlySortedBy nat_cmp ks) (sym (ap keys_of is ∙ keys-set_value (is_at (nat_cmp id)) es v)) sorted;
+pub replaced : (id : ℕ) (e v k : Element) (es ns : List Entry) → k ≡ v → AreSorted es → element_at id es ≡ Some e → ns ≡ set_value (is_at (nat_cmp id)) es k → IsReplaced id v es ns
+replaced id e v k es ns same sorted found is = record {
+  put_is = is_now ∙ written id e v es sorted found;
+  at = λ q. ap (element_at q) is_now ∙ written_at id q e v es found;
+  sorted = subst (λ ks. IsStrictlySortedBy nat_cmp ks) (sym (ap keys_of is_now ∙ keys-set_value (is_at (nat_cmp id)) es v)) sorted;
 }
+  where
+    is_now : ns ≡ set_value (is_at (nat_cmp id)) es v
+    is_now = is ∙ ap (set_value (is_at (nat_cmp id)) es) same

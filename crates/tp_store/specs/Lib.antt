@@ -10,7 +10,9 @@ pub mod Indexing
 pub mod Lasting
 pub mod Listing
 pub mod Modelled
+pub mod Packing
 pub mod Progress
+pub mod Queues
 pub mod Restoring
 pub mod Retelling
 pub mod Runs

@@ -28,6 +28,7 @@ const NO_COUNTS: Counts = Counts {
 
 impl Counts {
     /// One more of this kind.
+    #[inline(always)]
     fn more(&mut self, status: &Status)
         ensures { self.new ≡ more status.now self.old }
     {
@@ -41,6 +42,7 @@ impl Counts {
     }
 
     /// One less of this kind.
+    #[inline(always)]
     fn less(&mut self, status: &Status)
         ensures { self.new ≡ less status.now self.old }
     {

@@ -69,6 +69,7 @@ pub(crate) const NO_GROUPS: Groups = Groups {
 
 impl Element {
     /// The same element, where it stands so.
+    #[inline(always)]
     pub(crate) fn standing(&self, status: Status) -> Element
         ensures { result ≡ standing status self.now }
     {
@@ -78,6 +79,7 @@ impl Element {
     }
 
     /// Whether this unit of work holds it.
+    #[inline(always)]
     pub fn is_held_by(&self, unit: u64) -> bool
         ensures { result ≡ is_held_by unit self.now.status }
     {
@@ -91,6 +93,7 @@ impl Element {
     }
 
     /// Its request, where work on it may go on.
+    #[inline(always)]
     pub(crate) fn alive(&self) -> Option<u64>
         ensures { result ≡ alive_of self.now }
     {
@@ -104,6 +107,7 @@ impl Element {
     }
 
     /// The queue that it waits in.
+    #[inline(always)]
     fn queue(&self) -> Option<u64>
         ensures { result ≡ queue_of self.now }
     {
@@ -117,6 +121,7 @@ impl Element {
     }
 
     /// Whether it is a reply that waits.
+    #[inline(always)]
     fn is_reply(&self) -> bool
         ensures { result ≡ is_reply self.now }
     {
@@ -130,6 +135,7 @@ impl Element {
     }
 
     /// The groups in which the indexes have it, where this is its id.
+    #[inline(always)]
     pub(crate) fn groups(&self, id: u64) -> Groups
         ensures { result ≡ groups_of id self.now }
     {

@@ -1,7 +1,7 @@
 //! Ends: a request on which no work goes on is noted, and those that ended long ago are forgotten.
-ghost use Rattle.std.specs.Prelude.{◌≡◌, ◌<◌, ◌++◌, [], ◌∷◌};
+ghost use Rattle.std.specs.Prelude.{◌≡◌, ◌<◌, ◌++◌, [], ◌∷◌, true, false};
 ghost use Rattle.std.specs.VecDeque.{deque_len, deque_capacity};
-ghost use Rattle.tp_store.specs.Ends.{ended_in, forget, forget_one};
+ghost use Rattle.tp_store.specs.Ends.{ended_in, forget, forget_one, is_over};
 ghost use Rattle.tp_store.specs.Shelves.{IsFewer};
 ghost use Rattle.tp_store.specs.declared.ends.TheConstants.{FORGET_STEPS};
 
@@ -12,12 +12,13 @@ use std::collections::VecDeque;
 /// How many steps of forgetting are made behind each birth and each end.
 pub(crate) const FORGET_STEPS: u8 = 8;
 
-/// Notes a request as ended, where it is over.
-pub(crate) fn note_end(shelf: &Shelf, ended: &mut VecDeque<u64>, root: u64)
+/// Notes a request as ended, where it is over. Where it is known to go on, nothing is looked at.
+pub(crate) fn note_end(shelf: &Shelf, ended: &mut VecDeque<u64>, root: u64, goes_on: bool)
+    requires goes_on { goes_on ≡ true → is_over root shelf.now ≡ false }
     requires room { deque_len ended.old < deque_capacity ended.old }
     ensures { ended.new.items ≡ ended_in root shelf.now ended.old.items }
 {
-    if shelf.is_over(root) {
+    if !goes_on && shelf.is_over(root) {
         let _ = ended.push_back(root);
     }
 }

@@ -2,9 +2,11 @@
 ghost use Rattle.std.specs.Prelude.{◌≡◌, ℕ, List, [], ◌&&◌, ◌||◌, ◌==◌, not, true, false, OnOk, OnErr};
 ghost use Rattle.tp_store.specs.Elements.{is_group};
 ghost use Rattle.tp_store.specs.Indexes.{gains, has, is_place, IsFirstFrom};
+ghost use Rattle.tp_store.specs.Queues.{ArePlacesFrom};
 
 use std::alloc::{AllocError, Global};
 use std::collections::BTreeSet;
+use std::collections::btree_set::Range;
 use std::marker::Model;
 
 /// Which ids stand in which group: a group and an id for each.
@@ -49,6 +51,7 @@ impl Index {
     }
 
     /// The id goes over into this group, and stands in the one that it was in too.
+    #[inline(always)]
     pub(crate) fn enter(
         &mut self,
         id: u64,
@@ -70,6 +73,7 @@ impl Index {
     }
 
     /// The id leaves the group that it was in, unless it goes over into that.
+    #[inline(always)]
     pub(crate) fn leave(&mut self, id: u64, from: Option<u64>, to: Option<u64>)
         ensures { (g i : ℕ) → has self.new g i
             ≡ (has self.old g i && not (id == i && (is_group g from && not (is_group g to)))) }
@@ -84,6 +88,7 @@ impl Index {
     }
 
     /// The least id from this one on that stands in the group.
+    #[inline(always)]
     pub(crate) fn first(&self, group: u64, from: u64) -> Option<u64>
         ensures { IsFirstFrom self.now group from result }
     {
@@ -91,5 +96,11 @@ impl Index {
             return None;
         };
         if at == group { Some(id) } else { None }
+    }
+    /// The places from this one on, of later groups too, in order.
+    pub(crate) fn places(&self, group: u64, from: u64) -> Range<'_, (u64, u64)>
+        ensures { ArePlacesFrom self.now group from result }
+    {
+        self.places.range((group, from)..)
     }
 }

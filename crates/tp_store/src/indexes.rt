@@ -4,13 +4,14 @@ ghost use Rattle.tp_store.specs.Indexing.{gains_any, HaveBegun, HaveEntered, Hav
 
 use crate::element::Groups;
 use crate::index::Index;
+use crate::queues::Queues;
 use std::alloc::{AllocError, Global};
 
 /// An index for each question that is asked.
 #[derive(Drop)]
 pub(crate) struct Indexes {
     /// What waits, by its stage; in queue 0 what is parked.
-    pub(crate) queues: Index,
+    pub(crate) queues: Queues,
     /// Replies that wait, by the request.
     pub(crate) replies: Index,
     /// Replies that wait, by whose request it is.
@@ -31,7 +32,7 @@ impl Indexes {
         ensures alive { result.alive ≡ [] }
     {
         Indexes {
-            queues: Index::new(alloc),
+            queues: Queues::new(alloc),
             replies: Index::new(alloc),
             owned: Index::new(alloc),
             families: Index::new(alloc),
@@ -40,6 +41,7 @@ impl Indexes {
     }
 
     /// The id stands in these groups too, from now on; where memory is wanted, in those that it was in.
+    #[inline(always)]
     pub(crate) fn enter(&mut self, id: u64, from: &Groups, to: &Groups) -> Result<(), AllocError>
         requires known { StandsIn id from.now self.old }
         ensures ok { OnOk result (HaveEntered id to.now self.old self.new) }
@@ -55,6 +57,7 @@ impl Indexes {
         }
     }
 
+    #[inline(always)]
     fn enter_each(&mut self, id: u64, from: &Groups, to: &Groups) -> Result<(), AllocError>
         requires known { StandsIn id from.now self.old }
         ensures ok { OnOk result (HaveEntered id to.now self.old self.new) }
@@ -69,6 +72,7 @@ impl Indexes {
     }
 
     /// The id leaves the groups that it was in, but for those that it goes over into.
+    #[inline(always)]
     pub(crate) fn leave(&mut self, id: u64, from: &Groups, to: &Groups)
         ensures { HaveLeft id from.now to.now self.old self.new }
     {

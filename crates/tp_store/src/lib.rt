@@ -11,6 +11,8 @@ mod ends;
 pub mod group;
 mod index;
 mod indexes;
+mod kept;
 pub mod laws;
+mod queues;
 mod shelf;
 pub mod store;

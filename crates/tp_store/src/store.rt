@@ -256,7 +256,8 @@ impl Store {
         }
         self.tally
             .count(element.stage, &Some(element.status), &after.status);
-        note_end(&self.shelf, &mut self.ended, element.root);
+        let goes_on = !outputs.is_empty();
+        note_end(&self.shelf, &mut self.ended, element.root, goes_on);
         forget(&mut self.shelf, &mut self.ended, self.limits.keep);
         Ok(())
     }
@@ -354,7 +355,7 @@ impl Store {
         }
         self.tally
             .count(element.stage, &Some(element.status), &after.status);
-        note_end(&self.shelf, &mut self.ended, element.root);
+        note_end(&self.shelf, &mut self.ended, element.root, false);
         forget(&mut self.shelf, &mut self.ended, self.limits.keep);
         Ok(())
     }
@@ -380,7 +381,7 @@ impl Store {
             Err(_) => return Err(Refusal::NoMemory),
         }
         let killed = kill_open(&mut self.shelf, &mut self.tally, root, self.next);
-        note_end(&self.shelf, &mut self.ended, root);
+        note_end(&self.shelf, &mut self.ended, root, false);
         forget(&mut self.shelf, &mut self.ended, self.limits.keep);
         Ok(Cancelled { killed })
     }

@@ -5,9 +5,9 @@ ghost use Rattle.std.specs.Prelude.{◌≡◌};
 use super::devices::{Reader, Writer};
 use super::plain_of;
 use std::thread::Threads;
+use tp_perform::run;
 use tp_reference::{PlainExit, run_plain};
 use tp_report::Fault;
-use tp_session::run;
 
 const SCRIPT: &str =
     "rows 8\nserver a eager 1 1 add 15:same:after\nsubmit 1 0 10\nturn a\nreply 0\n";

@@ -2,6 +2,7 @@
 ghost use Rattle.std.specs.Prelude.{◌≡◌, IfOk, slice_get};
 ghost use Rattle.tp_store.specs.Elements.{element_at};
 ghost use Rattle.tp_store.specs.Listing.{first_of, listed};
+ghost use Rattle.tp_store.specs.declared.group.Group.TheVariants.{Family};
 
 use crate::counts::Counts;
 use crate::element::Element;
@@ -26,6 +27,48 @@ impl Store {
 
     /// The elements of a group from this id on, in the order of their ids, at most so many.
     pub fn list(
+        &self,
+        alloc: Global,
+        group: Group,
+        from: u64,
+        most: usize,
+    ) -> Result<Vec<(u64, Element)>, AllocError>
+        ensures { IfOk result (λ v. v.items ≡ listed group from most self.now.elements) }
+    {
+        match group {
+            Group::Queue(queue) => self.shelf.waiting(alloc, queue, from, most),
+            Group::Replies(_) => self.list_by_steps(alloc, group, from, most),
+            Group::Owned(_) => self.list_by_steps(alloc, group, from, most),
+            Group::Family(root) => self.list_family(alloc, root, from, most),
+            Group::All => self.list_by_steps(alloc, group, from, most),
+        }
+    }
+
+    /// The elements of a request from this id on, at most so many.
+    fn list_family(
+        &self,
+        alloc: Global,
+        root: u64,
+        from: u64,
+        most: usize,
+    ) -> Result<Vec<(u64, Element)>, AllocError>
+        ensures { IfOk result (λ v. v.items ≡ listed (Family root) from most self.now.elements) }
+    {
+        let _end = self.next;
+        let mut list = Vec::new(alloc);
+        let Some((id, element)) = self.shelf.first(Group::Family(root), from) else {
+            return Ok(list);
+        };
+        if most == 0 || id < root {
+            return self.list_by_steps(alloc, Group::Family(root), from, most);
+        }
+        list.push((id, element))?;
+        self.shelf.add_members(&mut list, root, id + 1, most - 1)?;
+        Ok(list)
+    }
+
+    /// The same of any group, where the first of those that are left is looked for at each step.
+    fn list_by_steps(
         &self,
         alloc: Global,
         group: Group,

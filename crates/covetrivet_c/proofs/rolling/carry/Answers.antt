@@ -1,4 +1,4 @@
-use Rattle.std.proofs.Common.{Err, ap, subst, sym}
+use Rattle.std.proofs.Common.{subst, sym}
 use Rattle.covetrivet_c.specs.Homes.{IsUncarried}
 use Rattle.covetrivet_c.proofs.Uncarried.{uncarried}
 use Rattle.covetrivet_c.proofs.rolling.carry.Goals as goal
@@ -18,6 +18,5 @@ returns-in-Err-clause-answer c =
     let olds = c.args.old_passes.now in let news = c.args.new_passes.now in (
       record { given = c.roll_over.ensures.old_keeper.1; passes = c.in-Err.ensures.refused },
       subst (IsUncarried l k olds news) (sym c.fault_of.ensures)
-          (uncarried l k olds news c.roll_over.new.new_passes c.in-Err.fault
-          (λ full fresh. c.in-Err.ensures.would_not_fit fresh (ap Err full)) c.in-Err.ensures.due),
+          (uncarried l k olds news c.in-Err.fault c.in-Err.ensures.due),
     )

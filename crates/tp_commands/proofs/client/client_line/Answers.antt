@@ -1,8 +1,4 @@
-use Rattle.std.proofs.Common.{◌∙◌, ap}
 use Rattle.std.specs.Prelude.{string_bytes}
-use Rattle.std.proofs.lemmas.Result.{IfOk-weaker}
-use Rattle.tp_report.specs.Answer.{depths_text, line}
-use Rattle.tp_report.specs.Looks.{depths_of}
 use Rattle.tp_commands.proofs.Tellings.{answer_told, found_told, value_told}
 use Rattle.tp_commands.proofs.client.client_line.Goals as goal
 
@@ -38,11 +34,3 @@ returns-in-Collect-clause-tells c = rw c.in-Collect.is (found_told c.collected.r
 
 pub returns-in-Family-clause-tells : goal.returns-in-Family-clause-tells
 returns-in-Family-clause-tells c = rw c.in-Family.is (found_told c.family.result string_bytes _ _ _ _ c.family.ensures.tells)
-
-pub returns-in-Depth-clause-tells : goal.returns-in-Depth-clause-tells
-returns-in-Depth-clause-tells c =
-    let t = c.depths-depths.ensures.tells in
-    rw c.in-Depth.is (value_told c.line-in-Depth.result string_bytes _ _ _ (λ looks. depths_text (depths_of looks)) t.0 t.1 (IfOk-weaker c.line-in-Depth.result _ _ (λ text is. is ∙ ap (λ ds. line (depths_text ds)) (c.as_slice.ensures ∙ t.2)) c.line-in-Depth.ensures.text))
-
-pub returns-in-List-clause-tells : goal.returns-in-List-clause-tells
-returns-in-List-clause-tells c = rw c.in-List.is (found_told c.waiting.result string_bytes _ _ _ _ c.waiting.ensures.tells)

@@ -2,7 +2,7 @@ use Rattle.std.proofs.Common.{arith, length, subst}
 use Rattle.std.specs.Prelude.{All}
 use Rattle.std.proofs.lemmas.List.{take_all}
 use Rattle.tp_journal.specs.Text.{IsPlain}
-use Rattle.tp_journal.proofs.Ends.{is_batch, some-length}
+use Rattle.tp_journal.proofs.EndLines.{is_batch, some-length}
 use Rattle.tp_journal.proofs.batch.check.Goals as goal
 
 pub returns-clause-accepted : goal.returns-clause-accepted

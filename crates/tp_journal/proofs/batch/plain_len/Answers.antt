@@ -1,7 +1,7 @@
 use Rattle.std.proofs.Common.{arith}
 use Rattle.std.proofs.lemmas.List.Elements.{All-more}
 use Rattle.tp_journal.specs.Text.{IsPlain}
-use Rattle.tp_journal.proofs.Ends.{is_plain}
+use Rattle.tp_journal.proofs.EndLines.{is_plain}
 use Rattle.tp_journal.proofs.batch.plain_len.Goals as goal
 
 pub loop-len-preserved : goal.loop-len-preserved

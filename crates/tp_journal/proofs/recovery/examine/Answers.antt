@@ -1,7 +1,7 @@
-use Rattle.std.proofs.Common.{◌≡◌, List, ℕ, take, arith, subst}
+use Rattle.std.proofs.Common.{◌≡◌, List, ℕ, take, arith, subst, ◌∙◌}
 use Rattle.std.proofs.lemmas.List.{length-take-le}
-use Rattle.tp_journal.specs.Text.{HasDamage, IsDamage, IsFrontOf, first_line}
-use Rattle.tp_journal.proofs.Ends.{not_both}
+use Rattle.tp_journal.specs.Text.{HasDamage, IsFrontOf, first_line}
+use Rattle.tp_journal.proofs.EndLines.{not_both}
 use Rattle.tp_journal.proofs.Seals.{first-test, sealed-in, slice-rest}
 use Rattle.tp_journal.proofs.Texts.{text-found}
 use Rattle.tp_journal.proofs.Faults.{damaged-count}
@@ -31,7 +31,7 @@ returns-then-is_damaged-clause-damaged c = λ count is.
       text = take here bytes;
       is_longest = sealed-in bytes c.text_len.result here text_is c.text_len.ensures.inside c.in_ok-count.ensures.inside c.in_ok-count.ensures.sealed;
       long = length-take-le here bytes (omega (arith, c.in_ok-count.ensures.inside, inside, c.text_len.ensures.inside));
-      is_damage = subst IsDamage (slice-rest here bytes) (c.is_damaged.ensures.damaged c.if-is_damaged.true);
+      is_damage = rw (slice-rest here bytes, c.as_bytes.ensures.value ∙ c.in_ok-begin.ensures.ok) at (c.is_damaged.ensures.damaged c.if-is_damaged.true);
     })
 
 pub returns-clause-sealed : goal.returns-clause-sealed

@@ -1,7 +1,8 @@
 use Rattle.std.proofs.Common.{◌≡◌, ◌⊎◌, ◌++◌, List, ℕ, inl, inr, ⊎_elim, length, replicate, sym, ap, arith, subst, ◌∙◌}
 use Rattle.tp_journal.specs.Text.{IsAtRest, IsSealed}
 use Rattle.tp_journal.proofs.Moments.{started, weakened}
-use Rattle.tp_journal.proofs.Texts.{made-rest}
+use Rattle.tp_journal.specs.declared.recovery.TheConstants.{STEP}
+use Rattle.tp_journal.proofs.Texts.{made-length, made-rest}
 use Rattle.tp_journal.proofs.recovery.make.Goals as goal
 
 pub returns-in-Ok-clause-stands : goal.returns-in-Ok-clause-stands
@@ -36,3 +37,8 @@ pub returns-in_err-text-clause-any_moment : goal.returns-in_err-text-clause-any_
 returns-in_err-text-clause-any_moment g c =
     let d = c.args.device.now in
     started g.D.Device.moment g.D.Device.left_since d _ (λ f left. inl (g.met.D.Device.only_now d f left))
+
+pub returns-in-Ok-clause-len : goal.returns-in-Ok-clause-len
+returns-in-Ok-clause-len g c =
+    let long = made-length c.args.text.now c.in_ok-file.file.items STEP c.in_ok-file.ensures in
+    c.len.ensures ∙ (c.in_ok-file.file.ok.0 ∙ long)

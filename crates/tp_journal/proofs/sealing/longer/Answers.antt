@@ -1,13 +1,12 @@
-use Rattle.std.proofs.Common.{◌+◌, inl, inr, ⊎_elim, length}
-use Rattle.tp_journal.proofs.Ends.{not_both}
-use Rattle.tp_journal.proofs.Seals.{found-front, larger}
+use Rattle.std.proofs.Common.{max, ◌≤◌, ◌≡◌, ℕ, arith}
+use Rattle.std.proofs.lemmas.Bool.Decides.{nat_tests}
 use Rattle.tp_journal.proofs.sealing.longer.Goals as goal
 
-pub returns-then-starts_with-clause-which : goal.returns-then-starts_with-clause-which
-returns-then-starts_with-clause-which c =
-    let front = (found-front c.args.text.now c.args.line.now c.args.at c.starts_with.result c.starts_with.ensures.value).0 c.if-starts_with.true in
-    ⊎_elim (λ is. inl is) (λ is. inr (is, front)) (larger c.args.count (c.args.at + length c.args.line.now) c.max.result c.max.ensures)
+no-more : (a b m r : ℕ) → r ≡ max a b → m ≡ b → m ≤ r
+no-more a b m r is same = grind (arith, nat_tests)
 
-pub returns-else-starts_with-clause-line : goal.returns-else-starts_with-clause-line
-returns-else-starts_with-clause-line c = λ front.
-    absurd (not_both c.starts_with.result c.if-starts_with.false ((found-front c.args.text.now c.args.line.now c.args.at c.starts_with.result c.starts_with.ensures.value).1 front))
+pub returns-in-Some-clause-end : goal.returns-in-Some-clause-end
+returns-in-Some-clause-end c = λ m e. no-more c.args.count c.in-Some.end m c.max.result c.max.ensures ((rw c.in-Some.is at c.in_ok-end.ensures.one) m e)
+
+pub returns-in-None-clause-end : goal.returns-in-None-clause-end
+returns-in-None-clause-end c = λ m e. absurd ((rw c.in-None.is at c.in_ok-end.ensures.none) m e)

@@ -1,8 +1,7 @@
-use Rattle.std.proofs.Common.{◌≡◌, arith, take, subst, ◌∙◌}
+use Rattle.std.proofs.Common.{arith, take, subst}
 use Rattle.sha2.specs.Hashers.{Holds256}
-use Rattle.tp_journal.specs.Text.{end_line, first_line}
+use Rattle.tp_journal.specs.Text.{first_line}
 use Rattle.tp_journal.proofs.Seals.{front-length, longest-begun, longest-next, sealed-done, sealed-first, sealed-next, taken-on}
-use Rattle.std.proofs.lemmas.List.{length-take-le}
 use Rattle.tp_journal.proofs.sealing.sealed_len.Goals as goal
 
 pub loop-at-init : goal.loop-at-init
@@ -20,15 +19,14 @@ pub loop-at-preserved : goal.loop-at-preserved
 loop-at-preserved c =
     let text = c.args.text.now in
     let at = c.loop-at.at in
-    let line_is : c.deref.result.now ≡ end_line (take at text) = c.deref.ensures.value ∙ c.in_ok-line.ensures (take at text) c.loop-at.invariant.hashed (length-take-le at text c.loop-at.invariant.inside) in
     record {
       begun = omega (arith, c.loop-at.invariant.begun, c.next_mark-next.ensures.from);
       inside = c.next_mark-next.ensures.inside;
       hashed = subst (Holds256 c.update.new.self) (taken-on text at c.next_mark-next.result (omega (arith, c.next_mark-next.ensures.from))) (c.update.ensures (take at text) c.loop-at.invariant.hashed);
-      count_inside = c.longer-count.ensures.inside;
-      count_least = omega (arith, c.loop-at.invariant.count_least, c.longer-count.ensures.no_less);
-      is_sealed = sealed-next text c.deref.result.now at c.loop-at.count c.longer-count.result c.requires c.loop-at.invariant.begun c.loop-at.invariant.inside line_is c.loop-at.invariant.is_sealed c.longer-count.ensures.which;
-      longest = longest-next text c.deref.result.now at c.next_mark-next.result c.loop-at.count c.longer-count.result c.loop-at.invariant.longest c.longer-count.ensures.no_less c.loop-at.invariant.inside line_is c.longer-count.ensures.line c.next_mark-next.ensures.none;
+      count_inside = c.in_ok-count.ensures.inside;
+      count_least = omega (arith, c.loop-at.invariant.count_least, c.in_ok-count.ensures.no_less);
+      is_sealed = sealed-next text at c.loop-at.count c.in_ok-count.count c.requires c.loop-at.invariant.begun c.loop-at.invariant.inside c.loop-at.invariant.is_sealed c.in_ok-count.ensures.which;
+      longest = longest-next text at c.next_mark-next.result c.loop-at.count c.in_ok-count.count c.loop-at.invariant.longest c.in_ok-count.ensures.no_less c.in_ok-count.ensures.end c.next_mark-next.ensures.none;
     }
 
 pub returns-clause-sealed : goal.returns-clause-sealed

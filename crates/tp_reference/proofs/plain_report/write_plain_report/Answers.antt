@@ -21,14 +21,14 @@ returns-in_err-line-clause-front g c = always_err c.from_residual-in_err-line.re
 
 pub returns-in_err-write_all-clause-front : goal.returns-in_err-write_all-clause-front
 returns-in_err-write_all-clause-front g c =
-    let step = rw (c.act-item.is, c.deref-act-items.ensures.value) at c.in_ok-line.ensures.step in
+    let step = rw c.deref-act-items.ensures.value at c.in_ok-line.ensures.step in
     let more = reports_more (map server_view c.args.script.now.head.servers.items) c.args.script.now.account c.args.script.now.acts.items c.loop-act.act-index _ (state c.loop-act.run) (state c.act.new.self) (string_bytes c.in_ok-line.line) (omega (arith, ap length c.deref-act-items.ensures.value)) step in
     let here = rw more at c.loop-act.invariant.written in
     always_err c.from_residual-in_err-write_all.result (front_more _ (g.W.Sink.contents c.loop-act.sink) _ _ (string_bytes c.in_ok-line.line) _ here (rw c.as_bytes.ensures.value at c.in_err-write_all.ensures.err))
 
 pub loop-act-preserved : goal.loop-act-preserved
 loop-act-preserved g c =
-    let step = rw (c.act-item.is, c.deref-act-items.ensures.value) at c.in_ok-line.ensures.step in
+    let step = rw c.deref-act-items.ensures.value at c.in_ok-line.ensures.step in
     let more = reports_more (map server_view c.args.script.now.head.servers.items) c.args.script.now.account c.args.script.now.acts.items c.loop-act.act-index _ (state c.loop-act.run) (state c.act.new.self) (string_bytes c.in_ok-line.line) (omega (arith, ap length c.deref-act-items.ensures.value)) step in
     let here = rw more at c.loop-act.invariant.written in
     record {

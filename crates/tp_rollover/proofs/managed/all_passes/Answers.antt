@@ -9,6 +9,7 @@ pub loop-pass-preserved : goal.loop-pass-preserved
 loop-pass-preserved c = record {
   keeper = search rules;
   own = search rules;
+  room = search rules;
   seen = c.in-Ok.ensures.given.1 ∙ c.loop-pass.invariant.seen;
   new = rw c.in_ok-push.ensures.items (All-append IsNewPass c.loop-pass.passes.items (c.in-Ok.pass ∷ []) c.loop-pass.invariant.new
       (All-cons IsNewPass c.in-Ok.pass [] (record {

@@ -1,4 +1,4 @@
-use Rattle.std.proofs.Common.{◌≡◌, ◌+◌, ◌-◌, [], All, length}
+use Rattle.std.proofs.Common.{◌≡◌, ◌+◌, ◌-◌, ◌≤◌, [], All, length, vec_capacity}
 use Rattle.tp_manager.specs.Accounts.{AreAll}
 use Rattle.tp_manager.specs.Shown.{IsKeptBy, IsOf}
 use Rattle.tp_rollover.specs.Bounds.{made_by_all}
@@ -11,6 +11,7 @@ invariant-loop-pass l = record {
   own : All (IsOf l.manager) l.passes.items;
   seen : l.keeper.seen ≡ [];
   new : All IsNewPass l.passes.items;
+  room : l.manager.limits.parts ≤ vec_capacity l.passes;
   given : AreAll l.keeper l.passes.items;
   made : made_by_all l.keeper l.passes.items ≡ l.initial.keeper.steps + length l.passes.items;
 }

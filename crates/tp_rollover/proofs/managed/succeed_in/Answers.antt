@@ -1,7 +1,5 @@
-use Rattle.std.proofs.Common.{◌∙◌, Err, ap, arith, length, subst, sym}
+use Rattle.std.proofs.Common.{◌∙◌, ap, arith, length, subst, sym}
 use Rattle.tp_model.specs.declared.types.Limits.{Limits}
-use Rattle.tp_rollover.specs.Faults.{IsDue}
-use Rattle.tp_rollover.specs.Managed.{IsRefusedFor}
 use Rattle.tp_model.specs.Steps.{AreLimits}
 use Rattle.tp_rollover.proofs.Managing.{all_fresh, carries_again, managed_again, refused_for, unfit_same}
 use Rattle.tp_rollover.proofs.managed.succeed_in.Goals as goal
@@ -18,12 +16,11 @@ returns-in-Err-clause-fault c =
     let news = c.deref_mut.result.now in
     let long = ap length c.deref_mut.ensures.value ∙ (c.requires.next.managed.parts ∙ ap (λ (l : Limits). l.parts) same) in
     let fresh = all_fresh new.manager news new.passes.items c.deref_mut.ensures.value c.requires.next.new c.requires.next.managed.own in
-    subst (IsRefusedFor c.args.old.now.limits c.args.old_passes.now) (sym c.fault_anew.ensures)
-    (refused_for c.args.old.now.limits new.manager.limits c.args.old_passes.now news c.roll_over_in.new.new_passes c.in-Err.fault (ap (λ (l : Limits). l.attempts) same)
+    refused_for c.args.old.now.limits new.manager.limits c.args.old_passes.now news c.in-Err.fault (ap (λ (l : Limits). l.attempts) same)
     (omega (arith, c.requires.parts, c.requires.limits.parts.0)) (omega (arith, long, c.requires.limits.parts.0))
-    (λ full. unfit_same c.args.old.now.limits new.manager.limits c.args.old.now.limits.parts (length news) c.args.old_passes.now same long (c.in-Err.ensures.would_not_fit fresh (ap Err full)))
-    (λ unequal. unfit_same c.args.old.now.limits new.manager.limits c.args.old.now.limits.parts (length news) c.args.old_passes.now same long ((subst (IsDue c.args.old.now.limits new.manager.limits c.args.old_passes.now news c.roll_over_in.new.new_passes) unequal c.in-Err.ensures.due).1 (subst AreLimits (sym same) c.requires.limits) fresh))
-    c.in-Err.ensures.due)
+    (subst AreLimits (sym same) c.requires.limits) fresh
+    (unfit_same c.args.old.now.limits new.manager.limits c.args.old.now.limits.parts (length news) c.args.old_passes.now same long)
+    c.in-Err.ensures.due
 
 pub returns-in-Ok-clause-carries : goal.returns-in-Ok-clause-carries
 returns-in-Ok-clause-carries c =

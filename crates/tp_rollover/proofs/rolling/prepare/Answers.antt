@@ -5,7 +5,7 @@ use Rattle.tp_rollover.specs.Bounds.{alive_after}
 use Rattle.tp_rollover.specs.Survivors.{AreInHand, AreSurvivors}
 use Rattle.tp_rollover.proofs.Assembly.{if_ok}
 use Rattle.tp_rollover.proofs.FoundFit.{found_fit}
-use Rattle.tp_rollover.proofs.MadeAlike.{differs_so, unless_none, unless_so}
+use Rattle.tp_rollover.proofs.MadeAlike.{differs_so, unless_so}
 use Rattle.tp_rollover.proofs.MadeAnew.{on_ok}
 use Rattle.tp_rollover.proofs.StandsAnew.{none_computed}
 use Rattle.tp_rollover.proofs.Roots.{fewer}
@@ -54,22 +54,8 @@ returns-clause-computed c fresh =
       made = made;
     })
 
-pub returns-clause-would_not_fit : goal.returns-clause-would_not_fit
-returns-clause-would_not_fit c fresh full =
-    let e = c.in_ok-find_all.ensures in
-    record {
-      keeper = c.find_all.new.keeper;
-      looked = c.find_all.new.passes;
-      together = c.find_all.ensures.together;
-      stay = e.stays;
-      survivors = c.deref.result.now;
-      found = subst (AreSurvivors c.args.old.now.limits c.find_all.new.keeper.seen) (sym c.deref.ensures.value) e.found;
-      in_hand = subst (AreInHand c.args.old_passes.now) (sym c.deref.ensures.value) e.in_hand;
-      full = unless_none c.stand_again.result _ _ _ full (c.stand_again.ensures.computed fresh);
-    }
-
-pub returns-clause-unequal : goal.returns-clause-unequal
-returns-clause-unequal c limits fresh =
+pub returns-clause-unfit : goal.returns-clause-unfit
+returns-clause-unfit c limits fresh =
     let e = c.in_ok-find_all.ensures in
     let l = c.args.old.now.limits in
     let k = c.args.new.now.limits in

@@ -1,6 +1,7 @@
 use Rattle.std.proofs.Common.{◌≡◌, ◌*◌, ◌+◌, length, refl, subst, sym, true}
 use Rattle.tp_manager.specs.Bounds.{kill_steps}
 use Rattle.tp_rollover.specs.Bounds.{AllMake, gathered, give_up_steps, most_new_steps, old_steps, survey_steps}
+use Rattle.tp_rollover.specs.Faults.{IsDue}
 use Rattle.tp_rollover.specs.Closing.{AreMovedLiving, Buries}
 use Rattle.tp_rollover.proofs.Assembly.{all_living, rolled, rolls}
 use Rattle.tp_rollover.proofs.Heads.{stay_same}
@@ -54,5 +55,7 @@ returns-in-Ok-clause-steps c =
 
 pub returns-in-Err-clause-due : goal.returns-in-Err-clause-due
 returns-in-Err-clause-due c =
-    late_due c.args.old.now.limits c.args.new.now.limits c.args.old_passes.now c.args.new_passes.now c.prepare.new.new_passes (c.has_open-is_held.result ≡ true) c.fault_after.result (c.if-not-are_alike.ensures.alike refl, c.if-lacks_pass.ensures.has refl) c.has_open-is_held.ensures.busy
-    (λ unequal limits fresh. c.in-Err.ensures.unequal limits fresh (c.fault_after.ensures.unequal unequal)) c.fault_after.ensures.late
+    let l = c.args.old.now.limits in
+    let k = c.args.new.now.limits in
+    subst (IsDue l k c.args.old_passes.now c.args.new_passes.now) (sym c.fault_anew.ensures.is)
+    (late_due l k c.args.old_passes.now c.args.new_passes.now c.in-Err.stop (c.if-not-are_alike.ensures.alike refl, c.if-lacks_pass.ensures.has refl) (λ not limits fresh. c.in-Err.ensures.unfit limits fresh not))

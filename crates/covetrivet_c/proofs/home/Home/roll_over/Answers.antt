@@ -51,6 +51,7 @@ invariant_of-drop c =
     record {
       kept = subst (λ m. IsKeptBy m c.carry.new.new_keeper) c.deref-4.ensures e.new_keeper;
       own = subst (λ ps. All (IsOf (arc_value new.manager)) ps) (sym (with_items_is new.passes news long)) own;
+      room = new.room;
     }
 
 pub returns-then-has_open_from : goal.returns-then-has_open_from
@@ -126,6 +127,6 @@ returns c =
           put = record { given = put.given; passes = subst (λ ps. AllZip Stays h.passes.items ps) (sym items) stay };
           moved = refl;
         },
-        unrolled h k made.passes.items c.in-Err-carry.fault fresh new.parts new.are.parts.0 into,
+        unrolled h k made.passes.items c.in-Err-carry.fault new.are fresh new.parts new.are.parts.0 into,
       );
     }

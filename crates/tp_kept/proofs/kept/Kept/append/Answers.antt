@@ -1,36 +1,16 @@
-use Rattle.std.proofs.Common.{◌∙◌, ◌++◌, ap, append-nil, false, refl, true}
-use Rattle.std.specs.Option.{is_some}
-use Rattle.tp_kept.specs.Events.{standing, tried}
-use Rattle.tp_kept.proofs.KeptLemmas.{kept_appended, kept_given, kept_same, kept_torn}
+use Rattle.std.proofs.Common.{inr}
+use Rattle.tp_kept.specs.Kept.{life}
+use Rattle.tp_kept.proofs.KeptLemmas.{keeps_before, keeps_torn, kept_appended}
 use Rattle.tp_kept.proofs.kept.Kept.append.Goals as goal
 
-pub returns-in-Ok-clause-is_ready : goal.returns-in-Ok-clause-is_ready
-returns-in-Ok-clause-is_ready g c =
-    let seen = g.D.Device.seen in
-    let leaves = g.D.Device.may_leave in
-    let tries = tried c.args.self.now.log.events in
-    let fine = ap (λ o. is_some o) c.requires.fine in
-    let was = kept_given seen leaves tries c.args.self.now.journal _ _ _ c.requires.ready.kept fine c.requires.used in
-    let given = standing c.args.self.now.log.events in
-    let acknowledged = rw c.deref-2.ensures.value at c.in-Ok.ensures.acknowledged in
-    let within = rw c.deref-2.ensures.value at (c.in-Ok.ensures.within (was.fine refl).0) in
-    let now = kept_appended seen leaves tries c.args.self.now.journal c.append.new.self given c.args.batch.items was c.in-Ok.ensures.open acknowledged.0 acknowledged.1 c.requires.batch within in
-    record {
-      plain = c.requires.ready.plain;
-      kept = kept_same seen leaves tries c.append.new.self false _ _ (given ++ c.args.batch.items) _ now fine (ap tried c.note.ensures) (ap (λ es. standing es ++ c.args.batch.items) c.note.ensures);
-    }
+pub returns-in-Ok-clause-kept : goal.returns-in-Ok-clause-kept
+returns-in-Ok-clause-kept g c =
+    kept_appended g.D.Device.seen g.D.Device.may_leave c.args.self.now.journal c.append.new.self (life c.args.self.now) c.requires.kept c.in-Ok.ensures.open c.args.lines.now c.in-Ok.ensures.acknowledged.0 c.in-Ok.ensures.acknowledged.1 c.requires.batch c.requires.theirs (c.in-Ok.ensures.within c.requires.kept.fine)
 
-pub returns-in-Err-clause-is_ready : goal.returns-in-Err-clause-is_ready
-returns-in-Err-clause-is_ready g c =
-    let seen = g.D.Device.seen in
-    let leaves = g.D.Device.may_leave in
-    let tries = tried c.args.self.now.log.events in
-    let was = kept_given seen leaves tries c.args.self.now.journal _ _ _ c.requires.ready.kept (ap (λ o. is_some o) c.requires.fine) c.requires.used in
-    let given = standing c.args.self.now.log.events in
-    let torn = rw c.deref-2.ensures.value at (c.in-Err.ensures.any_moment (was.fine refl).0) in
-    let within = rw c.deref-2.ensures.value at (c.in-Err.ensures.within (was.fine refl).0) in
-    let now = kept_torn seen leaves tries c.args.self.now.journal c.append.new.self given c.args.batch.items was c.in-Err.ensures.open g.D.Device.moment g.D.Device.left_since g.met.D.Device.counts_now torn c.requires.batch within in
-    record {
-      plain = c.requires.ready.plain;
-      kept = kept_same seen leaves tries c.append.new.self true _ _ given _ now refl refl (ap (λ l. given ++ l) c.requires.used ∙ append-nil given);
-    }
+pub returns-in-Ok-clause-keeps : goal.returns-in-Ok-clause-keeps
+returns-in-Ok-clause-keeps g c =
+    keeps_before g.D.Device.seen g.D.Device.may_leave c.append.new.self.device (life c.args.self.now) c.args.lines.now (inr (c.requires.batch.front, c.requires.batch.ends)) (returns-in-Ok-clause-kept g c).keeps
+
+pub returns-in-Err-clause-keeps : goal.returns-in-Err-clause-keeps
+returns-in-Err-clause-keeps g c =
+    keeps_torn g.D.Device.seen g.D.Device.may_leave c.args.self.now.journal c.append.new.self (life c.args.self.now) c.requires.kept c.in-Err.ensures.open g.D.Device.moment g.D.Device.left_since g.met.D.Device.counts_now c.args.lines.now c.requires.batch (c.in-Err.ensures.any_moment c.requires.kept.fine) c.requires.theirs (c.in-Err.ensures.within c.requires.kept.fine)

@@ -1,35 +1,32 @@
-use Rattle.std.proofs.Common.{◌∙◌, ◌++◌, Err, Some, ap, arith, drop, false, length, true, refl, sym}
-use Rattle.std.specs.Option.{is_some}
-use Rattle.std.proofs.lemmas.List.{take_rest}
-use Rattle.tp_kept.specs.Events.{standing, tried}
-use Rattle.tp_kept.proofs.KeptLemmas.{kept_replaced, kept_same, kept_tried}
+use Rattle.std.proofs.Common.{Err, ap, arith, length, subst, sym}
+use Rattle.tp_kept.specs.Kept.{KeepsLife, life}
+use Rattle.tp_kept.proofs.KeptLemmas.{keeps_tried, kept_replaced}
+use Rattle.tp_kept.proofs.LivesLemmas.{stands_short}
 use Rattle.tp_kept.proofs.kept.Kept.replace.Goals as goal
 
-pub returns-in-Ok-replace-clause-is_ready : goal.returns-in-Ok-replace-clause-is_ready
-returns-in-Ok-replace-clause-is_ready g c =
-    let seen = g.D.Device.seen in
-    let leaves = g.D.Device.may_leave in
-    let k = c.args.self.now in
-    let tries = tried k.log.events in
-    let text = c.deref-4.result.now in
-    let left = take_rest c.deref.result.now k.at ∙ ap (λ l. drop k.at l) c.deref.ensures.value in
-    let acknowledged = c.in-Ok-replace.ensures.acknowledged in
-    let now = kept_replaced seen leaves tries c.replace.new.self text c.in-Ok-replace.ensures.open acknowledged.0 acknowledged.1 c.in-Ok-replace.ensures.accepted (omega (arith, ap length c.deref-4.ensures.value, c.in-Ok-joined.text.ok.0, c.in-Ok-joined.text.small)) in
+pub returns-in-Ok-clause-ready : goal.returns-in-Ok-clause-ready
+returns-in-Ok-clause-ready g c =
+    let l = life c.args.self.now in
     record {
-      plain = c.requires.ready.plain;
-      kept = kept_same seen leaves tries c.replace.new.self false _ _ text _ now (ap (λ o. is_some o) c.requires.fine) (ap tried c.note.ensures) (ap (λ es. standing es ++ drop k.at k.ready.items) c.note.ensures ∙ (ap (λ l. l ++ drop k.at k.ready.items) (c.deref-in-Ok-replace.ensures.value ∙ sym c.deref-3.ensures.value) ∙ (ap (λ l. c.deref-3.result.now ++ l) (sym left) ∙ (sym c.in-Ok-joined.ensures ∙ sym c.deref-4.ensures.value))));
+      theirs = c.requires.ready.theirs;
+      kept = λ e. kept_replaced g.D.Device.seen g.D.Device.may_leave c.args.self.now.journal c.replace.new.self l (c.requires.ready.kept c.requires.fine) c.in-Ok.ensures.open c.args.text.now c.in-Ok.ensures.acknowledged.0 c.in-Ok.ensures.acknowledged.1 c.in-Ok.ensures.accepted (omega (arith, c.type_inv.text)) (stands_short l c.args.text.now c.requires.begun c.requires.short);
     }
 
-pub returns-in-Err-Failed-clause-is_ready : goal.returns-in-Err-Failed-clause-is_ready
-returns-in-Err-Failed-clause-is_ready g c =
-    let seen = g.D.Device.seen in
-    let leaves = g.D.Device.may_leave in
-    let k = c.args.self.now in
-    let tries = tried k.log.events in
-    let text = c.deref-4.result.now in
-    let was = kept_same seen leaves tries k.journal _ false tries _ _ c.requires.ready.kept (sym (ap (λ o. is_some o) c.requires.fine)) refl refl in
-    let now = kept_tried seen leaves tries k.journal c.replace.new.self _ text was c.in-Err-Failed.ensures.open g.D.Device.moment g.D.Device.left_since g.met.D.Device.counts_now (c.in-Err-Failed.ensures.any_moment (was.fine refl).0) (c.in-Err-Failed.ensures.tried (ap (λ e. Err e) c.in-Err-Failed.field-0-is)) (omega (arith, ap length c.deref-4.ensures.value, c.in-Ok-joined.text.ok.0, c.in-Ok-joined.text.small)) in
-    record {
-      plain = c.requires.ready.plain;
-      kept = kept_same seen leaves (Some text) c.replace.new.self true _ _ _ _ now refl (ap tried c.note-in-Err-Failed.ensures ∙ ap (λ l. Some l) (c.deref-in-Err-Failed.ensures.value ∙ sym c.deref-4.ensures.value)) (ap (λ es. standing es ++ drop k.at k.ready.items) c.note-in-Err-Failed.ensures);
-    }
+pub returns-in-Ok-clause-keeps : goal.returns-in-Ok-clause-keeps
+returns-in-Ok-clause-keeps g c = ((returns-in-Ok-clause-ready g c).kept c.requires.fine).keeps
+
+pub returns-in-Err-Failed-clause-keeps : goal.returns-in-Err-Failed-clause-keeps
+returns-in-Err-Failed-clause-keeps g c =
+    let l = life c.args.self.now in
+    let was = c.requires.ready.kept c.requires.fine in
+    keeps_tried g.D.Device.seen g.D.Device.may_leave c.args.self.now.journal c.replace.new.self l was c.in-Err-Failed.ensures.open g.D.Device.moment g.D.Device.left_since g.met.D.Device.counts_now c.args.text.now (c.in-Err-Failed.ensures.tried (ap (λ e. Err e) c.in-Err-Failed.field-0-is)) (c.in-Err-Failed.ensures.any_moment was.fine) (omega (arith, c.type_inv.text)) (stands_short l c.args.text.now c.requires.begun c.requires.short)
+
+pub returns-in-Err-Refused-clause-keeps : goal.returns-in-Err-Refused-clause-keeps
+returns-in-Err-Refused-clause-keeps g c =
+    let same = (c.in-Err-Refused.ensures.refused c.in-Err-Refused.field-0-0 (ap (λ e. Err e) c.in-Err-Refused.field-0-is)).0 in
+    subst (λ j. KeepsLife (g.D.Device.may_leave j.device) (life c.args.self.now)) (sym same) (c.requires.ready.kept c.requires.fine).keeps
+
+pub returns-in-Err-Memory-clause-keeps : goal.returns-in-Err-Memory-clause-keeps
+returns-in-Err-Memory-clause-keeps g c =
+    let same = c.in-Err-Memory.ensures.memory (ap (λ e. Err e) c.in-Err-Memory.field-0-is) in
+    subst (λ j. KeepsLife (g.D.Device.may_leave j.device) (life c.args.self.now)) (sym same) (c.requires.ready.kept c.requires.fine).keeps

@@ -12,7 +12,7 @@ returns-in-Err-clause-fault c =
     let same = c.in-Ok.ensures.limits in
     let limits = subst AreLimits same c.in-Ok.ensures.managed.limits in
     let long = ap length c.deref_mut.ensures.value ∙ (c.in-Ok.ensures.managed.parts ∙ ap (λ (l : Limits). l.parts) same) in
-    unrestored_for c.args.limits new.manager.limits c.args.survivors.now c.deref_mut.result.now c.restore.new.passes c.in-Err.fault limits (omega (arith, long, limits.parts.0))
+    unrestored_for c.args.limits new.manager.limits c.args.survivors.now c.deref_mut.result.now c.in-Err.fault limits (omega (arith, long, limits.parts.0))
     c.in-Err.ensures.due
 
 pub returns-in-Ok-restore-clause-computed : goal.returns-in-Ok-restore-clause-computed
@@ -46,7 +46,7 @@ returns-in-Err-clause-unlike c is =
     let fresh = all_fresh new.manager c.deref_mut.result.now new.passes.items c.deref_mut.ensures.value c.in-Ok.ensures.new c.in-Ok.ensures.managed.own in
     let fault : c.in-Err.fault ≡ Unequal = cc in
     let n = length c.deref_mut.result.now in
-    let due = subst (IsRestoreDue new.manager.limits c.args.survivors.now c.deref_mut.result.now c.restore.new.passes) fault c.in-Err.ensures.due fresh in (
+    let due = subst (IsRestoreDue new.manager.limits c.args.survivors.now c.deref_mut.result.now) fault c.in-Err.ensures.due fresh in (
       differ_anew c.args.limits new.manager.limits c.args.limits.parts n c.args.survivors.now same long due.0,
       uncomputed_anew c.args.limits new.manager.limits c.args.limits.parts n c.args.survivors.now same long (due.1 c.in-Ok.ensures.managed.limits),
     )

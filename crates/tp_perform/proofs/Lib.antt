@@ -1,0 +1,10 @@
+pub mod ActLemmas
+pub mod BeginLemmas
+pub mod CloseLemmas
+pub mod EndLemmas
+pub mod LeftLemmas
+pub mod PerformLemmas
+pub mod RaceLemmas
+pub mod RollLemmas
+pub mod RootLemmas
+pub mod StandLemmas

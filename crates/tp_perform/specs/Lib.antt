@@ -1,0 +1,4 @@
+pub mod Roots
+pub mod Standing
+pub mod Left
+pub mod Performed

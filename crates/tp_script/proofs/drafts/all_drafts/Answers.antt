@@ -1,9 +1,0 @@
-use Rattle.std.proofs.Common.{◌∙◌, sym, rules, tests}
-use Rattle.std.proofs.lemmas.Iterator.{YieldsList-from_slice}
-use Rattle.std.proofs.lemmas.Iterator.Search.{all_from_yields_List}
-use Rattle.std.proofs.lemmas.List.Folds.{list_all-map}
-use Rattle.tp_script.specs.Drafts.{is_draft}
-use Rattle.tp_script.proofs.drafts.all_drafts.Goals as goal
-
-pub returns : goal.returns
-returns c = all_from_yields_List (λ w. is_draft w.now) _ _ c.all.result c.all.ensures.ran (YieldsList-from_slice c.args.words.now c.iter.ensures.rest) (λ x b q k. search (rules, tests)) ∙ sym (list_all-map is_draft (λ x. x.now) c.args.words.now)

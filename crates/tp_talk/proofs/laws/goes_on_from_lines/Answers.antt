@@ -1,5 +1,0 @@
-use Rattle.tp_talk.proofs.Lasts.{goes_on_from_lines}
-use Rattle.tp_talk.proofs.laws.goes_on_from_lines.Goals as goal
-
-pub returns : goal.returns
-returns c = goes_on_from_lines

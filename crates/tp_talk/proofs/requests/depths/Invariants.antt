@@ -1,6 +1,0 @@
-use Rattle.std.proofs.Common.{◌≡◌}
-use Rattle.tp_talk.specs.Requests.{depths_below}
-use Rattle.tp_talk.proofs.requests.depths.Given as goal
-
-abbrev pub invariant-loop-stage : goal.invariant-loop-stage
-invariant-loop-stage l = l.depths.items ≡ depths_below l.stage l.store

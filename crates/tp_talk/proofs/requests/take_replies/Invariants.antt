@@ -1,6 +1,0 @@
-use Rattle.std.proofs.Common.{◌≡◌, drop}
-use Rattle.tp_talk.specs.Requests.{with_collected}
-use Rattle.tp_talk.proofs.requests.take_replies.Given as goal
-
-abbrev pub invariant-loop-id : goal.invariant-loop-id
-invariant-loop-id l = with_collected l.fn.replies l.fn.store ≡ with_collected (drop l.id-index l.replies) l.store
