@@ -5,14 +5,15 @@ from session_rules import RuledSession
 
 NAMES = ["ann", "bob", "a.1", "Z-z", "carl"]
 CLIENTS = ["shop", "bar", "inn_2", "ann"]
+TAGS = ["1", "a.b", "Z-9_", "12345678901234567890", "123456789012345678901", "", "x@"]
 EDGES = [0, 1, 2, 3, 4, 7, 8, 15, 64, 65, 255, 256, 999, 1000, 65535, 65536, LARGEST - 1, LARGEST, LARGEST + 1]
 # How often each kind of line comes; those that aren't here come once.
 WEIGHTS = {
     "submit": 10, "claim": 9, "next": 4, "take": 3, "commit": 14, "abort": 4, "turn": 5, "prepare": 4, "kill": 1.5, "requeue": 3,
     "release": 2, "send": 6, "receive": 9, "collect": 1, "read": 3, "family": 2, "register": 2, "faulty": 4, "drop": 0.15, "forget": 0.2,
-    "leave": 0.4, "cancel": 0.7, "drain": 0.3, "drain next": 0.3, "restore": 0.1, "max": 0.1, "last": 2,
+    "leave": 0.4, "cancel": 0.7, "drain": 0.3, "drain next": 0.3, "restore": 0.1, "max": 0.6, "last": 2,
 }
-PLAIN = ("errors", "count", "depth", "account", "holds", "dump", "restore", "drain", "drain next", "", "# nothing")
+PLAIN = ("errors", "count", "depth", "account", "holds", "dump", "restore", "drain", "drain next", "version", "", "# nothing")
 KINDS = sorted({*PLAIN, *WEIGHTS, "reply", "list", "sum", "balance", "worker"})
 
 
@@ -48,6 +49,11 @@ class Lines:
         return lines
 
     def line(self):
+        if self.random.random() < 0.3:
+            return f"@{self.random.choice(TAGS)} {self.untagged()}"
+        return self.untagged()
+
+    def untagged(self):
         kind = self.random.choices(KINDS, [WEIGHTS.get(it, 1) for it in KINDS])[0]
         if kind == "faulty":
             return self.faulty(self.line())
@@ -74,13 +80,22 @@ class Lines:
         if name in self.session.workers:
             stages = [self.random.choice((1, 2, 3, 4, 15, 15, 999)) for _ in range(self.random.randrange(5))]
             drafts = [":".join(map(str, [it, *self.body()])) for it in stages]
-        return " ".join(["commit", name, *drafts])
+        return " ".join(["commit", name, *self.fence(name), *drafts])
+
+    def fence(self, name):
+        """At times a fence, which is mostly that of what is in hand."""
+        hand = self.session.workers[name].hand if name in self.session.workers else None
+        if self.random.random() < 0.5:
+            return []
+        id, _, tries = hand or (self.id(), 0, 1)
+        return [f"={self.random.choice((id, id, id, self.id()))}:{max(0, tries + self.random.choice((0, 0, 0, 0, -1, 1)))}"]
 
     def make_other(self, kind):
         if kind in ("claim", "next", "turn"):
             return f"{kind} {self.worker(False)}"
         if kind in ("abort", "prepare", "leave"):
-            return f"{kind} {self.worker(True)}"
+            name = self.worker(True)
+            return " ".join([kind, name, *(self.fence(name) if kind == "abort" else [])])
         if kind in ("drop", "last", "forget"):
             return f"{kind} {self.pick(self.session.servers if kind == 'drop' else self.session.clients, self.worker())}"
         states = {"requeue": ["parked"], "release": ["held"], "kill": ["waiting", "held", "parked"]}.get(kind, [])
@@ -96,7 +111,7 @@ class Lines:
         return f"sum {self.random.randrange(4)}"
 
     def make_max(self, kind):
-        return f"max {self.random.randrange(9)}"
+        return f"{self.random.choice(('max', 'max', 'limit', 'keep'))} {self.random.randrange(9)}"
 
     def make_balance(self, kind):
         return f"balance {self.pick(self.session.servers, self.worker())} {self.random.randrange(4)}"
@@ -105,15 +120,24 @@ class Lines:
         return f"worker {self.random.choice((*NAMES, *CLIENTS))} {self.random.choice((1, 2, 3, 4, 15, 999))}"
 
     def make_register(self, kind):
-        return f"register {self.random.choice((*CLIENTS, *NAMES))}"
+        return f"register {self.random.choice((*CLIENTS, *NAMES))}" + " new" * (self.random.random() < 0.3)
+
+    def in_epoch(self, name):
+        """A client's name, at times with an epoch, which is mostly its own."""
+        if name not in self.session.clients or self.random.random() < 0.5:
+            return name
+        return f"{name}/{max(0, self.session.clients[name].epoch + self.random.choice((0, 0, 0, -1, 1)))}"
 
     def number(self, made):
         return max(0, made + self.random.choice((1, 1, 1, 1, 0, 0, -1, 2)))
 
     def make_send(self, kind):
         name = self.client()
-        made = self.session.clients[name].sent if name in self.session.clients else 0
-        return f"send {name} {self.number(made)} {self.make_submit(kind)[7:]}"
+        it = self.session.clients.get(name)
+        number, words = self.number(it.sent if it else 0), self.make_submit(kind)[7:]
+        if it and number == it.sent and self.random.random() < 0.6:
+            words = f"{it.said[0]} {' '.join(map(str, it.said[1]))}"
+        return f"send {self.in_epoch(name)} {number} {words}"
 
     def make_receive(self, kind):
         name = self.client()
@@ -121,7 +145,8 @@ class Lines:
             return f"receive {name} 1"
         it, elements = self.session.clients[name], self.session.store.elements.items()
         own = [id for id, e in elements if e.owner == it.owner and e.root == id]
-        return f"receive {name} {self.number(it.received)}" + f" {self.pick(own, self.id())}" * (self.random.random() < 0.4)
+        root, note = f" {self.pick(own, self.id())}" * (self.random.random() < 0.4), " note p.1" * (self.random.random() < 0.4)
+        return f"receive {self.in_epoch(name)} {self.number(it.received)}{root}{note}"
 
     def faulty(self, line):
         """A line with something changed, which may be none any more, or another one."""

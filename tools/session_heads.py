@@ -7,6 +7,7 @@ from session_store import REPLIES, Element, Spent, Store
 
 # Lines of a head behind which only `restore` may come, and the others.
 AWAITING = ("numbers", "element", "over", "settled", "hand", "prepared", "dropped", "from", "ended", "client")
+LIMITS = {"limit": "attempts", "max": "most", "keep": "keep"}
 SETTINGS = ("limit", "max", "keep", "server", "start", "worker", "register")
 
 
@@ -70,9 +71,14 @@ class Client:
     reply: int = 0
     root: int = 0
     body: tuple = (0, 0, 0, 0)
+    epoch: int = 1
+    # The stage and the words of the last send; stage 0 where they aren't known.
+    said: tuple = (0, (0, 0, 0, 0))
+    note: str | None = None
 
     def words(self):
-        return f"{self.owner} {self.sent} {self.element} {self.received} {self.reply} {self.root} {words(self.body)}"
+        numbers = f"{self.owner} {self.sent} {self.element} {self.received} {self.reply} {self.root} {words(self.body)}"
+        return f"{numbers} {self.epoch} {self.said[0]}:{words(self.said[1])} {self.note or '-'}"
 
 
 class Head:
@@ -86,13 +92,14 @@ class Head:
 
     def of_head(self, verb, rest):
         if self.phase == "begun":
-            must(verb in ("worker", "register"), "Order")
-            getattr(self, f"set_{verb}")(*rest)
-            return [f"{'joined' if verb == 'worker' else 'registered'} {rest[0]}"]
-        if verb in ("limit", "max", "keep"):
-            setattr(self.store, {"limit": "attempts", "max": "most"}.get(verb, verb), rest[0])
+            must(verb in ("worker", "register", *LIMITS), "Order")
+        if verb in LIMITS:
+            setattr(self.store, LIMITS[verb], rest[0])
         else:
             getattr(self, f"set_{verb}")(*rest)
+        if self.phase == "begun":
+            last = self.clients[rest[0]].epoch if verb == "register" else ""
+            return [{"worker": f"joined {rest[0]}", "register": f"registered {rest[0]} {last}"}.get(verb, f"{verb} {rest[0]}")]
         if verb in AWAITING:
             self.phase = "restoring"
         return []
@@ -125,20 +132,24 @@ class Head:
         must(not self.is_taken(name), "BadName")
         self.workers[name] = Worker(stage)
 
-    def set_register(self, name):
+    def set_register(self, name, is_new):
         must(name not in self.servers and name not in self.workers, "BadName")
         if name not in self.clients:
             if self.owners == LARGEST:
                 raise Spent
             self.clients[name] = Client(self.owners)
             self.owners += 1
+        elif is_new:
+            if self.clients[name].epoch == LARGEST:
+                raise Spent
+            self.clients[name].epoch += 1
 
     def set_numbers(self, next, units, owners):
         must(owners >= self.owners and next >= self.store.next and units >= self.store.units, "BadNumber")
         self.store.next, self.store.units, self.owners = next, units, owners
 
-    def set_element(self, id, stage, body, root, by, owner, rounds, status):
-        s, e = self.store, Element(stage, body, root, by, owner, status, rounds)
+    def set_element(self, id, stage, body, root, by, owner, rounds, earlier, status):
+        s, e = self.store, Element(stage, body, root, by, owner, status, rounds, earlier)
         must(max(s.elements, default=-1) < id < s.next and not s.over and 1 <= stage <= 999 and rounds <= 3, "BadNumber")
         must(root == id if by is None else root < id and by < s.units, "BadNumber")
         must(status[0] not in ("held", "consumed") or status[1] < s.units, "BadNumber")
@@ -161,11 +172,11 @@ class Head:
             total[it] += many - counts[it]
             counts[it] = many
 
-    def set_hand(self, name, id, unit):
+    def set_hand(self, name, id, unit, tries):
         must(id < self.store.next and unit < self.store.units, "BadNumber")
         who = self.anyone(name)
         must(who.hand is None, "BadName")
-        who.hand = (id, unit)
+        who.hand = (id, unit, tries)
 
     def set_prepared(self, name):
         must(self.server(name).hand is not None, "BadName")
@@ -182,10 +193,10 @@ class Head:
         must(self.worker(name).end is None, "BadName")
         self.workers[name].end = end
 
-    def set_client(self, name, owner, sent, element, received, reply, root, body):
+    def set_client(self, name, owner, *rest):
         must(not self.is_taken(name), "BadName")
         must(owner < self.owners, "BadNumber")
-        self.clients[name] = Client(owner, sent, element, received, reply, root, body)
+        self.clients[name] = Client(owner, *rest)
 
     # -- dumps
 
@@ -222,7 +233,8 @@ class Head:
     def dumped_store(self):
         for id, e in self.store.elements.items():
             maker, owner = "client" if e.by is None else e.by, "nobody" if e.owner is None else e.owner
-            yield f"element {id} {e.stage}:{words(e.body)} {e.root} {maker} {owner} {e.rounds} {words(e.status, ' ')}"
+            rounds = f"{e.rounds}" + f":{e.earlier}" * (e.earlier > 0)
+            yield f"element {id} {e.stage}:{words(e.body)} {e.root} {maker} {owner} {rounds} {words(e.status, ' ')}"
         yield from (f"over {root}" for root in self.store.over)
         for stage, counts in sorted(self.store.tally.items()):
             if counts["consumed"] or counts["killed"]:

@@ -57,15 +57,33 @@ def or_none(word, none):
     return None if word == none else number(word)
 
 
+def who(word):
+    """NAME or NAME/EPOCH, in words."""
+    parts = word.split("/")
+    need(len(parts) <= 2, "Syntax")
+    return parts if len(parts) == 2 else [word, None]
+
+
+def fence(word):
+    """=ID:TRY, in words."""
+    parts = word[1:].split(":")
+    need(word[:1] == "=" and len(parts) == 2, "Syntax")
+    return parts
+
+
+def read_fence(parts):
+    return number(parts[0]), short(parts[1])
+
+
 # The lines with a word for each of these.
 SHAPES = {
-    "max": [number], "start": [name, number, number], "worker": [name, worker_stage], "register": [name], "numbers": [number] * 3,
-    "over": [number], "settled": [short, number, number], "hand": [name, number, number], "prepared": [name], "dropped": [name],
+    "max": [number], "start": [name, number, number], "worker": [name, worker_stage], "numbers": [number] * 3,
+    "over": [number], "settled": [short, number, number], "prepared": [name], "dropped": [name],
     "from": [name, number], "sum": [number], "balance": [name, number], "take": [name, number], "leave": [name], "last": [name],
     "forget": [name], "limit": [number], "keep": [number],
     **{it: [number] for it in ("kill", "cancel", "requeue", "release", "read", "reply", "collect", "family")},
-    **{it: [] for it in ("errors", "count", "depth", "account", "holds", "dump", "restore")},
-    **{it: [name] for it in ("claim", "next", "turn", "prepare", "abort", "drop")},
+    **{it: [] for it in ("errors", "count", "depth", "account", "holds", "dump", "restore", "version")},
+    **{it: [name] for it in ("claim", "next", "turn", "prepare", "drop")},
 }
 
 
@@ -83,14 +101,15 @@ def server(words):
 
 
 def element(words):
-    need(len(words) >= 7 and words[1].count(":") == 4, "Syntax")
+    need(len(words) >= 7 and words[1].count(":") == 4 and words[5].count(":") <= 1, "Syntax")
     need(len(words) == 7 + STANDINGS.get(words[6], -8), "Syntax")
     id, place = number(words[0]), words[1].split(":")
     at, held = short(place[0]), body(place[1:])
-    root, by, owner, rounds = number(words[2]), or_none(words[3], "client"), or_none(words[4], "nobody"), byte(words[5])
+    root, by, owner = number(words[2]), or_none(words[3], "client"), or_none(words[4], "nobody")
+    rounds, earlier = [byte(it) for it in [*words[5].split(":"), "0"][:2]]
     last = number if words[6] == "consumed" else byte
     status = (words[6], *(number(it) for it in words[7:-1]), *(last(it) for it in words[7:][-1:]))
-    return id, at, held, root, by, owner, rounds, status
+    return id, at, held, root, by, owner, rounds, earlier, status
 
 
 def ended(words):
@@ -99,8 +118,23 @@ def ended(words):
 
 
 def client(words):
-    need(len(words) == 8 and words[7].count(":") == 3, "Syntax")
-    return (name(words[0]), *(number(it) for it in words[1:7]), body(words[7].split(":")))
+    need(len(words) in (8, 11) and words[7].count(":") == 3, "Syntax")
+    if len(words) == 8:
+        words = [*words, "1", "0:0:0:0:0", "-"]
+    need(words[9].count(":") == 4, "Syntax")
+    called, numbers, reply = name(words[0]), [number(it) for it in words[1:7]], body(words[7].split(":"))
+    note, epoch, (at, *sent) = None if words[10] == "-" else name(words[10]), number(words[8]), words[9].split(":")
+    return (called, *numbers, reply, epoch, (short(at), body(sent)), note)
+
+
+def register(words):
+    need(len(words) == 1 or (len(words) == 2 and words[1] == "new"), "Syntax")
+    return name(words[0]), len(words) == 2
+
+
+def hand(words):
+    need(3 <= len(words) <= 4, "Syntax")
+    return name(words[0]), number(words[1]), number(words[2]), short([*words, "0"][3])
 
 
 def submit(words):
@@ -119,30 +153,50 @@ def drain(words):
 
 
 def commit(words):
-    need(1 <= len(words) <= 5 and all(2 <= it.count(":") <= 4 for it in words[1:]), "Syntax")
+    need(words, "Syntax")
+    parts = fence(words.pop(1)) if words[1:] and words[1][:1] == "=" else None
+    need(len(words) <= 5 and all(2 <= it.count(":") <= 4 for it in words[1:]), "Syntax")
+    called, only = name(words[0]), parts and read_fence(parts)
     drafts = [it.split(":") for it in words[1:]]
-    return name(words[0]), [(stage(it[0]), body(it[1:])) for it in drafts]
+    return called, [(stage(it[0]), body(it[1:])) for it in drafts], only
+
+
+def abort(words):
+    need(1 <= len(words) <= 2, "Syntax")
+    parts = fence(words[1]) if len(words) == 2 else None
+    return name(words[0]), parts and read_fence(parts)
 
 
 def send(words):
     need(5 <= len(words) <= 7, "Syntax")
-    return name(words[0]), ordinal(words[1]), short(words[2]), body(words[3:])
+    called, epoch = who(words[0])
+    return name(called), None if epoch is None else number(epoch), ordinal(words[1]), short(words[2]), body(words[3:])
 
 
 def receive(words):
-    need(2 <= len(words) <= 3, "Syntax")
-    return name(words[0]), ordinal(words[1]), number(words[2]) if len(words) == 3 else None
+    need(2 <= len(words) <= 5, "Syntax")
+    called, epoch = who(words[0])
+    words, note = (words[:-2], words[-1]) if len(words) >= 4 and words[-2] == "note" else (words, None)
+    need(len(words) <= 3, "Syntax")
+    called, note = name(called), note and name(note)
+    return called, None if epoch is None else number(epoch), ordinal(words[1]), number(words[2]) if len(words) == 3 else None, note
 
 
 SPECIAL = {
     "server": server, "element": element, "ended": ended, "client": client, "submit": submit, "list": listed, "drain": drain,
-    "commit": commit, "send": send, "receive": receive,
+    "commit": commit, "abort": abort, "send": send, "receive": receive, "register": register, "hand": hand,
 }
 
 
-def said(line):
-    """Returns the words of a line, read; nothing of an empty line or a comment."""
-    need(len(line) <= 1023, "TooLong")
+def parted(line):
+    """The tag of a line, if it has one, and what stands behind it."""
+    found = re.match(rb"@([0-9A-Za-z._-]{1,20})(?: |\Z)", line)
+    return (found[1].decode(), line[found.end():]) if found else (None, line)
+
+
+def said(line, whole):
+    """Returns the words of a line, read; nothing of an empty line or a comment. `whole` is the line with its tag."""
+    need(len(whole) <= 1023, "TooLong")
     need(all(32 <= it <= 126 for it in line), "Syntax")
     words = [it for it in line.decode("ascii").split(" ") if it]
     if not words or line[:1] == b"#":

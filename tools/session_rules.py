@@ -1,13 +1,13 @@
 """The rules of sessions: what each line is answered, and what it leaves. They are written from docs/LIVE.md,
 and know nothing of the program."""
 from session_heads import AWAITING, SETTINGS, Head, must, shown, words
-from session_lines import Fault, said
+from session_lines import Fault, parted, said
 from session_store import Refused
 
 FAULTS = {"Syntax": 1, "BadNumber": 2, "BadLimits": 3, "BadRecipe": 4, "BadName": 5, "TooLong": 6, "Order": 7}
 REFUSALS = {
     "BadStage": 3, "NotThere": 4, "Consumed": 5, "AlreadyKilled": 6, "Full": 7, "NotParked": 8, "NoRound": 9, "NotWaiting": 10,
-    "Busy": 11, "NotHeld": 12, "Gap": 15,
+    "Busy": 11, "NotHeld": 12, "Gap": 15, "Fenced": 16, "Differs": 17,
 }
 STATES = ("waiting", "held", "consumed", "parked", "killed")
 ROUNDS = 1000
@@ -23,8 +23,13 @@ class RuledSession(Head):
     def answers(self, line):
         """The lines that a line is answered: none, one, or those of a dump."""
         self.lines += 1
+        tag, behind = parted(line)
+        told = self.answers_behind(behind, line)
+        return told if tag is None else [f"@{tag} {it}" for it in told] or [f"@{tag}"]
+
+    def answers_behind(self, line, whole):
         try:
-            return self.answer(said(line))
+            return self.answer(said(line, whole))
         except Fault as fault:
             return [f"refused line {self.lines}: {FAULTS[str(fault)]} {fault}"]
         except Refused as why:
@@ -34,6 +39,8 @@ class RuledSession(Head):
         if line is None:
             return []
         verb, *rest = line
+        if verb == "version":
+            return ["version 0.25.0 lines 2"]
         if verb in SETTINGS + AWAITING:
             return self.of_head(verb, rest)
         must(self.phase == "head" or (verb == "restore") == (self.phase == "restoring"), "Order")
@@ -112,7 +119,7 @@ class RuledSession(Head):
         for name, it in [*self.servers.items(), *sorted(self.workers.items())]:
             if it.hand is not None:
                 e = self.store.held(it.hand)
-                told += f" {name}:{words(it.hand)}:{e.status[2] if e else 'lost'}"
+                told += f" {name}:{words(it.hand[:2])}:{e.status[2] if e else 'lost'}"
         return told
 
     def do_sum(self, k):
@@ -132,7 +139,11 @@ class RuledSession(Head):
                 return "drained"
         return "drained so far"
 
-    def act(self, name, verb, *rest):
+    def act(self, name, verb, *rest, only=None):
+        if only is not None:
+            it = self.worker(name)
+            if not it.hand or (it.hand[0], it.hand[2]) != only:
+                return f"{name} other"
         if name in self.workers:
             must(verb not in ("turn", "prepare", "drop"), "BadName")
             return f"{name} {self.works(self.workers[name], verb, *rest)}"
@@ -155,11 +166,11 @@ class RuledSession(Head):
     def do_prepare(self, name):
         return self.act(name, "prepare")
 
-    def do_commit(self, name, drafts):
-        return self.act(name, "commit", drafts)
+    def do_commit(self, name, drafts, only):
+        return self.act(name, "commit", drafts, only=only)
 
-    def do_abort(self, name):
-        return self.act(name, "abort")
+    def do_abort(self, name, only):
+        return self.act(name, "abort", only=only)
 
     def do_drop(self, name):
         return self.act(name, "drop")
@@ -232,7 +243,8 @@ class RuledSession(Head):
 
     def in_hand(self, hand):
         e = self.store.held(hand)
-        return f"{hand[0]} unit {hand[1]} attempt {e.status[2]} root {e.root} body {words(e.body)}" if e else f"lost {hand[0]}"
+        told = f"{hand[0]} unit {hand[1]} attempt {e.status[2]} root {e.root} body {words(e.body)}" if e else f"lost {hand[0]}"
+        return f"{told} try {hand[2]}"
 
     def works(self, it, verb, *rest):
         if verb in ("claim", "next", "take"):
@@ -242,7 +254,7 @@ class RuledSession(Head):
         hand, it.hand = it.hand, None
         if verb == "commit":
             is_done, first = self.store.commit(hand, rest[0])
-            it.end = ("done", *hand, first, len(rest[0])) if is_done else ("lost", hand[0])
+            it.end = ("done", *hand[:2], first, len(rest[0])) if is_done else ("lost", hand[0])
             return self.ending(it.end)
         is_aborted = self.store.abort(hand)
         it.end = ("aborted" if is_aborted else "lost", hand[0])
@@ -261,23 +273,27 @@ class RuledSession(Head):
 
     # -- clients
 
-    def client(self, name):
+    def client(self, name, epoch=None):
         must(name not in self.servers and name not in self.workers, "BadName")
         if name not in self.clients:
             raise Refused("NotThere")
+        if epoch not in (None, self.clients[name].epoch):
+            raise Refused("Fenced")
         return self.clients[name]
 
-    def do_send(self, name, number, stage, body):
-        it = self.client(name)
+    def do_send(self, name, epoch, number, stage, body):
+        it = self.client(name, epoch)
         if number > it.sent + 1:
             raise Refused("Gap")
         if number == it.sent + 1:
             it.element = self.store.submit(stage, body, it.owner)
-            it.sent = number
+            it.sent, it.said = number, (stage, body)
+        elif number == it.sent and it.said[0] and it.said != (stage, body):
+            raise Refused("Differs")
         return f"sent {name} {number} {it.element if number == it.sent else 'done'}"
 
-    def do_receive(self, name, number, root):
-        it = self.client(name)
+    def do_receive(self, name, epoch, number, root, note):
+        it = self.client(name, epoch)
         if number > it.received + 1:
             raise Refused("Gap")
         if number == it.received + 1:
@@ -290,7 +306,7 @@ class RuledSession(Head):
                 return f"received {name} {number} none"
             id, e = found[0]
             self.store.collect(id)
-            it.received, it.reply, it.root, it.body = number, id, e.root, e.body
+            it.received, it.reply, it.root, it.body, it.note = number, id, e.root, e.body, note
         return f"received {name} {number} {self.received(it) if number == it.received else 'done'}"
 
     @staticmethod
@@ -303,7 +319,8 @@ class RuledSession(Head):
             return f"last {name} hand {'none' if it.hand is None else self.in_hand(it.hand)} {self.ending(it.end)}"
         it = self.client(name)
         sent = f"sent {it.sent}" + f" {it.element}" * (it.sent > 0)
-        return f"last {name} {sent} received {it.received}" + f" {self.received(it)}" * (it.received > 0)
+        received = f"received {it.received}" + f" {self.received(it)}" * (it.received > 0)
+        return f"last {name} {sent} {received}" + f" note {it.note}" * (it.note is not None)
 
     def do_forget(self, name):
         self.client(name)

@@ -34,6 +34,8 @@ class Element:
     owner: int | None
     status: tuple = ("waiting", 0)
     rounds: int = 0
+    # How often it was taken in the rounds before.
+    earlier: int = 0
 
     def is_alive(self):
         return self.status[0] in ALIVE
@@ -137,7 +139,7 @@ class Store:
             raise Spent
         attempt = e.status[1] + 1
         self.change(e, "held", self.unit(), attempt)
-        return id, self.units - 1
+        return id, self.units - 1, e.earlier + attempt
 
     def claim(self, stage, start=0):
         """The waiting element with the least id from `start` on, and else that with the least of all; or None."""
@@ -187,7 +189,10 @@ class Store:
         e = self.at(id)
         need(e.status[0] == "parked", "NotParked")
         need(e.rounds < 3, "NoRound")
+        if e.earlier + e.status[1] > 255:
+            raise Spent
         e.rounds += 1
+        e.earlier += e.status[1]
         self.change(e, "waiting", 0)
         return e.rounds
 

@@ -5,7 +5,7 @@
     with Session(["server till eager 2 1 add", "worker packer 1"]) as session:
         session.submit(1, 5, 6)
         work = session.claim("packer")
-        session.commit("packer", Draft(2, 0, 10), Draft(15, 5, 6))
+        work.commit(Draft(2, 0, 10), Draft(15, 5, 6))
 
 A call returns a dataclass, or raises the refusal by its name (`refusals.Busy`). Several commands are sent at
 once in a batch:
@@ -23,17 +23,18 @@ after a crash. (A session with a log of the client's own is gone on from by `Ses
 
 A `Client` may crash: what it sends is submitted once, and a reply that it was working on is received again.
 
-`connect` returns the session that a server has (`covetrivet serve`), which many processes share.
+`connect` returns the session that a server has (`covetrivet serve`), which many processes share. A `Worker`
+is the loop of one of them, and `covetrivet.aio.connect` is for asyncio.
 
 `covetrivet.library` has the manager in this process, for its threads, by the C library.
 
 docs/LIVE.md says what each line of a session does. It needs Python 3.10, a Unix, and the standard library
 alone.
 """
-from covetrivet import refusals
+from covetrivet import aio, refusals
 from covetrivet.answers import (
-    Account, Cancelled, Counts, Depth, Done, Draft, Dumped, Heard, Held, Killed, Last, LastWork, Look, Member,
-    NotUnderstood, Received, Released, Reply, Requeued, Sent, Submitted, UnitEnd, Work,
+    Account, Cancelled, Counts, Depth, Dumped, Heard, Held, Killed, Last, LastWork, Look, Member,
+    NotUnderstood, Received, Released, Reply, Requeued, Sent, Submitted, UnitEnd,
 )  # fmt: skip
 from covetrivet.batch import Batch, Later
 from covetrivet.client import Client
@@ -49,16 +50,19 @@ from covetrivet.faults import (
 from covetrivet.program import version
 from covetrivet.remote import connect
 from covetrivet.session import Session
+from covetrivet.work import Done, Draft, Work
+from covetrivet.worker import Worker
 
 __all__ = [
     "Account", "Batch", "Cancelled", "Client", "Command", "Counts", "Depth", "Disconnected", "Done",
-    "Draft", "Dumped", "Heard", "Held", "JournalFault", "Killed", "Last", "LastWork", "Later", "LogFault",
-    "Look", "Member", "NoProgram", "NotUnderstood", "Received", "Released", "Reply", "Requeued", "Sent",
-    "Session", "SessionBroken", "SessionClosed", "SessionEnded", "SessionFault", "Submitted", "UnitEnd",
-    "Unknown", "Work", "abort", "account", "balance", "cancel", "claim", "claim_next", "collect", "commit",
-    "connect", "count", "depth", "drain", "drain_next", "drop", "dump", "errors", "family", "forget", "holds",
-    "join", "kill", "last", "last_work", "leave", "prepare", "read", "receive", "refusals", "register",
-    "release", "reply", "requeue", "send", "submit", "take", "total", "turn", "waiting",
+    "Draft", "Dumped", "Heard", "Held", "JournalFault", "Killed", "Last", "LastWork", "Later",
+    "LogFault", "Look", "Member", "NoProgram", "NotUnderstood", "Received", "Released", "Reply",
+    "Requeued", "Sent", "Session", "SessionBroken", "SessionClosed", "SessionEnded", "SessionFault",
+    "Submitted", "UnitEnd", "Unknown", "Work", "Worker", "abort", "account", "aio", "balance", "cancel",
+    "claim", "claim_next", "collect", "commit", "connect", "count", "depth", "drain", "drain_next",
+    "drop", "dump", "errors", "family", "forget", "holds", "join", "kill", "last", "last_work", "leave",
+    "prepare", "read", "receive", "refusals", "register", "release", "reply", "requeue", "send",
+    "submit", "take", "total", "turn", "waiting",
 ]  # fmt: skip
 
 __version__ = version()

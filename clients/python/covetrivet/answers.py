@@ -1,15 +1,13 @@
 """What calls return, and how an answer's line is read. docs/LIVE.md has the lines."""
 from __future__ import annotations
 
-import operator
 import re
-from dataclasses import dataclass, fields
+from dataclasses import dataclass, field
 
 from covetrivet import refusals
 from covetrivet.faults import Unknown
 from covetrivet.lines import UNKNOWN
-
-Words = tuple[int, int, int, int]
+from covetrivet.work import Hand, Holder, Words, Work
 
 
 @dataclass(frozen=True)
@@ -17,40 +15,6 @@ class Submitted:
     """A client's element is born."""
 
     element: int
-
-
-@dataclass(frozen=True)
-class Work:
-    """What a worker or a server's desk took. Of a server's work the root and the words aren't told."""
-
-    element: int
-    unit: int
-    attempt: int
-    told_root: int | None = None
-    told_words: Words | None = None
-
-    @property
-    def root(self) -> int:
-        """The id of the request. LookupError of a server's work."""
-        if self.told_root is None:
-            raise LookupError(f"the root of a server's work isn't told: {self}")
-        return self.told_root
-
-    @property
-    def words(self) -> Words:
-        """The element's body. LookupError of a server's work."""
-        if self.told_words is None:
-            raise LookupError(f"the words of a server's work aren't told: {self}")
-        return self.told_words
-
-
-@dataclass(frozen=True)
-class Done:
-    """A committed unit, and the ids of its outputs."""
-
-    element: int
-    unit: int
-    outputs: range
 
 
 @dataclass(frozen=True)
@@ -116,12 +80,15 @@ class Received:
 
 @dataclass(frozen=True)
 class Last:
-    """How many sends and receives a client has made, what the last send submitted, and the last receive."""
+    """How many sends and receives a client has made, what the last send submitted, and the last receive with
+    the word that came with it.
+    """
 
     sent: int
     element: int | None
     received: int
     reply: Received | None
+    note: str | None = None
 
 
 @dataclass(frozen=True)
@@ -139,12 +106,13 @@ class UnitEnd:
 @dataclass(frozen=True)
 class LastWork:
     """What a worker has in hand, or has lost without having heard of it; and how its last unit ended, if one
-    has.
+    has. `fence` is the word by which a commit or an abort names what it has in hand, or has lost.
     """
 
     work: Work | None
     lost: int | None
     ended: UnitEnd | None
+    fence: str | None = field(default=None, compare=False)
 
 
 @dataclass(frozen=True)
@@ -222,36 +190,20 @@ class Dumped:
     lines: tuple[str, ...]
 
 
-@dataclass(frozen=True)
-class Draft:
-    """An output of a commit: its stage, which is 15 for a reply, and its words. TypeError where one of these
-    is no whole number.
-    """
-
-    stage: int
-    zero: int = 0
-    one: int = 0
-    two: int = 0
-    three: int = 0
-
-    def __post_init__(self) -> None:
-        for it in fields(self):
-            operator.index(getattr(self, it.name))
-
-    def __str__(self) -> str:
-        return ":".join(f"{it:d}" for it in (self.stage, self.zero, self.one, self.two, self.three))
-
-
 class NotUnderstood(ValueError):
-    """An answer hasn't the form that its command's answers have. The session is broken then."""
+    """An answer hasn't the form that its command's answers have."""
 
 
 @dataclass(frozen=True)
 class Heard:
-    """The answer to a command."""
+    """The answer to a command, and the session that it came in, where work can be ended by that."""
 
     text: str
     command: str
+    session: Holder | None = field(default=None, compare=False, repr=False)
+
+    def hand_of(self, worker: str) -> Hand | None:
+        return Hand(self.session, worker) if self.session else None
 
     def numbers(self, form: str) -> tuple[int, ...]:
         """Returns the numbers of an answer of this form, in which each N is one."""

@@ -58,6 +58,8 @@ class Batch:
         return later
 
     def __enter__(self) -> Batch:
+        if self.has_ended:
+            raise ValueError("the batch has ended")
         return self
 
     def __exit__(

@@ -25,12 +25,14 @@ class Client:
     NotThere where no such client is registered: a session that knows nothing of it is a new one, in which all
     it had sent is lost. So the head registers it, or whoever begins the session.
 
-    One thread of one process uses a name. Two that use it would each take the other's send for its own.
+    It begins a new epoch of its name. Whoever had the name before is refused as Fenced from then on.
     """
 
     def __init__(self, session: Session, name: str) -> None:
         self.session = session
         self.name = name
+        self.last()
+        self.epoch = self.sure(lambda: self.session.register(name, new=True))
         last = self.last()
         self.sent, self.received = last.sent, last.received
 
@@ -39,14 +41,19 @@ class Client:
         is left by an exception the same words are sent next, by this client or by one of another session.
         """
         number = self.sent + 1
-        sent = self.sure(lambda: self.session.send(self.name, number, stage, *words))
+        sent = self.sure(lambda: self.session.send(self.name, number, stage, *words, epoch=self.epoch))
         self.sent = number
         return sent
 
-    def receive(self, root: int | None = None) -> Received | None:
-        """Takes the next reply to any of the client's requests, or to this one. None where none waits."""
+    def receive(
+        self, root: int | None = None, note: str | None = None, wait: int | None = None
+    ) -> Received | None:
+        """Takes the next reply to any of the client's requests, or to this one. None where none waits; of a
+        server's session, where none comes in `wait` seconds. What `note` says, a word as a name, is told by
+        `last` from then on.
+        """
         number = self.received + 1
-        reply = self.sure(lambda: self.session.receive(self.name, number, root))
+        reply = self.sure(lambda: self.session.receive(self.name, number, root, self.epoch, note, wait))
         self.received += reply is not None
         return reply
 

@@ -9,7 +9,8 @@ from collections.abc import Callable
 from typing import Generic, TypeVar
 
 from covetrivet import answers, refusals
-from covetrivet.answers import Draft, Heard, Reply
+from covetrivet.answers import Heard, Reply
+from covetrivet.work import Done, Draft, Work, fence
 
 T = TypeVar("T")
 
@@ -17,14 +18,16 @@ T = TypeVar("T")
 class Command(Generic[T]):
     """A line, by its words, and what its answer is read as.
 
-    ValueError where a word is empty or has a byte that no word has, or where the line would be a comment: it
-    would have no answer.
+    ValueError where a word is empty or has a byte that no word has, or where the line would be a comment or
+    would begin with a tag. With `wait` a server may answer so many seconds later.
     """
 
-    def __init__(self, *words: object, read: Callable[[Heard], T]) -> None:
+    def __init__(self, *words: object, read: Callable[[Heard], T], wait: int | None = None) -> None:
         told = [str(it) for it in words]
-        self.line, self.read = " ".join(told), read
-        if not all(re.fullmatch("[!-~]+", it) for it in told) or not told or self.line.startswith("#"):
+        if wait is not None:
+            told += ["wait", str(number(wait))]
+        self.line, self.read, self.wait = " ".join(told), read, wait or 0
+        if not all(re.fullmatch("[!-~]+", it) for it in told) or self.line[:1] in ("", "#", "@"):
             raise ValueError(f"this can't be a command: {self.line!r}")
 
 
@@ -40,54 +43,76 @@ def submit(stage: int, *words: int) -> Command[answers.Submitted]:
     return Command(*line, read=lambda it: answers.Submitted(*it.numbers("submitted N")))
 
 
-def work(name: str) -> Callable[[Heard], answers.Work | None]:
-    def read(heard: Heard) -> answers.Work | None:
+def work(name: str) -> Callable[[Heard], Work | None]:
+    def read(heard: Heard) -> Work | None:
         said = heard.said_of(name)
         if said.text == "idle":
             return None
-        shown, _, body = said.text.partition(" body ")
-        taken = Heard(shown, heard.command)
-        if not body:
-            element, unit, attempt = taken.numbers("work N unit N attempt N")
-            return answers.Work(element, unit, attempt)
-        element, unit, attempt, root = taken.numbers("work N unit N attempt N root N")
-        return answers.Work(element, unit, attempt, root, answers.words_of(body))
+        if " body " not in said.text:
+            element, unit, attempt = said.numbers("work N unit N attempt N")
+            return Work(element, unit, attempt, hand=heard.hand_of(name))
+        return taken(heard, name, *said.formed(f"work {TAKEN}").groups())
 
     return read
 
 
-def done(heard: Heard) -> answers.Done:
+# What a worker has taken, as an answer tells it.
+TAKEN = r"(\d+) unit (\d+) attempt (\d+) root (\d+) body ([\d:]+) try (\d+)"
+
+
+def taken(heard: Heard, worker: str, *told: str) -> Work:
+    element, unit, attempt, root, body, tries = told
+    hand, words = heard.hand_of(worker), answers.words_of(body)
+    return Work(int(element), int(unit), int(attempt), int(root), words, int(tries), hand)
+
+
+def fenced(work: Work | str | None) -> tuple[str, ...]:
+    return () if work is None else (work if isinstance(work, str) else work.fence,)
+
+
+def done(heard: Heard) -> Done:
     element, unit, first, count = heard.numbers("done N unit N outputs N N")
-    return answers.Done(element, unit, range(first, first + count))
+    return Done(element, unit, range(first, first + count))
 
 
-def claim(name: str) -> Command[answers.Work | None]:
+def claim(name: str, wait: int | None = None) -> Command[Work | None]:
     """The worker or server takes what waits in its stage with the least id, with a new unit of work. None
-    where nothing waits.
+    where nothing waits; of a server's session, where nothing comes in `wait` seconds.
     """
-    return Command("claim", name, read=work(name))
+    return Command("claim", name, read=work(name), wait=wait)
 
 
-def claim_next(name: str) -> Command[answers.Work | None]:
+def claim_next(name: str, wait: int | None = None) -> Command[Work | None]:
     """The worker or server takes in turn what waits in its stage (`next`, which is a word of Python): the
-    first behind what it took last so, and behind the last id the first. None where nothing waits.
+    first behind what it took last so, and behind the last id the first. None as of `claim`.
     """
-    return Command("next", name, read=work(name))
+    return Command("next", name, read=work(name), wait=wait)
 
 
-def take(name: str, element: int) -> Command[answers.Work | None]:
+def take(name: str, element: int) -> Command[Work | None]:
     """The worker or server takes this element, with a new unit of work."""
     return Command("take", name, number(element), read=work(name))
 
 
-def commit(name: str, *drafts: Draft) -> Command[answers.Done]:
-    """The worker or server commits its unit; a worker with up to four outputs."""
-    return Command("commit", name, *drafts, read=lambda it: done(it.said_of(name)))
+def commit(name: str, *drafts: Draft, work: Work | None = None) -> Command[Done]:
+    """The worker or server commits its unit; a worker with up to four outputs. With `work` it is done only
+    where the worker has just that in hand: Other where it hasn't, as where another process has its name.
+
+    TypeError where a draft is none.
+    """
+    for it in drafts:
+        if not isinstance(it, Draft):
+            raise TypeError(f"an output of a commit is a Draft, and not {it!r}")
+    words = "commit", name, *fenced(work), *drafts
+    return Command(*words, read=lambda it: done(it.said_of(name)))
 
 
-def abort(name: str) -> Command[int]:
-    """The worker or server aborts its unit. The element's id is returned."""
-    return Command("abort", name, read=lambda it: it.said_of(name).numbers("aborted N")[0])
+def abort(name: str, work: Work | str | None = None) -> Command[int]:
+    """The worker or server aborts its unit; with `work`, or its fence, only where that is it, as a commit.
+    The element's id is returned.
+    """
+    words = "abort", name, *fenced(work)
+    return Command(*words, read=lambda it: it.said_of(name).numbers("aborted N")[0])
 
 
 def join(name: str, stage: int) -> Command[None]:
@@ -109,10 +134,10 @@ def leave(name: str) -> Command[int | None]:
     return Command("leave", name, read=read)
 
 
-def turn(name: str) -> Command[answers.Done | None]:
+def turn(name: str) -> Command[Done | None]:
     """The server takes a turn: it claims an element, and commits its work on it. None where nothing waits."""
 
-    def read(heard: Heard) -> answers.Done | None:
+    def read(heard: Heard) -> Done | None:
         said = heard.said_of(name)
         return None if said.text == "idle" else done(said)
 
@@ -208,9 +233,16 @@ def errors() -> Command[tuple[int, ...]]:
     return Command("errors", read=lambda it: it.ids("errors"))
 
 
-def register(client: str) -> Command[None]:
-    """A client that may crash is registered. One that is already stays as it is."""
-    return Command("register", client, read=said(f"registered {client}"))
+def register(client: str, new: bool = False) -> Command[int]:
+    """A client that may crash is registered. One that is already stays as it is; with `new` its next epoch
+    begins. The epoch is returned, from 1 on: sends and receives of another one are refused as Fenced.
+    """
+    words = "register", client, *(("new",) if new else ())
+    return Command(*words, read=lambda it: it.behind("registered").behind(client).numbers("N")[0])
+
+
+def in_epoch(client: str, epoch: int | None) -> str:
+    return client if epoch is None else f"{client}/{number(epoch)}"
 
 
 def forget(client: str) -> Command[None]:
@@ -218,8 +250,10 @@ def forget(client: str) -> Command[None]:
     return Command("forget", client, read=said(f"forgotten {client}"))
 
 
-def send(client: str, nth: int, stage: int, *words: int) -> Command[answers.Sent]:
-    """The client submits an element, as its send of this number. Sent again it submits nothing."""
+def send(client: str, nth: int, stage: int, *words: int, epoch: int | None = None) -> Command[answers.Sent]:
+    """The client submits an element, as its send of this number. Sent again it submits nothing: Differs where
+    that has another stage or other words.
+    """
     nth = number(nth)
     told = [nth, number(stage), *map(number, words), *[0] * (2 - len(words))]
 
@@ -227,16 +261,21 @@ def send(client: str, nth: int, stage: int, *words: int) -> Command[answers.Sent
         (element,) = heard.of_number("sent", client, nth)
         return answers.Sent(nth, None if element == "done" else int(element))
 
-    return Command("send", client, *told, read=read)
+    return Command("send", in_epoch(client, epoch), *told, read=read)
 
 
-def receive(client: str, nth: int, root: int | None = None) -> Command[answers.Received | None]:
+def receive(
+    client: str, nth: int, root: int | None = None, epoch: int | None = None, note: str | None = None,
+    wait: int | None = None,
+) -> Command[answers.Received | None]:
     """The client takes a reply to any of its requests, or to this one, as its receive of this number. None
     where no reply waits. Asked again it is answered the same, and nothing is taken. Past where the number is
-    an earlier one.
+    an earlier one. `note`, a word as a name, is told by `last` from then on. Of a server's session None is
+    told where none comes in `wait` seconds.
     """
     nth = number(nth)
     of_root = () if root is None else (number(root),)
+    noted = () if note is None else ("note", note)
 
     def read(heard: Heard) -> answers.Received | None:
         element, *others = heard.of_number("received", client, nth)
@@ -244,7 +283,7 @@ def receive(client: str, nth: int, root: int | None = None) -> Command[answers.R
             raise refusals.Past(heard.command)
         return received(nth, element, *others) if others else None
 
-    return Command("receive", client, nth, *of_root, read=read)
+    return Command("receive", in_epoch(client, epoch), nth, *of_root, *noted, read=read, wait=wait)
 
 
 def received(nth: int, element: str, root: str, body: str) -> answers.Received:
@@ -253,15 +292,15 @@ def received(nth: int, element: str, root: str, body: str) -> answers.Received:
 
 def last(client: str) -> Command[answers.Last]:
     """What a client has sent and received. BadName of a worker's name."""
-    form = r"sent (\d+)(?: (\d+))? received (\d+)(?: (\d+) (\d+) ([\d:]+))?"
+    form = r"sent (\d+)(?: (\d+))? received (\d+)(?: (\d+) (\d+) ([\d:]+))?(?: note (\S+))?"
 
     def read(heard: Heard) -> answers.Last:
         told = heard.behind("last").behind(client)
         if told.text.startswith("hand "):
             raise refusals.BadName(heard.command, worker=client)
-        sent, element, nth, *reply = told.formed(form).groups()
-        taken = received(int(nth), *reply) if reply[0] else None
-        return answers.Last(int(sent), int(element) if element else None, int(nth), taken)
+        sent, element, nth, *reply, note = told.formed(form).groups()
+        last_reply = received(int(nth), *reply) if reply[0] else None
+        return answers.Last(int(sent), int(element) if element else None, int(nth), last_reply, note)
 
     return Command("last", client, read=read)
 
@@ -270,7 +309,7 @@ def last_work(worker: str) -> Command[answers.LastWork]:
     """What a worker has in hand, and how its last unit ended (`last`, of a worker). BadName of a client's
     name.
     """
-    hand = r"none|lost (\d+)|(\d+) unit (\d+) attempt (\d+) root (\d+) body ([\d:]+)"
+    hand = rf"none|lost (\d+)(?: try (\d+))?|{TAKEN}"
     end = r"none|(aborted|lost) (\d+)|done (\d+) unit (\d+) outputs (\d+) (\d)"
 
     def read(heard: Heard) -> answers.LastWork:
@@ -278,16 +317,14 @@ def last_work(worker: str) -> Command[answers.LastWork]:
         if told.text.startswith("sent "):
             raise refusals.BadName(heard.command, worker=worker)
         found = told.formed(rf"hand (?:{hand}) (?:{end})").groups()
-        lost, *numbers, body, how, of, element, unit, first, many = found
-        work = None
-        if body:
-            held, unit_held, attempt, root = map(int, numbers)
-            work = answers.Work(held, unit_held, attempt, root, answers.words_of(body))
+        lost, tries, *hand_told, how, of, element, unit, first, many = found
+        work = taken(heard, worker, *hand_told) if hand_told[0] else None
         ended = answers.UnitEnd(how, int(of)) if how else None
         if element:
             outputs = range(int(first), int(first) + int(many))
             ended = answers.UnitEnd("done", int(element), int(unit), outputs)
-        return answers.LastWork(work, int(lost) if lost else None, ended)
+        named = work.fence if work else fence(int(lost), int(tries or 0)) if lost else None
+        return answers.LastWork(work, int(lost) if lost else None, ended, named)
 
     return Command("last", worker, read=read)
 

@@ -2,11 +2,12 @@
 from __future__ import annotations
 
 import socket
+from collections import deque
 from collections.abc import Sequence
 from dataclasses import dataclass
 from typing import Protocol
 
-from covetrivet.lines import LONGEST_LINE, NOTICE, is_asked, is_line
+from covetrivet.lines import LONGEST_LINE, NOTICE, is_asked, is_line, parted, tagged
 from covetrivet.relay import Caller
 from covetrivet.stream import Stream
 
@@ -59,6 +60,8 @@ class Connection:
         self.written = self.had_read = 0
         self.seconds_stuck = 0
         self.is_held = self.is_gone = False
+        # of the lines that aren't answered, in their order; empty ones of those without
+        self.tags = deque[str]()
         self.stream = Stream(it, self)
         host.joined(self)
 
@@ -115,7 +118,9 @@ class Connection:
     def begin(self, lines: list[bytes]) -> None:
         self.host.busy += not self.in_flight
         self.in_flight += len(lines)
-        self.host.ask(self, lines)
+        found = [parted(it) for it in lines]
+        self.tags += [tag for tag, _ in found]
+        self.host.ask(self, [it for _, it in found])
 
     def answered(self, answers: Sequence[str]) -> None:
         self.in_flight -= len(answers)
@@ -125,7 +130,7 @@ class Connection:
             if len(stream.waits) > self.host.limits.unread:
                 self.let_go("unread")
                 return
-            self.write("\n".join([*answers, ""]))
+            self.write("".join(f"{tagged(self.tags.popleft(), it)}\n" for it in answers))
         if self.pending or not stream.may_come:
             self.hand_over()
 

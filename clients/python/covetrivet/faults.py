@@ -34,8 +34,8 @@ class SessionClosed(SessionFault):
 
 
 class SessionBroken(SessionFault):
-    """An earlier exchange was left half-way, so later answers would be those of other commands. Nothing was
-    sent.
+    """An earlier call was left half-way, so the log may have lines that weren't sent. Nothing was sent.
+    Session.from_log goes on from it.
     """
 
 

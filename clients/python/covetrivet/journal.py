@@ -9,6 +9,7 @@ import time
 from collections.abc import Iterable, Iterator, Sequence
 from itertools import islice, takewhile
 
+from covetrivet.conversation import Conversation
 from covetrivet.faults import JournalFault, SessionEnded
 from covetrivet.lines import is_only_head
 from covetrivet.pipe import Pipe
@@ -40,12 +41,12 @@ def wait_until_free(path: str) -> None:
                 time.sleep(0.02)
 
 
-def recovered(pipe: Pipe, path: str) -> tuple[int, int]:
+def recovered(said: Conversation, path: str) -> tuple[int, int]:
     """Waits until the program has recovered its journal, and returns how many lines that has, and how many
     bytes were cut off behind them.
     """
     try:
-        answer = pipe.hear()
+        answer = said.hear_first()
     except SessionEnded as ended:
         why = re.search("fault 4 Journal: (.*)", ended.said)
         if why:
@@ -84,11 +85,10 @@ class Journaled(Session):
             raise JournalFault(f"there is no journal {self._path}: begin it by Session.open(path, head)")
         lines = self._opened()
         wait_until_free(self._path)
-        self._pipe = Pipe(journaled(find(self._program), self._path))
-        return self._pipe, lines
+        return Pipe(journaled(find(self._program), self._path)), lines
 
     def _begin(self, lines: list[str]) -> None:
-        self.recovered, self.cut = recovered(self._pipe, self._path)
+        self.recovered, self.cut = recovered(self._conversation(), self._path)
         self.lines = self.recovered
         if self._is_begun and not self.recovered:
             raise JournalFault(f"{self._path} has no lines: begin it by Session.open(path, head)")

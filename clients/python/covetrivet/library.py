@@ -25,13 +25,14 @@ from types import TracebackType
 from typing import Any
 
 from covetrivet import library_shapes as shapes
-from covetrivet.answers import Counts, Draft, Look, Released, Reply
+from covetrivet.answers import Counts, Look, Released, Reply
 from covetrivet.faults import NoLibrary
 from covetrivet.library_answers import (
     IDLE, NONE, REFUSALS, Account, BadDraft, ClosedHandle, FullLost, Limits, NoPart, NotAll, OpenHandle,
     OtherManager, RolledOver, Room, TooMany,
 )  # fmt: skip
 from covetrivet.refusals import Full, Lost, NoneOpen, Refusal
+from covetrivet.work import Draft
 
 __all__ = [
     "REPLIES", "Account", "BadDraft", "Caller", "ClosedHandle", "Counts", "Draft", "FullLost", "Limits",

@@ -13,10 +13,11 @@ from dataclasses import asdict, dataclass
 from typing import Any
 
 from covetrivet import program, refusals
-from covetrivet.answers import Look, Words
+from covetrivet.answers import Look
 from covetrivet.faults import NoLibrary
 from covetrivet.library_answers import BadDraft, Limits
 from covetrivet.refusals import Refusal
+from covetrivet.work import Words
 
 VARIABLE = "COVETRIVET_LIBRARY"
 MADE = "out/library/lib/libcovetrivet.so"

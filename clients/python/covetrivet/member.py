@@ -153,7 +153,9 @@ class Member:
     def close_replica(self) -> None:
         if self.replica:
             self.stood = self.replica.place, self.replica.digest
-            self.replica.close()
+            # (a program that doesn't end is killed)
+            with contextlib.suppress(TimeoutError):
+                self.replica.close()
             self.replica = None
 
     # ---- leading

@@ -125,8 +125,22 @@ class Gap(Refusal):
     """The number is greater than the client's next one."""
 
 
+class Fenced(Refusal):
+    """The client is in another epoch: another process has its name."""
+
+
+class Differs(Refusal):
+    """The last send had this number, and another stage or other words."""
+
+
 class Past(Refusal):
     """The number is of an earlier receive than the last one, whose answer isn't kept. It was received."""
+
+
+class Other(Refusal):
+    """The worker has other work in hand, or none: another process has its name, or the work was taken
+    away.
+    """
 
 
 class NoneOpen(Refusal):
@@ -162,4 +176,5 @@ BY_WORD: dict[str, type[Refusal]] = {
     "lost": Lost,
     "already": AlreadyAborted,
     "ended": Ended,
+    "other": Other,
 }

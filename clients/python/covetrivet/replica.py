@@ -54,7 +54,7 @@ class Replica(Session):
                 f"at record {place} of {record.by} the answers of this node have digest {self.digest}, "
                 f"and those of {record.by} {record.digest}"
             )
-        return self._gate.whole(lambda: self._feed(record.lines))
+        return self._feed(record.lines)
 
     def _feed(self, lines: Sequence[str]) -> list[str]:
         self.place += 1
@@ -70,12 +70,7 @@ class Replica(Session):
 
     def _exchange_bytes(self, lines: Sequence[str]) -> list[str]:
         """Sends lines of any bytes, each of which has an answer."""
-        if self._wire is None:
-            raise LogLost("the session has not begun")
-        sent = "".join(f"{it}\n" for it in lines).encode("latin-1")
-        answers = self._wire.exchange(sent, len(lines), self._seconds)
-        self._wire.refuse_more()
-        return answers
+        return self._conversation().ask([it.encode("latin-1") for it in lines], self._seconds)
 
     def base(self) -> Base:
         """Returns what a session goes on from at this place: a dump."""

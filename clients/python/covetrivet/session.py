@@ -5,24 +5,26 @@ import functools
 import os
 import re
 import subprocess
+import threading
 import weakref
 from collections.abc import Callable, Iterable, Iterator, Sequence
 from types import TracebackType
 from typing import Any, Concatenate, ParamSpec, TypeVar, Union
 
-from covetrivet import commands, gate, refusals
+from covetrivet import commands, refusals
 from covetrivet.answers import Heard
 from covetrivet.batch import Batch, Later
 from covetrivet.commands import Command
+from covetrivet.conversation import Conversation
 from covetrivet.faults import LogFault, SessionBroken, SessionClosed
-from covetrivet.lines import (
-    beginning, checked, is_answered, is_for_logs, pieces_of,
-)  # fmt: skip
+from covetrivet.lines import beginning, checked, is_for_logs, pieces_of
 from covetrivet.log import Log
-from covetrivet.pipe import Pipe
+from covetrivet.pipe import SECONDS_TO_END, Pipe
 from covetrivet.program import find
 from covetrivet.wire import Wire
 
+NOT_BEGUN = "the session has not begun: it begins with its `with` block"
+CLOSED = "the session is closed"
 T = TypeVar("T")
 P = ParamSpec("P")
 Path = Union[str, "os.PathLike[str]"]
@@ -46,13 +48,14 @@ class Session:
     COVETRIVET_PROGRAM, or the checkout's own (NoProgram where there is none). What it writes on standard
     error is shown there.
 
-    **Threads.** Any thread may call any method: a lock lets one exchange at a time through. A batch is one
-    exchange. An exchange that takes more than so many `seconds` is given up by TimeoutError (but for that of
-    the beginning). One that is left half-way, by this or by another exception, breaks the session: each later
-    call raises SessionBroken. The process that made a session owns it, and a forked one can't use it.
+    **Threads.** Any thread may call any method, and so may a signal's handler, also in the midst of a call.
+    An exchange that takes more than so many `seconds` is given up by TimeoutError (but for that of the
+    beginning). One that is left, by this or by another exception, was done or not; its answer is nobody's.
+    The process that made a session owns it, and a forked one can't use it.
 
     **Logs.** `log` names a file that isn't there yet. Each line is written into it before it is sent.
-    Session.from_log goes on from it.
+    Session.from_log goes on from it. Where an exception comes between the two, the log may have what the
+    program hasn't: each later call raises SessionBroken, and Session.from_log goes on.
 
     **Journals.** A session of Session.open survives the end of its program, and of the machine.
     """
@@ -69,9 +72,14 @@ class Session:
         self._log_path = None if log is None else os.fspath(log)
         self._seconds = seconds
         self._goes_on = False
-        self._gate = gate.Gate()
+        self._owner = os.getpid()
+        self._closed: str | None = NOT_BEGUN
         self._log: Log | None = None
+        self._log_lock = threading.RLock()
+        # whether the log has lines that weren't sent
+        self._is_torn = False
         self._wire: Wire | None = None
+        self._said: Conversation | None = None
         # how many lines a journal had, and how many with those that were sent since; how many bytes were cut
         # off behind them, of lines that a crash had torn
         self.recovered = self.lines = self.cut = 0
@@ -109,20 +117,27 @@ class Session:
 
         return Journaled(path, head, program, seconds)
 
+    # whether what has the session knows lines that wait
+    WAITS = False
+
     # ---- its beginning and its end
 
     def __enter__(self) -> Session:
-        if self._gate.closed != gate.NOT_BEGUN:
+        if self._closed != NOT_BEGUN:
             raise SessionClosed("a session has one `with` block, and this one has had it")
         try:
-            self._wire, lines = self._started()
-            self._gate.closed = None
-            OPEN.add(self)
-            self._gate.whole(lambda: self._begin(lines))
+            self._enter()
         except BaseException:
             self._let_go()
             raise
         return self
+
+    def _enter(self) -> None:
+        self._wire, lines = self._started()
+        OPEN.add(self)
+        self._said = Conversation(self._wire)
+        self._closed = None
+        self._begin(lines)
 
     def _started(self) -> tuple[Wire, list[str]]:
         """Returns the program, started, and the lines to begin with."""
@@ -143,22 +158,20 @@ class Session:
 
     def _begin(self, lines: list[str]) -> None:
         """Sends the lines. A log begins once they are answered."""
+        self._conversation().greet(self._seconds)
         self._send_beginning(lines, 0)
         if self._log_path and not self._log:
             self._log = Log.begun(self._log_path, lines)
 
     def _send_beginning(self, lines: list[str], known: int) -> None:
-        """Sends the lines but for so many that are known. One of the head has no answer unless it is refused,
-        so a first command tells that none was.
-        """
+        """Sends the lines but for so many that are known. None of the head may be refused."""
         first, others = beginning(lines)
-        if known < len(first):
-            (answer,) = self._exchange(first[known:], 1, is_logged=False, is_head=True)
-            refused = re.fullmatch(r"refused line (\d+): \d+ (\w+)", answer)
+        for line, answer in zip(first[known:], self._exchange(first[known:], is_logged=False)):
+            refused = re.fullmatch(r"refused line \d+: \d+ (\w+)", answer)
             if refused:
-                raise refusals.BY_NAME[refused[2]](first[int(refused[1]) - 1])
+                raise refusals.BY_NAME[refused[1]](line)
         for piece in pieces_of(others[max(0, known - len(first)) :]):
-            self._exchange(piece, len(list(filter(is_answered, piece))), is_logged=False)
+            self._exchange(piece, is_logged=False)
 
     def __exit__(
         self, kind: type[BaseException] | None, fault: BaseException | None, trace: TracebackType | None
@@ -172,32 +185,30 @@ class Session:
 
     def close(self) -> None:
         """Ends the session. The registers of the servers are in `finals` then, and each later call raises
-        SessionClosed.
+        SessionClosed. Closing what is closed does nothing.
 
-        Where the session is broken its program is ended at once, and there are no `finals`. SessionEnded
-        where the program ends by a fault that wasn't told yet. Closing what is closed does nothing.
-        SessionBroken where this comes out of an exchange of the same thread, as from a signal's handler.
+        SessionEnded where the program ends by a fault that wasn't told yet. A program that doesn't end in
+        `seconds`, or in 10 where there are none, is ended by TimeoutError.
         """
-        if not self._gate.is_owner():
+        if self._closed or os.getpid() != self._owner:
             return
-        with self._gate.lock:
-            if self._gate.closed:
-                return
-            if self._gate.is_inside:
-                raise SessionBroken("an exchange isn't over: session.process.kill() ends it")
-            try:
-                if self._wire and not self._gate.broken:
-                    for line in self._wire.finish(self._seconds):
-                        _final, name, *values = line.split()
-                        self.finals[name] = tuple(int(it) for it in values)
-            finally:
-                self._let_go()
+        self._closed = CLOSED
+        try:
+            if self._said and not self._is_torn and not self._said.fault:
+                for line in self._said.finish(SECONDS_TO_END if self._seconds is None else self._seconds):
+                    _final, name, *values = line.split()
+                    self.finals[name] = tuple(int(it) for it in values)
+        finally:
+            self._let_go()
 
     def _let_go(self) -> None:
-        self._gate.closed = gate.CLOSED
+        self._closed = CLOSED
         OPEN.discard(self)
-        if self._wire:
-            self._wire.let_go()
+        if self._said:
+            self._said.let_go()
+        elif self._wire:
+            self._wire.end()
+            self._wire.close_streams()
         if self._log:
             self._log.close()
 
@@ -214,18 +225,19 @@ class Session:
     def process(self) -> subprocess.Popen[bytes]:
         """The program's process. SessionClosed where the session has not begun, or is a server's."""
         if not isinstance(self._wire, Pipe):
-            raise SessionClosed("the session's process is another one's" if self._wire else gate.NOT_BEGUN)
+            raise SessionClosed("the session's process is another one's" if self._wire else NOT_BEGUN)
         return self._wire.process
 
     # ---- calls
 
     def do(self, command: Command[T]) -> T:
         """Sends one command. Returns its answer, or raises the refusal."""
-        return self._gate.whole(lambda: self._do(command))
+        (answer,) = self._exchange([command.line], wait=command.wait)
+        return self._read(command, answer)
 
     def batch(self) -> Batch:
         """Returns a batch, in whose `with` block commands are added that are sent together."""
-        return Batch(lambda asked: self._gate.whole(lambda: self._do_all(asked)))
+        return Batch(self._do_all)
 
     def all_waiting(self, stage: int) -> Iterator[int]:
         """Yields the id of each element that waits in a stage, once, by as many calls of `waiting` as it
@@ -240,7 +252,8 @@ class Session:
         """Has the log begin anew with a dump. LogFault where there is no log, or a new one can't be written:
         then the log goes on as it was.
         """
-        self._gate.whole(self._shorten_log)
+        with self._log_lock:
+            self._shorten_log()
 
     submit = asked(commands.submit)
     claim = asked(commands.claim)
@@ -279,47 +292,55 @@ class Session:
     drain_next = asked(commands.drain_next)
     dump = asked(commands.dump)
 
-    # ---- parts of exchanges, behind the gate
+    # ---- parts of exchanges
 
-    def _exchange(
-        self, lines: Sequence[str], wanted: int | None = None, is_logged: bool = True, is_head: bool = False
-    ) -> list[str]:
-        """Sends lines and returns their answers, one for each unless another number is given. There are no
-        more of them, unless lines of a head are refused.
+    def _conversation(self) -> Conversation:
+        """Returns what lines are sent by. SessionClosed where the session isn't open, or is another
+        process's.
         """
-        if self._wire is None:
-            raise SessionClosed(gate.NOT_BEGUN)
-        if self._log and is_logged:
-            self._log.write(filter(is_for_logs, lines))
+        if os.getpid() != self._owner:
+            raise SessionClosed(f"the session is process {self._owner}'s, and this is process {os.getpid()}")
+        if self._closed or self._said is None:
+            raise SessionClosed(self._closed or NOT_BEGUN)
+        return self._said
+
+    def _exchange(self, lines: Sequence[str], is_logged: bool = True, wait: int = 0) -> list[str]:
+        """Sends lines and returns their answers, one for each. One may be there so many seconds later."""
+        said = self._conversation()
+        sent = [it.encode("ascii") for it in lines]
         self.lines += len(lines)
-        sent = b"".join(it.encode("ascii") + b"\n" for it in lines)
-        seconds = self._seconds if wanted is None else None
-        answers = self._wire.exchange(sent, len(lines) if wanted is None else wanted, seconds)
-        if not is_head:
-            self._wire.refuse_more()
+        if not (self._log and is_logged):
+            return said.ask(sent, self._seconds + wait if self._seconds and is_logged else None)
+        with self._log_lock:
+            if self._is_torn:
+                raise SessionBroken("the log may have lines that weren't sent: go on by Session.from_log")
+            self._is_torn = True
+            self._log.write(filter(is_for_logs, lines))
+            answers = said.ask(sent, self._seconds, self._mend)
         return answers
 
-    def _do(self, command: Command[T]) -> T:
-        (answer,) = self._exchange([command.line])
-        return self._read(command, answer)
+    def _mend(self) -> None:
+        """What is in the log was sent."""
+        self._is_torn = False
 
     def _do_all(self, asked: list[Later[Any]]) -> None:
-        for later, answer in zip(asked, self._exchange([it.command.line for it in asked])):
+        lines, wait = [it.command.line for it in asked], max(it.command.wait for it in asked)
+        for later, answer in zip(asked, self._exchange(lines, wait=wait)):
             later.take(functools.partial(self._read, later.command, answer))
 
     def _read(self, command: Command[T], answer: str) -> T:
-        heard = Heard(answer, command.line)
+        heard = Heard(answer, command.line, self)
         heard.refused()
         return command.read(heard)
 
     def _in_hand(self) -> list[str]:
         """Returns the workers and servers that have a unit open, or have lost one."""
-        return [it.name for it in self._do(commands.holds())]
+        return [it.name for it in self.do(commands.holds())]
 
     def _shorten_log(self) -> None:
         if self._log is None or self._log_path is None:
             raise LogFault("the session has no log")
-        log = Log.beside(self._log_path, self._do(commands.dump()).lines)
+        log = Log.beside(self._log_path, self.do(commands.dump()).lines)
         log.put_in_place()
         self._log.close()
         self._log = log

@@ -1,4 +1,4 @@
-"""Lines go in over one stream of bytes, and their answers come out over another, in their order."""
+"""Lines go in over one stream of bytes, and their answers come out over another."""
 from __future__ import annotations
 
 import contextlib
@@ -7,7 +7,6 @@ import re
 import select
 import time
 
-from covetrivet.answers import NotUnderstood
 from covetrivet.faults import SessionFault
 
 
@@ -53,112 +52,87 @@ class Answers:
         taken, self.come = self.come[:many], self.come[many:]
         return taken
 
-    def take_all(self) -> list[str]:
-        taken, self.come = self.come, []
-        return taken
-
 
 class Wire:
-    """Two descriptors, which don't block. One thread at a time uses them: a session has a lock for that."""
+    """Two descriptors, which don't block: one for what this side says, and one for what the other does."""
 
-    def __init__(self, given: int, told: int) -> None:
-        self.answers = Answers()
-        self.input, self.output = given, told
+    def __init__(self, given: int, told: int, errors: int | None = None) -> None:
+        self.input, self.output, self.errors = given, told, errors
+        # (what ends a wait for the other side)
+        self.stop, self.stopping = os.pipe()
         for it in (given, told):
             os.set_blocking(it, False)
-        self.poll = select.poll()
-        self.poll.register(told, select.POLLIN)
 
-    def exchange(self, sent: bytes, wanted: int, seconds: float | None) -> list[str]:
-        """Sends these bytes and returns so many answers. It reads while it writes.
+    # ---- what this side says
 
-        The fault that ended the other side, where it ends before it has answered. TimeoutError where the
-        answers aren't there in time. NotUnderstood where there are answers before.
-        """
-        self.look()
-        self.refuse_more()
-        left = memoryview(sent)
-        until = None if seconds is None else time.monotonic() + seconds
-        self.poll.register(self.input, select.POLLOUT)
-        while left or self.answers.whole() < wanted:
-            if not left:
-                self.forget(self.input)
-            for descriptor, _events in self.poll.poll(time_left(until, seconds)):
-                if descriptor == self.input:
-                    left = left[self.write(left) :]
-                elif descriptor == self.output:
-                    self.look()
-                else:
-                    self.pass_on_errors()
-        self.forget(self.input)
-        return self.answers.take(wanted)
-
-    def hear(self) -> str:
-        """Returns the first answer, which comes without a line. The fault that ended the other side, where it
-        ends before.
-        """
-        while not self.answers.whole():
-            for descriptor, _events in self.poll.poll():
-                if descriptor == self.output:
-                    self.look()
-                else:
-                    self.pass_on_errors()
-        (answer,) = self.answers.take(1)
-        return answer
-
-    def refuse_more(self) -> None:
-        """NotUnderstood where there are answers that nothing asked for: the next ones would be mistaken."""
-        if self.answers.come or self.answers.part or self.answers.rest:
-            raise NotUnderstood(f"the program has answered what it wasn't asked: {self.answers.take(1)}")
-
-    def look(self) -> None:
-        """Reads what there is. The fault that ended the other side, where it has ended."""
-        if not self.read():
-            raise self.ended_by()
-
-    def forget(self, descriptor: int) -> None:
-        with contextlib.suppress(KeyError):
-            self.poll.unregister(descriptor)
-
-    def write(self, left: memoryview) -> int:
-        """Writes some, and returns how much. What the other side was to be sent counts as written where it
-        has ended: what it answered is read.
+    def put(self, some: bytes) -> bool:
+        """Writes whole lines, which the system takes as a whole, or not at all now: whether it took them.
+        What the other side was to be sent counts as taken where it has ended: what it answered is read.
         """
         try:
-            return os.write(self.input, left)
+            os.write(self.input, some)
         except BlockingIOError:
-            return 0
-        except BrokenPipeError:
-            return len(left)
-
-    def read(self) -> bool:
-        """Reads some of the answers. False where there are no more."""
-        try:
-            some = os.read(self.output, 65536)
-        except BlockingIOError:
+            return False
+        except OSError:
             return True
-        self.answers.add(some)
-        return bool(some)
+        return True
+
+    def wait_to_put(self, milliseconds: float | None) -> None:
+        """Waits until the other side takes something, for so long at most."""
+        poll = select.poll()
+        poll.register(self.input, select.POLLOUT)
+        poll.poll(milliseconds)
+
+    def end_input(self) -> bool:
+        """Says no more. Whether the other side says something behind that."""
+        raise NotImplementedError
+
+    # ---- what the other side says
+
+    def receive(self) -> bytes:
+        """Waits for what the other side says, and returns some of it. Nothing where it says no more."""
+        poll = select.poll()
+        for it in (self.output, self.stop, self.errors):
+            if it is not None and it >= 0:
+                poll.register(it, select.POLLIN)
+        while True:
+            for descriptor, _events in poll.poll():
+                if descriptor == self.stop:
+                    return b""
+                if descriptor == self.errors and not self.pass_on_errors():
+                    poll.unregister(descriptor)
+                if descriptor == self.output:
+                    with contextlib.suppress(BlockingIOError):
+                        return self.read_some()
+
+    def read_some(self) -> bytes:
+        return os.read(self.output, 65536)
 
     def pass_on_errors(self) -> bool:
         """Shows what the program has written on standard error. False where there is no more."""
         return False
 
+    # ---- the end
+
     def ended_by(self) -> SessionFault:
         """Returns what ended the other side."""
         raise NotImplementedError
 
-    def finish(self, seconds: float | None) -> list[str]:
-        """Ends the input in order, and returns the lines that come behind it."""
-        raise NotImplementedError
+    def is_ended_well(self) -> bool:
+        """Whether the other side has ended as it should."""
+        return True
 
-    def let_go(self) -> None:
-        """Ends the other side, as far as it is this one's."""
-        self.close_streams()
+    def end(self) -> None:
+        """Ends the other side, as far as it is this one's, and the wait for it."""
+        with contextlib.suppress(OSError):
+            os.write(self.stopping, b".")
 
     def close_streams(self) -> None:
         """Closes the descriptors of this process alone."""
-        raise NotImplementedError
+        for it in (self.stop, self.stopping):
+            with contextlib.suppress(OSError):
+                os.close(it)
+        self.stop = self.stopping = -1
 
 
 def time_left(until: float | None, seconds: float | None) -> float | None:

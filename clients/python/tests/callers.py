@@ -125,7 +125,7 @@ class Traffic:
             if answer == f"{name} busy":
                 caller.ask(f"abort {name}")
             elif answer.startswith(f"{name} work "):
-                root, _, body = answer.split(" ")[-3:]
+                root, _, body = answer.split(" ")[8:11]
                 yield
                 caller.ask(f"commit {name} 15:{body.split(':')[0]}:{body.split(':')[1]}")
                 yield

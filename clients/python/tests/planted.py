@@ -47,6 +47,9 @@ MODULES = {
     "NodeServers": "test_node_server",
     "ServeJournals": "test_serve_journals",
     "NodeBounds": "test_node_bounds",
+    "Works": "test_work",
+    "Workers": "test_work",
+    "Async": "test_aio",
 }
 
 
@@ -61,13 +64,32 @@ class Error:
 
 
 ERRORS = [
-    Error("gate.py", "with self.lock:", "if True:", "Threads.test_each_thread_is_told_its_own_ids"),
-    Error("gate.py", "if self.broken:", "if False:", "Exchanges.test_a_call_that_is_left"),
-    Error("gate.py", "if self.broken:", "if False:", "Exchanges.test_a_batch_that_is_interrupted"),
-    Error("gate.py", "if self.closed:", "if False:", "Closed.test_a_closed_session_writes_nowhere"),
-    Error("gate.py", "os.getpid() == self.owner", "True", "Closed.test_a_forked_process"),
+    Error("conversation.py", 'b"%08x" % next(self.numbers)', 'b"%08x" % len(lines)', "Threads"),
+    Error(
+        "conversation.py", 'b"%08x" % next(self.numbers)', 'b"%08x" % len(lines)',
+        "Exchanges.test_a_call_that_is_left",
+    ),
+    Error(
+        "conversation.py", "            if waiting:\n", "            if True:\n",
+        "Exchanges.test_a_call_that_is_left",
+    ),
+    Error("session.py", "if self._closed or self._said is None", "if self._said is None", "Closed"),
+    Error(
+        "session.py", "if os.getpid() != self._owner:\n            raise", "if False:\n            raise",
+        "Closed",
+    ),
+    Error(
+        "work.py", "if self.tries is None else self", "if True else self",
+        "Works.test_only_this_try_is_ended",
+    ),
+    Error("work.py", "            self.give_up()\n", "            pass\n", "Works.test_a_block_that_is_left"),
+    Error(
+        "worker.py", "if is_known else self.left(session)", "",
+        "Workers.test_what_an_earlier_life_has_left",
+    ),
+    Error("worker.py", "        work.give_up()\n", "", "Workers.test_an_act_that_fails"),
+    Error("aio.py", "f\"{next(self._numbers):08x}\"", '"1"', "Async.test_a_call_that_is_cancelled"),
     Error("session.py", "self._wire.close_streams()", "pass", "Closed.test_a_forked_process"),
-    Error("wire.py", "if self.answers.come or", "if", "Exchanges.test_more_answers_than_were_asked_for"),
     Error("commands.py", '"[!-~]+"', '"(?s).*"', "Words.test_a_word_is_one_word"),
     Error("lines.py", '"[ -~]*"', '"(?s).*"', "Words.test_a_line_of_a_head_is_one_line"),
     Error("answers.py", "raise kind(self.command, name,", 'raise kind("", name,', "Told"),
@@ -96,9 +118,6 @@ ERRORS = [
     Error("accept.py", "self.watch.want(0)\n                self.watch.loop", "self.watch.loop", "Accepts"),
     Error("call.py", "or answered < self.asked", "", "ServeCalls.test_a_server_that_is_lost"),
     Error(
-        "remote.py", "goes_on = bool(come)", "goes_on = False", "ServeSessions.test_an_answer_before_the_end",
-    ),
-    Error(
         "journal.py",
         "if there == lines[: self.recovered]:",
         "if False:",
@@ -115,12 +134,6 @@ ERRORS = [
         "with Session(lines, self._program, seconds=self._seconds):",
         "if True:",
         "Journals.test_a_head_that_is_refused_is_not_kept",
-    ),
-    Error(
-        "pipe.py",
-        "some[: bytes(some).rfind(b\"\\n\") + 1] or some",
-        "left",
-        "Journals.test_no_line_of_a_killed_client_is_torn",
     ),
     Error("journal.py", "time.sleep(0.02)", "return", "Journals.test_two_sessions"),
     Error("session.py", "self.lines += len(lines)", "pass", "Journals.test_a_session_goes_on"),
@@ -184,7 +197,7 @@ ERRORS = [
         "answers.py", "raise why(self.command, name, element)", "raise why(self.command, name)",
         "Names.test_names_that_are_words_of_answers",
     ),
-    Error("answers.py", "operator.index(getattr(self, it.name))", "pass", "Calls.test_numbers"),
+    Error("work.py", "operator.index(getattr(self, it.name))", "pass", "Calls.test_numbers"),
     Error("answers.py", "text.split(\":\")]", "text.split(\":\")[:2]]", "Calls.test_a_commit"),
     Error("commands.py", "return not heard.formed", "return True or heard.formed", "Calls.test_drains"),
     Error("lines.py", "restores = any(map(is_to_restore, head))", "restores = False", "Dumps.test_a_dump"),
@@ -211,12 +224,6 @@ ERRORS = [
     Error("convert.py", 'if found[1]:', 'if False:', "Converted.test_ids_that_last"),
     Error("convert.py", 'if name in self.hands:', 'if name in self.dump.lost:', "Converted.test_a_shop"),
     Error("convert.py", "self.free_hand(words[0])", "pass", "Converted"),
-    Error(
-        "gate.py",
-        "except (Refusal, LogFault, Unknown):",
-        "except (Refusal, LogFault):",
-        "ServeJournals.test_what_was_not_answered_is_unknown",
-    ),
     Error("lines.py", "len(line) > LONGEST_LINE or not W", "not W", "NodeBounds.test_long_lines"),
     Error("lines.py", '"#[ -~]*| *"', '"#.*| *"', "NodeBounds.test_long_lines"),
     Error("connection.py", "most - self", "1 << 30 - 0 * self", "NodeBounds.test_unanswered_lines"),

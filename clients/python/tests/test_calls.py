@@ -185,7 +185,7 @@ class Calls(unittest.TestCase):
             refusals.NotHeld: lambda: session.release(0),
             refusals.NoneOpen: lambda: session.abort("packer"),
             refusals.TooLong: lambda: session.do(Command("count", "x" * 1023, read=str)),
-            refusals.Order: lambda: session.do(Command("limit", 2, read=str)),
+            refusals.Order: lambda: session.do(Command("over", 2, read=str)),
         }
         for kind, call in refused.items():
             with self.subTest(kind.__name__), self.assertRaises(kind):
@@ -349,7 +349,7 @@ class Dumps(unittest.TestCase):
             held = session.dump().lines
             session.commit("packer", Draft(2, 0, 10), Draft(15, 5, 6))
             self.assertEqual(session.dump().lines, self.LINES)
-        self.assertIn("hand packer 0 0", held)
+        self.assertIn("hand packer 0 0 1", held)
         with Session(held) as session:
             self.assertEqual(session.abort("packer"), 0)
         # The command `restore` is sent where it lacks.

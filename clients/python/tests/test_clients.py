@@ -129,6 +129,16 @@ class Clients(unittest.TestCase):
         self.assertEqual(third.send((9,), 2), Sent(3, 4))
         self.assertEqual(third.last(), Last(3, 4, 2, Received(2, 2, 0, (7, 30, 0, 0))))
 
+    def test_two_of_one_name(self) -> None:
+        first = Client(self.session, "web")
+        first.send((1,))
+        second = Client(self.session, "web")
+        with self.assertRaises(refusals.Fenced):
+            first.send((2,))
+        with self.assertRaises(refusals.Fenced):
+            first.receive()
+        self.assertEqual((second.send((3,)), self.session.count().waiting), (Sent(2, 1), 2))
+
     def test_a_refused_send_is_not_counted(self) -> None:
         client = Client(self.session, "web")
         for words, stage in (((1,), 15), ((-1,), 1)):

@@ -12,9 +12,10 @@ import unittest
 from collections.abc import Callable, Iterator
 from pathlib import Path
 from types import FrameType
+from typing import Any
 
 from covetrivet import (
-    Command, Counts, Draft, Session, SessionBroken, SessionClosed, SessionEnded, count, refusals, submit,
+    Client, Command, Counts, Draft, Session, SessionClosed, SessionEnded, count, refusals, submit,
 )  # fmt: skip
 
 NAMES = "abcdef"
@@ -102,12 +103,14 @@ class Threads(unittest.TestCase):
 class Exchanges(unittest.TestCase):
     HEAD = ["worker clerk 1"]
 
-    def hold_to_broken(self, session: Session) -> None:
-        for call in (lambda: session.submit(1, 3, 3), session.count, session.drain, session.dump):
-            with self.assertRaises(SessionBroken):
-                call()
-        with self.assertRaises(SessionBroken), session.batch() as batch:
-            batch.add(count())
+    def hold_to_step(self, session: Session, first: int) -> None:
+        """Each call has its own answer; the next element to be born is `first`, or one behind it."""
+        with session.batch() as batch:
+            asked = [batch.add(submit(1, it)) for it in range(10, 15)]
+        ids = [it.value.element for it in asked]
+        self.assertIn(ids[0], (first, first + 1))
+        self.assertEqual([session.read(it).words[0] for it in ids], list(range(10, 15)))
+        self.assertTrue(session.drain())
 
     def test_a_call_that_is_left(self) -> None:
         with Session(self.HEAD) as session:
@@ -116,14 +119,20 @@ class Exchanges(unittest.TestCase):
             with self.assertRaises(Late), left_after(0.3):
                 session.submit(1, 2, 2)
             session.process.send_signal(signal.SIGCONT)
-            self.hold_to_broken(session)
+            self.hold_to_step(session, 1)
         self.assertEqual(session.finals, {})
 
-    def test_a_session_whose_call_was_left_ends(self) -> None:
-        with Session(self.HEAD) as session:
+    def test_a_call_that_takes_too_long(self) -> None:
+        with Session(self.HEAD, seconds=0.3) as session:
             session.process.send_signal(signal.SIGSTOP)
-            with self.assertRaises(Late), left_after(0.3):
-                session.count()
+            with self.assertRaises(TimeoutError):
+                session.submit(1, 2, 2)
+            session.process.send_signal(signal.SIGCONT)
+            self.hold_to_step(session, 0)
+
+    def test_a_session_whose_program_is_stopped_ends(self) -> None:
+        with self.assertRaises(TimeoutError), Session(self.HEAD, seconds=0.5) as session:
+            session.process.send_signal(signal.SIGSTOP)
         self.assertEqual(session.process.returncode, -signal.SIGKILL)
 
     def test_a_batch_that_is_interrupted(self) -> None:
@@ -133,50 +142,109 @@ class Exchanges(unittest.TestCase):
                 asked = [batch.add(count()) for _ in range(3)]
                 threading.Timer(0.3, lambda: os.kill(os.getpid(), signal.SIGINT)).start()
             session.process.send_signal(signal.SIGCONT)
-            self.hold_to_broken(session)
+            self.hold_to_step(session, 0)
             with self.assertRaises(ValueError):
                 _ = asked[0].value
+            with self.assertRaises(ValueError), batch:
+                pass
 
     def test_a_call_out_of_a_call(self) -> None:
-        # The handler runs in the midst of an exchange. Its call is refused, and the exchange goes on.
-        refused: list[Exception] = []
+        # The handler runs in the midst of an exchange. Both calls have their own answers.
+        told: list[int] = []
 
         def handle(_signal: int, _frame: FrameType | None) -> None:
-            for call in (lambda: session.submit(1, 9, 9), session.close):
-                try:
-                    call()
-                except SessionBroken as fault:
-                    refused.append(fault)
             session.process.send_signal(signal.SIGCONT)
+            told.append(session.read(session.submit(1, 9, 9).element).words[0])
 
         before = signal.signal(signal.SIGALRM, handle)
         try:
             with Session(self.HEAD) as session:
                 session.process.send_signal(signal.SIGSTOP)
                 signal.setitimer(signal.ITIMER_REAL, 0.3)
-                self.assertEqual(session.submit(1, 5, 5).element, 0)
-                self.assertEqual(len(refused), 2)
+                self.assertEqual(session.read(session.submit(1, 5, 5).element).words, (5, 5, 0, 0))
+                self.assertEqual(told, [9])
                 self.assertEqual(session.read(session.submit(1, 6, 6).element).words, (6, 6, 0, 0))
         finally:
             signal.signal(signal.SIGALRM, before)
 
-    def test_more_answers_than_were_asked_for(self) -> None:
+    def test_a_program_that_speaks_other_lines(self) -> None:
         counted = "waiting 0 held 0 consumed 0 parked 0 killed 0"
-        with self.assertRaises(ValueError), Session([], ["sed", "-u", f"s/.*/{counted}/;p"]) as session:
-            session.count()
-        # Also where it comes when nobody asks.
-        late = f"read first; echo {counted}; sleep 0.3; echo {counted}; cat"
-        with Session([], ["sh", "-c", late]) as session:
-            time.sleep(1)
-            with self.assertRaises(ValueError):
-                session.count()
-            self.hold_to_broken(session)
+        # (it gives back what it is sent, tells too much, or knows no tags)
+        for program in (["cat"], *(["sed", "-u", it] for it in (f"s/.*/{counted}/;p", "s/.*/refused 1/"))):
+            with self.subTest(program), self.assertRaises(ValueError), left_after(5), Session([], program):
+                pass
 
     def test_an_answer_that_isnt_understood(self) -> None:
         with Session(self.HEAD) as session:
             with self.assertRaises(ValueError):
                 session.do(Command("count", read=lambda it: it.numbers("submitted N")))
-            self.hold_to_broken(session)
+            self.hold_to_step(session, 0)
+
+
+class Interrupted(Exception):
+    """A call is left here."""
+
+
+class Anywhere(unittest.TestCase):
+    """A call that is left at each line of the package that it comes to, or out of which another one comes."""
+
+    CALLS: tuple[Callable[[Session], object], ...] = (
+        lambda session: session.submit(1, 7),
+        lambda session: session.count(),
+        lambda session: session.claim("clerk"),
+        lambda session: session.last("shop"),
+        lambda session: Client(session, "shop").send((7,)),
+    )
+
+    def at_line(self, nth: int, call: Callable[[], object], do: Callable[[], None]) -> bool:
+        """Does this at the nth line of the package that the call comes to. Whether it came to so many."""
+        left = nth
+
+        def trace(frame: FrameType, event: str, _arg: object) -> Any:
+            nonlocal left
+            if "covetrivet" not in frame.f_code.co_filename or "/tests/" in frame.f_code.co_filename:
+                return None
+            if event == "line":
+                left -= 1
+                if left == 0:
+                    sys.settrace(None)
+                    do()
+            return trace
+
+        sys.settrace(trace)
+        try:
+            call()
+        except (Interrupted, refusals.Busy):
+            # (work that was taken by a call that was left is in hand)
+            pass
+        finally:
+            sys.settrace(None)
+        return left <= 0
+
+    def each_line(self, do: Callable[[Session], None]) -> None:
+        with Session(["worker clerk 1", "register shop"]) as session:
+            for call in self.CALLS:
+                nth = 1
+                while self.at_line(nth, lambda: call(session), lambda: do(session)):
+                    nth += 1
+                    before = session.count()
+                    self.assertEqual(session.read(session.submit(2, nth).element).words[0], nth)
+                    after = session.count()
+                    born = after.waiting + after.held - before.waiting - before.held
+                    self.assertIn(born, (1, 2))
+                self.assertGreater(nth, 20)
+
+    def test_a_call_that_is_left_at_any_line(self) -> None:
+        def leave(_session: Session) -> None:
+            raise Interrupted
+
+        self.each_line(leave)
+
+    def test_a_call_out_of_a_call_at_any_line(self) -> None:
+        def submit_and_read(session: Session) -> None:
+            self.assertEqual(session.read(session.submit(2, 5).element).words[0], 5)
+
+        self.each_line(submit_and_read)
 
 
 class Words(unittest.TestCase):

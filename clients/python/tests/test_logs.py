@@ -189,7 +189,7 @@ class Logs(unittest.TestCase):
         with Session([], log=self.path) as session:
             session.join("clerk", 1)
             with self.assertRaises(refusals.Order):
-                session.do(Command("limit", 2, read=str))
+                session.do(Command("over", 2, read=str))
             self.lost(session)
         with Session.from_log(self.path) as session:
             self.assertIsNone(session.claim("clerk"))

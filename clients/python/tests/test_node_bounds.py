@@ -78,7 +78,7 @@ class NodeBounds(unittest.TestCase):
                 for _ in range(1000):
                     it.send(*["count"] * 1000)
             self.assertTrue(comes(lambda: nodes.servers[0].tally.let_go["slow"] == 1))
-            self.assertEqual(len(nodes.servers[0].connections), 0)
+            self.assertTrue(comes(lambda: not nodes.servers[0].connections))
 
         self.leading(act, Limits(seconds=1))
 

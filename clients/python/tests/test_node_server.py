@@ -8,7 +8,7 @@ import unittest
 from collections.abc import Callable
 from concurrent.futures import ThreadPoolExecutor
 
-from covetrivet import loop
+from covetrivet import connect, loop
 from covetrivet.connection import Limits
 from covetrivet.node_server import NodeServer
 from covetrivet.place import Place
@@ -84,6 +84,14 @@ class NodeServers(unittest.TestCase):
             comes(lambda: nodes.servers[1].office.leader == "n1")
             with Client(nodes.paths[0]) as it, Client(nodes.paths[1]) as other:
                 self.assertEqual(it.ask("submit 1 5 6", "# no answer\ncount"), ["submitted 0", COUNTED])
+                asked = "@a count", "@b # none", "count", "@c", "@d " + "x" * 1021, "@dump dump"
+                told = it.ask(*asked)
+                self.assertEqual(told[:4], [f"@a {COUNTED}", "@b", COUNTED, "@c"])
+                self.assertRegex(told[4], r"^@d refused line \d+: 6 TooLong$")
+                more = int(told[5].removeprefix("@dump dumped "))
+                self.assertTrue(all(it.line().startswith("@dump > ") for _ in range(more)))
+                with connect([nodes.paths[1], nodes.paths[0]]) as session:
+                    self.assertEqual(session.count().waiting, 1)
                 other.send("submit 1 7 7")
                 self.assertEqual(other.rest(), ["covetrivet: this node follows: n1 leads"])
 

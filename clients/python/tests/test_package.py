@@ -162,7 +162,7 @@ class Commands(unittest.TestCase):
     def test_a_session(self) -> None:
         lines = "keep 8\nworker packer 1\n"
         lines += "submit 1 5 6\nclaim packer\ncommit packer 15:5:6\n"
-        wanted = "submitted 0\npacker work 0 unit 0 attempt 1 root 0 body 5:6:0:0\n"
+        wanted = "submitted 0\npacker work 0 unit 0 attempt 1 root 0 body 5:6:0:0 try 1\n"
         wanted += "packer done 0 unit 0 outputs 1 1\n"
         found = program.find()
         named = {program.VARIABLE: found[0]} if len(found) == 1 else {}

@@ -14,7 +14,8 @@ import threading
 import unittest
 from pathlib import Path
 
-from covetrivet import Disconnected, Draft, LogFault, SessionBroken, SessionClosed, connect, refusals, submit
+from covetrivet import Client as CountingClient
+from covetrivet import Disconnected, Draft, LogFault, SessionClosed, connect, refusals, submit
 from serving import SECONDS, Client, Serving, comes
 
 WORKER = ("worker packer 1", "worker other 1")
@@ -233,12 +234,73 @@ class ServeSessions(unittest.TestCase):
             with self.assertRaises(Disconnected) as caught:
                 session.count()
             self.assertEqual(str(caught.exception), "the server ends")
-            with self.assertRaises(SessionBroken):
+            with self.assertRaises(Disconnected):
                 session.count()
         with Serving(WORKER) as server, connect(server.path, seconds=0.3) as session:
             server.signal_session(signal.SIGSTOP)
             with self.assertRaises(TimeoutError):
-                session.count()
+                session.submit(1, 5)
+            server.signal_session(signal.SIGCONT)
+            # (a line that waits has as many seconds more)
+            self.assertIsNone(session.claim("other", wait=1) if session.claim("packer") else 0)
+
+    def test_lines_that_wait(self) -> None:
+        with Serving([*WORKER, "register shop"]) as server, connect(server.path) as session:
+            client = CountingClient(session, "shop")
+            threading.Timer(0.3, client.send, [(5,)]).start()
+            work = session.claim("packer", wait=20)
+            assert work
+            threading.Timer(0.3, work.commit, [Draft(15, 7)]).start()
+            reply = client.receive(note="page-1", wait=20)
+            assert reply
+            self.assertEqual((work.words[0], reply.words[0], client.last().note), (5, 7, "page-1"))
+            self.assertIsNone(session.claim_next("packer", wait=0))
+            with self.assertRaises(TypeError):
+                session.claim("packer", wait=0.5)  # type: ignore[arg-type]
+
+    def test_tokens(self) -> None:
+        with tempfile.TemporaryDirectory() as folder:
+            tokens = Path(folder, "tokens")
+            tokens.touch(0o600)
+            tokens.write_text("till s3cret\n", encoding="ascii")
+            rights = Path(folder, "rights")
+            rights.write_text("token:till submit,count * *\ntoken:till version - -\n", encoding="ascii")
+            with Serving(WORKER, "--tokens", str(tokens), "--rights", str(rights)) as server:
+                with connect(server.path, token="s3cret") as session:
+                    self.assertEqual(session.submit(1, 5).element, 0)
+                    with self.assertRaises(refusals.Denied):
+                        session.claim("packer")
+                with self.assertRaises(refusals.Denied) as denied, connect(server.path, token="guess"):
+                    pass
+                self.assertNotIn("guess", str(denied.exception))
+                for wrong in ("", "two words", "two\nlines"):
+                    with self.assertRaises(ValueError), connect(server.path, token=wrong):
+                        pass
+
+    def test_the_one_of_several_that_answers(self) -> None:
+        with Serving(WORKER) as server, socket.socket(socket.AF_UNIX) as follower:
+            follower.bind(f"{server.folder}/follower")
+            follower.listen()
+
+            def follow() -> None:
+                with follower.accept()[0] as it:
+                    it.sendall(b"covetrivet: this node follows: n2 leads\n")
+
+            for others in (list[str](), [server.path]):
+                thread = threading.Thread(target=follow)
+                thread.start()
+                paths = [f"{server.folder}/follower", "/nowhere/it", *others]
+                if others:
+                    with connect(paths) as session:
+                        self.assertEqual(session.count().waiting, 0)
+                else:
+                    with self.assertRaises(Disconnected) as caught, connect(paths):
+                        pass
+                    for said in ("follower: this node follows: n2 leads", "/nowhere/it: no server"):
+                        self.assertIn(said, str(caught.exception))
+                thread.join(SECONDS)
+        with self.assertRaises(ValueError):
+            connect([])
 
     def test_an_answer_before_the_end(self) -> None:
         # It is told where both come at once, and the end by the next call.
@@ -249,10 +311,9 @@ class ServeSessions(unittest.TestCase):
             def serve() -> None:
                 it, _ = listener.accept()
                 with it:
-                    it.recv(100)
-                    it.sendall(b"waiting 0 held 0 consumed 0 parked 0 killed 0\n")
-                    it.recv(100)
-                    it.sendall(b"submitted 7\ncovetrivet: the server ends\n")
+                    for answer in "version 1 lines 2", "waiting 0", "submitted 7\ncovetrivet: it ends":
+                        tag = it.recv(100).split(b" ")[0]
+                        it.sendall(tag + f" {answer}\n".encode("ascii"))
 
             server = threading.Thread(target=serve)
             server.start()
@@ -260,7 +321,7 @@ class ServeSessions(unittest.TestCase):
                 self.assertEqual(session.submit(1, 5).element, 7)
                 with self.assertRaises(Disconnected) as caught:
                     session.count()
-                self.assertEqual(str(caught.exception), "the server ends")
+                self.assertEqual(str(caught.exception), "it ends")
             server.join(SECONDS)
 
 

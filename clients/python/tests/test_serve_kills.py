@@ -61,7 +61,7 @@ PROCESS = textwrap.dedent(
         while True:
             (told,) = ask(reader, it, f"claim {kind}")
             if told[1:2] == ["work"]:
-                key = told[-1].split(":")[0]
+                key = told[told.index("body") + 1].split(":")[0]
                 (told,) = ask(reader, it, f"commit {kind} 15:{key}:0")
             if told == ["unknown"]:
                 ask(reader, it, f"abort {kind}")

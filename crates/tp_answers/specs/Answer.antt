@@ -11,8 +11,9 @@ use Rattle.tp_answers.specs.NoteTexts.{forgotten_text, last_client_text, last_wo
 use Rattle.tp_answers.specs.NoteTexts.{registered_text, sent_text}
 use Rattle.tp_answers.specs.OverviewTexts.{account_text, balance_text, counts_text, depths_text, final_text}
 use Rattle.tp_answers.specs.OverviewTexts.{holder_view, holds_text, sum_text}
-use Rattle.tp_answers.specs.Refusals.{busy_text, gap_text, refusal_text}
+use Rattle.tp_answers.specs.Refusals.{busy_text, differs_text, fenced_text, gap_text, refusal_text}
 use Rattle.tp_answers.specs.ToldTexts.{joined_text, left_text, named_text}
+use Rattle.tp_answers.specs.Version.{version_text}
 
 -- a text as a line
 abbrev pub line : List ℕ → List ℕ
@@ -61,12 +62,14 @@ answer_text (answer.Depth depths) = depths_text depths.now
 answer_text (answer.Account all) = account_text all
 answer_text answer.Busy = busy_text
 answer_text answer.Gap = gap_text
+answer_text answer.Fenced = fenced_text
+answer_text answer.Differs = differs_text
 answer_text answer.Drained = drained_text
 answer_text answer.DrainedSoFar = drained_so_far_text
 answer_text (answer.Final name registers) = final_text name.now registers.now
 answer_text (answer.Joined name) = joined_text name.now
 answer_text (answer.Left name told) = left_text name.now told
-answer_text (answer.Registered name) = registered_text name.now
+answer_text (answer.Registered name epoch) = registered_text name.now epoch
 answer_text (answer.Sent name number sent) = sent_text name.now number sent
 answer_text (answer.Received name number received) = received_text name.now number received
 answer_text (answer.LastClient name note) = last_client_text name.now note.now
@@ -75,6 +78,7 @@ answer_text (answer.Forgotten name) = forgotten_text name.now
 answer_text (answer.Holds holders) = holds_text (map holder_view holders.now)
 answer_text (answer.Restored many) = restored_text many
 answer_text (answer.RefusedLine number fault) = refused_line_text number fault
+answer_text answer.Version = version_text
 
 -- the text is the line of an answer
 abbrev pub IsLine : List ℕ → Type 0

@@ -14,8 +14,8 @@ use Rattle.tp_answers.specs.ToldTexts.{body_text, done_text, hand_text}
 
 -- ---- clients
 
-abbrev pub registered_text : NameView → List ℕ
-registered_text name = codes "registered " <> name.letters
+abbrev pub registered_text : NameView → ℕ → List ℕ
+registered_text name epoch = codes "registered " <> name.letters <> codes " " <> decimal epoch
 
 abbrev pub forgotten_text : NameView → List ℕ
 forgotten_text name = codes "forgotten " <> name.letters
@@ -53,10 +53,15 @@ abbrev pub last_received_text : ClientNote → List ℕ
 last_received_text c = codes "received " <> decimal c.received
     <> (if c.received == 0 then [] else codes " " <> whole_reply_text c.reply c.root c.body)
 
+-- what it noted with the last of them, where it did
+abbrev pub last_note_text : Option NameView → List ℕ
+last_note_text None = []
+last_note_text (Some word) = codes " note " <> word.letters
+
 -- what is noted of a client
 abbrev pub last_client_text : NameView → ClientNote → List ℕ
-last_client_text name c =
-    (codes "last " <> name.letters <> codes " ") <> last_sent_text c <> codes " " <> last_received_text c
+last_client_text name c = (codes "last " <> name.letters <> codes " ") <> last_sent_text c <> codes " "
+    <> last_received_text c <> last_note_text c.note
 
 -- ---- workers
 

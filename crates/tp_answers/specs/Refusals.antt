@@ -45,3 +45,11 @@ busy_text = codes "refused 11 Busy"
 -- a send or a receive whose number isn't the next one
 abbrev pub gap_text : List ℕ
 gap_text = codes "refused 15 Gap"
+
+-- one of an epoch that isn't the client's
+abbrev pub fenced_text : List ℕ
+fenced_text = codes "refused 16 Fenced"
+
+-- the last send, with other words than it had
+abbrev pub differs_text : List ℕ
+differs_text = codes "refused 17 Differs"

@@ -14,10 +14,18 @@ abbrev pub body_text : List ℕ → List ℕ
 body_text body = decimal (slice_index body 0) <> codes ":" <> decimal (slice_index body 1) <> codes ":"
     <> decimal (slice_index body 2) <> codes ":" <> decimal (slice_index body 3)
 
--- an element that a unit took, in which attempt, its root and its words
-abbrev pub taken_text : ℕ → ℕ → ℕ → ℕ → List ℕ → List ℕ
-taken_text id unit attempt root body = decimal id <> codes " unit " <> decimal unit <> codes " attempt "
-    <> decimal attempt <> codes " root " <> decimal root <> codes " body " <> body_text body
+-- an element that a unit took, in which attempt of its round, and its root
+abbrev pub taken_text : ℕ → ℕ → ℕ → ℕ → List ℕ
+taken_text id unit attempt root = decimal id <> codes " unit " <> decimal unit <> codes " attempt "
+    <> decimal attempt <> codes " root " <> decimal root
+
+-- its words, and which try at it this is, of all its rounds
+abbrev pub words_text : List ℕ → ℕ → List ℕ
+words_text body tries = codes " body " <> body_text body <> codes " try " <> decimal tries
+
+-- all of that
+abbrev pub whole_text : ℕ → ℕ → ℕ → ℕ → List ℕ → ℕ → List ℕ
+whole_text id unit attempt root body tries = taken_text id unit attempt root <> words_text body tries
 
 -- a unit that committed, and its outputs: the first one's id, and how many
 abbrev pub done_text : ℕ → ℕ → ℕ → ℕ → List ℕ
@@ -29,9 +37,11 @@ abbrev pub told_text : Told → List ℕ
 told_text told.Idle = codes "idle"
 told_text told.Busy = codes "busy"
 told_text told.NoneOpen = codes "none"
+told_text told.Other = codes "other"
 told_text (told.Work id unit attempt) =
     codes "work " <> decimal id <> codes " unit " <> decimal unit <> codes " attempt " <> decimal attempt
-told_text (told.Took id unit attempt root body) = codes "work " <> taken_text id unit attempt root body
+told_text (told.Took id unit attempt root body tries) =
+    codes "work " <> whole_text id unit attempt root body tries
 told_text (told.NotTaken id why) = codes "refused " <> decimal id <> codes " " <> refusal_name why
 told_text (told.Done id unit first count) = done_text id unit first count
 told_text (told.Lost id) = codes "lost " <> decimal id
@@ -57,5 +67,5 @@ left_text name t = codes "left " <> named_text name t
 -- what a worker has in hand
 abbrev pub hand_text : HandTold → List ℕ
 hand_text hand.Nothing = codes "none"
-hand_text (hand.Lost id) = codes "lost " <> decimal id
-hand_text (hand.Open id unit attempt root body) = taken_text id unit attempt root body
+hand_text (hand.Lost id tries) = codes "lost " <> decimal id <> codes " try " <> decimal tries
+hand_text (hand.Open id unit attempt root body tries) = whole_text id unit attempt root body tries

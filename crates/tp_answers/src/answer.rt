@@ -9,6 +9,7 @@ use crate::notes::{
 use crate::overviews::{Depth, Holder, account, balance, counts, depths, holds, last};
 use crate::refusals::refusal;
 use crate::told::{HandTold, Told, joined, left, named};
+use crate::version::version;
 use std::alloc::{AllocError, Global};
 use std::fmt;
 use std::string::String;
@@ -101,6 +102,10 @@ pub enum Answer<'a> {
     Busy,
     /// The number of a send or a receive isn't the next one, and nothing was done.
     Gap,
+    /// Another epoch of the client has begun, and nothing was done.
+    Fenced,
+    /// The last send had other words, and nothing was done.
+    Differs,
     /// Nothing is left for the servers.
     Drained,
     /// Something may be left for the servers, and another `drain` goes on with it.
@@ -122,6 +127,7 @@ pub enum Answer<'a> {
     /// Notes are kept of the client of this name.
     Registered {
         name: &'a Name,
+        epoch: u64,
     },
     /// What became of the client's send of this number.
     Sent {
@@ -161,6 +167,8 @@ pub enum Answer<'a> {
         line: u64,
         fault: LineFault,
     },
+    /// Which program this is.
+    Version,
 }
 
 impl fmt::Display for Answer<'_> {
@@ -191,12 +199,14 @@ impl fmt::Display for Answer<'_> {
             Answer::Account(all) => account(f, all),
             Answer::Busy => write!(f, "refused 11 Busy"),
             Answer::Gap => write!(f, "refused 15 Gap"),
+            Answer::Fenced => write!(f, "refused 16 Fenced"),
+            Answer::Differs => write!(f, "refused 17 Differs"),
             Answer::Drained => write!(f, "drained"),
             Answer::DrainedSoFar => write!(f, "drained so far"),
             Answer::Final { name, registers } => last(f, name, registers),
             Answer::Joined { name } => joined(f, name),
             Answer::Left { name, told } => left(f, name, told),
-            Answer::Registered { name } => registered(f, name),
+            Answer::Registered { name, epoch } => registered(f, name, epoch),
             Answer::Sent {
                 name,
                 number,
@@ -213,6 +223,7 @@ impl fmt::Display for Answer<'_> {
             Answer::Holds(all) => holds(f, all),
             Answer::Restored { many } => write!(f, "restored {many}"),
             Answer::RefusedLine { line, fault } => write!(f, "refused line {line}: {fault}"),
+            Answer::Version => version(f),
         }
     }
 }

@@ -7,6 +7,7 @@ mod notes;
 mod overviews;
 mod refusals;
 mod told;
+mod version;
 
 pub use answer::{Answer, line};
 pub use notes::{ReceivedAs, SentAs};

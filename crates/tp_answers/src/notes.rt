@@ -2,7 +2,7 @@
 ghost use Rattle.std.specs.Prelude.{◌≡◌, Some};
 ghost use Rattle.std.specs.Fmt.{WritesOnOk};
 ghost use Rattle.tp_answers.specs.NoteTexts.{end_text, forgotten_text, last_client_text};
-ghost use Rattle.tp_answers.specs.NoteTexts.{last_received_text, last_sent_text, last_worker_text};
+ghost use Rattle.tp_answers.specs.NoteTexts.{last_note_text, last_received_text, last_sent_text, last_worker_text};
 ghost use Rattle.tp_answers.specs.NoteTexts.{received_as_text, received_text, registered_text};
 ghost use Rattle.tp_answers.specs.NoteTexts.{sent_as_text, sent_text};
 
@@ -61,7 +61,7 @@ impl fmt::Display for SentAs {
 fn last_sent<W: fmt::Write>(f: &mut fmt::Formatter<W>, note: &ClientNote) -> fmt::Result
     ensures { WritesOnOk W.write_str_gives f.old result (last_sent_text note.now) f.new }
 {
-    let ClientNote { sent, element, .. } = *note;
+    let (sent, element) = (note.sent, note.element);
     if sent == 0 {
         write!(f, "sent {sent}")
     } else {
@@ -73,18 +73,25 @@ fn last_sent<W: fmt::Write>(f: &mut fmt::Formatter<W>, note: &ClientNote) -> fmt
 fn last_received<W: fmt::Write>(f: &mut fmt::Formatter<W>, note: &ClientNote) -> fmt::Result
     ensures { WritesOnOk W.write_str_gives f.old result (last_received_text note.now) f.new }
 {
-    let ClientNote {
-        received,
-        reply,
-        root,
-        body,
-        ..
-    } = *note;
-    let [w0, w1, w2, w3] = body;
+    let (received, reply, root) = (note.received, note.reply, note.root);
+    let [w0, w1, w2, w3] = note.body;
     if received == 0 {
         write!(f, "received {received}")
     } else {
         write!(f, "received {received} {reply} {root} {w0}:{w1}:{w2}:{w3}")
+    }
+}
+
+// What it noted with the last of them, where it did.
+fn last_note<W: fmt::Write>(f: &mut fmt::Formatter<W>, note: &Option<Name>) -> fmt::Result
+    ensures { WritesOnOk W.write_str_gives f.old result (last_note_text note.now) f.new }
+{
+    match note {
+        None => Ok(()),
+        Some(word) => {
+            let word = word.as_str();
+            write!(f, " note {word}")
+        }
     }
 }
 
@@ -100,7 +107,8 @@ pub(crate) fn last_client<W: fmt::Write>(
     write!(f, "last {client} ")?;
     last_sent(f, note)?;
     write!(f, " ")?;
-    last_received(f, note)
+    last_received(f, note)?;
+    last_note(f, &note.note)
 }
 
 // How a worker's last unit of work ended.
@@ -136,12 +144,16 @@ pub(crate) fn last_worker<W: fmt::Write>(
     unit_end(f, end)
 }
 
-/// Notes are kept of the client of this name.
-pub(crate) fn registered<W: fmt::Write>(f: &mut fmt::Formatter<W>, name: &Name) -> fmt::Result
-    ensures { WritesOnOk W.write_str_gives f.old result (registered_text name.now) f.new }
+/// Notes are kept of the client of this name, in this epoch.
+pub(crate) fn registered<W: fmt::Write>(
+    f: &mut fmt::Formatter<W>,
+    name: &Name,
+    epoch: u64,
+) -> fmt::Result
+    ensures { WritesOnOk W.write_str_gives f.old result (registered_text name.now epoch) f.new }
 {
     let client = name.as_str();
-    write!(f, "registered {client}")
+    write!(f, "registered {client} {epoch}")
 }
 
 /// Nothing is noted any more of the client of this name.

@@ -1,7 +1,8 @@
 //! What a server or a worker is told.
 ghost use Rattle.std.specs.Prelude.{◌≡◌, Some};
 ghost use Rattle.std.specs.Fmt.{WritesOnOk};
-ghost use Rattle.tp_answers.specs.ToldTexts.{hand_text, joined_text, left_text, named_text, told_text};
+ghost use Rattle.tp_answers.specs.ToldTexts.{hand_text, joined_text, left_text, named_text, taken_text, told_text};
+ghost use Rattle.tp_answers.specs.ToldTexts.{words_text};
 
 use crate::refusals::refusal_name;
 use std::fmt;
@@ -19,19 +20,23 @@ pub enum Told {
     Busy,
     /// It has taken nothing.
     NoneOpen,
+    /// It has not in hand what was named, and nothing was done.
+    Other,
     /// A new unit of work of a server took the element, as the `attempt`-th to do so in its round.
     Work {
         id: u64,
         unit: u64,
         attempt: u8,
     },
-    /// The same of a worker, with the element's root and its words.
+    /// The same of a worker, with the element's root and its words, and which try at it this is, of all its
+    /// rounds.
     Took {
         id: u64,
         unit: u64,
         attempt: u8,
         root: u64,
         body: Body,
+        tries: u16,
     },
     /// The element was not taken, for this reason.
     NotTaken {
@@ -70,6 +75,28 @@ pub enum Told {
     Ended,
 }
 
+// An element that a unit took, in which attempt of its round, and its root.
+fn taken<W: fmt::Write>(
+    f: &mut fmt::Formatter<W>,
+    id: u64,
+    unit: u64,
+    attempt: u8,
+    root: u64,
+) -> fmt::Result
+    ensures { WritesOnOk W.write_str_gives f.old result (taken_text id unit attempt root) f.new }
+{
+    write!(f, "{id} unit {unit} attempt {attempt} root {root}")
+}
+
+// Its words, and which try at it this is, behind a space.
+fn words<W: fmt::Write>(f: &mut fmt::Formatter<W>, body: Body, tries: u16) -> fmt::Result
+    ensures { WritesOnOk W.write_str_gives f.old result (words_text body tries) f.new }
+{
+    let [w0, w1, w2, w3] = body;
+    write!(f, " body {w0}:{w1}:{w2}:{w3}")?;
+    write!(f, " try {tries}")
+}
+
 impl fmt::Display for Told {
     ghost output = { λ told. Some (told_text told) };
 
@@ -78,6 +105,7 @@ impl fmt::Display for Told {
             Told::Idle => write!(f, "idle"),
             Told::Busy => write!(f, "busy"),
             Told::NoneOpen => write!(f, "none"),
+            Told::Other => write!(f, "other"),
             Told::Work { id, unit, attempt } => write!(
                 f,
                 "work {id} unit {unit} attempt {attempt}"
@@ -88,12 +116,11 @@ impl fmt::Display for Told {
                 attempt,
                 root,
                 body,
+                tries,
             } => {
-                let [w0, w1, w2, w3] = body;
-                write!(
-                    f,
-                    "work {id} unit {unit} attempt {attempt} root {root} body {w0}:{w1}:{w2}:{w3}"
-                )
+                write!(f, "work ")?;
+                taken(f, id, unit, attempt, root)?;
+                words(f, body, tries)
             }
             Told::NotTaken { id, why } => {
                 write!(f, "refused {id} ")?;
@@ -121,17 +148,19 @@ impl fmt::Display for Told {
 pub enum HandTold {
     /// Nothing.
     Nothing,
-    /// This element, but another caller has aborted the unit that took it.
+    /// This element, in this try of all its rounds, but another caller has aborted the unit that took it.
     Lost {
         id: u64,
+        tries: u16,
     },
-    /// This element, which its unit of work took as the `attempt`-th of its round.
+    /// This element, which its unit of work took as the `attempt`-th of its round, in this try.
     Open {
         id: u64,
         unit: u64,
         attempt: u8,
         root: u64,
         body: Body,
+        tries: u16,
     },
 }
 
@@ -141,19 +170,17 @@ impl fmt::Display for HandTold {
     fn fmt<W: fmt::Write>(&self, f: &mut fmt::Formatter<W>) -> fmt::Result {
         match *self {
             HandTold::Nothing => write!(f, "none"),
-            HandTold::Lost { id } => write!(f, "lost {id}"),
+            HandTold::Lost { id, tries } => write!(f, "lost {id} try {tries}"),
             HandTold::Open {
                 id,
                 unit,
                 attempt,
                 root,
                 body,
+                tries,
             } => {
-                let [w0, w1, w2, w3] = body;
-                write!(
-                    f,
-                    "{id} unit {unit} attempt {attempt} root {root} body {w0}:{w1}:{w2}:{w3}"
-                )
+                taken(f, id, unit, attempt, root)?;
+                words(f, body, tries)
             }
         }
     }

@@ -8,10 +8,10 @@ use Rattle.tp_wire.specs.Heard.{IsInLine, heard}
 use Rattle.tp_wire.proofs.HeardLemmas.{heard_next}
 use Rattle.tp_session.specs.Conversed.{Goes, step_of}
 use Rattle.tp_session.specs.Said.{Step}
-use Rattle.tp_session.specs.Session.{finals, has_begun, line_step, lines_step, or_refused, read_step_of}
+use Rattle.tp_session.specs.Session.{finals, has_begun, line_step, lines_step, or_refused, read_step_of, with_tag}
 use Rattle.tp_session.specs.State.{SessionState, begin}
 use Rattle.tp_session.proofs.Lasts.{goes_on_from_lines}
-use Rattle.tp_lines.specs.Grammar.{line_said}
+use Rattle.tp_lines.specs.Tags.{tag_in, tagged_said}
 use Rattle.tp_kept.specs.Lines.{IsTheirs, IsWhole, is_mark}
 use Rattle.tp_kept.specs.Lives.{IsLongFor, IsShortFor, Life, StandsFor, answers_of, dumped_in, for_in, goes_on, is_marking, life_behind, life_of, life_of_lines, session_behind, short}
 use Rattle.tp_kept.proofs.LinesLemmas.{theirs_unmarked, whole_then}
@@ -53,10 +53,19 @@ one_left : (p q : ℕ) (s : SessionState) (r : Step) → (or_refused p s r).1 �
 one_left p q s (Ok done) = refl
 one_left p q s (Err fault) = refl
 
+tag_left : (t : Option (List ℕ)) (done : List ℕ × SessionState) → (with_tag t done).1 ≡ done.1
+tag_left None done = refl
+tag_left (Some tag) done = refl
+
+line_left : (p q : ℕ) (l : List ℕ) (s : SessionState) → (line_step p l s).1 ≡ (line_step q l s).1
+line_left p q l s =
+    let step = read_step_of (tagged_said l) s in
+    tag_left (tag_in l) (or_refused p s step) ∙ (one_left p q s step ∙ sym (tag_left (tag_in l) (or_refused q s step)))
+
 pub same_left : (p q : ℕ) (lines : List (List ℕ)) (s : SessionState) → (lines_step p lines s).1 ≡ (lines_step q lines s).1
 same_left p q [] s = refl
 same_left p q (l ∷ ls) s =
-    ap (λ t. (lines_step (p + 1) ls t).1) (one_left (p + 1) (q + 1) s (read_step_of (line_said l) s)) ∙ same_left (p + 1) (q + 1) ls (line_step (q + 1) l s).1
+    ap (λ t. (lines_step (p + 1) ls t).1) (line_left (p + 1) (q + 1) l s) ∙ same_left (p + 1) (q + 1) ls (line_step (q + 1) l s).1
 
 -- lines after others
 pub both_steps : (past : ℕ) (a b : List (List ℕ)) (s : SessionState)

@@ -91,7 +91,7 @@ fn restore<'a>(
             return Err(Unled::Unrestored);
         };
         let text = session.answer(alloc, number + 1, line)?;
-        told.extend_from_slice(text.as_bytes())?;
+        told.extend_from_slice(text.as_slice())?;
         rest = others;
     }
     Ok(rest)

@@ -45,7 +45,7 @@ fn answer_all(
         let text = session.answer(alloc, *counted + 1, line)?;
         *counted += 1;
         rest = others;
-        answers.extend_from_slice(text.as_bytes())?;
+        answers.extend_from_slice(text.as_slice())?;
     }
     Ok(())
 }

@@ -11,7 +11,7 @@ use Rattle.tp_lines.specs.Words.{five, place_at, place_numbers, short_at}
 use Rattle.tp_lines.proofs.WordReads.{Word, bind_ok, digits_free, long_ok, number_word, short_ok}
 use Rattle.tp_lines.proofs.Cuts.{Bytes, counted, cut, digits, free_of, uncounted, uncut, wider, with_more}
 
-no_colon : (c : ℕ) → 48 ≤ c → c ≤ 57 → c ≢ 58
+pub no_colon : (c : ℕ) → 48 ≤ c → c ≤ 57 → c ≢ 58
 no_colon c low high e = omega (arith, high, e)
 
 -- what is known of a body's text

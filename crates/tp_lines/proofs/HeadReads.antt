@@ -91,6 +91,13 @@ settled_reads a b c fit =
 
 -- ---- lines of names
 
+renew_reads : (name : NameView) → IsFitLine (head.Renew name) → line_said (head_text (head.Renew name)) ≡ Ok (line.Head (head.Renew name))
+unfolding words_said
+renew_reads name fit =
+    told 114 (101 ∷ 103 ∷ 105 ∷ 115 ∷ 116 ∷ 101 ∷ 114 ∷ []) (name.letters ∷ codes "new" ∷ []) (32 ∷ 8 ∷ []) refl (omega arith) (name_word name.letters fit, (small_word (codes "new") 8 (letters_of (codes "new") refl) (omega arith) (omega arith), tt)) (omega arith) (head.Renew name)
+    (bind_ok (head_said verb.Register (name.letters ∷ codes "new" ∷ [])) (head.Renew name) (λ h. Ok (line.Head h))
+    (bind_ok (name_at name.letters) name _ (name_ok name fit)))
+
 register_reads : (name : NameView) → IsFitLine (head.Register name) → line_said (head_text (head.Register name)) ≡ Ok (line.Head (head.Register name))
 unfolding words_said
 register_reads name fit =
@@ -122,15 +129,17 @@ start_reads name a b fit =
     ∙ (bind_ok (long_at (decimal a)) a _ (long_ok a fit.1)
     ∙ bind_ok (long_at (decimal b)) b _ (long_ok b fit.2)))))
 
-hand_reads : (name : NameView) (a b : ℕ) → IsFitLine (head.Hand name a b) → line_said (head_text (head.Hand name a b)) ≡ Ok (line.Head (head.Hand name a b))
-unfolding words_said name_and_two
-hand_reads name a b fit =
-    told 104 (97 ∷ 110 ∷ 100 ∷ []) (name.letters ∷ decimal a ∷ decimal b ∷ []) (32 ∷ 20 ∷ 20 ∷ []) refl (omega arith) (name_word name.letters fit.0, (number_word a fit.1, (number_word b fit.2, tt))) (omega arith) (head.Hand name a b)
-    (bind_ok (head_said verb.Hand (name.letters ∷ decimal a ∷ decimal b ∷ [])) (head.Hand name a b) (λ h. Ok (line.Head h))
-    (bind_ok (name_and_two (name.letters ∷ decimal a ∷ decimal b ∷ [])) (name, a, b) _
+hand_reads : (name : NameView) (a b c : ℕ) → IsFitLine (head.Hand name a b c) → line_said (head_text (head.Hand name a b c)) ≡ Ok (line.Head (head.Hand name a b c))
+unfolding words_said heads.hand_of
+hand_reads name a b c fit =
+    let few = fit.3 in
+    let fc : IsLong c = omega (arith, few) in
+    told 104 (97 ∷ 110 ∷ 100 ∷ []) (name.letters ∷ decimal a ∷ decimal b ∷ decimal c ∷ []) (32 ∷ 20 ∷ 20 ∷ 20 ∷ []) refl (omega arith) (name_word name.letters fit.0, (number_word a fit.1, (number_word b fit.2, (number_word c fc, tt)))) (omega arith) (head.Hand name a b c)
+    (bind_ok (head_said verb.Hand (name.letters ∷ decimal a ∷ decimal b ∷ decimal c ∷ [])) (head.Hand name a b c) (λ h. Ok (line.Head h))
     (bind_ok (name_at name.letters) name _ (name_ok name fit.0)
     ∙ (bind_ok (long_at (decimal a)) a _ (long_ok a fit.1)
-    ∙ bind_ok (long_at (decimal b)) b _ (long_ok b fit.2)))))
+    ∙ (bind_ok (long_at (decimal b)) b _ (long_ok b fit.2)
+    ∙ bind_ok (short_at (decimal c)) c _ (short_ok c few)))))
 
 from_reads : (name : NameView) (a : ℕ) → IsFitLine (head.From name a) → line_said (head_text (head.From name a)) ≡ Ok (line.Head (head.From name a))
 unfolding words_said name_and_number
@@ -207,11 +216,12 @@ told_and_read (head.Server server) fit = server_reads server fit
 told_and_read (head.Start name k value) fit = start_reads name k value fit
 told_and_read (head.Worker name stage) fit = worker_reads name stage fit
 told_and_read (head.Register name) fit = register_reads name fit
+told_and_read (head.Renew name) fit = renew_reads name fit
 told_and_read (head.Numbers next units owners) fit = numbers_reads next units owners fit
 told_and_read (head.Element id element) fit = element_reads id element fit.0 fit.1
 told_and_read (head.Over root) fit = over_reads root fit
 told_and_read (head.Settled stage consumed killed) fit = settled_reads stage consumed killed fit
-told_and_read (head.Hand name id unit) fit = hand_reads name id unit fit
+told_and_read (head.Hand name id unit tries) fit = hand_reads name id unit tries fit
 told_and_read (head.Prepared name) fit = prepared_reads name fit
 told_and_read (head.Dropped name) fit = dropped_reads name fit
 told_and_read (head.From name id) fit = from_reads name id fit

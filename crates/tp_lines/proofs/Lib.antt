@@ -9,3 +9,4 @@ pub mod LineReads
 pub mod ElementReads
 pub mod ServerReads
 pub mod HeadReads
+pub mod TagLemmas

@@ -4,7 +4,7 @@ use Rattle.std.specs.List.{list_all}
 use Rattle.tp_script.specs.declared.fault.LineFault.{LineFault}
 use Rattle.tp_script.specs.declared.fault.LineFault.TheVariants.{Syntax, TooLong}
 use Rattle.tp_script.specs.Grammar.{is_comment}
-use Rattle.tp_script.specs.LineWords.{◌>>=◌, require, known}
+use Rattle.tp_script.specs.LineWords.{◌>>=◌, require, known, no_word}
 use Rattle.tp_script.specs.Text.{words}
 use Rattle.tp_lines.specs.declared.grammar.TheConstants.{MAX_LINE}
 use Rattle.tp_lines.specs.declared.keyword.Keyword.{Keyword}
@@ -26,6 +26,7 @@ line_words bytes = do
 abbrev pub keyword_said : Keyword → List (List ℕ) → Result Line LineFault
 keyword_said (first.Head v) ws = head_said v ws >>= λ h. Ok (line.Head h)
 keyword_said (first.Do v) ws = command_said v ws >>= λ c. Ok (line.Do c)
+keyword_said first.Version ws = no_word ws >>= λ _. Ok line.Version
 
 -- what these words say
 unfoldable pub words_said : List (List ℕ) → Result Line LineFault

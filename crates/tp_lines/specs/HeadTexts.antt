@@ -15,6 +15,7 @@ use Rattle.tp_script.specs.Fault.{◌<>◌}
 use Rattle.tp_script.specs.declared.script.Kind.{Kind}
 use Rattle.tp_script.specs.declared.script.Kind.TheVariants as kind
 use Rattle.tp_lines.specs.Lines.{ServerLineView}
+use Rattle.tp_lines.specs.Names.{NameView}
 use Rattle.tp_lines.specs.declared.line.ClientNote.{ClientNote}
 use Rattle.tp_lines.specs.declared.line.HeadLine.{HeadLine}
 use Rattle.tp_lines.specs.declared.line.HeadLine.TheVariants as head
@@ -95,11 +96,18 @@ status_words (status.Consumed unit) = codes "consumed" ∷ decimal unit ∷ []
 status_words (status.Parked attempts) = codes "parked" ∷ decimal attempts ∷ []
 status_words status.Killed = codes "killed" ∷ []
 
--- STAGE:W0:W1:W2:W3 ROOT MAKER OWNER ROUNDS STATUS ..
+-- ROUNDS, and `:EARLIER` unless that is 0
+abbrev pub earlier_text : ℕ → List ℕ
+earlier_text earlier = if earlier == 0 then [] else codes ":" <> decimal earlier
+
+unfoldable pub rounds_text : ℕ → ℕ → List ℕ
+rounds_text rounds earlier = decimal rounds <> earlier_text earlier
+
+-- STAGE:W0:W1:W2:W3 ROOT MAKER OWNER ROUNDS:EARLIER STATUS ..
 abbrev pub element_words : Element → List (List ℕ)
 element_words e =
     place_text e.stage e.body ∷ decimal e.root ∷ number_text (codes "client") e.by
-    ∷ number_text (codes "nobody") e.owner ∷ decimal e.rounds ∷ status_words e.status
+    ∷ number_text (codes "nobody") e.owner ∷ rounds_text e.rounds e.earlier ∷ status_words e.status
 
 -- ---- workers and clients
 
@@ -110,11 +118,17 @@ end_words (end.Done id unit first count) =
 end_words (end.Aborted id) = codes "aborted" ∷ decimal id ∷ []
 end_words (end.Lost id) = codes "lost" ∷ decimal id ∷ []
 
--- OWNER SENT ELEMENT RECEIVED REPLY ROOT W0:W1:W2:W3
+-- a name, or `-` where there is none
+abbrev pub name_text : Option NameView → List ℕ
+name_text None = codes "-"
+name_text (Some name) = name.letters
+
+-- OWNER SENT ELEMENT RECEIVED REPLY ROOT W0:W1:W2:W3 EPOCH STAGE:W0:W1:W2:W3 NOTE
 abbrev pub note_words : ClientNote → List (List ℕ)
 note_words note =
     decimal note.owner ∷ decimal note.sent ∷ decimal note.element ∷ decimal note.received
-    ∷ decimal note.reply ∷ decimal note.root ∷ body_text note.body ∷ []
+    ∷ decimal note.reply ∷ decimal note.root ∷ body_text note.body
+    ∷ decimal note.epoch ∷ place_text note.sent_stage note.sent_body ∷ name_text note.note ∷ []
 
 -- ---- all of them
 
@@ -127,13 +141,15 @@ head_words (head.Server server) = codes "server" ∷ server_words server
 head_words (head.Start name k value) = codes "start" ∷ name.letters ∷ decimal k ∷ decimal value ∷ []
 head_words (head.Worker name stage) = codes "worker" ∷ name.letters ∷ decimal stage ∷ []
 head_words (head.Register name) = codes "register" ∷ name.letters ∷ []
+head_words (head.Renew name) = codes "register" ∷ name.letters ∷ codes "new" ∷ []
 head_words (head.Numbers next units owners) =
     codes "numbers" ∷ decimal next ∷ decimal units ∷ decimal owners ∷ []
 head_words (head.Element id element) = codes "element" ∷ decimal id ∷ element_words element
 head_words (head.Over root) = codes "over" ∷ decimal root ∷ []
 head_words (head.Settled stage consumed killed) =
     codes "settled" ∷ decimal stage ∷ decimal consumed ∷ decimal killed ∷ []
-head_words (head.Hand name id unit) = codes "hand" ∷ name.letters ∷ decimal id ∷ decimal unit ∷ []
+head_words (head.Hand name id unit tries) =
+    codes "hand" ∷ name.letters ∷ decimal id ∷ decimal unit ∷ decimal tries ∷ []
 head_words (head.Prepared name) = codes "prepared" ∷ name.letters ∷ []
 head_words (head.Dropped name) = codes "dropped" ∷ name.letters ∷ []
 head_words (head.From name id) = codes "from" ∷ name.letters ∷ decimal id ∷ []

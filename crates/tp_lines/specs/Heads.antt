@@ -1,5 +1,7 @@
 -- The lines that say what there is.
-use Rattle.std.specs.Prelude.{ℕ, List, [], ◌∷◌, Option, ◌&&◌, ◌==◌, nat_le, codes, Result, Ok, Err}
+use Rattle.std.specs.Prelude.{ℕ, List, [], ◌∷◌, Option, ◌&&◌, ◌==◌, nat_le, codes, if◌then◌else◌, Result, Ok, Err}
+use Rattle.std.specs.List.{slice_split}
+use Rattle.std.specs.Str.{bytes_eq}
 use Rattle.tp_model.specs.declared.types.TheConstants.{MAX_ATTEMPTS}
 use Rattle.tp_script.specs.declared.fault.LineFault.{LineFault}
 use Rattle.tp_script.specs.declared.fault.LineFault.TheVariants.{Syntax, BadLimits}
@@ -12,6 +14,8 @@ use Rattle.tp_lines.specs.declared.line.HeadLine.{HeadLine}
 use Rattle.tp_lines.specs.declared.line.HeadLine.TheVariants as head
 use Rattle.tp_lines.specs.declared.statuses.Standing.{Standing}
 use Rattle.tp_lines.specs.Ends.{ended_said}
+use Rattle.tp_lines.specs.Fences.{name_unless}
+use Rattle.tp_lines.specs.Names.{NameView}
 use Rattle.tp_lines.specs.Servers.{server_said}
 use Rattle.tp_lines.specs.Statuses.{standing_with, status_of}
 use Rattle.tp_lines.specs.Words.{long_at, name_and_number, name_and_two, name_at, number_unless, one_name}
@@ -52,7 +56,40 @@ settled_said ws = do
   killed ← long_at w.2
   Ok (head.Settled stage consumed killed)
 
+-- ---- names
+
+-- `register NAME`, or `register NAME new`
+abbrev pub register_said : List (List ℕ) → Result HeadLine LineFault
+register_said (name ∷ []) = name_at name >>= λ n. Ok (head.Register n)
+register_said (name ∷ how ∷ []) =
+    if bytes_eq how (codes "new") then (name_at name >>= λ n. Ok (head.Renew n)) else Err Syntax
+register_said ws = Err Syntax
+
+-- `hand NAME ID UNIT TRY`
+unfoldable pub hand_of : List ℕ × List ℕ × List ℕ × List ℕ → Result HeadLine LineFault
+hand_of (name, id, unit, tries) = do
+  name ← name_at name
+  id ← long_at id
+  unit ← long_at unit
+  tries ← short_at tries
+  Ok (head.Hand name id unit tries)
+
+-- TRY is 0 where it is missing
+abbrev pub hand_said : List (List ℕ) → Result HeadLine LineFault
+hand_said (name ∷ id ∷ unit ∷ []) = hand_of (name, id, unit, codes "0")
+hand_said (name ∷ id ∷ unit ∷ tries ∷ []) = hand_of (name, id, unit, tries)
+hand_said ws = Err Syntax
+
 -- ---- elements
+
+-- ROUNDS or ROUNDS:EARLIER
+abbrev pub rounds_of : List (List ℕ) → Result (ℕ × ℕ) LineFault
+rounds_of (rounds ∷ []) = number_at 255 rounds >>= λ n. Ok (n, 0)
+rounds_of (rounds ∷ earlier ∷ []) = number_at 255 rounds >>= λ n. number_at 255 earlier >>= λ m. Ok (n, m)
+rounds_of ws = Err Syntax
+
+abbrev pub rounds_at : List ℕ → Result (ℕ × ℕ) LineFault
+rounds_at w = rounds_of (slice_split (λ b. b == 58) w)
 
 -- the words of an `element` line, each in its place
 pub record ElementWords : Type 0 where
@@ -65,10 +102,10 @@ pub record ElementWords : Type 0 where
   pub standing : Standing
   pub numbers : List (List ℕ)
 
--- ID STAGE:W0:W1:W2:W3 ROOT MAKER OWNER ROUNDS STATUS ..
+-- ID STAGE:W0:W1:W2:W3 ROOT MAKER OWNER ROUNDS:EARLIER STATUS ..
 unfoldable pub element_words : List (List ℕ) → Result ElementWords LineFault
 element_words (id ∷ place ∷ root ∷ maker ∷ owner ∷ rounds ∷ how ∷ numbers) = do
-  _ ← require (colons place == 4) Syntax
+  _ ← require (colons place == 4 && nat_le (colons rounds) 1) Syntax
   standing ← standing_with how numbers
   Ok (record {
     id = id;
@@ -96,7 +133,7 @@ element_of w = do
   id ← long_at w.id
   place ← place_at w.place
   origin ← origin_of w
-  rounds ← number_at 255 w.rounds
+  rounds ← rounds_at w.rounds
   status ← status_of w.standing w.numbers
   Ok (head.Element id (record {
     root = origin.0;
@@ -105,7 +142,8 @@ element_of w = do
     body = place.1;
     status = status;
     stage = place.0;
-    rounds = rounds;
+    rounds = rounds.0;
+    earlier = rounds.1;
   }))
 
 -- ---- clients
@@ -120,11 +158,21 @@ pub record ClientWords : Type 0 where
   pub reply : List ℕ
   pub root : List ℕ
   pub body : List ℕ
+  pub epoch : List ℕ
+  pub said : List ℕ
+  pub note : List ℕ
 
--- NAME OWNER SENT ELEMENT RECEIVED REPLY ROOT W0:W1:W2:W3
+-- EPOCH STAGE:W0:W1:W2:W3 NOTE; where they are missing this is the first epoch, and the others aren't known
+abbrev pub later_words : List (List ℕ) → Result (List ℕ × List ℕ × List ℕ) LineFault
+later_words [] = Ok (codes "1", codes "0:0:0:0:0", codes "-")
+later_words (epoch ∷ said ∷ note ∷ []) = require (colons said == 4) Syntax >>= λ _. Ok (epoch, said, note)
+later_words ws = Err Syntax
+
+-- NAME OWNER SENT ELEMENT RECEIVED REPLY ROOT W0:W1:W2:W3 EPOCH STAGE:W0:W1:W2:W3 NOTE
 unfoldable pub client_words : List (List ℕ) → Result ClientWords LineFault
-client_words (name ∷ owner ∷ sent ∷ element ∷ received ∷ reply ∷ root ∷ body ∷ []) = do
+client_words (name ∷ owner ∷ sent ∷ element ∷ received ∷ reply ∷ root ∷ body ∷ others) = do
   _ ← require (colons body == 3) Syntax
+  later ← later_words others
   Ok (record {
     name = name;
     owner = owner;
@@ -134,6 +182,9 @@ client_words (name ∷ owner ∷ sent ∷ element ∷ received ∷ reply ∷ roo
     reply = reply;
     root = root;
     body = body;
+    epoch = later.0;
+    said = later.1;
+    note = later.2;
   })
 client_words ws = Err Syntax
 
@@ -153,12 +204,21 @@ receives_of w = do
   root ← long_at w.root
   Ok (received, reply, root)
 
+-- its epoch, the words of its last send, and what it noted
+unfoldable pub later_of : ClientWords → Result (ℕ × (ℕ × List ℕ) × Option NameView) LineFault
+later_of w = do
+  note ← name_unless w.note
+  epoch ← long_at w.epoch
+  said ← place_at w.said
+  Ok (epoch, said, note)
+
 -- what is noted of it
 unfoldable pub note_of : ClientWords → Result ClientNote LineFault
 note_of w = do
   sends ← sends_of w
   receives ← receives_of w
   body ← body_at w.body
+  later ← later_of w
   Ok (record {
     owner = sends.0;
     sent = sends.1;
@@ -167,6 +227,10 @@ note_of w = do
     reply = receives.1;
     root = receives.2;
     body = body;
+    epoch = later.0;
+    sent_stage = later.1.0;
+    sent_body = later.1.1;
+    note = later.2;
   })
 
 -- `client NAME ..`: the words come first, then the name, then the numbers
@@ -187,12 +251,12 @@ head_said verb.Keep ws = keep_said ws
 head_said verb.Server ws = server_said ws >>= λ server. Ok (head.Server server)
 head_said verb.Start ws = name_and_two ws >>= λ w. Ok (head.Start w.0 w.1 w.2)
 head_said verb.Worker ws = worker_said ws
-head_said verb.Register ws = one_name ws >>= λ name. Ok (head.Register name)
+head_said verb.Register ws = register_said ws
 head_said verb.Numbers ws = three_numbers ws >>= λ n. Ok (head.Numbers n.0 n.1 n.2)
 head_said verb.Element ws = element_words ws >>= λ w. element_of w
 head_said verb.Over ws = one_number ws >>= λ root. Ok (head.Over root)
 head_said verb.Settled ws = settled_said ws
-head_said verb.Hand ws = name_and_two ws >>= λ w. Ok (head.Hand w.0 w.1 w.2)
+head_said verb.Hand ws = hand_said ws
 head_said verb.Prepared ws = one_name ws >>= λ name. Ok (head.Prepared name)
 head_said verb.Dropped ws = one_name ws >>= λ name. Ok (head.Dropped name)
 head_said verb.From ws = name_and_number ws >>= λ w. Ok (head.From w.0 w.1)

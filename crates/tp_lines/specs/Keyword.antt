@@ -5,7 +5,7 @@ use Rattle.tp_lines.specs.declared.keyword.Alone.TheVariants as alone
 use Rattle.tp_lines.specs.declared.keyword.Deed.TheVariants as deed
 use Rattle.tp_lines.specs.declared.keyword.HeadVerb.TheVariants as head
 use Rattle.tp_lines.specs.declared.keyword.Keyword.{Keyword}
-use Rattle.tp_lines.specs.declared.keyword.Keyword.TheVariants.{Head, Do}
+use Rattle.tp_lines.specs.declared.keyword.Keyword.TheVariants.{Head, Do, Version}
 use Rattle.tp_lines.specs.declared.keyword.OfId.TheVariants as of
 use Rattle.tp_lines.specs.declared.keyword.Verb.TheVariants as verb
 
@@ -49,7 +49,7 @@ first_words =
     ∷ (codes "next", Do (verb.Deed deed.Next))
     ∷ (codes "turn", Do (verb.Deed deed.Turn))
     ∷ (codes "prepare", Do (verb.Deed deed.Prepare))
-    ∷ (codes "abort", Do (verb.Deed deed.Abort))
+    ∷ (codes "abort", Do verb.Abort)
     ∷ (codes "drop", Do (verb.Deed deed.Drop))
     ∷ (codes "list", Do verb.List)
     ∷ (codes "drain", Do verb.Drain)
@@ -62,6 +62,7 @@ first_words =
     ∷ (codes "receive", Do verb.Receive)
     ∷ (codes "last", Do verb.Last)
     ∷ (codes "forget", Do verb.Forget)
+    ∷ (codes "version", Version)
     ∷ []
 
 -- what a line of this first word is

@@ -2,6 +2,7 @@ pub mod Names
 pub mod Lines
 pub mod Keyword
 pub mod Words
+pub mod Fences
 pub mod Servers
 pub mod Statuses
 pub mod Ends
@@ -9,6 +10,7 @@ pub mod Heads
 pub mod Drafts
 pub mod Commands
 pub mod Grammar
+pub mod Tags
 pub mod Reading
 pub mod HeadTexts
 pub mod Told

@@ -1,11 +1,14 @@
 -- The words of lines, without where they lie in memory.
-use Rattle.std.specs.Prelude.{map}
+use Rattle.std.specs.Prelude.{ℕ, List, Option, map, option_map}
+use denote.Ref.{Bor}
 use Rattle.tp_script.specs.Commands as commands
 use Rattle.tp_script.specs.ServerLines as lines
 use Rattle.tp_lines.specs.declared.bodies.SubmitWords.{SubmitWords}
 use Rattle.tp_lines.specs.declared.clients.ClientWords.{ClientWords}
 use Rattle.tp_lines.specs.declared.elements.ElementWords.{ElementWords}
 use Rattle.tp_lines.specs.declared.servers.Shape.{Shape}
+use Rattle.tp_lines.specs.declared.commands.ReceiveWords.{ReceiveWords}
+use Rattle.tp_lines.specs.Commands as commands_here
 use Rattle.tp_lines.specs.Heads as heads
 
 -- of a server line
@@ -54,4 +57,21 @@ client_view w = record {
   reply = w.reply.now;
   root = w.root.now;
   body = w.body.now;
+  epoch = w.epoch.now;
+  said = w.said.now;
+  note = w.note.now;
+}
+
+-- of a word that may be missing
+abbrev pub word_if : Option (Bor (List ℕ)) → Option (List ℕ)
+word_if w = option_map (λ x. x.now) w
+
+-- of a `receive` line
+abbrev pub receive_view : ReceiveWords → commands_here.ReceiveWords
+receive_view w = record {
+  name = w.name.now;
+  epoch = word_if w.epoch;
+  number = w.number.now;
+  root = word_if w.root;
+  note = word_if w.note;
 }

@@ -36,6 +36,10 @@ IsLongOrNone (Some n) = IsLong n
 abbrev pub IsNamed : NameView → Type 0
 IsNamed name = is_name name.letters ≡ true
 
+abbrev pub IsNamedOrNone : Option NameView → Type 0
+IsNamedOrNone None = ⊤
+IsNamedOrNone (Some name) = IsNamed name
+
 -- four words of 64 bits
 abbrev pub IsBody64 : List ℕ → Type 0
 IsBody64 (a ∷ b ∷ c ∷ d ∷ []) = IsLong a × IsLong b × IsLong c × IsLong d
@@ -82,6 +86,7 @@ pub record IsFitElement (e : Element) : Type 0 where
   pub status : IsFitStatus e.status
   pub stage : e.stage < 2 ^ 16
   pub rounds : e.rounds ≤ 255
+  pub earlier : e.earlier ≤ 255
 
 -- how a unit of work ended
 abbrev pub IsFitEnd : UnitEnd → Type 0
@@ -98,6 +103,10 @@ pub record IsFitNote (note : ClientNote) : Type 0 where
   pub reply : IsLong note.reply
   pub root : IsLong note.root
   pub body : IsBody64 note.body
+  pub epoch : IsLong note.epoch
+  pub sent_stage : note.sent_stage < 2 ^ 16
+  pub sent_body : IsBody64 note.sent_body
+  pub noted : IsNamedOrNone note.note
 
 -- what lines may say
 abbrev pub IsFitLine : HeadLine → Type 0
@@ -109,11 +118,12 @@ IsFitLine (head.Start name k value) = IsNamed name × IsLong k × IsLong value
 IsFitLine (head.Worker name stage) =
     IsNamed name × (1 ≤ stage) × (stage ≤ LAST_STAGE) × (stage ≢ REPLY_STAGE)
 IsFitLine (head.Register name) = IsNamed name
+IsFitLine (head.Renew name) = IsNamed name
 IsFitLine (head.Numbers next units owners) = IsLong next × IsLong units × IsLong owners
 IsFitLine (head.Element id element) = IsLong id × IsFitElement element
 IsFitLine (head.Over root) = IsLong root
 IsFitLine (head.Settled stage consumed killed) = (stage < 2 ^ 16) × IsLong consumed × IsLong killed
-IsFitLine (head.Hand name id unit) = IsNamed name × IsLong id × IsLong unit
+IsFitLine (head.Hand name id unit tries) = IsNamed name × IsLong id × IsLong unit × (tries < 2 ^ 16)
 IsFitLine (head.Prepared name) = IsNamed name
 IsFitLine (head.Dropped name) = IsNamed name
 IsFitLine (head.From name id) = IsNamed name × IsLong id

@@ -2,13 +2,15 @@
 ghost use Rattle.std.specs.Prelude.{◌≡◌, map};
 ghost use Rattle.tp_script.specs.Commands.{list_words};
 ghost use Rattle.tp_script.specs.Reading.{Gives};
-ghost use Rattle.tp_lines.specs.Commands.{command_said, commit_said, deed_of, drain_said, list_of, of_id};
-ghost use Rattle.tp_lines.specs.Commands.{receive_least, receive_of, receive_said, send_of, send_words};
-ghost use Rattle.tp_lines.specs.Commands.{standing_alone, submit_of};
-ghost use Rattle.tp_lines.specs.Reading.{submit_view};
+ghost use Rattle.tp_lines.specs.Commands.{abort_fenced, abort_said, command_said, commit_fenced, commit_of};
+ghost use Rattle.tp_lines.specs.Commands.{commit_said, deed_of, drain_said, list_of, of_id, receive_of};
+ghost use Rattle.tp_lines.specs.Commands.{receive_rest, receive_words, send_of, send_words, standing_alone};
+ghost use Rattle.tp_lines.specs.Commands.{submit_of};
+ghost use Rattle.tp_lines.specs.Reading.{receive_view, submit_view, word_if};
 
 use crate::bodies::{SubmitWords, submit_words};
-use crate::drafts::{commit_words, drafts_at};
+use crate::drafts::{draft_words, drafts_at};
+use crate::fences::{Who, fence_numbers, fence_words, is_fence, long_if, name_if, who_words};
 use crate::keyword::{Alone, Deed, OfId, Verb};
 use crate::line::{Act, Command};
 use crate::words::{
@@ -64,7 +66,6 @@ impl Deed {
             Deed::Next => Act::Next,
             Deed::Turn => Act::Turn,
             Deed::Prepare => Act::Prepare,
-            Deed::Abort => Act::Abort,
             Deed::Drop => Act::Drop,
         }
     }
@@ -119,83 +120,196 @@ fn drain_said(words: &[&[u8]]) -> Result<Command, LineError>
 }
 
 // `commit NAME OUT..`
-#[tactic(auto, unfolding(crate::specs::Commands::commit_said))]
-fn commit_said(alloc: Global, words: &[&[u8]]) -> Result<Command, LineError>
-    ensures { Gives (λ x. x) result (commit_said (map (λ x. x.now) words.now)) }
+#[tactic(auto, unfolding(crate::specs::Commands::commit_of))]
+fn commit_of(alloc: Global, name: &[u8], drafts: &[&[u8]]) -> Result<Command, LineError>
+    ensures { Gives (λ x. x) result (commit_of name.now (map (λ x. x.now) drafts.now)) }
 {
-    let (name, drafts) = commit_words(words)?;
+    let drafts = draft_words(drafts)?;
     let name = name_at(name)?;
     let drafts = drafts_at(alloc, drafts)?;
     let act = Act::Commit { drafts };
     Ok(Command::Act { name, act })
 }
 
+// `commit NAME =ID:TRY OUT..`
+#[tactic(auto, unfolding(crate::specs::Commands::commit_fenced))]
+fn commit_fenced(
+    alloc: Global,
+    name: &[u8],
+    fence: &[u8],
+    drafts: &[&[u8]],
+) -> Result<Command, LineError>
+    ensures { Gives (λ x. x) result (commit_fenced name.now fence.now (map (λ x. x.now) drafts.now)) }
+{
+    let words = fence_words(alloc, fence)?;
+    let drafts = draft_words(drafts)?;
+    let name = name_at(name)?;
+    let fence = fence_numbers(words)?;
+    let act = Act::Commit {
+        drafts: drafts_at(alloc, drafts)?,
+    };
+    Ok(Command::Fenced { name, fence, act })
+}
+
+// Either of them.
+fn commit_said(alloc: Global, words: &[&[u8]]) -> Result<Command, LineError>
+    ensures { Gives (λ x. x) result (commit_said (map (λ x. x.now) words.now)) }
+{
+    let [name, others @ ..] = words else {
+        return Err(LineFault::Syntax.into());
+    };
+    match others {
+        [] => commit_of(alloc, name, others),
+        [fence, drafts @ ..] => {
+            if is_fence(fence) {
+                commit_fenced(alloc, name, fence, drafts)
+            } else {
+                commit_of(alloc, name, others)
+            }
+        }
+    }
+}
+
+// `abort NAME =ID:TRY`
+#[tactic(auto, unfolding(crate::specs::Commands::abort_fenced))]
+fn abort_fenced(alloc: Global, name: &[u8], fence: &[u8]) -> Result<Command, LineError>
+    ensures { Gives (λ x. x) result (abort_fenced name.now fence.now) }
+{
+    let words = fence_words(alloc, fence)?;
+    let name = name_at(name)?;
+    let fence = fence_numbers(words)?;
+    let act = Act::Abort;
+    Ok(Command::Fenced { name, fence, act })
+}
+
+// `abort NAME`, or that
+fn abort_said(alloc: Global, words: &[&[u8]]) -> Result<Command, LineError>
+    ensures { Gives (λ x. x) result (abort_said (map (λ x. x.now) words.now)) }
+{
+    if let [name, fence] = words {
+        return abort_fenced(alloc, name, fence);
+    }
+    let name = one_name(words)?;
+    let act = Act::Abort;
+    Ok(Command::Act { name, act })
+}
+
 // ---- clients that may crash
 
-/// The words of a `send` line: a name, a number, and those of a `submit` line.
-type SendWords<'a> = (&'a [u8], &'a [u8], SubmitWords<'a>);
+/// The words of a `send` line: a name and an epoch, a number, and those of a `submit` line.
+type SendWords<'a> = (Who<'a>, &'a [u8], SubmitWords<'a>);
 
-// NAME N, and the words of a `submit` line.
-fn send_words<'a>(words: &[&'a [u8]]) -> Result<SendWords<'a>, LineError>
-    ensures { Gives (λ w. (w.0.now, w.1.now, submit_view w.2)) result
+// NAME/EPOCH N, and the words of a `submit` line.
+#[tactic(auto, unfolding(crate::specs::Commands::send_words))]
+fn send_words<'a>(alloc: Global, words: &[&'a [u8]]) -> Result<SendWords<'a>, LineError>
+    ensures { Gives (λ w. ((w.0.0.now, word_if w.0.1), w.1.now, submit_view w.2)) result
         (send_words (map (λ x. x.now) words.now)) }
 {
     let [name, number, others @ ..] = words else {
         return Err(LineFault::Syntax.into());
     };
+    let who = who_words(alloc, name)?;
     let others = submit_words(others)?;
-    Ok((*name, *number, others))
+    Ok((who, *number, others))
 }
 
-// `send NAME N STAGE KEY AMOUNT W2 W3`
+// `send NAME/EPOCH N STAGE KEY AMOUNT W2 W3`
 #[tactic(auto, unfolding(crate::specs::Commands::send_of))]
 fn send_of(words: SendWords<'_>) -> Result<Command, LineError>
-    ensures { Gives (λ x. x) result
-        (send_of (words.entry.0.now, words.entry.1.now, submit_view words.entry.2)) }
+    ensures { Gives (λ x. x) result (send_of (
+      (words.entry.0.0.now, word_if words.entry.0.1),
+      words.entry.1.now,
+      submit_view words.entry.2,
+    )) }
 {
-    let name = name_at(words.0)?;
+    let name = name_at(words.0.0)?;
+    let epoch = long_if(words.0.1)?;
     let number = ordinal_at(words.1)?;
     let stage = short_at(words.2.stage)?;
     let body = words.2.body()?;
     Ok(Command::Send {
         name,
+        epoch,
         number,
         stage,
         body,
     })
 }
 
-// `receive NAME N`
-#[tactic(auto, unfolding(crate::specs::Commands::receive_least))]
-fn receive_least(name: &[u8], number: &[u8]) -> Result<Command, LineError>
-    ensures { Gives (λ x. x) result (receive_least (name.now, number.now)) }
-{
-    let name = name_at(name)?;
-    let number = ordinal_at(number)?;
-    let root = None;
-    Ok(Command::Receive { name, number, root })
+/// The words of a `receive` line, each in its place.
+#[derive(Clone, Copy)]
+pub(crate) struct ReceiveWords<'a> {
+    name: &'a [u8],
+    epoch: Option<&'a [u8]>,
+    number: &'a [u8],
+    root: Option<&'a [u8]>,
+    note: Option<&'a [u8]>,
 }
 
-// `receive NAME N ROOT`
-#[tactic(auto, unfolding(crate::specs::Commands::receive_of))]
-fn receive_of(name: &[u8], number: &[u8], root: &[u8]) -> Result<Command, LineError>
-    ensures { Gives (λ x. x) result (receive_of (name.now, number.now, root.now)) }
-{
-    let name = name_at(name)?;
-    let number = ordinal_at(number)?;
-    let root = Some(long_at(root)?);
-    Ok(Command::Receive { name, number, root })
-}
+/// The words of a root and of a note, where they are there.
+type ReceiveRest<'a> = (Option<&'a [u8]>, Option<&'a [u8]>);
 
-// Either of them.
-fn receive_said(words: &[&[u8]]) -> Result<Command, LineError>
-    ensures { Gives (λ x. x) result (receive_said (map (λ x. x.now) words.now)) }
+// ROOT note WORD
+fn receive_rest<'a>(words: &[&'a [u8]]) -> Result<ReceiveRest<'a>, LineError>
+    ensures { Gives (λ w. (word_if w.0, word_if w.1)) result (receive_rest (map (λ x. x.now) words.now)) }
 {
     match words {
-        [name, number] => receive_least(name, number),
-        [name, number, root] => receive_of(name, number, root),
+        [] => Ok((None, None)),
+        [root] => Ok((Some(*root), None)),
+        [mark, note] => {
+            if is(mark, "note") {
+                Ok((None, Some(*note)))
+            } else {
+                Err(LineFault::Syntax.into())
+            }
+        }
+        [root, mark, note] => {
+            if is(mark, "note") {
+                Ok((Some(*root), Some(*note)))
+            } else {
+                Err(LineFault::Syntax.into())
+            }
+        }
         _ => Err(LineFault::Syntax.into()),
     }
+}
+
+// NAME/EPOCH N ROOT note WORD
+#[tactic(auto, unfolding(crate::specs::Commands::receive_words))]
+fn receive_words<'a>(alloc: Global, words: &[&'a [u8]]) -> Result<ReceiveWords<'a>, LineError>
+    ensures { Gives receive_view result (receive_words (map (λ x. x.now) words.now)) }
+{
+    let [name, number, others @ ..] = words else {
+        return Err(LineFault::Syntax.into());
+    };
+    let (name, epoch) = who_words(alloc, name)?;
+    let (root, note) = receive_rest(others)?;
+    Ok(ReceiveWords {
+        name,
+        epoch,
+        number,
+        root,
+        note,
+    })
+}
+
+// `receive NAME/EPOCH N ROOT note WORD`
+#[tactic(auto, unfolding(crate::specs::Commands::receive_of))]
+fn receive_of(words: ReceiveWords<'_>) -> Result<Command, LineError>
+    ensures { Gives (λ x. x) result (receive_of (receive_view words.entry)) }
+{
+    let name = name_at(words.name)?;
+    let note = name_if(words.note)?;
+    let epoch = long_if(words.epoch)?;
+    let number = ordinal_at(words.number)?;
+    let root = long_if(words.root)?;
+    Ok(Command::Receive {
+        name,
+        epoch,
+        number,
+        root,
+        note,
+    })
 }
 
 // ---- all of them
@@ -232,12 +346,13 @@ pub(crate) fn command_said(alloc: Global, verb: Verb, words: &[&[u8]]) -> Result
             Ok(Command::Act { name, act })
         }
         Verb::Commit => commit_said(alloc, words),
+        Verb::Abort => abort_said(alloc, words),
         Verb::Leave => {
             let name = one_name(words)?;
             Ok(Command::Leave { name })
         }
-        Verb::Send => send_of(send_words(words)?),
-        Verb::Receive => receive_said(words),
+        Verb::Send => send_of(send_words(alloc, words)?),
+        Verb::Receive => receive_of(receive_words(alloc, words)?),
         Verb::Last => {
             let name = one_name(words)?;
             Ok(Command::Last { name })

@@ -4,7 +4,7 @@ ghost use Rattle.std.specs.List.{list_all};
 ghost use Rattle.tp_model.specs.declared.types.TheConstants.{MAX_OUTPUTS};
 ghost use Rattle.tp_script.specs.Drafts.{is_draft};
 ghost use Rattle.tp_script.specs.Reading.{Gives};
-ghost use Rattle.tp_lines.specs.Commands.{commit_words};
+ghost use Rattle.tp_lines.specs.Commands.{draft_words};
 ghost use Rattle.tp_lines.specs.Drafts.{draft_at, draft_numbers, drafts_at};
 ghost use Rattle.tp_lines.specs.Reading.{submit_view};
 
@@ -32,22 +32,15 @@ fn all_drafts(words: &[&[u8]]) -> bool
     words.iter().all(|word| is_draft(word))
 }
 
-/// A name, and the words of drafts.
-type CommitWords<'a> = (&'a [u8], &'a [&'a [u8]]);
-
-/// NAME OUT.., with at most four OUT.
-pub(crate) fn commit_words<'a>(words: &'a [&'a [u8]]) -> Result<CommitWords<'a>, LineError>
-    ensures gives { Gives (λ w. (w.0.now, map (λ x. x.now) w.1.now)) result
-        (commit_words (map (λ x. x.now) words.now)) }
-    ensures few { IfOk result (λ w. length w.1.now ≤ MAX_OUTPUTS) }
+/// The words of drafts: at most four.
+pub(crate) fn draft_words<'a>(words: &'a [&'a [u8]]) -> Result<&'a [&'a [u8]], LineError>
+    ensures gives { Gives (λ w. map (λ x. x.now) w.now) result (draft_words (map (λ x. x.now) words.now)) }
+    ensures few { IfOk result (λ w. length w.now ≤ MAX_OUTPUTS) }
 {
-    let [name, drafts @ ..] = words else {
-        return Err(LineFault::Syntax.into());
-    };
-    if drafts.len() > MAX_OUTPUTS || !all_drafts(drafts) {
+    if words.len() > MAX_OUTPUTS || !all_drafts(words) {
         return Err(LineFault::Syntax.into());
     }
-    Ok((*name, drafts))
+    Ok(words)
 }
 
 // The numbers of a draft.

@@ -1,12 +1,13 @@
 //! The lines that say what elements there are.
 ghost use Rattle.std.specs.Prelude.{◌≡◌, map};
 ghost use Rattle.tp_script.specs.Reading.{Gives};
-ghost use Rattle.tp_lines.specs.Heads.{element_of, element_words, origin_of};
+ghost use Rattle.tp_lines.specs.Heads.{element_of, element_words, origin_of, rounds_at, rounds_of};
 ghost use Rattle.tp_lines.specs.Reading.{element_view};
 
 use crate::bodies::{colons, place_at};
 use crate::line::HeadLine;
 use crate::statuses::{Standing, standing_with};
+use crate::text::parts;
 use crate::words::{byte_at, long_at, number_unless};
 use std::alloc::Global;
 use tp_script::{LineError, LineFault};
@@ -25,7 +26,7 @@ pub(crate) struct ElementWords<'a> {
     numbers: &'a [&'a [u8]],
 }
 
-/// ID STAGE:W0:W1:W2:W3 ROOT MAKER OWNER ROUNDS STATUS ..
+/// ID STAGE:W0:W1:W2:W3 ROOT MAKER OWNER ROUNDS:EARLIER STATUS ..
 #[tactic(auto, unfolding(crate::specs::Heads::element_words))]
 pub(crate) fn element_words<'a>(words: &'a [&'a [u8]]) -> Result<ElementWords<'a>, LineError>
     ensures { Gives element_view result (element_words (map (λ x. x.now) words.now)) }
@@ -33,7 +34,7 @@ pub(crate) fn element_words<'a>(words: &'a [&'a [u8]]) -> Result<ElementWords<'a
     let [id, place, root, maker, owner, rounds, how, numbers @ ..] = words else {
         return Err(LineFault::Syntax.into());
     };
-    if colons(place) != 4 {
+    if colons(place) != 4 || colons(rounds) > 1 {
         return Err(LineFault::Syntax.into());
     }
     let standing = standing_with(how, numbers)?;
@@ -47,6 +48,29 @@ pub(crate) fn element_words<'a>(words: &'a [&'a [u8]]) -> Result<ElementWords<'a
         standing,
         numbers,
     })
+}
+
+// The words of ROUNDS:EARLIER.
+fn rounds_of(words: &[&[u8]]) -> Result<(u8, u8), LineError>
+    ensures { Gives (λ x. x) result (rounds_of (map (λ x. x.now) words.now)) }
+{
+    match words {
+        [rounds] => Ok((byte_at(rounds)?, 0)),
+        [rounds, earlier] => {
+            let rounds = byte_at(rounds)?;
+            let earlier = byte_at(earlier)?;
+            Ok((rounds, earlier))
+        }
+        _ => Err(LineFault::Syntax.into()),
+    }
+}
+
+// ROUNDS or ROUNDS:EARLIER
+fn rounds_at(alloc: Global, word: &[u8]) -> Result<(u8, u8), LineError>
+    ensures { Gives (λ x. x) result (rounds_at word.now) }
+{
+    let parts = parts(alloc, word, b':')?;
+    rounds_of(parts.as_slice())
 }
 
 /// The root of an element, the unit that made it, and its owner.
@@ -72,7 +96,7 @@ impl ElementWords<'_> {
         let id = long_at(self.id)?;
         let (stage, body) = place_at(alloc, self.place)?;
         let (root, by, owner) = self.origin()?;
-        let rounds = byte_at(self.rounds)?;
+        let (rounds, earlier) = rounds_at(alloc, self.rounds)?;
         let status = self.standing.status(self.numbers)?;
         let element = Element {
             root,
@@ -82,6 +106,7 @@ impl ElementWords<'_> {
             status,
             stage,
             rounds,
+            earlier,
         };
         Ok(HeadLine::Element { id, element })
     }

@@ -13,6 +13,7 @@ use crate::heads::head_said;
 use crate::keyword::Keyword;
 use crate::line::Line;
 use crate::text::words;
+use crate::words::none;
 use std::alloc::Global;
 use tp_script::{LineError, LineFault};
 
@@ -67,6 +68,10 @@ fn keyword_said(alloc: Global, keyword: Keyword, words: &[&[u8]]) -> Result<Line
     match keyword {
         Keyword::Head(verb) => Ok(Line::Head(head_said(alloc, verb, words)?)),
         Keyword::Do(verb) => Ok(Line::Do(command_said(alloc, verb, words)?)),
+        Keyword::Version => {
+            none(words)?;
+            Ok(Line::Version)
+        }
     }
 }
 

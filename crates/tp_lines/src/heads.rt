@@ -1,7 +1,8 @@
 //! The lines that say what there is.
 ghost use Rattle.std.specs.Prelude.{◌≡◌, map};
 ghost use Rattle.tp_script.specs.Reading.{Gives};
-ghost use Rattle.tp_lines.specs.Heads.{head_said, keep_said, limit_said, settled_said, worker_said};
+ghost use Rattle.tp_lines.specs.Heads.{hand_of, hand_said, head_said, keep_said, limit_said};
+ghost use Rattle.tp_lines.specs.Heads.{register_said, settled_said, worker_said};
 
 use crate::clients::client_said;
 use crate::elements::element_words;
@@ -10,8 +11,8 @@ use crate::keyword::HeadVerb;
 use crate::line::HeadLine;
 use crate::servers::server_said;
 use crate::words::{
-    long_at, name_and_number, name_and_two, name_at, one_name, one_number, short_at, three,
-    three_numbers, two, worker_stage_at,
+    Four, is, long_at, name_and_number, name_and_two, name_at, one_name, one_number, short_at,
+    three, three_numbers, two, worker_stage_at,
 };
 use std::alloc::Global;
 use tp_model::types::MAX_ATTEMPTS;
@@ -68,6 +69,59 @@ fn settled_said(words: &[&[u8]]) -> Result<HeadLine, LineError>
     })
 }
 
+// `register NAME`, or `register NAME new`
+fn register_said(words: &[&[u8]]) -> Result<HeadLine, LineError>
+    ensures { Gives (λ x. x) result (register_said (map (λ x. x.now) words.now)) }
+{
+    match words {
+        [name] => {
+            let name = name_at(name)?;
+            Ok(HeadLine::Register { name })
+        }
+        [name, how] => {
+            if !is(how, "new") {
+                return Err(LineFault::Syntax.into());
+            }
+            let name = name_at(name)?;
+            Ok(HeadLine::Renew { name })
+        }
+        _ => Err(LineFault::Syntax.into()),
+    }
+}
+
+// `hand NAME ID UNIT TRY`
+#[tactic(auto, unfolding(crate::specs::Heads::hand_of))]
+fn hand_of(words: Four<'_>) -> Result<HeadLine, LineError>
+    ensures { Gives (λ x. x) result (hand_of (
+      words.entry.0.now,
+      words.entry.1.now,
+      words.entry.2.now,
+      words.entry.3.now,
+    )) }
+{
+    let name = name_at(words.0)?;
+    let id = long_at(words.1)?;
+    let unit = long_at(words.2)?;
+    let tries = short_at(words.3)?;
+    Ok(HeadLine::Hand {
+        name,
+        id,
+        unit,
+        tries,
+    })
+}
+
+// The same; TRY is 0 where it is missing.
+fn hand_said(words: &[&[u8]]) -> Result<HeadLine, LineError>
+    ensures { Gives (λ x. x) result (hand_said (map (λ x. x.now) words.now)) }
+{
+    match words {
+        [name, id, unit] => hand_of((*name, *id, *unit, b"0".as_slice())),
+        [name, id, unit, tries] => hand_of((*name, *id, *unit, *tries)),
+        _ => Err(LineFault::Syntax.into()),
+    }
+}
+
 /// What a line of this first word says, by the words after it.
 pub(crate) fn head_said(
     alloc: Global,
@@ -89,10 +143,7 @@ pub(crate) fn head_said(
             Ok(HeadLine::Start { name, k, value })
         }
         HeadVerb::Worker => worker_said(words),
-        HeadVerb::Register => {
-            let name = one_name(words)?;
-            Ok(HeadLine::Register { name })
-        }
+        HeadVerb::Register => register_said(words),
         HeadVerb::Numbers => {
             let (next, units, owners) = three_numbers(words)?;
             Ok(HeadLine::Numbers {
@@ -107,10 +158,7 @@ pub(crate) fn head_said(
             Ok(HeadLine::Over { root })
         }
         HeadVerb::Settled => settled_said(words),
-        HeadVerb::Hand => {
-            let (name, id, unit) = name_and_two(words)?;
-            Ok(HeadLine::Hand { name, id, unit })
-        }
+        HeadVerb::Hand => hand_said(words),
         HeadVerb::Prepared => {
             let name = one_name(words)?;
             Ok(HeadLine::Prepared { name })

@@ -9,6 +9,8 @@ pub(crate) enum Keyword {
     Head(HeadVerb),
     /// It asks for something.
     Do(Verb),
+    /// It asks which program this is.
+    Version,
 }
 
 /// What a line says of what there is, by its first word.
@@ -49,6 +51,7 @@ pub(crate) enum Verb {
     Balance,
     Take,
     Commit,
+    Abort,
     Leave,
     Send,
     Receive,
@@ -88,12 +91,11 @@ pub(crate) enum Deed {
     Next,
     Turn,
     Prepare,
-    Abort,
     Drop,
 }
 
 /// The first words that lines may have: how each is written, and what the line is.
-const FIRST_WORDS: [(&str, Keyword); 50] = [
+const FIRST_WORDS: [(&str, Keyword); 51] = [
     ("limit", Keyword::Head(HeadVerb::Limit)),
     ("max", Keyword::Head(HeadVerb::Max)),
     ("keep", Keyword::Head(HeadVerb::Keep)),
@@ -131,7 +133,7 @@ const FIRST_WORDS: [(&str, Keyword); 50] = [
     ("next", Keyword::Do(Verb::Deed(Deed::Next))),
     ("turn", Keyword::Do(Verb::Deed(Deed::Turn))),
     ("prepare", Keyword::Do(Verb::Deed(Deed::Prepare))),
-    ("abort", Keyword::Do(Verb::Deed(Deed::Abort))),
+    ("abort", Keyword::Do(Verb::Abort)),
     ("drop", Keyword::Do(Verb::Deed(Deed::Drop))),
     ("list", Keyword::Do(Verb::List)),
     ("drain", Keyword::Do(Verb::Drain)),
@@ -144,6 +146,7 @@ const FIRST_WORDS: [(&str, Keyword); 50] = [
     ("receive", Keyword::Do(Verb::Receive)),
     ("last", Keyword::Do(Verb::Last)),
     ("forget", Keyword::Do(Verb::Forget)),
+    ("version", Keyword::Version),
 ];
 
 impl Keyword {

@@ -1,4 +1,6 @@
 //! What a line says: something of the head, or a command.
+ghost use Rattle.std.specs.Prelude.{◌≡◌};
+
 use crate::name::Name;
 use arrayvec::ArrayVec;
 use std::marker::Model;
@@ -30,7 +32,7 @@ impl Model for ServerLine {
 }
 
 /// What is noted of a client that may crash. Without a send or a receive its numbers are 0.
-#[derive(Clone, Copy)]
+#[derive(Drop)]
 pub struct ClientNote {
     /// Its number among all clients that ever were, by which the store knows its requests.
     pub owner: u64,
@@ -46,6 +48,47 @@ pub struct ClientNote {
     pub root: u64,
     /// The words of that reply.
     pub body: Body,
+    /// Which of those who have had its name it is: those of the ones before are refused.
+    pub epoch: u64,
+    /// The stage of the last send, or 0 where it isn't known.
+    pub sent_stage: u16,
+    /// The words of the last send.
+    pub sent_body: Body,
+    /// What it noted with the last receive.
+    pub note: Option<Name>,
+}
+
+impl ClientNote {
+    /// The same once more.
+    pub fn copy(&self) -> ClientNote
+        ensures { result ≡ self.now }
+    {
+        ClientNote {
+            owner: self.owner,
+            sent: self.sent,
+            element: self.element,
+            received: self.received,
+            reply: self.reply,
+            root: self.root,
+            body: self.body,
+            epoch: self.epoch,
+            sent_stage: self.sent_stage,
+            sent_body: self.sent_body,
+            note: match &self.note {
+                Some(note) => Some(note.copy()),
+                None => None,
+            },
+        }
+    }
+}
+
+/// Which work a worker must have in hand so that its commit or its abort is done.
+#[derive(Clone, Copy)]
+pub struct Fence {
+    /// The element.
+    pub id: u64,
+    /// Which try at it that is, of all its rounds.
+    pub tries: u16,
 }
 
 /// How a worker's last unit of work ended.
@@ -100,13 +143,17 @@ pub enum HeadLine {
     Register {
         name: Name,
     },
+    /// `register NAME new`: the same, and those who had the name before are fenced off.
+    Renew {
+        name: Name,
+    },
     /// `numbers NEXT UNITS OWNERS`: the next id, the next unit, and the number of the next client.
     Numbers {
         next: u64,
         units: u64,
         owners: u64,
     },
-    /// `element ID STAGE:W0:W1:W2:W3 ROOT MAKER OWNER ROUNDS STATUS ..`: an element, and how it stands.
+    /// `element ID STAGE:W0:W1:W2:W3 ROOT MAKER OWNER ROUNDS:EARLIER STATUS ..`: an element, and how it stands.
     Element {
         id: u64,
         element: Element,
@@ -121,11 +168,12 @@ pub enum HeadLine {
         consumed: u64,
         killed: u64,
     },
-    /// `hand NAME ID UNIT`: what a server or a worker has taken.
+    /// `hand NAME ID UNIT TRY`: what a server or a worker has taken.
     Hand {
         name: Name,
         id: u64,
         unit: u64,
+        tries: u16,
     },
     /// `prepared NAME`: the work of a server is prepared.
     Prepared {
@@ -145,7 +193,8 @@ pub enum HeadLine {
         name: Name,
         end: UnitEnd,
     },
-    /// `client NAME OWNER SENT ELEMENT RECEIVED REPLY ROOT W0:W1:W2:W3`: what is noted of a client.
+    /// `client NAME OWNER SENT ELEMENT RECEIVED REPLY ROOT W0:W1:W2:W3 EPOCH STAGE:W0:W1:W2:W3 NOTE`: what is
+    /// noted of a client.
     Client {
         name: Name,
         note: ClientNote,
@@ -248,22 +297,31 @@ pub enum Command {
         name: Name,
         act: Act,
     },
+    /// `commit NAME =ID:TRY OUT..`, `abort NAME =ID:TRY`: a worker's, where it has just that in hand.
+    Fenced {
+        name: Name,
+        fence: Fence,
+        act: Act,
+    },
     /// `leave NAME`
     Leave {
         name: Name,
     },
-    /// `send NAME N STAGE KEY AMOUNT W2 W3`: N counts from 1.
+    /// `send NAME/EPOCH N STAGE KEY AMOUNT W2 W3`: N counts from 1.
     Send {
         name: Name,
+        epoch: Option<u64>,
         number: u64,
         stage: u16,
         body: Body,
     },
-    /// `receive NAME N` or `receive NAME N ROOT`
+    /// `receive NAME/EPOCH N ROOT note WORD`
     Receive {
         name: Name,
+        epoch: Option<u64>,
         number: u64,
         root: Option<u64>,
+        note: Option<Name>,
     },
     /// `last NAME`
     Last {
@@ -284,4 +342,6 @@ pub enum Line {
     Head(HeadLine),
     /// It asks for this.
     Do(Command),
+    /// `version`: it asks which program this is.
+    Version,
 }

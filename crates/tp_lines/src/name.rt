@@ -62,8 +62,8 @@ fn begins_with_letter(word: &[u8]) -> bool
     }
 }
 
-// Whether all bytes may stand in a name.
-fn all_in_name(word: &[u8]) -> bool
+/// Whether all bytes may stand in a name.
+pub(crate) fn all_in_name(word: &[u8]) -> bool
     ensures { result ≡ list_all is_in_name word.now }
 {
     word.iter().all(|byte| is_in_name(*byte))

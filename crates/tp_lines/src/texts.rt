@@ -3,12 +3,12 @@ ghost use Rattle.std.specs.Prelude.{◌≡◌, Some, codes, map};
 ghost use Rattle.std.specs.Fmt.{WritesOnOk};
 ghost use Rattle.tp_script.specs.Fault.{◌<>◌};
 ghost use Rattle.tp_lines.specs.HeadTexts.{act_text, amount_text, body_text, deed_text, element_words};
-ghost use Rattle.tp_lines.specs.HeadTexts.{end_words, head_text, key_text, kind_text, note_words};
-ghost use Rattle.tp_lines.specs.HeadTexts.{number_text};
-ghost use Rattle.tp_lines.specs.HeadTexts.{output_text, place_text, server_words, spaced, status_words};
-ghost use Rattle.tp_lines.specs.HeadTexts.{word_text};
+ghost use Rattle.tp_lines.specs.HeadTexts.{end_words, head_text, key_text, kind_text, name_text, note_words};
+ghost use Rattle.tp_lines.specs.HeadTexts.{number_text, output_text, place_text, rounds_text, server_words};
+ghost use Rattle.tp_lines.specs.HeadTexts.{spaced, status_words, word_text};
 
 use crate::line::{ClientNote, HeadLine, ServerLine, UnitEnd};
+use crate::name::Name;
 use std::fmt;
 use tp_model::types::Body;
 use tp_script::Kind;
@@ -26,13 +26,11 @@ fn body<W: fmt::Write>(f: &mut fmt::Formatter<W>, body: &Body) -> fmt::Result
 
 // `STAGE:W0:W1:W2:W3`, behind a space.
 #[tactic(auto, unfolding(crate::specs::HeadTexts::place_text))]
-fn place<W: fmt::Write>(f: &mut fmt::Formatter<W>, element: &Element) -> fmt::Result
-    ensures { WritesOnOk W.write_str_gives f.old result
-        (codes " " <> place_text element.now.stage element.now.body) f.new }
+fn place<W: fmt::Write>(f: &mut fmt::Formatter<W>, stage: u16, words: &Body) -> fmt::Result
+    ensures { WritesOnOk W.write_str_gives f.old result (codes " " <> place_text stage words.now) f.new }
 {
-    let stage = element.stage;
     write!(f, " {stage}:")?;
-    body(f, &element.body)
+    body(f, words)
 }
 
 // ---- servers
@@ -164,17 +162,28 @@ fn status<W: fmt::Write>(f: &mut fmt::Formatter<W>, status: Status) -> fmt::Resu
     }
 }
 
+// How many rounds it was given, and the attempts of the ones before, where there were any, behind a space.
+#[tactic(auto, unfolding(crate::specs::HeadTexts::rounds_text))]
+fn rounds<W: fmt::Write>(f: &mut fmt::Formatter<W>, rounds: u8, earlier: u8) -> fmt::Result
+    ensures { WritesOnOk W.write_str_gives f.old result (codes " " <> rounds_text rounds earlier) f.new }
+{
+    if earlier == 0 {
+        write!(f, " {rounds}")
+    } else {
+        write!(f, " {rounds}:{earlier}")
+    }
+}
+
 // An element, behind a space.
 fn element<W: fmt::Write>(f: &mut fmt::Formatter<W>, element: &Element) -> fmt::Result
     ensures { WritesOnOk W.write_str_gives f.old result (spaced (element_words element.now)) f.new }
 {
     let root = element.root;
-    let rounds = element.rounds;
-    place(f, element)?;
+    place(f, element.stage, &element.body)?;
     write!(f, " {root}")?;
     number(f, "client", element.by)?;
     number(f, "nobody", element.owner)?;
-    write!(f, " {rounds}")?;
+    rounds(f, element.rounds, element.earlier)?;
     status(f, element.status)
 }
 
@@ -196,21 +205,30 @@ fn ended<W: fmt::Write>(f: &mut fmt::Formatter<W>, end: UnitEnd) -> fmt::Result
     }
 }
 
+// A name, or `-` where there is none, behind a space.
+fn name_or_none<W: fmt::Write>(f: &mut fmt::Formatter<W>, name: &Option<Name>) -> fmt::Result
+    ensures { WritesOnOk W.write_str_gives f.old result (codes " " <> name_text name.now) f.new }
+{
+    match name {
+        None => write!(f, " -"),
+        Some(name) => {
+            let letters = name.as_str();
+            write!(f, " {letters}")
+        }
+    }
+}
+
 // What is noted of a client, behind a space.
 fn noted<W: fmt::Write>(f: &mut fmt::Formatter<W>, note: &ClientNote) -> fmt::Result
     ensures { WritesOnOk W.write_str_gives f.old result (spaced (note_words note.now)) f.new }
 {
-    let ClientNote {
-        owner,
-        sent,
-        element,
-        received,
-        reply,
-        root,
-        ..
-    } = *note;
+    let (owner, sent, element) = (note.owner, note.sent, note.element);
+    let (received, reply, root, epoch) = (note.received, note.reply, note.root, note.epoch);
     write!(f, " {owner} {sent} {element} {received} {reply} {root} ")?;
-    body(f, &note.body)
+    body(f, &note.body)?;
+    write!(f, " {epoch}")?;
+    place(f, note.sent_stage, &note.sent_body)?;
+    name_or_none(f, &note.note)
 }
 
 // ---- all of them
@@ -239,6 +257,10 @@ impl fmt::Display for HeadLine {
                 let name = name.as_str();
                 write!(f, "register {name}")
             }
+            HeadLine::Renew { name } => {
+                let name = name.as_str();
+                write!(f, "register {name} new")
+            }
             HeadLine::Numbers {
                 next,
                 units,
@@ -254,9 +276,14 @@ impl fmt::Display for HeadLine {
                 consumed,
                 killed,
             } => write!(f, "settled {stage} {consumed} {killed}"),
-            HeadLine::Hand { name, id, unit } => {
+            HeadLine::Hand {
+                name,
+                id,
+                unit,
+                tries,
+            } => {
                 let name = name.as_str();
-                write!(f, "hand {name} {id} {unit}")
+                write!(f, "hand {name} {id} {unit} {tries}")
             }
             HeadLine::Prepared { name } => {
                 let name = name.as_str();

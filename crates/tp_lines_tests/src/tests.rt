@@ -44,6 +44,14 @@ fn request(
     format!(in alloc; "{who} sends {number}: {stage} {key} {amount} {two} {three}")
 }
 
+/// What a client does, in an epoch where it names one.
+fn in_epoch(alloc: Global, text: &str, epoch: Option<u64>) -> Result<String, AllocError> {
+    match epoch {
+        Some(epoch) => format!(in alloc; "{text}, in epoch {epoch}"),
+        None => format!(in alloc; "{text}"),
+    }
+}
+
 /// What a command asks for.
 fn asked(alloc: Global, command: &Command) -> Result<String, AllocError> {
     match command {
@@ -72,22 +80,42 @@ fn asked(alloc: Global, command: &Command) -> Result<String, AllocError> {
             format!(in alloc; "balance of {name} at {k}")
         }
         Command::Act { name, act } => done(alloc, name.as_str(), act),
+        Command::Fenced { name, fence, act } => {
+            let text = done(alloc, name.as_str(), act)?;
+            let (id, tries) = (fence.id, fence.tries);
+            format!(in alloc; "{text}, of {id} in try {tries}")
+        }
         Command::Leave { name } => {
             let name = name.as_str();
             format!(in alloc; "{name} leaves")
         }
         Command::Send {
             name,
+            epoch,
             number,
             stage,
             body,
-        } => request(alloc, name.as_str(), *number, *stage, body),
-        Command::Receive { name, number, root } => {
+        } => {
+            let text = request(alloc, name.as_str(), *number, *stage, body)?;
+            in_epoch(alloc, text.as_str(), *epoch)
+        }
+        Command::Receive {
+            name,
+            epoch,
+            number,
+            root,
+            note,
+        } => {
             let name = name.as_str();
-            match root {
-                Some(root) => format!(in alloc; "{name} receives {number} of {root}"),
-                None => format!(in alloc; "{name} receives {number}"),
-            }
+            let note = match note {
+                Some(note) => note.as_str(),
+                None => "no note",
+            };
+            let text = match root {
+                Some(root) => format!(in alloc; "{name} receives {number} of {root}, {note}")?,
+                None => format!(in alloc; "{name} receives {number}, {note}")?,
+            };
+            in_epoch(alloc, text.as_str(), *epoch)
         }
         Command::Last { name } => {
             let name = name.as_str();
@@ -106,6 +134,7 @@ fn said(alloc: Global, line: &[u8]) -> Result<String, AllocError> {
         Ok(Line::Nothing) => format!(in alloc; "nothing"),
         Ok(Line::Head(head)) => format!(in alloc; "{head}"),
         Ok(Line::Do(command)) => asked(alloc, &command),
+        Ok(Line::Version) => format!(in alloc; "the version"),
         Err(LineError::Fault(fault)) => format!(in alloc; "{fault}"),
         Err(LineError::NoMemory) => Err(AllocError),
     }
@@ -170,7 +199,8 @@ fn heads(rt: HostRuntime) {
             ),
             ("over 12", "over 12"),
             ("settled 15 3 4", "settled 15 3 4"),
-            ("hand w 5 6", "hand w 5 6"),
+            ("hand w 5 6", "hand w 5 6 0"),
+            ("hand w 5 6 65535", "hand w 5 6 65535"),
             ("prepared t", "prepared t"),
             ("dropped t", "dropped t"),
             ("from w 8", "from w 8"),
@@ -179,7 +209,20 @@ fn heads(rt: HostRuntime) {
             ("ended w lost 5", "ended w lost 5"),
             (
                 "client anna 1 2 3 4 5 6 7:8:9:10",
-                "client anna 1 2 3 4 5 6 7:8:9:10",
+                "client anna 1 2 3 4 5 6 7:8:9:10 1 0:0:0:0:0 -",
+            ),
+            (
+                "client anna 1 2 3 4 5 6 7:8:9:10 11 12:13:14:15:16 page.17",
+                "client anna 1 2 3 4 5 6 7:8:9:10 11 12:13:14:15:16 page.17",
+            ),
+            ("register anna new", "register anna new"),
+            (
+                "element 6 1:1:2:3:4 5 0 3 1:7 parked 2",
+                "element 6 1:1:2:3:4 5 0 3 1:7 parked 2",
+            ),
+            (
+                "element 6 1:1:2:3:4 5 0 3 1:0 parked 2",
+                "element 6 1:1:2:3:4 5 0 3 1 parked 2",
             ),
         ],
     );
@@ -228,9 +271,28 @@ fn commands(rt: HostRuntime) {
             ("abort w", "w aborts"),
             ("drop t", "t drops"),
             ("leave w", "w leaves"),
+            (
+                "commit w =7:3",
+                "w commits 0, at last 0 0 0 0 0, of 7 in try 3",
+            ),
+            (
+                "commit w =7:3 1:1:1 15:6:7",
+                "w commits 2, at last 15 6 7 0 0, of 7 in try 3",
+            ),
+            ("abort w =0:65535", "w aborts, of 0 in try 65535"),
             ("send anna 1 2 3 4 5", "anna sends 1: 2 3 4 5 0"),
-            ("receive anna 1", "anna receives 1"),
-            ("receive anna 2 0", "anna receives 2 of 0"),
+            (
+                "send anna/9 1 2 3 4 5",
+                "anna sends 1: 2 3 4 5 0, in epoch 9",
+            ),
+            ("receive anna 1", "anna receives 1, no note"),
+            ("receive anna 2 0", "anna receives 2 of 0, no note"),
+            (
+                "receive anna/8 2 note p.7",
+                "anna receives 2, p.7, in epoch 8",
+            ),
+            ("receive anna 2 0 note p-7", "anna receives 2 of 0, p-7"),
+            ("version", "the version"),
             ("last anna", "last of anna"),
             ("forget anna", "anna is forgotten"),
         ],
@@ -299,6 +361,24 @@ fn faults(rt: HostRuntime) {
             ("send anna 0 1 1 1", "2 BadNumber"),
             ("receive anna 0", "2 BadNumber"),
             ("receive anna 1 2 3", "1 Syntax"),
+            ("receive anna 1 2 note 3", "5 BadName"),
+            ("receive anna/ 1 2", "2 BadNumber"),
+            ("receive anna/1/2 1 2", "1 Syntax"),
+            ("commit w =1", "1 Syntax"),
+            ("commit w =1:65536", "2 BadNumber"),
+            ("abort w 1:1", "1 Syntax"),
+            ("abort w =1:1 2", "1 Syntax"),
+            ("register anna old", "1 Syntax"),
+            ("hand w 5 6 65536", "2 BadNumber"),
+            ("element x 1:1:2:3:4 5 0 3 1:2:3 killed", "1 Syntax"),
+            ("element 6 1:1:2:3:4 5 0 3 1:256 killed", "2 BadNumber"),
+            ("client a 1 2 3 4 5 6 7:8:9:10 11", "1 Syntax"),
+            (
+                "client a 1 2 3 4 5 6 7:8:9:10 11 12:13:14:15:16 -x",
+                "5 BadName",
+            ),
+            ("version 2", "1 Syntax"),
+            ("@1 count", "1 Syntax"),
         ],
     );
 }

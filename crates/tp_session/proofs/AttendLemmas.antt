@@ -4,9 +4,8 @@ use Rattle.std.specs.Prelude.{IfSome}
 use Rattle.std.proofs.lemmas.Bool.{cases_lt, lt-leb}
 use Rattle.std.proofs.lemmas.List.{length-take, take_all}
 use Rattle.tp_report.specs.Written.{AppendsFront}
-use Rattle.tp_script.specs.LineWords.{◌>>=◌}
 use Rattle.tp_script.specs.declared.fault.LineFault.TheVariants.{TooLong}
-use Rattle.tp_lines.specs.Grammar.{line_words, words_said}
+use Rattle.tp_lines.specs.Grammar.{line_words}
 use Rattle.tp_lines.specs.declared.grammar.TheConstants.{MAX_LINE}
 use Rattle.tp_wire.specs.Heard.{Next, Tells, heard}
 use Rattle.tp_wire.specs.Reading.{to_come, unused}
@@ -14,8 +13,9 @@ use Rattle.tp_wire.specs.declared.reading.Lines.{Lines}
 use Rattle.tp_wire.specs.declared.reading.TheConstants.{MAX_KEPT}
 use Rattle.tp_wire.proofs.ToldLemmas.{told_front, told_more, told_none, told_then}
 use Rattle.tp_session.specs.Conversed.{Attends, AttendsFront, Goes, SoFar, step_of}
-use Rattle.tp_session.specs.Session.{line_step, lines_step, or_refused, read_step_of}
+use Rattle.tp_session.specs.Session.{line_step, lines_step}
 use Rattle.tp_session.specs.State.{SessionState}
+use Rattle.tp_session.proofs.TagLemmas.{kept_said, kept_tag, same_step}
 
 -- ---- a line that is too long says as much as its front
 
@@ -31,7 +31,7 @@ kept_words line = elim (cases_lt MAX_LINE (length line)) [
 
 kept_step : (n : ℕ) (kept line : List ℕ) (s : SessionState) → kept ≡ take MAX_KEPT line → line_step n kept s ≡ line_step n line s
 kept_step n kept line s is =
-    ap (λ r. or_refused n s (read_step_of (r >>= λ ws. words_said ws) s)) (ap line_words is ∙ kept_words line)
+    ap (λ l. line_step n l s) is ∙ same_step n (take MAX_KEPT line) line s (kept_tag line) (kept_said kept_words line)
 
 -- ---- one line more
 

@@ -19,7 +19,7 @@ use Rattle.tp_store.specs.State.{State}
 use Rattle.tp_store.specs.declared.answers.Refusal.{Refusal}
 use Rattle.tp_store.specs.declared.answers.Refusal.TheVariants.{NotThere}
 use Rattle.tp_store.specs.declared.element.Element.{Element}
-use Rattle.tp_session.specs.Clients.{forget_by, forget_step, is_own_at, last_by, new_note, of_client, of_note, receive_by, receive_found, receive_next, receive_step, received_as, register_step, registered, registered_as, send_by, send_step, sent_as, standing_of}
+use Rattle.tp_session.specs.Clients.{differs, epoch_of, forget_by, forget_step, is_of_epoch, is_own_at, last_by, new_note, next_epoch, of_client, of_note, receive_by, receive_found, receive_in, receive_next, receive_step, received_as, register_step, registered, registered_as, renew_step, renewed, renewed_as, send_again, send_by, send_in, send_step, sent_as, standing_of, with_send}
 use Rattle.tp_session.specs.Roles.{client_at, is_of_worker, put, server_at, worker_at}
 use Rattle.tp_session.specs.Said.{just, Step}
 use Rattle.tp_session.specs.State.{SessionState, with_store}
@@ -86,21 +86,29 @@ module _ (s : SessionState) (good : IsGood s) (name : NameView) where
   noted_so : (t : State) (c : ClientNote) → Grows s.store t → c.owner < s.owners → IsFree s.servers s.workers name → IsGood (record (with_store t s) { clients = put name c s.clients })
   noted_so t c grows low free = good_client (with_store t s) name c s.owners (good_store s t good grows) free.0 free.1 low (omega arith)
 
-  pub send_keeps : (number stage : ℕ) (body : List ℕ) → Keeps (send_step name number stage body s)
-  send_keeps number stage body = of_client_keeps (λ c. send_by name number stage body (standing_of number c.sent) c) (λ c low free. by c low free (standing_of number c.sent))
+  epoch_keeps : (b : Bool) (step : Step) → Keeps step → Keeps (if b then step else just (answer_text answer.Fenced) s)
+  epoch_keeps true step so = so
+  epoch_keeps false step so = good
+
+  again_keeps : (number : ℕ) (b : Bool) (c : ClientNote) → Keeps (send_again name number b c s)
+  again_keeps number true c = good
+  again_keeps number false c = good
+
+  pub send_keeps : (epoch : Option ℕ) (number stage : ℕ) (body : List ℕ) → Keeps (send_step name epoch number stage body s)
+  send_keeps epoch number stage body = of_client_keeps (send_in name epoch number stage body) (λ c low free. epoch_keeps (is_of_epoch epoch c) (send_by name number stage body (standing_of number c.sent) c s) (by c low free (standing_of number c.sent)))
     where
-      sent : (c : ClientNote) → c.owner < s.owners → IsFree s.servers s.workers name → (done : Result ℕ Refusal × State) → Grows s.store done.1 → Keeps (sent_as name number c done.0 done.1 s)
-      sent c low free (Ok id, t) grows = noted_so t (record c { sent = number; element = id }) grows low free
+      sent : (c : ClientNote) → c.owner < s.owners → IsFree s.servers s.workers name → (done : Result ℕ Refusal × State) → Grows s.store done.1 → Keeps (sent_as name number stage body c done.0 done.1 s)
+      sent c low free (Ok id, t) grows = noted_so t (with_send number id stage body c) grows low free
       sent c low free (Err why, t) grows = good_store s t good grows
 
       by : (c : ClientNote) → c.owner < s.owners → IsFree s.servers s.workers name → (how : Standing) → Keeps (send_by name number stage body how c s)
       by c low free Next = sent c low free (submit_of stage body (Some c.owner) s.store) (grows_call (Submit stage body (Some c.owner)) s.store good.store tt)
-      by c low free Again = good
+      by c low free Again = again_keeps number (differs stage body c) c
       by c low free Before = good
       by c low free Behind = good
 
-  pub receive_keeps : (number : ℕ) (root : Option ℕ) → Keeps (receive_step name number root s)
-  receive_keeps number root = of_client_keeps (λ c. receive_by name number root (standing_of number c.received) c) (λ c low free. by c low free (standing_of number c.received))
+  pub receive_keeps : (epoch : Option ℕ) (number : ℕ) (root : Option ℕ) (note : Option NameView) → Keeps (receive_step name epoch number root note s)
+  receive_keeps epoch number root note = of_client_keeps (receive_in name epoch number root note) (λ c low free. epoch_keeps (is_of_epoch epoch c) (receive_by name number root note (standing_of number c.received) c s) (by c low free (standing_of number c.received)))
     where
       received : (id : ℕ) (c : ClientNote) → c.owner < s.owners → IsFree s.servers s.workers name → (done : Result Element Refusal × State) → Grows s.store done.1 → Keeps (received_as name number id c done.0 done.1 s)
       received id c low free (Ok e, t) grows = noted_so t (record c { received = number; reply = id; root = e.root; body = e.body }) grows low free
@@ -118,8 +126,8 @@ module _ (s : SessionState) (good : IsGood s) (name : NameView) where
           own true so = so
           own false so = good
 
-      by : (c : ClientNote) → c.owner < s.owners → IsFree s.servers s.workers name → (how : Standing) → Keeps (receive_by name number root how c s)
-      by c low free Next = next c low free root
+      by : (c : ClientNote) → c.owner < s.owners → IsFree s.servers s.workers name → (how : Standing) → Keeps (receive_by name number root note how c s)
+      by c low free Next = next (record c { note = note }) low free root
       by c low free Again = good
       by c low free Before = good
       by c low free Behind = good
@@ -131,6 +139,17 @@ module _ (s : SessionState) (good : IsGood s) (name : NameView) where
   pub register_keeps : Keeps (register_step name s)
   register_keeps = go (is_of_worker name s) refl
     where
-      go : (b : Bool) → is_of_worker name s ≡ b → Keeps (if b then Err BadName else Ok (line (registered_text name), registered name s))
+      go : (b : Bool) → is_of_worker name s ≡ b → Keeps (if b then Err BadName else Ok (line (registered_text name (epoch_of (client_at name s))), registered name s))
       go true is = tt
       go false is = registered_so (free_of name s is) (client_at name s)
+
+  pub renewed_so : IsFree s.servers s.workers name → (c : Option ClientNote) → client_at name s ≡ c → IsGood (renewed_as c name s)
+  renewed_so free None is = registered_so free (client_at name s)
+  renewed_so free (Some c) is = good_client s name (record c { epoch = c.epoch + 1 }) s.owners good free.0 free.1 (named_so (IsFree s.servers s.workers) (λ (c : ClientNote). c.owner < s.owners) name c s.clients good.clients is).1 (omega arith)
+
+  pub renew_keeps : Keeps (renew_step name s)
+  renew_keeps = go (is_of_worker name s) refl
+    where
+      go : (b : Bool) → is_of_worker name s ≡ b → Keeps (if b then Err BadName else Ok (line (registered_text name (next_epoch (client_at name s))), renewed name s))
+      go true is = tt
+      go false is = renewed_so (free_of name s is) (client_at name s) refl

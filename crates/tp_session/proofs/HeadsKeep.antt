@@ -12,13 +12,13 @@ use Rattle.tp_lines.specs.declared.line.HeadLine.TheVariants as head
 use Rattle.tp_store.specs.Runs.{SetLimits}
 use Rattle.tp_store.specs.declared.store.Limits.{Limits}
 use Rattle.tp_session.specs.Heads.{Change, changed_at, changed_place, ended_as, from_set, limited, new_server, new_worker, server_changed, server_from, set, Set, with_drop, with_prepared, with_server, with_start}
-use Rattle.tp_session.specs.Clients.{registered}
+use Rattle.tp_session.specs.Clients.{registered, renewed}
 use Rattle.tp_session.specs.Retold.{tells_drawn}
 use Rattle.tp_session.specs.Roles.{client_at, is_of_worker, is_taken, server_at, with_client, with_worker, worker_at}
 use Rattle.tp_session.specs.State.{ServerView, SessionState}
 use Rattle.tp_session.specs.declared.worker.Worker.{Worker}
 use Rattle.tp_session.proofs.ActsKeep.{IsGoodServer}
-use Rattle.tp_session.proofs.ClientsKeep.{free_of, none_from, or_false, registered_so}
+use Rattle.tp_session.proofs.ClientsKeep.{free_of, none_from, or_false, registered_so, renewed_so}
 use Rattle.tp_session.proofs.CommandsKeep.{worker_parts}
 use Rattle.tp_session.proofs.SaidParts.{IsGoodHead}
 use Rattle.tp_session.proofs.SessionParts.{get_all, good_client, good_new_server, good_new_worker, good_servers, good_store, good_worker, IsFree, IsGood, set_all, set_names}
@@ -107,11 +107,16 @@ module _ (s : SessionState) (good : IsGood s) where
       go : (b : Bool) → is_of_worker name s ≡ b → KeepsSet (if b then Err BadName else Ok (registered name s))
       go true is = tt
       go false is = registered_so s good name (free_of name s is) (client_at name s)
+  set_keeps (head.Renew name) fit plain = go (is_of_worker name s) refl
+    where
+      go : (b : Bool) → is_of_worker name s ≡ b → KeepsSet (if b then Err BadName else Ok (renewed name s))
+      go true is = tt
+      go false is = renewed_so s good name (free_of name s is) (client_at name s) refl
   set_keeps (head.Numbers next units owners) fit plain = absurd cc
   set_keeps (head.Element id e) fit plain = absurd cc
   set_keeps (head.Over root) fit plain = absurd cc
   set_keeps (head.Settled stage consumed killed) fit plain = absurd cc
-  set_keeps (head.Hand name id unit) fit plain = absurd cc
+  set_keeps (head.Hand name id unit tries) fit plain = absurd cc
   set_keeps (head.Prepared name) fit plain = changed_keeps name with_prepared prepares
   set_keeps (head.Dropped name) fit plain = changed_keeps name with_drop drops
   set_keeps (head.From name id) fit plain = go (worker_at name s) refl

@@ -1,3 +1,4 @@
+pub mod TagLemmas
 pub mod AttendLemmas
 pub mod ConverseLemmas
 pub mod DumpLemmas

@@ -13,7 +13,12 @@ use Rattle.tp_script.specs.declared.fault.LineFault.{LineFault}
 use Rattle.tp_script.specs.declared.fault.LineFault.TheVariants.{Order}
 use Rattle.tp_answers.specs.Answer.{answer_text}
 use Rattle.tp_answers.specs.declared.answer.Answer.TheVariants as answer
-use Rattle.tp_lines.specs.Grammar.{line_said}
+use Rattle.tp_answers.specs.declared.told.Told.TheVariants as told
+use Rattle.tp_answers.specs.ToldTexts.{named_text}
+use Rattle.tp_session.specs.Hands.{is_in_hand}
+use Rattle.tp_lines.specs.Tags.{tag_in, tagged_said}
+use Rattle.tp_lines.specs.declared.line.Act.{Act}
+use Rattle.tp_lines.specs.declared.line.Fence.{Fence}
 use Rattle.tp_lines.specs.Names.{NameView, name_cmp}
 use Rattle.tp_lines.specs.declared.line.ClientNote.{ClientNote}
 use Rattle.tp_lines.specs.declared.line.Command.{Command}
@@ -32,12 +37,12 @@ use Rattle.tp_store.proofs.Accounted.{start_accounted}
 use Rattle.tp_store.proofs.Finding.{later}
 use Rattle.tp_store.proofs.Leading.{start_sound}
 use Rattle.tp_store.proofs.Retold.{tellable_back}
-use Rattle.tp_session.specs.Heads.{and_waits, awaits_restore, set, Set, worker_set}
+use Rattle.tp_session.specs.Heads.{and_waits, attempts_set, awaits_restore, keep_set, most_set, set, Set, worker_set}
 use Rattle.tp_session.specs.Retold.{IsFit, IsFitClient, IsFitServer, IsFitStore, IsFitWorker, SessionsAreFit, tells_drawn, tells_of}
 use Rattle.tp_session.specs.Requests.{all_of}
 use Rattle.tp_session.specs.Roles.{server_at, worker_at}
 use Rattle.tp_session.specs.Said.{just, Step}
-use Rattle.tp_session.specs.Session.{balance_at, balance_by, begun, does, head_step, is_in_order, join_by, last_as, late_step, line_step, lines_step, or_refused, quietly, read_step_of, said_step}
+use Rattle.tp_session.specs.Session.{act_by, balance_at, balance_by, begun, does, head_step, is_in_order, join_by, last_as, late_step, line_step, lines_step, or_refused, quietly, fenced_by, read_step_of, said_step, told_set, with_tag}
 use Rattle.tp_session.specs.State.{begin, ServerView, SessionState}
 use Rattle.tp_session.specs.declared.phase.Phase.{Phase}
 use Rattle.tp_session.specs.declared.phase.Phase.TheVariants.{InHead, Restoring, Begun}
@@ -45,10 +50,10 @@ use Rattle.tp_session.specs.declared.worker.Worker.{Worker}
 use Rattle.tp_store.specs.declared.group.Group.TheVariants.{Replies}
 use Rattle.tp_store.specs.declared.element.Element.{Element}
 use Rattle.tp_session.proofs.ActsKeep.{AreGoodServers}
-use Rattle.tp_session.proofs.ClientsKeep.{forget_keeps, last_keeps, receive_keeps, register_keeps, send_keeps}
+use Rattle.tp_session.proofs.ClientsKeep.{forget_keeps, last_keeps, receive_keeps, register_keeps, renew_keeps, send_keeps}
 use Rattle.tp_session.proofs.CommandsKeep.{act_keeps, collected_grows, drain_keeps, Keeps, leave_keeps}
 use Rattle.tp_session.proofs.HeadsKeep.{KeepsSet, set_keeps}
-use Rattle.tp_session.proofs.SaidParts.{IsGoodCommand, IsGoodHead, IsGoodLine, line_good}
+use Rattle.tp_session.proofs.SaidParts.{IsGoodAct, IsGoodCommand, IsGoodHead, IsGoodLine, tagged_good}
 use Rattle.tp_session.proofs.ServersBack.{none_passes}
 use Rattle.tp_session.proofs.SessionParts.{ClientsSo, good_store, IsGood, WorkersSo}
 use Rattle.tp_session.proofs.StoreGrows.{grows_call, Holds}
@@ -77,6 +82,14 @@ module _ (s : SessionState) (good : IsGood s) where
   last_named_keeps name (Some w) = good
   last_named_keeps name None = last_keeps s good name
 
+  fenced_keeps : (name : NameView) (fence : Fence) (act : Act) → IsGoodAct act → (w : Option Worker) → worker_at name s ≡ w → Keeps (fenced_by name fence act w s)
+  fenced_keeps name fence act fit None is = tt
+  fenced_keeps name fence act fit (Some w) is = go (is_in_hand fence w.hand) (act_keeps s good name act fit (Some w) is)
+    where
+      go : (b : Bool) → Keeps (act_by name act (Some w) s) → Keeps (if b then act_by name act (Some w) s else just (named_text name told.Other) s)
+      go true so = so
+      go false so = good
+
   does_keeps : (c : Command) → IsGoodCommand c → Keeps (does c s)
   does_keeps (commands.Submit stage body) fit = good_store s _ good (grows_call (Submit stage body None) s.store good.store tt)
   does_keeps (commands.Kill id) fit = good_store s _ good (grows_call (Kill id) s.store good.store tt)
@@ -89,8 +102,9 @@ module _ (s : SessionState) (good : IsGood s) where
   does_keeps (commands.Balance name k) fit = balance_keeps k (server_at name s)
   does_keeps (commands.Act name act) fit = act_keeps s good name act fit (worker_at name s) refl
   does_keeps (commands.Leave name) fit = leave_keeps s good name (worker_at name s) refl
-  does_keeps (commands.Send name number stage body) fit = send_keeps s good name number stage body
-  does_keeps (commands.Receive name number root) fit = receive_keeps s good name number root
+  does_keeps (commands.Fenced name fence act) fit = fenced_keeps name fence act fit (worker_at name s) refl
+  does_keeps (commands.Send name epoch number stage body) fit = send_keeps s good name epoch number stage body
+  does_keeps (commands.Receive name epoch number root note) fit = receive_keeps s good name epoch number root note
   does_keeps (commands.Last name) fit = last_named_keeps name (worker_at name s)
   does_keeps (commands.Forget name) fit = forget_keeps s good name
   does_keeps (commands.Read id) fit = good
@@ -122,19 +136,24 @@ module _ (s : SessionState) (good : IsGood s) where
   joined_keeps name (Ok t) so = so
   joined_keeps name (Err fault) so = tt
 
+  told_keeps : (l : HeadLine) (r : Set) → KeepsSet r → Keeps (told_set l r)
+  told_keeps l (Ok t) so = so
+  told_keeps l (Err fault) so = tt
+
   late_keeps : (l : HeadLine) → IsGoodHead l → tells_drawn l ≡ false → Keeps (late_step l s)
   late_keeps (head.Worker name stage) fit plain = joined_keeps name (worker_set name stage s) (set_keeps s good (head.Worker name stage) tt refl)
   late_keeps (head.Register name) fit plain = register_keeps s good name
-  late_keeps (head.Limit n) fit plain = tt
-  late_keeps (head.Max n) fit plain = tt
-  late_keeps (head.Keep n) fit plain = tt
+  late_keeps (head.Renew name) fit plain = renew_keeps s good name
+  late_keeps (head.Limit n) fit plain = told_keeps (head.Limit n) (attempts_set n s) (set_keeps s good (head.Limit n) tt refl)
+  late_keeps (head.Max n) fit plain = told_keeps (head.Max n) (most_set n s) (set_keeps s good (head.Max n) tt refl)
+  late_keeps (head.Keep n) fit plain = told_keeps (head.Keep n) (keep_set n s) (set_keeps s good (head.Keep n) tt refl)
   late_keeps (head.Server line) fit plain = tt
   late_keeps (head.Start name k value) fit plain = tt
   late_keeps (head.Numbers next units owners) fit plain = tt
   late_keeps (head.Element id e) fit plain = tt
   late_keeps (head.Over root) fit plain = tt
   late_keeps (head.Settled stage consumed killed) fit plain = tt
-  late_keeps (head.Hand name id unit) fit plain = tt
+  late_keeps (head.Hand name id unit tries) fit plain = tt
   late_keeps (head.Prepared name) fit plain = tt
   late_keeps (head.Dropped name) fit plain = tt
   late_keeps (head.From name id) fit plain = tt
@@ -150,6 +169,7 @@ module _ (s : SessionState) (good : IsGood s) where
   said_keeps lines.Nothing fit plain = good
   said_keeps (lines.Head l) fit plain = head_keeps s.phase l fit plain
   said_keeps (lines.Do c) fit plain = command_keeps (is_in_order s.phase c) c fit
+  said_keeps lines.Version fit plain = good
 
   read_keeps : (r : Result Line LineFault) → ((l : Line) → r ≡ Ok l → IsGoodLine l) → tells_of r ≡ false → Keeps (read_step_of r s)
   read_keeps (Ok l) fit plain = said_keeps l (fit l refl) plain
@@ -159,10 +179,14 @@ module _ (s : SessionState) (good : IsGood s) where
   refused_keeps n (Ok (text, t)) so = so
   refused_keeps n (Err fault) so = good
 
-  line_keeps : (n : ℕ) (bytes : List ℕ) → tells_of (line_said bytes) ≡ false → IsGood (line_step n bytes s).1
-  line_keeps n bytes plain = refused_keeps n (read_step_of (line_said bytes) s) (read_keeps (line_said bytes) (line_good bytes).is plain)
+  tagged_keeps : (t : Option (List ℕ)) (done : List ℕ × SessionState) → IsGood done.1 → IsGood (with_tag t done).1
+  tagged_keeps None done so = so
+  tagged_keeps (Some tag) done so = so
 
-lines_keep : (past : ℕ) (ls : List (List ℕ)) (s : SessionState) → AllByRecursion (λ l. tells_of (line_said l) ≡ false) ls → IsGood s → IsGood (lines_step past ls s).1
+  line_keeps : (n : ℕ) (bytes : List ℕ) → tells_of (tagged_said bytes) ≡ false → IsGood (line_step n bytes s).1
+  line_keeps n bytes plain = tagged_keeps (tag_in bytes) (or_refused n s (read_step_of (tagged_said bytes) s)) (refused_keeps n (read_step_of (tagged_said bytes) s) (read_keeps (tagged_said bytes) (tagged_good bytes).is plain))
+
+lines_keep : (past : ℕ) (ls : List (List ℕ)) (s : SessionState) → AllByRecursion (λ l. tells_of (tagged_said l) ≡ false) ls → IsGood s → IsGood (lines_step past ls s).1
 lines_keep past [] s plain good = good
 lines_keep past (l ∷ ls) s plain good = lines_keep (past + 1) ls (line_step (past + 1) l s).1 plain.1 (line_keeps s good (past + 1) l plain.0)
 

@@ -112,7 +112,7 @@ module _ (s : SessionState) where
 
     holds : (hand : Option Hand) (from : ℕ) → IsDrawn s.store hand → Leads (hand_lines name hand) (stands None from None) (stands hand from None)
     holds None from drawn = refl
-    holds (Some h) from drawn = leads_one (head.Hand name h.id h.unit) (stands None from None) (stands (Some h) from None) (λ p. rw (below h.id s.store.next drawn.0, below h.unit s.store.units drawn.1, last_named name w (standing None from None) pre rest sorted) (put_so (standing None from None) (standing (Some h) from None) p))
+    holds (Some h) from drawn = leads_one (head.Hand name h.id h.unit h.tries) (stands None from None) (stands (Some h) from None) (λ p. rw (below h.id s.store.next drawn.0, below h.unit s.store.units drawn.1, last_named name w (standing None from None) pre rest sorted) (put_so (standing None from None) (standing (Some h) from None) p))
 
     ends : (hand : Option Hand) (from : ℕ) (end : Option UnitEnd) → Leads (ended_lines name end) (stands hand from None) (stands hand from end)
     ends hand from None = refl

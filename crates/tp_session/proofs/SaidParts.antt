@@ -1,5 +1,5 @@
 -- What a line says: recipes that are good, and outputs of stages that there are.
-use Rattle.std.proofs.Common.{◌≡◌, ◌≤◌, ◌==◌, ◌&&◌, ℕ, Bool, true, false, nat_le, if◌then◌else◌, is_ok, Some, None, Result, Ok, Err, List, [], ◌∷◌, refl, subst}
+use Rattle.std.proofs.Common.{◌≡◌, ◌≤◌, ◌==◌, ◌&&◌, ◌+◌, ℕ, Bool, true, false, drop, length, nat_le, if◌then◌else◌, is_ok, Option, Some, None, Result, Ok, Err, List, [], ◌∷◌, refl, subst}
 use Rattle.std.specs.Prelude.{codes, find, option_map, ⊤}
 use Rattle.std.specs.List.{AllByRecursion, slice_split}
 use Rattle.std.specs.Str.{bytes_eq}
@@ -7,7 +7,7 @@ use Rattle.std.specs.Str.Parse.{digits_value}
 use Rattle.tp_model.specs.Drafts.{DraftView}
 use Rattle.tp_model.specs.declared.types.TheConstants.{MAX_ATTEMPTS}
 use Rattle.tp_script.specs.declared.fault.LineFault.{LineFault}
-use Rattle.tp_script.specs.declared.fault.LineFault.TheVariants.{BadLimits, BadNumber, BadRecipe, Syntax}
+use Rattle.tp_script.specs.declared.fault.LineFault.TheVariants.{BadLimits, BadNumber, BadRecipe, Syntax, TooLong}
 use Rattle.tp_script.specs.LineWords.{◌>>=◌, known, no_word, number_at, ordinal_at, require, three, two}
 use Rattle.tp_script.specs.ServerLines.{recipe_at, shape_at}
 use Rattle.tp_script.specs.Commands.{list_words, submit_body, submit_words, SubmitWords}
@@ -17,12 +17,15 @@ use Rattle.tp_store.proofs.Finding.{at_most, both}
 use Rattle.tp_server.specs.Check.{check_of}
 use Rattle.tp_server.specs.declared.recipe.Recipe.{Recipe}
 use Rattle.tp_store.specs.declared.element.TheConstants.{LAST_STAGE}
-use Rattle.tp_lines.specs.Commands.{commit_said, commit_words, drain_said, list_of, receive_least, receive_of, receive_said, send_of, send_words, submit_of}
+use Rattle.tp_lines.specs.Commands.{abort_fenced, abort_said, commit_fenced, commit_of, commit_said, draft_words, drain_said, list_of, receive_of, receive_words, ReceiveWords, send_of, send_words, submit_of}
+use Rattle.tp_lines.specs.Fences.{fence_numbers, fence_words, is_fence, long_if, name_if}
+use Rattle.tp_lines.specs.Tags.{said_behind, tag_in, tagged_said}
+use Rattle.tp_lines.specs.declared.grammar.TheConstants.{MAX_LINE}
 use Rattle.tp_lines.specs.Drafts.{draft_at, draft_numbers, drafts_at}
 use Rattle.tp_lines.specs.Ends.{end_of, ended_said, ended_words}
 use Rattle.tp_lines.specs.Grammar.{keyword_said, line_said, line_words, words_said}
 use Rattle.tp_lines.specs.Lines.{ServerLineView}
-use Rattle.tp_lines.specs.Heads.{client_said, client_words, element_of, element_words, ElementWords, keep_said, limit_said, note_of, origin_of, settled_said, worker_said}
+use Rattle.tp_lines.specs.Heads.{client_said, client_words, element_of, element_words, ElementWords, hand_of, hand_said, keep_said, limit_said, note_of, origin_of, register_said, rounds_at, settled_said, worker_said}
 use Rattle.tp_lines.specs.Keyword.{first_words}
 use Rattle.tp_lines.specs.Servers.{server_said}
 use Rattle.tp_lines.specs.Statuses.{status_of}
@@ -47,6 +50,7 @@ IsGoodAct other = ⊤
 
 abbrev pub IsGoodCommand : Command → Type 0
 IsGoodCommand (command.Act name a) = IsGoodAct a
+IsGoodCommand (command.Fenced name fence a) = IsGoodAct a
 IsGoodCommand other = ⊤
 
 abbrev pub IsGoodHead : HeadLine → Type 0
@@ -57,6 +61,7 @@ abbrev pub IsGoodLine : Line → Type 0
 IsGoodLine (line.Head h) = IsGoodHead h
 IsGoodLine (line.Do c) = IsGoodCommand c
 IsGoodLine line.Nothing = ⊤
+IsGoodLine line.Version = ⊤
 
 -- where something is read, it is so
 pub record Good {A : Type 0} (P : A → Type 0) (read : Result A LineFault) : Type 0 where
@@ -118,7 +123,7 @@ worker_good ws = after (two ws) _ (λ w. after (name_at w.0) _ (λ name. after (
 
 element_good : (w : ElementWords) → Good IsGoodHead (element_of w)
 unfolding element_of
-element_good w = after (long_at w.id) _ (λ id. after (place_at w.place) _ (λ place. after (origin_of w) _ (λ origin. after (number_at 255 w.rounds) _ (λ rounds. after (status_of w.standing w.numbers) _ (λ status. good_ok _ tt)))))
+element_good w = after (long_at w.id) _ (λ id. after (place_at w.place) _ (λ place. after (origin_of w) _ (λ origin. after (rounds_at w.rounds) _ (λ rounds. after (status_of w.standing w.numbers) _ (λ status. good_ok _ tt)))))
 
 settled_good : (ws : List (List ℕ)) → Good IsGoodHead (settled_said ws)
 unfolding settled_said
@@ -131,6 +136,28 @@ ended_good ws = after (ended_words ws) _ (λ w. after (name_at w.0) _ (λ name. 
 client_good : (ws : List (List ℕ)) → Good IsGoodHead (client_said ws)
 unfolding client_said
 client_good ws = after (client_words ws) _ (λ w. after (name_at w.name) _ (λ name. after (note_of w) _ (λ note. good_ok _ tt)))
+
+register_good : (ws : List (List ℕ)) → Good IsGoodHead (register_said ws)
+register_good [] = good_err Syntax
+register_good (name ∷ []) = after (name_at name) _ (λ n. good_ok _ tt)
+register_good (name ∷ how ∷ []) = go (bytes_eq how (codes "new"))
+  where
+    go : (b : Bool) → Good IsGoodHead (if b then (name_at name >>= λ n. Ok (head.Renew n)) else Err Syntax)
+    go true = after (name_at name) _ (λ n. good_ok _ tt)
+    go false = good_err Syntax
+register_good (name ∷ how ∷ w ∷ ws) = good_err Syntax
+
+hand_of_good : (w : List ℕ × List ℕ × List ℕ × List ℕ) → Good IsGoodHead (hand_of w)
+unfolding hand_of
+hand_of_good (name, id, unit, tries) = after (name_at name) _ (λ n. after (long_at id) _ (λ i. after (long_at unit) _ (λ u. after (short_at tries) _ (λ t. good_ok _ tt))))
+
+hand_good : (ws : List (List ℕ)) → Good IsGoodHead (hand_said ws)
+hand_good [] = good_err Syntax
+hand_good (name ∷ []) = good_err Syntax
+hand_good (name ∷ id ∷ []) = good_err Syntax
+hand_good (name ∷ id ∷ unit ∷ []) = hand_of_good (name, id, unit, codes "0")
+hand_good (name ∷ id ∷ unit ∷ tries ∷ []) = hand_of_good (name, id, unit, tries)
+hand_good (name ∷ id ∷ unit ∷ tries ∷ w ∷ ws) = good_err Syntax
 
 -- ---- commands
 
@@ -164,9 +191,29 @@ unfolding drafts_at
 drafts_good [] = good_ok [] tt
 drafts_good (w ∷ ws) = through {P = HasStage} (draft_at w) _ (draft_good w) (λ first fit. through {P = AreStages} (drafts_at ws) _ (drafts_good ws) (λ others all. good_ok (first ∷ others) (fit, all)))
 
+plain_commit_good : (name : List ℕ) (ws : List (List ℕ)) → Good IsGoodCommand (commit_of name ws)
+unfolding commit_of
+plain_commit_good name ws = after (draft_words ws) _ (λ w. after (name_at name) _ (λ n. through {P = AreStages} (drafts_at w) _ (drafts_good w) (λ drafts all. good_ok _ all)))
+
+fenced_commit_good : (name fence : List ℕ) (ws : List (List ℕ)) → Good IsGoodCommand (commit_fenced name fence ws)
+unfolding commit_fenced
+fenced_commit_good name fence ws = after (fence_words fence) _ (λ f. after (draft_words ws) _ (λ w. after (name_at name) _ (λ n. after (fence_numbers f) _ (λ numbers. through {P = AreStages} (drafts_at w) _ (drafts_good w) (λ drafts all. good_ok _ all)))))
+
 commit_good : (ws : List (List ℕ)) → Good IsGoodCommand (commit_said ws)
-unfolding commit_said
-commit_good ws = after (commit_words ws) _ (λ w. after (name_at w.0) _ (λ name. through {P = AreStages} (drafts_at w.1) _ (drafts_good w.1) (λ drafts all. good_ok _ all)))
+commit_good [] = good_err Syntax
+commit_good (name ∷ []) = plain_commit_good name []
+commit_good (name ∷ (fence ∷ drafts)) = go (is_fence fence)
+  where
+    go : (b : Bool) → Good IsGoodCommand (if b then commit_fenced name fence drafts else commit_of name (fence ∷ drafts))
+    go true = fenced_commit_good name fence drafts
+    go false = plain_commit_good name (fence ∷ drafts)
+
+abort_good : (ws : List (List ℕ)) → Good IsGoodCommand (abort_said ws)
+unfolding abort_fenced
+abort_good [] = good_err Syntax
+abort_good (name ∷ []) = after (name_at name) _ (λ n. good_ok _ tt)
+abort_good (name ∷ fence ∷ []) = after (fence_words fence) _ (λ f. after (name_at name) _ (λ n. after (fence_numbers f) _ (λ numbers. good_ok _ tt)))
+abort_good (name ∷ fence ∷ w ∷ ws) = good_err Syntax
 
 submit_good : (w : SubmitWords) → Good IsGoodCommand (submit_of w)
 unfolding submit_of
@@ -185,17 +232,13 @@ drain_good (w ∷ []) = go (bytes_eq w (codes "next"))
     go false = good_err Syntax
 drain_good (w ∷ v ∷ ws) = good_err Syntax
 
-send_good : (w : List ℕ × List ℕ × SubmitWords) → Good IsGoodCommand (send_of w)
+send_good : (w : (List ℕ × Option (List ℕ)) × List ℕ × SubmitWords) → Good IsGoodCommand (send_of w)
 unfolding send_of
-send_good (name, number, w) = after (name_at name) _ (λ n. after (ordinal_at number) _ (λ m. after (short_at w.stage) _ (λ stage. after (submit_body w) _ (λ body. good_ok _ tt))))
+send_good (who, number, w) = after (name_at who.0) _ (λ n. after (long_if who.1) _ (λ e. after (ordinal_at number) _ (λ m. after (short_at w.stage) _ (λ stage. after (submit_body w) _ (λ body. good_ok _ tt)))))
 
-receive_good : (ws : List (List ℕ)) → Good IsGoodCommand (receive_said ws)
-unfolding receive_least receive_of
-receive_good [] = good_err Syntax
-receive_good (name ∷ []) = good_err Syntax
-receive_good (name ∷ number ∷ []) = after (name_at name) _ (λ n. after (ordinal_at number) _ (λ m. good_ok _ tt))
-receive_good (name ∷ number ∷ root ∷ []) = after (name_at name) _ (λ n. after (ordinal_at number) _ (λ m. after (long_at root) _ (λ r. good_ok _ tt)))
-receive_good (name ∷ number ∷ root ∷ w ∷ ws) = good_err Syntax
+receive_good : (w : ReceiveWords) → Good IsGoodCommand (receive_of w)
+unfolding receive_of
+receive_good w = after (name_at w.name) _ (λ n. after (name_if w.note) _ (λ note. after (long_if w.epoch) _ (λ e. after (ordinal_at w.number) _ (λ m. after (long_if w.root) _ (λ r. good_ok _ tt)))))
 
 -- ---- each first word
 
@@ -213,7 +256,7 @@ rows_good = (
           (
             (λ ws. of_head _ (worker_good ws)),
             (
-              (λ ws. of_head _ (after (one_name ws) _ (λ w. good_ok _ tt))),
+              (λ ws. of_head _ (register_good ws)),
               (
                 (λ ws. of_head _ (after (three_numbers ws) _ (λ w. good_ok _ tt))),
                 (
@@ -223,7 +266,7 @@ rows_good = (
                     (
                       (λ ws. of_head _ (settled_good ws)),
                       (
-                        (λ ws. of_head _ (after (name_and_two ws) _ (λ w. good_ok _ tt))),
+                        (λ ws. of_head _ (hand_good ws)),
                         (
                           (λ ws. of_head _ (after (one_name ws) _ (λ w. good_ok _ tt))),
                           (
@@ -275,7 +318,7 @@ rows_good = (
                                                                         (
                                                                           (λ ws. of_command _ (after (one_name ws) _ (λ w. good_ok _ tt))),
                                                                           (
-                                                                            (λ ws. of_command _ (after (one_name ws) _ (λ w. good_ok _ tt))),
+                                                                            (λ ws. of_command _ (abort_good ws)),
                                                                             (
                                                                               (λ ws. of_command _ (after (one_name ws) _ (λ w. good_ok _ tt))),
                                                                               (
@@ -295,12 +338,15 @@ rows_good = (
                                                                                             (
                                                                                               (λ ws. of_command _ (after (send_words ws) _ send_good)),
                                                                                               (
-                                                                                                (λ ws. of_command _ (receive_good ws)),
+                                                                                                (λ ws. of_command _ (after (receive_words ws) _ receive_good)),
                                                                                                 (
                                                                                                   (λ ws. of_command _ (after (one_name ws) _ (λ w. good_ok _ tt))),
                                                                                                   (
                                                                                                     (λ ws. of_command _ (after (one_name ws) _ (λ w. good_ok _ tt))),
-                                                                                                    tt,
+                                                                                                    (
+                                                                                                      (λ ws. after (no_word ws) _ (λ w. good_ok _ tt)),
+                                                                                                      tt,
+                                                                                                    ),
                                                                                                   ),
                                                                                                 ),
                                                                                               ),
@@ -370,5 +416,12 @@ unfolding words_said
 words_good [] = good_ok line.Nothing tt
 words_good (w ∷ ws) = found_good w ws (λ k. keyword_said k ws) first_words (all_at w ws (λ k. keyword_said k ws) first_words keyword_said rows_good)
 
-pub line_good : (bytes : List ℕ) → Good IsGoodLine (line_said bytes)
+line_good : (bytes : List ℕ) → Good IsGoodLine (line_said bytes)
 line_good bytes = after (line_words bytes) _ words_good
+
+pub tagged_good : (bytes : List ℕ) → Good IsGoodLine (tagged_said bytes)
+tagged_good bytes = go (tag_in bytes)
+  where
+    go : (t : Option (List ℕ)) → Good IsGoodLine (said_behind t bytes)
+    go None = line_good bytes
+    go (Some tag) = after (require (nat_le (length bytes) MAX_LINE) TooLong) _ (λ u. line_good (drop (length tag + 2) bytes))

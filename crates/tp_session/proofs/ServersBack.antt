@@ -132,7 +132,7 @@ module _ (store : State) (owners : ℕ) where
 
     holds : (registers : List ℕ) (hand : Option Hand) (from : ℕ) → IsDrawn store hand → Leads (hand_lines v.name hand) (stands registers None false false from) (stands registers hand false false from)
     holds registers None from drawn = refl
-    holds registers (Some h) from drawn = leads_one (head.Hand v.name h.id h.unit) (stands registers None false false from) (stands registers (Some h) false false from) (λ p. rw (below h.id store.next drawn.0, below h.unit store.units drawn.1) (changes (like v registers None false false from) (like v registers (Some h) false false from) (server_has h) refl refl p))
+    holds registers (Some h) from drawn = leads_one (head.Hand v.name h.id h.unit h.tries) (stands registers None false false from) (stands registers (Some h) false false from) (λ p. rw (below h.id store.next drawn.0, below h.unit store.units drawn.1) (changes (like v registers None false false from) (like v registers (Some h) false false from) (server_has h) refl refl p))
 
     prepares : (registers : List ℕ) (hand : Option Hand) (is_prepared : Bool) (from : ℕ) → (is_prepared ≡ true → is_some hand ≡ true) → Leads (prepared_lines v.name is_prepared) (stands registers hand false false from) (stands registers hand is_prepared false from)
     prepares registers hand false from with_hand = refl

@@ -23,7 +23,7 @@ turn_in_round order v s = if takes_part v then turn_by order v s else nothing_do
 -- a turn that isn't idle took an element
 abbrev pub has_taken : Told → Bool
 has_taken told.Idle = false
-has_taken other = true
+has_taken something = true
 
 abbrev pub with_turn : Served → Round → Round
 with_turn t rest = record rest { took = has_taken t.told || rest.took; servers = t.server ∷ rest.servers }

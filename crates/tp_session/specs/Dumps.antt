@@ -36,7 +36,7 @@ from_lines name from = if from == 0 then [] else head.From name from ∷ []
 
 abbrev pub hand_lines : NameView → Option Hand → List HeadLine
 hand_lines name None = []
-hand_lines name (Some h) = head.Hand name h.id h.unit ∷ []
+hand_lines name (Some h) = head.Hand name h.id h.unit h.tries ∷ []
 
 abbrev pub prepared_lines : NameView → Bool → List HeadLine
 prepared_lines name false = []

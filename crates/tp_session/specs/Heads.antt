@@ -15,7 +15,7 @@ use Rattle.tp_lines.specs.declared.line.ClientNote.{ClientNote}
 use Rattle.tp_lines.specs.declared.line.HeadLine.{HeadLine}
 use Rattle.tp_lines.specs.declared.line.HeadLine.TheVariants as head
 use Rattle.tp_lines.specs.declared.line.UnitEnd.{UnitEnd}
-use Rattle.tp_session.specs.Clients.{registered}
+use Rattle.tp_session.specs.Clients.{registered, renewed}
 use Rattle.tp_session.specs.Roles.{is_of_worker, is_taken, server_at, with_client, with_worker, worker_at}
 use Rattle.tp_session.specs.State.{ServerView, SessionState, with_store}
 use Rattle.tp_session.specs.declared.hand.Hand.{Hand}
@@ -142,6 +142,9 @@ from_set name id None s = server_changed name (server_from id) s
 abbrev pub register_set : NameView → SessionState → Set
 register_set name s = if is_of_worker name s then Err BadName else Ok (registered name s)
 
+abbrev pub renew_set : NameView → SessionState → Set
+renew_set name s = if is_of_worker name s then Err BadName else Ok (renewed name s)
+
 abbrev pub client_set : NameView → ClientNote → SessionState → Set
 client_set name c s =
     if is_taken name s then Err BadName
@@ -169,11 +172,12 @@ set (head.Server line) s = server_set line s
 set (head.Start name k value) s = server_changed name (with_start k value) s
 set (head.Worker name stage) s = worker_set name stage s
 set (head.Register name) s = register_set name s
+set (head.Renew name) s = renew_set name s
 set (head.Numbers next units owners) s = numbers_set next units owners s
 set (head.Element id e) s = told_back (put_back_of id e s.store) s
 set (head.Over root) s = told_back (put_over_of root s.store) s
 set (head.Settled stage consumed killed) s = told_back (set_settled_of stage consumed killed s.store) s
-set (head.Hand name id unit) s = hand_set name (record { id = id; unit = unit }) s
+set (head.Hand name id unit tries) s = hand_set name (record { id = id; unit = unit; tries = tries }) s
 set (head.Prepared name) s = server_changed name with_prepared s
 set (head.Dropped name) s = server_changed name with_drop s
 set (head.From name id) s = from_set name id (worker_at name s) s
@@ -189,6 +193,7 @@ awaits_restore (head.Server line) = false
 awaits_restore (head.Start name k value) = false
 awaits_restore (head.Worker name stage) = false
 awaits_restore (head.Register name) = false
+awaits_restore (head.Renew name) = false
 awaits_restore other = true
 
 abbrev pub waiting_for : Bool → SessionState → SessionState

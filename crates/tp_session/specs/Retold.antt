@@ -7,7 +7,7 @@ use Rattle.std.specs.Map.{keys_of}
 use Rattle.std.specs.Str.{bytes_eq}
 use Rattle.tp_script.specs.declared.script.TheConstants.{MAX_SERVERS}
 use Rattle.tp_lines.specs.Names.{NameView, name_cmp}
-use Rattle.tp_lines.specs.Grammar.{line_said}
+use Rattle.tp_lines.specs.Tags.{tagged_said}
 use Rattle.tp_lines.specs.Told.{IsFitLine}
 use Rattle.tp_lines.specs.declared.line.HeadLine.{HeadLine}
 use Rattle.tp_lines.specs.declared.line.HeadLine.TheVariants as head
@@ -100,7 +100,7 @@ tells_drawn (head.Numbers next units owners) = true
 tells_drawn (head.Element id e) = true
 tells_drawn (head.Over root) = true
 tells_drawn (head.Settled stage consumed killed) = true
-tells_drawn (head.Hand name id unit) = true
+tells_drawn (head.Hand name id unit tries) = true
 tells_drawn other = false
 
 abbrev pub tells_of : Result Line LineFault → Bool
@@ -109,5 +109,5 @@ tells_of other = false
 
 -- each session without such lines is fit, until the numbers of 64 bits are used up
 abbrev pub SessionsAreFit : Type 0
-SessionsAreFit = (all : List (List ℕ)) → AllByRecursion (λ l. tells_of (line_said l) ≡ false) all
+SessionsAreFit = (all : List (List ℕ)) → AllByRecursion (λ l. tells_of (tagged_said l) ≡ false) all
     → let s = (lines_step 0 all begin).1 in s.store.next < 2 ^ 64 - 1 → IsFit s

@@ -1,16 +1,18 @@
 -- A whole session, computed of its lines.
-use Rattle.std.specs.Prelude.{ℕ, ◌+◌, Bool, true, false, if◌then◌else◌, List, [], ◌∷◌, ◌++◌}
+use Rattle.std.specs.Prelude.{ℕ, ◌+◌, ◌==◌, length, Bool, true, false, if◌then◌else◌, List, [], ◌∷◌, ◌++◌}
 use Rattle.std.specs.Prelude.{Option, Some, None, Result, Ok, Err, slice_get, slice_set}
 use Rattle.std.specs.List.{flat_map, sum_by}
 use Rattle.tp_script.specs.declared.fault.LineFault.{LineFault}
 use Rattle.tp_script.specs.declared.fault.LineFault.TheVariants.{BadName, Order, Syntax}
 use Rattle.tp_server.specs.declared.order.Order.{Order as Turns}
-use Rattle.tp_lines.specs.Grammar.{line_said}
+use Rattle.tp_lines.specs.HeadTexts.{head_text}
 use Rattle.tp_lines.specs.Names.{NameView}
+use Rattle.tp_lines.specs.Tags.{tag_in, tagged_said}
 use Rattle.tp_lines.specs.declared.line.Act.{Act}
 use Rattle.tp_lines.specs.declared.line.Act.TheVariants.{Abort}
 use Rattle.tp_lines.specs.declared.line.Command.{Command}
 use Rattle.tp_lines.specs.declared.line.Command.TheVariants as commands
+use Rattle.tp_lines.specs.declared.line.Fence.{Fence}
 use Rattle.tp_lines.specs.declared.line.HeadLine.{HeadLine}
 use Rattle.tp_lines.specs.declared.line.HeadLine.TheVariants as head
 use Rattle.tp_lines.specs.declared.line.Line.{Line}
@@ -20,15 +22,17 @@ use Rattle.tp_answers.specs.NoteTexts.{last_worker_text}
 use Rattle.tp_answers.specs.OverviewTexts.{HolderView, balance_text, final_text, holds_text}
 use Rattle.tp_answers.specs.ToldTexts.{joined_text, left_text, named_text}
 use Rattle.tp_answers.specs.declared.answer.Answer.TheVariants as answer
+use Rattle.tp_answers.specs.declared.told.Told.TheVariants as told
 use Rattle.tp_store.specs.Calls.{alive_in}
 use Rattle.tp_store.specs.State.{State}
 use Rattle.tp_store.specs.declared.element.Element.{Element}
 use Rattle.tp_session.specs.declared.hand.Hand.{Hand}
-use Rattle.tp_session.specs.Clients.{forget_step, last_by, of_client, receive_step, register_step, send_step}
+use Rattle.tp_session.specs.Clients.{forget_step, last_by, of_client, receive_step, register_step, renew_step}
+use Rattle.tp_session.specs.Clients.{send_step}
 use Rattle.tp_session.specs.Drains.{Round, rounds}
 use Rattle.tp_session.specs.Dumps.{dump_lines, dump_text}
-use Rattle.tp_session.specs.Hands.{attempt_in, hand_told, held_of}
-use Rattle.tp_session.specs.Heads.{head_set, worker_set}
+use Rattle.tp_session.specs.Hands.{attempt_in, hand_told, held_of, is_in_hand}
+use Rattle.tp_session.specs.Heads.{attempts_set, head_set, keep_set, most_set, worker_set}
 use Rattle.tp_session.specs.Requests.{account_step, cancel_step, collect_step, count_step, depth_step, errors_step}
 use Rattle.tp_session.specs.Requests.{family_step, kill_step, list_step, read_step, release_step, reply_step}
 use Rattle.tp_session.specs.Requests.{requeue_step, submit_step}
@@ -70,6 +74,12 @@ act_by name act None s = at_server (server_at name s) act s
 
 abbrev pub act_step : NameView → Act → SessionState → Step
 act_step name act s = act_by name act (worker_at name s) s
+
+-- a worker does it where it has just that in hand
+abbrev pub fenced_by : NameView → Fence → Act → Option Worker → SessionState → Step
+fenced_by name fence act None s = Err BadName
+fenced_by name fence act (Some w) s =
+    if is_in_hand fence w.hand then act_by name act (Some w) s else just (named_text name told.Other) s
 
 abbrev pub leave_by : NameView → Option Worker → SessionState → Step
 leave_by name None s = Err BadName
@@ -161,9 +171,10 @@ does (commands.Drain order) s = drain_step order s
 does (commands.Sum k) s = sum_step k s
 does (commands.Balance name k) s = balance_at k (server_at name s) s
 does (commands.Act name act) s = act_step name act s
+does (commands.Fenced name fence act) s = fenced_by name fence act (worker_at name s) s
 does (commands.Leave name) s = leave_by name (worker_at name s) s
-does (commands.Send name number stage body) s = send_step name number stage body s
-does (commands.Receive name number root) s = receive_step name number root s
+does (commands.Send name epoch number stage body) s = send_step name epoch number stage body s
+does (commands.Receive name epoch number root note) s = receive_step name epoch number root note s
 does (commands.Last name) s = last_as name (worker_at name s) s
 does (commands.Forget name) s = forget_step name s
 
@@ -188,14 +199,23 @@ begun (Err fault) = Err fault
 abbrev pub command_step : Command → SessionState → Step
 command_step c s = if is_in_order s.phase c then begun (does c s) else Err Order
 
--- a line of the head has no answer there; behind it workers and clients alone come
+-- a line of the head has no answer there; behind it workers and clients alone come, and settings change
 abbrev pub quietly : Result SessionState LineFault → Step
 quietly (Ok s) = Ok ([], s)
 quietly (Err fault) = Err fault
 
+-- a setting that has changed is told as its line
+abbrev pub told_set : HeadLine → Result SessionState LineFault → Step
+told_set l (Ok s) = Ok (line (head_text l), s)
+told_set l (Err fault) = Err fault
+
 abbrev pub late_step : HeadLine → SessionState → Step
+late_step (head.Limit n) s = told_set (head.Limit n) (attempts_set n s)
+late_step (head.Max n) s = told_set (head.Max n) (most_set n s)
+late_step (head.Keep n) s = told_set (head.Keep n) (keep_set n s)
 late_step (head.Worker name stage) s = join_by name (worker_set name stage s)
 late_step (head.Register name) s = register_step name s
+late_step (head.Renew name) s = renew_step name s
 late_step other s = Err Order
 
 abbrev pub head_step : Phase → HeadLine → SessionState → Step
@@ -206,6 +226,7 @@ abbrev pub said_step : Line → SessionState → Step
 said_step lines.Nothing s = Ok ([], s)
 said_step (lines.Head l) s = head_step s.phase l s
 said_step (lines.Do c) s = command_step c s
+said_step lines.Version s = just (answer_text answer.Version) s
 
 abbrev pub read_step_of : Result Line LineFault → SessionState → Step
 read_step_of (Ok l) s = said_step l s
@@ -216,8 +237,22 @@ abbrev pub or_refused : ℕ → SessionState → Step → List ℕ × SessionSta
 or_refused n s (Ok done) = done
 or_refused n s (Err fault) = (line (answer_text (answer.RefusedLine n fault)), s)
 
+-- each line of a text behind a mark, where one begins here or not
+abbrev pub marked : Bool → List ℕ → List ℕ → List ℕ
+marked begins mark [] = []
+marked begins mark (b ∷ bs) = (if begins then mark else []) ++ (b ∷ marked (b == 10) mark bs)
+
+-- each line of an answer behind its tag; without an answer the tag is one
+abbrev pub tagged : List ℕ → List ℕ → List ℕ
+tagged tag text = if length text == 0 then 64 ∷ (tag ++ 10 ∷ []) else marked true (64 ∷ (tag ++ 32 ∷ [])) text
+
+abbrev pub with_tag : Option (List ℕ) → List ℕ × SessionState → List ℕ × SessionState
+with_tag None done = done
+with_tag (Some tag) done = (tagged tag done.0, done.1)
+
+-- what stands behind a tag is answered as without it
 abbrev pub line_step : ℕ → List ℕ → SessionState → List ℕ × SessionState
-line_step n bytes s = or_refused n s (read_step_of (line_said bytes) s)
+line_step n bytes s = with_tag (tag_in bytes) (or_refused n s (read_step_of (tagged_said bytes) s))
 
 -- ---- all of them
 

@@ -16,7 +16,7 @@ use Rattle.tp_lines.specs.declared.line.Act.{Act}
 use Rattle.tp_lines.specs.declared.line.Act.TheVariants as acts
 use Rattle.tp_lines.specs.declared.line.UnitEnd.{UnitEnd}
 use Rattle.tp_lines.specs.declared.line.UnitEnd.TheVariants as ends
-use Rattle.tp_session.specs.Hands.{hand_of}
+use Rattle.tp_session.specs.Hands.{hand_of, tries_in}
 use Rattle.tp_session.specs.declared.hand.Hand.{Hand}
 use Rattle.tp_session.specs.declared.worker.Worker.{Worker}
 
@@ -32,7 +32,7 @@ unchanged told w s = record { told = told; worker = w; store = s }
 -- ---- claims
 
 abbrev pub took : Work → Told
-took work = told.Took work.id work.unit work.attempt work.element.root work.element.body
+took work = told.Took work.id work.unit work.attempt work.element.root work.element.body (tries_in work)
 
 abbrev pub has_taken : Work → Worker → State → Worked
 has_taken work w s = record { told = took work; worker = record w { hand = Some (hand_of work) }; store = s }

@@ -5,13 +5,14 @@ ghost use Rattle.tp_answers.specs.OverviewTexts.{holder_view};
 ghost use Rattle.tp_session.specs.Roles.{server_at, with_worker, worker_at};
 ghost use Rattle.tp_session.specs.Said.{Says};
 ghost use Rattle.tp_session.specs.Session.{act_by, act_step, at_server, balance_at, drain_step, holds_step};
+ghost use Rattle.tp_session.specs.Session.{fenced_by};
 ghost use Rattle.tp_session.specs.Session.{hand_holders, last_as, leave_by, register_or_zero, server_holders, sum_step};
 ghost use Rattle.tp_session.specs.Session.{worker_holders};
 ghost use Rattle.tp_session.specs.Servers.{gives_outputs};
 ghost use Rattle.tp_session.specs.Workers.{is_of_server};
 
 use crate::drains::{MAX_ROUNDS_OF_DRAIN, drain};
-use crate::hand::{Hand, attempt_in, hand_told};
+use crate::hand::{Hand, attempt_in, hand_told, is_in_hand};
 use crate::requests::told;
 use crate::server::Server;
 use crate::session::Session;
@@ -19,8 +20,8 @@ use crate::worker::Worker;
 use std::alloc::{AllocError, Global};
 use std::collections::BTreeMap;
 use std::string::String;
-use tp_answers::{Answer, Holder};
-use tp_lines::{Act, Name};
+use tp_answers::{Answer, Holder, Told};
+use tp_lines::{Act, Fence, Name};
 use tp_script::{LineError, LineFault};
 use tp_server::Order;
 use tp_store::store::Store;
@@ -76,6 +77,27 @@ impl Session {
             Some(worker) => self.act_of_worker(alloc, name, worker, act),
             None => self.act_of_server(alloc, name, act),
         }
+    }
+
+    /// Has a worker do this where it has just that in hand.
+    pub(crate) fn fenced(
+        &mut self,
+        alloc: Global,
+        name: &Name,
+        fence: Fence,
+        act: &Act,
+    ) -> Result<String, LineError>
+        ensures { Says string_bytes result self.new self.old
+            (fenced_by name.now fence act.now (worker_at name.now self.old) self.old) }
+    {
+        let Some(worker) = self.worker_at(name) else {
+            return Err(LineError::Fault(LineFault::BadName));
+        };
+        if !is_in_hand(fence, worker.hand) {
+            let answer = Told::Other;
+            return told(alloc, Answer::Named { name, told: answer });
+        }
+        self.act_of_worker(alloc, name, worker, act)
     }
 
     /// Has a worker do this.

@@ -82,7 +82,7 @@ fn answer_line(
     ensures no_read { ¬ (IsErrOf result Fault.Read) }
 {
     match session.answer(alloc, number, lines.line()) {
-        Ok(text) => match lines.tell(text.as_bytes()) {
+        Ok(text) => match lines.tell(text.as_slice()) {
             Ok(()) => Ok(()),
             Err(_) => Err(Fault::NoMemory),
         },

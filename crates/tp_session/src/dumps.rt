@@ -1,5 +1,6 @@
 //! Dumps: what there is, told as the lines of a head.
-ghost use Rattle.std.specs.Prelude.{◌≡◌, ◌+◌, ◌∷◌, [], IfOk, IfSome, OnOk, length, map};
+ghost use Rattle.std.specs.Prelude.{◌≡◌, ◌+◌, ◌∷◌, [], false, IfErr, IfOk, IfSome, OnOk, length, map};
+ghost use Rattle.tp_script.specs.declared.fault.LineError.TheVariants.{NoMemory};
 ghost use Rattle.std.specs.Prelude.{string_bytes};
 ghost use Rattle.std.specs.List.{flat_map};
 ghost use Rattle.tp_lines.specs.declared.line.Command.TheVariants as commands;
@@ -65,6 +66,17 @@ fn dump_line(alloc: Global, is_quoted: bool, line: &HeadLine) -> Result<String, 
         format!(in alloc; "> {line}\n")
     } else {
         format!(in alloc; "{line}\n")
+    }
+}
+
+/// The text of a line of the head, as the answer to it.
+pub(crate) fn line_told(alloc: Global, line: &HeadLine) -> Result<String, LineError>
+    ensures text { IfOk result (λ text. string_bytes text ≡ dumped false line.now) }
+    ensures err { IfErr result (λ why. why ≡ NoMemory) }
+{
+    match dump_line(alloc, false, line) {
+        Ok(text) => Ok(text),
+        Err(_) => Err(LineError::NoMemory),
     }
 }
 
@@ -141,11 +153,19 @@ impl Dump {
     fn add_hand(&mut self, alloc: Global, name: &Name, hand: Option<Hand>) -> Result<(), AllocError>
         ensures { OnOk result (self.new ≡ and_lines (hand_lines name.now hand) self.old) }
     {
-        let Some(Hand { id, unit }) = hand else {
+        let Some(Hand { id, unit, tries }) = hand else {
             return Ok(());
         };
         let name = name.copy();
-        self.add(alloc, &HeadLine::Hand { name, id, unit })
+        self.add(
+            alloc,
+            &HeadLine::Hand {
+                name,
+                id,
+                unit,
+                tries,
+            },
+        )
     }
 
     /// Whether a server's work is prepared.
@@ -305,7 +325,7 @@ impl Dump {
     {
         for (name, note) in clients {
             let name = name.copy();
-            let note = *note;
+            let note = note.copy();
             self.add(alloc, &HeadLine::Client { name, note })?;
         }
         Ok(())

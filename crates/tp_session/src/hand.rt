@@ -1,8 +1,9 @@
 //! What a server or a worker has in hand.
 ghost use Rattle.std.specs.Prelude.{◌≡◌};
-ghost use Rattle.tp_session.specs.Hands.{attempt_in, hand_of, held_of, hand_told};
+ghost use Rattle.tp_session.specs.Hands.{attempt_in, hand_of, held_of, hand_told, is_in_hand, tries_in};
 
 use tp_answers::HandTold;
+use tp_lines::Fence;
 use tp_store::answers::Work;
 use tp_store::element::{Element, Status};
 use tp_store::store::Store;
@@ -14,6 +15,15 @@ pub struct Hand {
     pub id: u64,
     /// The unit of work. It may hold the element no more.
     pub unit: u64,
+    /// Which try at the element that is, of all its rounds; 0 where a dump didn't say so.
+    pub tries: u16,
+}
+
+/// Which try at its element work is, of all its rounds.
+pub(crate) fn tries_in(work: &Work) -> u16
+    ensures { result ≡ tries_in work.now }
+{
+    u16::from(work.element.earlier) + u16::from(work.attempt)
 }
 
 impl Hand {
@@ -24,6 +34,7 @@ impl Hand {
         Hand {
             id: work.id,
             unit: work.unit,
+            tries: tries_in(work),
         }
     }
 
@@ -41,6 +52,16 @@ impl Hand {
                 }
             }
         }
+    }
+}
+
+/// Whether just this is in hand.
+pub(crate) fn is_in_hand(fence: Fence, hand: Option<Hand>) -> bool
+    ensures { result ≡ is_in_hand fence hand }
+{
+    match hand {
+        None => false,
+        Some(hand) => hand.id == fence.id && hand.tries == fence.tries,
     }
 }
 
@@ -65,7 +86,10 @@ pub(crate) fn hand_told(hand: Option<Hand>, store: &Store) -> HandTold
         return HandTold::Nothing;
     };
     match hand.held(store) {
-        None => HandTold::Lost { id: hand.id },
+        None => HandTold::Lost {
+            id: hand.id,
+            tries: hand.tries,
+        },
         Some(element) => {
             let body = element.body;
             HandTold::Open {
@@ -74,6 +98,7 @@ pub(crate) fn hand_told(hand: Option<Hand>, store: &Store) -> HandTold
                 attempt: attempt_in(element.status),
                 root: element.root,
                 body,
+                tries: hand.tries,
             }
         }
     }

@@ -3,6 +3,7 @@ ghost use Rattle.std.specs.Prelude.{◌≡◌, Ok, Some, string_bytes};
 ghost use Rattle.tp_store.specs.Restoring.{put_back_of, put_over_of, set_settled_of};
 ghost use Rattle.tp_session.specs.Heads.{attempts_set, awaits_restore, client_set, ended_as, from_set, hand_set};
 ghost use Rattle.tp_session.specs.Heads.{has_hand, head_set, keep_set, most_set, numbers_set, register_set};
+ghost use Rattle.tp_session.specs.Heads.{renew_set};
 ghost use Rattle.tp_session.specs.Heads.{server_changed, server_from, server_has, server_set, set, told_back};
 ghost use Rattle.tp_session.specs.Heads.{with_drop, with_prepared, with_start, worker_set};
 ghost use Rattle.tp_session.specs.Roles.{with_worker, worker_at};
@@ -41,6 +42,7 @@ fn awaits_restore(line: &HeadLine) -> bool
         HeadLine::Start { .. } => false,
         HeadLine::Worker { .. } => false,
         HeadLine::Register { .. } => false,
+        HeadLine::Renew { .. } => false,
         _ => true,
     }
 }
@@ -70,6 +72,7 @@ impl Session {
             HeadLine::Start { name, k, value } => self.set_start(&name, k, value),
             HeadLine::Worker { name, stage } => self.set_worker(&name, stage),
             HeadLine::Register { name } => self.set_registered(&name),
+            HeadLine::Renew { name } => self.set_renewed(&name),
             HeadLine::Numbers {
                 next,
                 units,
@@ -82,7 +85,12 @@ impl Session {
                 consumed,
                 killed,
             } => self.set_settled(stage, consumed, killed),
-            HeadLine::Hand { name, id, unit } => self.set_hand(&name, Hand { id, unit }),
+            HeadLine::Hand {
+                name,
+                id,
+                unit,
+                tries,
+            } => self.set_hand(&name, Hand { id, unit, tries }),
             HeadLine::Prepared { name } => self.set_prepared(&name),
             HeadLine::Dropped { name } => self.set_dropped(&name),
             HeadLine::From { name, id } => self.set_from(&name, id),
@@ -94,7 +102,7 @@ impl Session {
 
 impl Session {
     /// `limit N`
-    fn set_attempts(&mut self, attempts: u8) -> Result<(), LineError>
+    pub(crate) fn set_attempts(&mut self, attempts: u8) -> Result<(), LineError>
         ensures { Sets result self.new self.old (attempts_set attempts self.old) }
     {
         let mut limits = self.store.limits();
@@ -104,7 +112,7 @@ impl Session {
     }
 
     /// `max N`
-    fn set_most(&mut self, most: u64) -> Result<(), LineError>
+    pub(crate) fn set_most(&mut self, most: u64) -> Result<(), LineError>
         ensures { Sets result self.new self.old (most_set most self.old) }
     {
         let mut limits = self.store.limits();
@@ -114,7 +122,7 @@ impl Session {
     }
 
     /// `keep N`
-    fn set_keep(&mut self, keep: u64) -> Result<(), LineError>
+    pub(crate) fn set_keep(&mut self, keep: u64) -> Result<(), LineError>
         ensures { Sets result self.new self.old (keep_set keep self.old) }
     {
         let mut limits = self.store.limits();
@@ -312,6 +320,19 @@ impl Session {
             return Err(BAD_NAME);
         }
         match self.register(name) {
+            Ok(()) => Ok(()),
+            Err(_) => Err(LineError::NoMemory),
+        }
+    }
+
+    /// `register NAME new`
+    fn set_renewed(&mut self, name: &Name) -> Result<(), LineError>
+        ensures { Sets result self.new self.old (renew_set name.now self.old) }
+    {
+        if self.is_of_worker(name) {
+            return Err(BAD_NAME);
+        }
+        match self.renew(name) {
             Ok(()) => Ok(()),
             Err(_) => Err(LineError::NoMemory),
         }

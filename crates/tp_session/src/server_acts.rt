@@ -225,7 +225,7 @@ impl Server {
             Ok(prepared) => prepared,
             Err(why) => return self.decline(store, hand, why),
         };
-        let Hand { id, unit } = hand;
+        let Hand { id, unit, .. } = hand;
         let outputs = outputs(drafts.as_slice());
         match store.commit(id, unit, outputs.as_slice()) {
             Ok(Outcome::Committed { first, count }) => {
@@ -315,7 +315,7 @@ impl Server {
         let Some(hand) = self.hand else {
             return Ok(Told::NoneOpen);
         };
-        let Hand { id, unit } = hand;
+        let Hand { id, unit, .. } = hand;
         match store.abort(id, unit) {
             Ok(Ended::Aborted) => {
                 self.clear();

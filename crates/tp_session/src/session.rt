@@ -1,13 +1,16 @@
 //! A session: what there is between two lines, and what a line does.
 ghost use Rattle.std.specs.Prelude.{◌≡◌, IfOk, string_bytes};
-ghost use Rattle.tp_lines.specs.Grammar.{line_said};
+ghost use Rattle.tp_lines.specs.Reading.{word_if};
+ghost use Rattle.tp_lines.specs.Tags.{said_behind};
 ghost use Rattle.tp_session.specs.Heads.{head_set};
 ghost use Rattle.tp_session.specs.Said.{Says};
 ghost use Rattle.tp_session.specs.Session.{command_step, does, finals, head_step, is_in_order, late_step, line_step};
-ghost use Rattle.tp_session.specs.Session.{has_begun, quietly, read_step_of, said_step};
+ghost use Rattle.tp_session.specs.Session.{has_begun, or_refused, quietly, read_step_of, said_step, tagged};
 ghost use Rattle.tp_session.specs.State.{begin};
 
+use crate::dumps::line_told;
 use crate::phase::Phase;
+use crate::requests::told;
 use crate::server::Server;
 use crate::worker::Worker;
 use std::alloc::{AllocError, Global};
@@ -15,7 +18,7 @@ use std::collections::BTreeMap;
 use std::marker::Model;
 use std::string::String;
 use tp_answers::{Answer, line};
-use tp_lines::{ClientNote, Command, HeadLine, Line, Name, read_line};
+use tp_lines::{ClientNote, Command, HeadLine, Line, Name, read_behind, tag_in};
 use tp_script::{LineError, LineFault};
 use tp_store::store::{Limits, Store};
 
@@ -67,6 +70,30 @@ impl Session {
     }
 }
 
+/// Each line of an answer behind its tag. Without an answer the tag is one.
+fn tagged(alloc: Global, tag: &[u8], text: &[u8]) -> Result<Vec<u8>, AllocError>
+    ensures { IfOk result (λ lines. lines.items ≡ tagged tag.now text.now) }
+{
+    let mut lines = Vec::new(alloc);
+    if text.is_empty() {
+        lines.push(b'@')?;
+        lines.extend_from_slice(tag)?;
+        lines.push(b'\n')?;
+        return Ok(lines);
+    }
+    let mut begins = true;
+    for byte in text {
+        if begins {
+            lines.push(b'@')?;
+            lines.extend_from_slice(tag)?;
+            lines.push(b' ')?;
+        }
+        lines.push(*byte)?;
+        begins = *byte == b'\n';
+    }
+    Ok(lines)
+}
+
 impl Session {
     /// Has done what a line asks for.
     fn perform(&mut self, alloc: Global, command: &Command) -> Result<String, LineError>
@@ -94,14 +121,22 @@ impl Session {
             Command::Sum { k } => self.sum(alloc, *k),
             Command::Balance { name, k } => self.balance(alloc, name, *k),
             Command::Act { name, act } => self.act(alloc, name, act),
+            Command::Fenced { name, fence, act } => self.fenced(alloc, name, *fence, act),
             Command::Leave { name } => self.leave(alloc, name),
             Command::Send {
                 name,
+                epoch,
                 number,
                 stage,
                 body,
-            } => self.send(alloc, name, *number, *stage, *body),
-            Command::Receive { name, number, root } => self.receive(alloc, name, *number, *root),
+            } => self.send(alloc, name, *epoch, *number, *stage, *body),
+            Command::Receive {
+                name,
+                epoch,
+                number,
+                root,
+                note,
+            } => self.receive(alloc, name, *epoch, *number, *root, note),
             Command::Last { name } => self.last(alloc, name),
             Command::Forget { name } => self.forget(alloc, name),
         }
@@ -131,13 +166,26 @@ impl Session {
         Ok(text)
     }
 
-    /// Has done what a line of a head says behind it: workers and clients alone come there.
+    /// Has done what a line of a head says behind it: workers and clients alone come there, and settings change.
     fn late(&mut self, alloc: Global, line: HeadLine) -> Result<String, LineError>
         ensures { Says string_bytes result self.new self.old (late_step line self.old) }
     {
         match line {
+            HeadLine::Limit { attempts } => {
+                self.set_attempts(attempts)?;
+                line_told(alloc, &HeadLine::Limit { attempts })
+            }
+            HeadLine::Max { elements } => {
+                self.set_most(elements)?;
+                line_told(alloc, &HeadLine::Max { elements })
+            }
+            HeadLine::Keep { requests } => {
+                self.set_keep(requests)?;
+                line_told(alloc, &HeadLine::Keep { requests })
+            }
             HeadLine::Worker { name, stage } => self.join(alloc, &name, stage),
             HeadLine::Register { name } => self.register_line(alloc, &name),
+            HeadLine::Renew { name } => self.renew_line(alloc, &name),
             _ => Err(LineError::Fault(LineFault::Order)),
         }
     }
@@ -169,24 +217,55 @@ impl Session {
             Line::Nothing => Ok(String::new(alloc)),
             Line::Head(line) => self.head(alloc, line),
             Line::Do(command) => self.command(alloc, &command),
+            Line::Version => told(alloc, Answer::Version),
         }
     }
 
-    /// Reads a line, and has done what it says.
-    fn read_and_say(&mut self, alloc: Global, bytes: &[u8]) -> Result<String, LineError>
-        ensures { Says string_bytes result self.new self.old (read_step_of (line_said bytes.now) self.old) }
+    /// Reads what stands behind the tag of a line, and has done what it says.
+    fn read_and_say(
+        &mut self,
+        alloc: Global,
+        tag: Option<&[u8]>,
+        bytes: &[u8],
+    ) -> Result<String, LineError>
+        ensures { Says string_bytes result self.new self.old
+            (read_step_of (said_behind (word_if tag.entry) bytes.now) self.old) }
     {
-        let line = read_line(alloc, bytes)?;
+        let line = read_behind(alloc, tag, bytes)?;
         self.say(alloc, line)
     }
 
     /// Answers a line, the `number`-th of all, with no more than the line's end behind it; an empty text where
-    /// it has no answer. It fails where memory or numbers run out.
-    pub fn answer(&mut self, alloc: Global, number: u64, bytes: &[u8]) -> Result<String, AllocError>
-        ensures { IfOk result (λ text. (string_bytes text, self.new)
-            ≡ line_step number bytes.now self.old) }
+    /// it has no answer. Behind a tag each line of the answer has that tag, and there is one line at least. It
+    /// fails where memory or numbers run out.
+    pub fn answer(
+        &mut self,
+        alloc: Global,
+        number: u64,
+        bytes: &[u8],
+    ) -> Result<Vec<u8>, AllocError>
+        ensures { IfOk result (λ text. (text.items, self.new) ≡ line_step number bytes.now self.old) }
     {
-        match self.read_and_say(alloc, bytes) {
+        let tag = tag_in(bytes);
+        let text = self.answer_behind(alloc, number, tag, bytes)?;
+        match tag {
+            None => Ok(text.into_bytes()),
+            Some(tag) => tagged(alloc, tag, text.as_bytes()),
+        }
+    }
+
+    /// Answers what stands behind the tag of a line, without the tag.
+    fn answer_behind(
+        &mut self,
+        alloc: Global,
+        number: u64,
+        tag: Option<&[u8]>,
+        bytes: &[u8],
+    ) -> Result<String, AllocError>
+        ensures { IfOk result (λ text. (string_bytes text, self.new) ≡ or_refused number self.old
+            (read_step_of (said_behind (word_if tag.entry) bytes.now) self.old)) }
+    {
+        match self.read_and_say(alloc, tag, bytes) {
             Ok(text) => Ok(text),
             Err(LineError::NoMemory) => Err(AllocError),
             Err(LineError::Fault(fault)) => line(

@@ -4,7 +4,7 @@ ghost use Rattle.tp_session.specs.Workers.{aborts, claims, claims_next, commits,
 ghost use Rattle.tp_session.specs.Workers.{took, worker_does};
 ghost use Rattle.tp_session.specs.Acted.{Works};
 
-use crate::hand::Hand;
+use crate::hand::{Hand, tries_in};
 use std::alloc::AllocError;
 use tp_answers::Told;
 use tp_lines::{Act, UnitEnd};
@@ -37,6 +37,7 @@ fn took(work: &Work) -> Told
         attempt: work.attempt,
         root,
         body,
+        tries: tries_in(work),
     }
 }
 
@@ -126,7 +127,7 @@ impl Worker {
         let Some(hand) = self.hand else {
             return Ok(Told::NoneOpen);
         };
-        let Hand { id, unit } = hand;
+        let Hand { id, unit, .. } = hand;
         match store.commit(id, unit, drafts) {
             Ok(Outcome::Committed { first, count }) => {
                 self.hand = None;
@@ -159,7 +160,7 @@ impl Worker {
         let Some(hand) = self.hand else {
             return Ok(Told::NoneOpen);
         };
-        let Hand { id, unit } = hand;
+        let Hand { id, unit, .. } = hand;
         match store.abort(id, unit) {
             Ok(Ended::Aborted) => {
                 self.hand = None;

@@ -71,7 +71,7 @@ module _ (low : ℕ) where
 
   -- ---- a change
 
-  pub acc_change : (s : State) (units id : ℕ) (old new : Element) → IsSound s → s.next < 2 ^ 64 - 1 → Accounted low s → element_at id s.elements ≡ Some old → new ≡ record old { status = new.status; rounds = new.rounds } → is_attempt new.status ≡ true → IsTurn old.status new.status → Accounted low (with_units units (with_change id old new s))
+  pub acc_change : (s : State) (units id : ℕ) (old new : Element) → IsSound s → s.next < 2 ^ 64 - 1 → Accounted low s → element_at id s.elements ≡ Some old → new ≡ record old { status = new.status; rounds = new.rounds; earlier = new.earlier } → is_attempt new.status ≡ true → IsTurn old.status new.status → Accounted low (with_units units (with_change id old new s))
   acc_change s units id old new sound few acc found contents attempt turn = record {
     told = told_change s.next s.tally s.elements id old new sound.sorted found stage_same was.stage turn few acc.told;
     each = λ q e there. go q e (id == q) refl (sym (put_looks id new s.elements q) ∙ there);

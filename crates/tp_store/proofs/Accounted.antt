@@ -19,7 +19,7 @@ use Rattle.tp_store.specs.declared.element.TheConstants.{LAST_STAGE, MAX_ROUNDS,
 use Rattle.tp_store.specs.declared.ends.TheConstants.{FORGET_STEPS}
 use Rattle.tp_store.specs.declared.store.Limits.{Limits}
 use Rattle.tp_store.specs.Accounts.{AccountsHold, added, HasStages, IsAccount, is_held, is_parked}
-use Rattle.tp_store.specs.Calls.{abort_as, abort_at, alive_in, as_claimed, cancel_at, cancel_by, claim_first, claim_from_of, claim_of, collect_as, collect_at, commit_at, consumed, give_up, hand_out_as, is_open, is_server_stage, kill_all, kill_as, kill_at, killed, of_client, of_unit, release_as, release_at, requeue_as, requeue_at, submit_of, take_at}
+use Rattle.tp_store.specs.Calls.{abort_as, abort_at, again, alive_in, as_claimed, cancel_at, cancel_by, claim_first, claim_from_of, claim_of, collect_as, collect_at, commit_at, consumed, give_up, hand_out_as, is_open, is_server_stage, kill_all, kill_as, kill_at, killed, of_client, of_unit, release_as, release_at, requeue_as, requeue_at, submit_of, take_at}
 use Rattle.tp_store.specs.Counting.{no_counts, no_tally}
 use Rattle.tp_store.specs.Elements.{Entry, element_at, first_in, is_alive, is_waiting, queue_of, standing, is_held_by}
 use Rattle.tp_store.specs.Ends.{is_over}
@@ -136,7 +136,7 @@ module _ (low : ℕ) (lowest : low ≤ 1) where
     acc_requeue id (Some e) is = go e.status refl
       where
         parked : (n : ℕ) → e.status ≡ Parked n → (b : Bool) → nat_lt e.rounds MAX_ROUNDS ≡ b → Accounted low (requeue_as id e (Parked n) s).1
-        parked n was true h = rw h (acc_change low s s.units id e (record e { status = Waiting 0; rounds = e.rounds + 1 }) sound few acc is refl refl (rw was tt))
+        parked n was true h = rw h (acc_change low s s.units id e (again n e) sound few acc is refl refl (rw was tt))
         parked n was false h = rw h acc
 
         go : (status : Status) → e.status ≡ status → Accounted low (requeue_as id e status s).1

@@ -7,7 +7,7 @@ use Rattle.tp_store.specs.declared.births.Origin.{Origin}
 use Rattle.tp_store.specs.declared.element.Element.{Element}
 use Rattle.tp_store.specs.declared.element.Status.{Status}
 use Rattle.tp_store.specs.declared.element.Status.TheVariants.{Waiting, Held, Consumed, Parked, Killed}
-use Rattle.tp_store.specs.Changes.{Follows, Goes, IsBirth, IsForgotten, Remains, rounds_after, Turns}
+use Rattle.tp_store.specs.Changes.{Follows, Goes, IsBirth, IsForgotten, Remains, earlier_after, rounds_after, Turns}
 use Rattle.tp_store.specs.Elements.{Entry, element_at, is_alive, put}
 use Rattle.tp_store.specs.Ends.{is_over}
 use Rattle.tp_store.specs.Soundness.{HasEnded, IsSound, IsSoundElement}
@@ -46,7 +46,7 @@ pub record Alters (s t : State) : Type 0 where
   pub sound : IsSound t
 
 pub goes_same : (e : Element) → Goes e e
-goes_same e = record { contents = refl; status = inl refl; rounds = go e.status }
+goes_same e = record { contents = refl; status = inl refl; rounds = go e.status; earlier = before e.status }
   where
     go : (x : Status) → e.rounds ≡ rounds_after x x e.rounds
     go (Waiting n) = refl
@@ -54,6 +54,13 @@ goes_same e = record { contents = refl; status = inl refl; rounds = go e.status 
     go (Consumed u) = refl
     go (Parked n) = refl
     go Killed = refl
+
+    before : (x : Status) → e.earlier ≡ earlier_after x x e.earlier
+    before (Waiting n) = refl
+    before (Held u n) = refl
+    before (Consumed u) = refl
+    before (Parked n) = refl
+    before Killed = refl
 
 pub bears_none : (s : State) → IsSound s → Bears s s
 bears_none s sound = record { limits = refl; next = omega arith; units = refl; keeps = λ id e found. found; births = λ id e found. inl found; sound = sound }

@@ -9,9 +9,9 @@ use Rattle.tp_store.specs.declared.element.Status.{Status}
 use Rattle.tp_store.specs.declared.element.Status.TheVariants.{Waiting, Held, Consumed, Parked, Killed}
 use Rattle.tp_store.specs.declared.answers.Refusal.{Refusal}
 use Rattle.tp_store.specs.declared.answers.Work.{Work}
-use Rattle.tp_store.specs.Calls.{abort_as, abort_at, alive_in, as_claimed, claim_first, collect_as, collect_at, commit_at, consumed, give_up, kill_at, release_at, requeue_at, take_at, hand_out_as, is_server_stage, kill_as, killed, of_client, of_unit, release_as, requeue_as}
+use Rattle.tp_store.specs.Calls.{abort_as, abort_at, again, alive_in, as_claimed, claim_first, collect_as, collect_at, commit_at, consumed, give_up, kill_at, release_at, requeue_at, take_at, hand_out_as, is_server_stage, kill_as, killed, of_client, of_unit, release_as, requeue_as}
 use Rattle.tp_store.specs.Calls.{submit_of}
-use Rattle.tp_store.specs.Changes.{Follows, Goes, rounds_after, Turns}
+use Rattle.tp_store.specs.Changes.{earlier_after, Follows, Goes, rounds_after, Turns}
 use Rattle.tp_store.specs.Elements.{Entry, element_at, first_in, is_group, queue_in, queue_of, standing, is_held_by}
 use Rattle.tp_store.specs.Soundness.{IsSound, IsSoundElement, is_for_reply, unit_in}
 use Rattle.tp_store.specs.State.{State, swept, with_births, with_change, with_end}
@@ -45,7 +45,7 @@ IsPlain (Parked n) (Waiting m) = ⊥
 IsPlain old new = Unit {0}
 
 pub goes_to : (e : Element) (status : Status) → IsPlain e.status status → Turns e.stage e.status status → Goes e (standing status e)
-goes_to e status plain turn = record { contents = refl; status = inr turn; rounds = go e.status status plain }
+goes_to e status plain turn = record { contents = refl; status = inr turn; rounds = go e.status status plain; earlier = before e.status status plain }
   where
     go : (x y : Status) → IsPlain x y → e.rounds ≡ rounds_after x y e.rounds
     go (Parked n) (Waiting m) plain = absurd plain
@@ -57,6 +57,17 @@ goes_to e status plain turn = record { contents = refl; status = inr turn; round
     go (Held u n) y plain = refl
     go (Consumed u) y plain = refl
     go Killed y plain = refl
+
+    before : (x y : Status) → IsPlain x y → e.earlier ≡ earlier_after x y e.earlier
+    before (Parked n) (Waiting m) plain = absurd plain
+    before (Parked n) (Held u m) plain = refl
+    before (Parked n) (Consumed u) plain = refl
+    before (Parked n) (Parked m) plain = refl
+    before (Parked n) Killed plain = refl
+    before (Waiting n) y plain = refl
+    before (Held u n) y plain = refl
+    before (Consumed u) y plain = refl
+    before Killed y plain = refl
 
 module _ (s : State) (sound : IsSound s) where
   -- an element stands anew, and more units may have been drawn
@@ -181,15 +192,12 @@ module _ (s : State) (sound : IsSound s) where
 
       parked : (n : ℕ) → e.status ≡ Parked n → (b : Bool) → nat_lt e.rounds MAX_ROUNDS ≡ b → Led s (requeue_as id e (Parked n) s).1
       parked n is false few = rw few (led_none s sound)
-      parked n is true few = rw few (led_change _ (alters_change s s.units id e again (omega arith) sound h goes fit))
+      parked n is true few = rw few (led_change _ (alters_change s s.units id e (again n e) (omega arith) sound h goes fit))
         where
-          again : Element
-          again = record e { status = Waiting 0; rounds = e.rounds + 1 }
+          goes : Goes e (again n e)
+          goes = record { contents = refl; status = rw is (inr (inl refl)); rounds = rw is refl; earlier = rw is refl }
 
-          goes : Goes e again
-          goes = record { contents = refl; status = rw is (inr (inl refl)); rounds = rw is refl }
-
-          fit : IsSoundElement s id again
+          fit : IsSoundElement s id (again n e)
           fit = let old = sound.each id e h in record { drawn = old.drawn; root = old.root; rounds = below e.rounds MAX_ROUNDS few; made_by = old.made_by; taken_by = λ v h. absurd cc; reply = λ r. refl }
 
       go : (status : Status) → e.status ≡ status → Led s (requeue_as id e status s).1

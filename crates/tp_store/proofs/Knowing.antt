@@ -110,7 +110,7 @@ fresh_row l h s k part id room high low = go (element_of h (part * l.rows + id))
 
 -- an event makes of an element the second one
 pub record IsNext (l : ModelLimits) (ev : Event) (id : ℕ) (old new : Element) : Type 0 where
-  pub contents : new ≡ record old { status = new.status; rounds = new.rounds }
+  pub contents : new ≡ record old { status = new.status; rounds = new.rounds; earlier = new.earlier }
   pub status : status_after l.attempts (row l.rows old.by id) (as_status old.stage old.status) ev ≡ as_status old.stage new.status
   pub rounds : rounds_after (row l.rows old.by id) old.rounds ev ≡ new.rounds
 

@@ -3,7 +3,7 @@ use Rattle.std.proofs.Common.{◌≡◌, ◌⊎◌, inl, inr, ◌≤◌, ◌<◌
 use Rattle.tp_store.specs.declared.element.Element.{Element}
 use Rattle.tp_store.specs.declared.element.Status.{Status}
 use Rattle.tp_store.specs.declared.element.Status.TheVariants.{Waiting, Held, Consumed, Parked, Killed}
-use Rattle.tp_store.specs.Changes.{Follows, Goes, IsForgotten, Remains, rounds_after, Turns}
+use Rattle.tp_store.specs.Changes.{earlier_after, Follows, Goes, IsForgotten, Remains, rounds_after, Turns}
 use Rattle.tp_store.specs.Elements.{element_at, is_alive}
 use Rattle.tp_store.specs.Ends.{is_over}
 use Rattle.tp_store.specs.Lasting.{ContentsLast, FamiliesLast, IdsLast, OverLasts, SettledLasts}
@@ -56,7 +56,7 @@ ids_last (call ∷ calls) s id sound low none =
     ids_last calls (after call s) id led.0 (let more = led.1.next in omega arith) (gone_still s (after call s) id led.1 low none)
 
 -- an element that is found behind a run was there behind its first call
-remains : (call : Call) (calls : List Call) (s : State) (id : ℕ) (old now : Element) → IsSound s → element_at id s.elements ≡ Some old → element_at id (run calls (after call s)).elements ≡ Some now → Remains (after call s) id old
+pub remains : (call : Call) (calls : List Call) (s : State) (id : ℕ) (old now : Element) → IsSound s → element_at id s.elements ≡ Some old → element_at id (run calls (after call s)).elements ≡ Some now → Remains (after call s) id old
 remains call calls s id old now sound was found = go (led.1.stays id old was)
   where
     led : IsSound (after call s) × Follows s (after call s)
@@ -67,26 +67,26 @@ remains call calls s id old now sound was found = go (led.1.stays id old was)
     go (inr gone) = absurd (let none = ids_last calls (after call s) id led.0 (let low = (sound.each id old was).drawn in let more = led.1.next in omega arith) gone.gone in cc)
 
 pub contents_last : ContentsLast
-contents_last [] s id old now sound was found = let both : Some old ≡ Some now = sym was ∙ found in let same : old ≡ now = cc in subst (λ (x : Element). x ≡ record old { status = x.status; rounds = x.rounds }) same refl
+contents_last [] s id old now sound was found = let both : Some old ≡ Some now = sym was ∙ found in let same : old ≡ now = cc in subst (λ (x : Element). x ≡ record old { status = x.status; rounds = x.rounds; earlier = x.earlier }) same refl
 contents_last (call ∷ calls) s id old now sound was found =
     let there = remains call calls s id old now sound was found in
     let later = contents_last calls (after call s) id there.now now (calls_follow call s sound).0 there.found found in
-    later ∙ ap (λ (x : Element). record x { status = now.status; rounds = now.rounds }) there.goes.contents
+    later ∙ ap (λ (x : Element). record x { status = now.status; rounds = now.rounds; earlier = now.earlier }) there.goes.contents
 
 pub settled_goes : (old now : Element) → Goes old now → is_alive old.status ≡ false → now ≡ old
-settled_goes old now goes settled = goes.contents ∙ go old.status refl settled goes.status goes.rounds
+settled_goes old now goes settled = goes.contents ∙ go old.status refl settled goes.status goes.rounds goes.earlier
   where
-    same : now.status ≡ old.status → now.rounds ≡ old.rounds → record old { status = now.status; rounds = now.rounds } ≡ old
-    same s r = rw (s, r) refl
+    same : now.status ≡ old.status → now.rounds ≡ old.rounds → now.earlier ≡ old.earlier → record old { status = now.status; rounds = now.rounds; earlier = now.earlier } ≡ old
+    same s r a = rw (s, r, a) refl
 
-    go : (x : Status) → old.status ≡ x → is_alive x ≡ false → (now.status ≡ x) ⊎ Turns old.stage x now.status → now.rounds ≡ rounds_after x now.status old.rounds → record old { status = now.status; rounds = now.rounds } ≡ old
-    go (Consumed u) is h (inl s) r = same (s ∙ sym is) r
-    go Killed is h (inl s) r = same (s ∙ sym is) r
-    go (Consumed u) is h (inr turn) r = absurd turn
-    go Killed is h (inr turn) r = absurd turn
-    go (Waiting n) is h t r = absurd cc
-    go (Held u n) is h t r = absurd cc
-    go (Parked n) is h t r = absurd cc
+    go : (x : Status) → old.status ≡ x → is_alive x ≡ false → (now.status ≡ x) ⊎ Turns old.stage x now.status → now.rounds ≡ rounds_after x now.status old.rounds → now.earlier ≡ earlier_after x now.status old.earlier → record old { status = now.status; rounds = now.rounds; earlier = now.earlier } ≡ old
+    go (Consumed u) is h (inl s) r a = same (s ∙ sym is) r a
+    go Killed is h (inl s) r a = same (s ∙ sym is) r a
+    go (Consumed u) is h (inr turn) r a = absurd turn
+    go Killed is h (inr turn) r a = absurd turn
+    go (Waiting n) is h t r a = absurd cc
+    go (Held u n) is h t r a = absurd cc
+    go (Parked n) is h t r a = absurd cc
 
 pub settled_lasts : SettledLasts
 settled_lasts [] s id old now sound was settled found = let both : Some now ≡ Some old = sym found ∙ was in cc

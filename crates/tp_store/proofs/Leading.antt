@@ -13,7 +13,7 @@ use Rattle.tp_store.specs.declared.element.Element.{Element}
 use Rattle.tp_store.specs.declared.element.Status.{Status}
 use Rattle.tp_store.specs.declared.element.Status.TheVariants.{Waiting, Held, Consumed, Parked, Killed}
 use Rattle.tp_store.specs.Calls.{cancel_at, cancel_by, claim_from_of, claim_of, is_open, is_server_stage, kill_all, killed}
-use Rattle.tp_store.specs.Changes.{CallsFollow, Follows, Goes, rounds_after, RunsAreSound, Turns}
+use Rattle.tp_store.specs.Changes.{CallsFollow, Follows, Goes, RunsAreSound, Turns}
 use Rattle.tp_store.specs.Elements.{Entry, element_at, alive_of, first_in, is_alive, is_in_from, put, queue_of, standing}
 use Rattle.tp_store.specs.Lasting.{AliveStays}
 use Rattle.tp_store.specs.Ends.{is_over}
@@ -42,17 +42,7 @@ pub record Kills (s t : State) : Type 0 where
   pub forth : (id : ℕ) (e : Element) → element_at id s.elements ≡ Some e → (now : Element) × (element_at id t.elements ≡ Some now) × IsOrKilled e now
 
 killed_goes : (e now : Element) → IsOrKilled e now → Goes e now
-killed_goes e now (inl same) = subst (Goes e) (sym same) (goes_still e)
-  where
-    goes_still : (e : Element) → Goes e e
-    goes_still e = record { contents = refl; status = inl refl; rounds = go e.status }
-      where
-        go : (x : Status) → e.rounds ≡ rounds_after x x e.rounds
-        go (Waiting n) = refl
-        go (Held u n) = refl
-        go (Consumed u) = refl
-        go (Parked n) = refl
-        go Killed = refl
+killed_goes e now (inl same) = subst (Goes e) (sym same) (goes_same e)
 killed_goes e now (inr (alive, is)) = subst (Goes e) (sym is) (goes_to e Killed (plain e.status alive) (turn e.status alive))
   where
     plain : (x : Status) → is_alive x ≡ true → IsPlain x Killed

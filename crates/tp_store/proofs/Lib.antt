@@ -11,6 +11,7 @@ pub mod Changing
 pub mod Following
 pub mod Leading
 pub mod Lasts
+pub mod Tries
 pub mod Knowing
 pub mod Telling
 pub mod ModelBirths

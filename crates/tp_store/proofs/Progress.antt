@@ -9,7 +9,7 @@ use Rattle.tp_store.specs.declared.element.TheConstants.{MAX_ROUNDS, REPLY_STAGE
 use Rattle.tp_store.specs.declared.element.Element.{Element}
 use Rattle.tp_store.specs.declared.element.Status.{Status}
 use Rattle.tp_store.specs.declared.element.Status.TheVariants.{Waiting, Held, Consumed, Parked, Killed}
-use Rattle.tp_store.specs.Calls.{alive_in, as_claimed, claim_first, claim_from_of, claim_of, given_up, hand_out_as, is_server_stage, kill_as, of_client, of_unit, take_at, take_of, work_on}
+use Rattle.tp_store.specs.Calls.{again, alive_in, as_claimed, claim_first, claim_from_of, claim_of, given_up, hand_out_as, is_server_stage, kill_as, of_client, of_unit, take_at, take_of, work_on}
 use Rattle.tp_store.specs.Elements.{Entry, element_at, first_in, is_alive, is_group, queue_in, queue_of, standing}
 use Rattle.tp_store.specs.Ends.{is_over}
 use Rattle.tp_store.specs.Progress.{AbortsHeld, ClaimsFirst, CollectsReplies, CommitsHeld, HandsOut, IsHandedOut, IsOnFirst, KillsAlive, NeverIdle, OutputsWait, RequeuesParked, SubmitsWait, TakesWaiting, Waits}
@@ -146,7 +146,7 @@ pub aborts_held : AbortsHeld
 aborts_held s id unit n e h = rw (h.found, h.held, same_group unit) (refl, put_looks id (standing (given_up s.limits.attempts n) e) s.elements id ∙ rw (same_group id) refl)
 
 pub requeues_parked : RequeuesParked
-requeues_parked s id n e found parked few = rw (found, parked, below e.rounds MAX_ROUNDS few) (refl, put_looks id (record e { status = Waiting 0; rounds = e.rounds + 1 }) s.elements id ∙ rw (same_group id) refl)
+requeues_parked s id n e found parked few = rw (found, parked, below e.rounds MAX_ROUNDS few) (refl, put_looks id (again n e) s.elements id ∙ rw (same_group id) refl)
   where
     below : (m n : ℕ) → m < n → nat_lt m n ≡ true
     below m n h = grind (arith, nat_tests)

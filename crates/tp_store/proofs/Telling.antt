@@ -14,7 +14,7 @@ use Rattle.tp_store.specs.declared.element.Element.{Element}
 use Rattle.tp_store.specs.declared.element.Status.{Status}
 use Rattle.tp_store.specs.declared.element.Status.TheVariants.{Waiting, Held, Parked}
 use Rattle.tp_store.specs.declared.element.TheConstants.{MAX_ROUNDS, REPLY_STAGE}
-use Rattle.tp_store.specs.Calls.{give_up, given_up}
+use Rattle.tp_store.specs.Calls.{again, give_up, given_up}
 use Rattle.tp_store.specs.Elements.{element_at, standing}
 use Rattle.tp_store.specs.Modelled.{as_element, as_stage, as_status, HasRoom, part_of, row}
 use Rattle.tp_store.specs.Soundness.{IsSound}
@@ -153,8 +153,8 @@ module _ (l : ModelLimits) (h : List Event) (s : State) (sound : IsSound s) (roo
 
   -- a parked element has another round
   pub knows_requeued : (id n : ℕ) (e : Element) → element_at id s.elements ≡ Some e → e.status ≡ Parked n → e.rounds + 1 ≤ MAX_ROUNDS
-      → Knows l (h ++ event.Requeue 0 (row l.rows e.by id) (e.rounds + 1) ∷ []) (with_change id e (record e { status = Waiting 0; rounds = e.rounds + 1 }) s)
-  knows_requeued id n e found parked few = knows_change l h s k (event.Requeue 0 i (e.rounds + 1)) may s.units id e (record e { status = Waiting 0; rounds = e.rounds + 1 }) found (omega arith)
+      → Knows l (h ++ event.Requeue 0 (row l.rows e.by id) (e.rounds + 1) ∷ []) (with_change id e (again n e) s)
+  knows_requeued id n e found parked few = knows_change l h s k (event.Requeue 0 i (e.rounds + 1)) may s.units id e (again n e) found (omega arith)
       (record { contents = refl; status = if_same i i _ _ refl; rounds = if_same i i _ _ refl })
       (λ q d there apart. record { contents = refl; status = if_other i (row l.rows d.by q) _ _ (apart_row id q e d found there apart); rounds = if_other i (row l.rows d.by q) _ _ (apart_row id q e d found there apart) })
       refl

@@ -185,11 +185,20 @@ kill_at id (Some e) s = kill_as id e e.status s
 abbrev pub kill_of : ℕ → State → Result KilledAnswer Refusal × State
 kill_of id s = kill_at id (element_at id s.elements) s
 
+-- no number is left for how often a parked element was taken in all its rounds
+abbrev pub IsTried : ℕ → State → Type 0
+IsTried id s = (n : ℕ) × (e : Element) × (element_at id s.elements ≡ Some e) × (e.status ≡ Parked n)
+    × (256 ≤ e.earlier + n)
+
+-- the element in another round, behind one of so many attempts
+abbrev pub again : ℕ → Element → Element
+again n e = record e { status = Waiting 0; rounds = e.rounds + 1; earlier = e.earlier + n }
+
 -- the parked element has another round, if it had less than all
 abbrev pub requeue_as : ℕ → Element → Status → State → Result ℕ Refusal × State
 requeue_as id e (Parked n) s =
     if nat_lt e.rounds MAX_ROUNDS
-    then (Ok (e.rounds + 1), with_change id e (record e { status = Waiting 0; rounds = e.rounds + 1 }) s)
+    then (Ok (e.rounds + 1), with_change id e (again n e) s)
     else (Err refusals.NoRound, s)
 requeue_as id e other s = (Err refusals.NotParked, s)
 

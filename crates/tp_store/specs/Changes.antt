@@ -25,11 +25,17 @@ abbrev pub rounds_after : Status → Status → ℕ → ℕ
 rounds_after (Parked m) (Waiting n) rounds = rounds + 1
 rounds_after old new rounds = rounds
 
--- an element after a call: its status may have changed so, and nothing else but its rounds
+-- the attempts of a round that is over count among the earlier ones then
+abbrev pub earlier_after : Status → Status → ℕ → ℕ
+earlier_after (Parked m) (Waiting n) earlier = earlier + m
+earlier_after old new earlier = earlier
+
+-- an element after a call: its status may have changed so, and nothing else but its rounds and what they count
 pub record Goes (old new : Element) : Type 0 where
-  pub contents : new ≡ record old { status = new.status; rounds = new.rounds }
+  pub contents : new ≡ record old { status = new.status; rounds = new.rounds; earlier = new.earlier }
   pub status : (new.status ≡ old.status) ⊎ Turns old.stage old.status new.status
   pub rounds : new.rounds ≡ rounds_after old.status new.status old.rounds
+  pub earlier : new.earlier ≡ earlier_after old.status new.status old.earlier
 
 -- the element e, which had this id, is there still, as one call may leave it
 pub record Remains (new : State) (id : ℕ) (e : Element) : Type 0 where

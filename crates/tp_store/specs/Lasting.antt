@@ -8,11 +8,11 @@ use Rattle.tp_store.specs.Runs.{after, Call, run}
 use Rattle.tp_store.specs.Soundness.{IsSound}
 use Rattle.tp_store.specs.State.{State}
 
--- an element that is found later by the same id is the same one, but for its status and rounds
+-- an element that is found later by the same id is the same one, but for its status and its rounds
 abbrev pub ContentsLast : Type 0
 ContentsLast = (calls : List Call) (s : State) (id : ℕ) (old now : Element) → IsSound s
     → element_at id s.elements ≡ Some old → element_at id (run calls s).elements ≡ Some now
-    → now ≡ record old { status = now.status; rounds = now.rounds }
+    → now ≡ record old { status = now.status; rounds = now.rounds; earlier = now.earlier }
 
 -- and one that was consumed or killed is wholly the same
 abbrev pub SettledLasts : Type 0

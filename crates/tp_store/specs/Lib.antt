@@ -19,3 +19,4 @@ pub mod Runs
 pub mod Shelves
 pub mod Soundness
 pub mod State
+pub mod Tries

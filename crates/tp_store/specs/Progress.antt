@@ -8,7 +8,7 @@ use Rattle.tp_store.specs.declared.answers.Ended.TheVariants.{Aborted}
 use Rattle.tp_store.specs.declared.element.TheConstants.{MAX_ROUNDS, REPLY_STAGE}
 use Rattle.tp_store.specs.declared.element.Element.{Element}
 use Rattle.tp_store.specs.declared.element.Status.TheVariants.{Waiting, Held, Parked}
-use Rattle.tp_store.specs.Calls.{abort_of, alive_in, claim_from_of, claim_of, collect_of, commit_of, given_up}
+use Rattle.tp_store.specs.Calls.{abort_of, again, alive_in, claim_from_of, claim_of, collect_of, commit_of, given_up}
 use Rattle.tp_store.specs.Calls.{is_server_stage, kill_of, of_client, of_unit, requeue_of, submit_of, take_of}
 use Rattle.tp_store.specs.Calls.{work_on}
 use Rattle.tp_store.specs.Elements.{element_at, is_alive, standing}
@@ -88,7 +88,7 @@ RequeuesParked = (s : State) (id n : ℕ) (e : Element) → element_at id s.elem
     → e.status ≡ Parked n → e.rounds < MAX_ROUNDS
     → ((requeue_of id s).0 ≡ Ok (e.rounds + 1))
     × (element_at id (requeue_of id s).1.elements
-    ≡ Some (record e { status = Waiting 0; rounds = e.rounds + 1 }))
+    ≡ Some (again n e))
 
 -- what is alive can be killed
 abbrev pub KillsAlive : Type 0

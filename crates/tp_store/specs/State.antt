@@ -36,6 +36,7 @@ made from d = record {
   status = Waiting 0;
   stage = d.stage;
   rounds = 0;
+  earlier = 0;
 }
 
 -- these are put at the ids from this one on

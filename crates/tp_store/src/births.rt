@@ -32,6 +32,7 @@ impl Origin {
             status: Status::Waiting { attempts: 0 },
             stage: draft.stage(),
             rounds: 0,
+            earlier: 0,
         }
     }
 }

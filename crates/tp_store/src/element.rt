@@ -31,6 +31,8 @@ pub struct Element {
     pub stage: u16,
     /// How many rounds of attempts it was given beside the first, at most 3.
     pub rounds: u8,
+    /// How many units of work took it in the rounds before this one, at most 255.
+    pub earlier: u8,
 }
 
 /// How an element stands.

@@ -26,6 +26,7 @@ pub(crate) struct Kept {
     unit: u64,
     stage: u16,
     rounds: u8,
+    earlier: u8,
     attempts: u8,
     kind: Kind,
     is_made: bool,
@@ -46,6 +47,7 @@ impl Model for Kept {
       status = status_of k.kind k.unit k.attempts;
       stage = k.stage;
       rounds = k.rounds;
+      earlier = k.earlier;
     } };
 }
 
@@ -66,6 +68,7 @@ impl Kept {
             unit,
             stage: element.stage,
             rounds: element.rounds,
+            earlier: element.earlier,
             attempts,
             kind,
             is_made,
@@ -86,6 +89,7 @@ impl Kept {
             status: status_of(self.kind, self.unit, self.attempts),
             stage: self.stage,
             rounds: self.rounds,
+            earlier: self.earlier,
         }
     }
 }

@@ -10,6 +10,7 @@ ghost use Rattle.tp_store.specs.Progress.{KillsAlive};
 ghost use Rattle.tp_store.specs.Progress.{NeverIdle, OutputsWait, RequeuesParked, SubmitsWait, TakesWaiting};
 ghost use Rattle.tp_store.specs.Restoring.{RestoredIsSound, StaysSound};
 ghost use Rattle.tp_store.specs.Retelling.{ToldAndTakenBack};
+ghost use Rattle.tp_store.specs.Tries.{TriesComeOnce};
 
 /// A claim of a stage in which an element waits is never idle: it hands out the one with the least id.
 pub fn claims_never_idle()
@@ -49,6 +50,12 @@ pub fn lasts()
     ensures over { OverLasts }
     ensures families { FamiliesLast }
     ensures alive { AliveStays }
+{}
+
+/// Units that hold an element one after another are in tries that grow, over all its rounds. So an id and a try
+/// name a unit.
+pub fn tries_come_once()
+    ensures { TriesComeOnce }
 {}
 
 /// Each run of calls is a legal history of the model, in which each element has the contents, the status and

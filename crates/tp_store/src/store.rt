@@ -1,7 +1,7 @@
 //! The store: elements by ids that last, and what its callers may do with them.
 ghost use Rattle.std.specs.Prelude.{length, ◌≤◌, false, IfErr, IfSome, nat_lt, not, ◌≡◌, ◌+◌, ◌^◌, ◌⊎◌, []};
 ghost use Rattle.std.specs.Prelude.{true, IfOk, Some, Err, OnOk, OnErr, slice_get};
-ghost use Rattle.tp_store.specs.Calls.{Does, IsShort, IsSpent, alive_in, claim_first, claim_from_of};
+ghost use Rattle.tp_store.specs.Calls.{Does, IsShort, IsSpent, IsTried, alive_in, claim_first, claim_from_of};
 ghost use Rattle.tp_store.specs.Calls.{claim_of};
 ghost use Rattle.tp_store.specs.Calls.{abort_of, cancel_of, collect_of, commit_of, consumed, give_up};
 ghost use Rattle.tp_store.specs.Calls.{given_up, hand_out};
@@ -387,23 +387,27 @@ impl Store {
     }
 
     /// The parked element with this id waits again, with all attempts of a further round; the answer is
-    /// which round that is. Refused as NotThere, NotParked, NoRound or NoMemory.
+    /// which round that is. Refused as NotThere, NotParked, NoRound, NoMemory or NoNumber.
     pub fn requeue(&mut self, id: u64) -> Result<u8, Refusal>
         ensures answer { Does result self.new (requeue_of id self.old) self.old }
-        ensures short { result ≡ Err NoNumber → ⊥ }
+        ensures short { result ≡ Err NoNumber → IsTried id self.old }
     {
         let Some(element) = self.shelf.get(id) else {
             return Err(Refusal::NotThere);
         };
-        let Status::Parked { .. } = element.status else {
+        let Status::Parked { attempts } = element.status else {
             return Err(Refusal::NotParked);
         };
         if element.rounds >= MAX_ROUNDS {
             return Err(Refusal::NoRound);
         }
         let rounds = element.rounds + 1;
+        let Some(earlier) = element.earlier.checked_add(attempts) else {
+            return Err(Refusal::NoNumber);
+        };
         let mut after = element.standing(Status::Waiting { attempts: 0 });
         after.rounds = rounds;
+        after.earlier = earlier;
         match self.change(id, &element, after) {
             Ok(()) => Ok(rounds),
             Err(_) => Err(Refusal::NoMemory),

@@ -15,6 +15,7 @@ fn told(root: u64, by: Option<u64>, stage: u16, status: Status) -> Element {
         status,
         stage,
         rounds: 0,
+        earlier: 0,
     }
 }
 

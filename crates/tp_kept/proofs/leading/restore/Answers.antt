@@ -17,5 +17,5 @@ loop-number-preserved c =
       few = more.few;
       parts = more.parts;
       left = ap (λ t. t.1) c.in_ok-text.ensures ∙ sym (ap (λ t. t.1) step);
-      told = c.in_ok-extend_from_slice.ensures.items ∙ (ap (λ w. c.loop-number.told.items ++ w) (c.as_bytes.ensures.value ∙ ap (λ t. t.0) c.in_ok-text.ensures) ∙ (ap (λ w. w ++ (line_step (k + 1) c.in-Some.line.now c.loop-number.session).0) inv.told ∙ sym (ap (λ t. t.0) step)));
+      told = c.in_ok-extend_from_slice.ensures.items ∙ (ap (λ w. c.loop-number.told.items ++ w) (c.as_slice.ensures.value ∙ ap (λ t. t.0) c.in_ok-text.ensures) ∙ (ap (λ w. w ++ (line_step (k + 1) c.in-Some.line.now c.loop-number.session).0) inv.told ∙ sym (ap (λ t. t.0) step)));
     }
