@@ -12,7 +12,7 @@ use Rattle.tp_session.specs.Session.{finals, has_begun, line_step, lines_step, o
 use Rattle.tp_session.specs.State.{SessionState, begin}
 use Rattle.tp_session.proofs.Lasts.{goes_on_from_lines}
 use Rattle.tp_lines.specs.Tags.{tag_in, tagged_said}
-use Rattle.tp_kept.specs.Lines.{IsTheirs, IsWhole, is_mark}
+use Rattle.tp_kept.specs.Lines.{IsTheirs, IsWhole, empty_lines, is_mark}
 use Rattle.tp_kept.specs.Lives.{IsLongFor, IsShortFor, Life, StandsFor, answers_of, dumped_in, for_in, goes_on, is_marking, life_behind, life_of, life_of_lines, session_behind, short}
 use Rattle.tp_kept.proofs.LinesLemmas.{theirs_unmarked, whole_then}
 
@@ -92,6 +92,28 @@ answers_then a b l whole =
     let first = step_of l.lines a l.session in
     let behind = step_of (l.lines + length (heard a)) b first.1 in
     ap (λ t. t.0 ++ finals t.1) (steps_of l.lines a b l.session whole) ∙ append_assoc first.0 behind.0 (finals behind.1)
+
+-- ---- empty lines
+
+pub whole_empty : (n : ℕ) → IsWhole (empty_lines n)
+unfolding empty_lines
+whole_empty zero = inl refl
+whole_empty (suc n) = inr (empty_lines n, refl)
+
+one_empty : (l : Life) → goes_on (10 ∷ []) l ≡ record { lines = l.lines + 1; session = l.session }
+one_empty l = refl
+
+pub goes_empty : (n : ℕ) (l : Life) → goes_on (empty_lines n) l ≡ record { lines = l.lines + n; session = l.session }
+unfolding empty_lines
+goes_empty zero l = goes_none l ∙ ap (λ m. record { lines = m; session = l.session }) (omega arith)
+goes_empty (suc n) l =
+    goes_then (empty_lines n) (10 ∷ []) l (whole_empty n) ∙ (ap (goes_on (10 ∷ [])) (goes_empty n l)
+    ∙ (one_empty (record { lines = l.lines + n; session = l.session }) ∙ ap (λ m. record { lines = m; session = l.session }) (omega arith)))
+
+pub theirs_empty : (n : ℕ) → All IsTheirs (empty_lines n)
+unfolding empty_lines
+theirs_empty zero = All-nil IsTheirs
+theirs_empty (suc n) = All-append IsTheirs (empty_lines n) (10 ∷ []) (theirs_empty n) (All-cons IsTheirs 10 [] refl (All-nil IsTheirs))
 
 -- ---- what a start makes of lines
 

@@ -1,5 +1,5 @@
 -- Lines as they are put down in a journal, and as they are taken out of it.
-use Rattle.std.specs.Prelude.{◌≡◌, ◌⊎◌, ◌||◌, ℕ, Bool, true, false, All, List, [], ◌∷◌, ◌++◌, if◌then◌else◌}
+use Rattle.std.specs.Prelude.{◌≡◌, ◌⊎◌, ◌||◌, ℕ, zero, suc, Bool, true, false, All, List, [], ◌∷◌, ◌++◌, if◌then◌else◌}
 use Rattle.std.specs.Prelude.{◌==◌, nat_lt, length}
 use Rattle.std.specs.List.{list_any}
 use Rattle.tp_journal.specs.Text.{is_reserved}
@@ -50,6 +50,11 @@ given_from line (b ∷ bs) = if b == 10 then (if is_own line then [] else line +
 
 abbrev pub given_in : List ℕ → List ℕ
 given_in text = given_from [] text
+
+-- so many empty lines, which stand for those that only asked
+unfoldable pub empty_lines : ℕ → List ℕ
+empty_lines zero = []
+empty_lines (suc n) = empty_lines n ++ 10 ∷ []
 
 -- whole lines: none, or the last one has its end
 abbrev pub IsWhole : List ℕ → Type 0

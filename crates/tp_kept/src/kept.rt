@@ -16,8 +16,10 @@ pub struct Kept<D: Device + Drop> {
     pub(crate) alloc: Global,
     pub(crate) journal: Journal<D>,
     pub(crate) session: Session,
-    /// How many lines clients have sent since the journal was first made.
+    /// How many lines of clients the journal stands for.
     pub(crate) counted: u64,
+    /// How many have come since, each of which only asked.
+    pub(crate) asked: u64,
     /// What was taken of a line that hasn't ended.
     pub(crate) line: Vec<u8>,
     /// How many bytes of lines the journal has behind its dump.

@@ -2,7 +2,7 @@
 ghost use Rattle.std.specs.Prelude.{◌≡◌, ◌⊎◌, ◌+◌, ◌<◌, ◌≤◌, ◌^◌, IfOk, IfSome, IsErrOf, IsTrue, OnErr, OnOk};
 ghost use Rattle.std.specs.Prelude.{string_bytes};
 ghost use Rattle.std.specs.Io.KnownBytes.{Appends};
-ghost use Rattle.tp_kept.specs.Kept.{IsReady, coming, life, recovered_text, written_to};
+ghost use Rattle.tp_kept.specs.Kept.{IsReady, coming, recovered_text, talk, written_to};
 ghost use Rattle.tp_kept.specs.declared.program.Ended.TheVariants as Ended;
 ghost use Rattle.tp_report.specs.Written.{AppendsFront};
 ghost use Rattle.tp_wire.specs.declared.reading.TheConstants.{MAX_ASKED};
@@ -81,7 +81,7 @@ fn greet<W: Sink>(alloc: Global, recovered: u64, cut: usize, writer: &mut W) -> 
     }
 }
 
-/// Tells how many lines were recovered, and how many bytes were cut off, if any were. Then it answers line
+/// Tells for how many lines the journal stands, and how many bytes were cut off, if any were. Then it answers line
 /// after line to the end of the input, and tells what is told there.
 pub fn keep<R: Source, W: Sink, D: Device + Drop>(
     alloc: Global,
@@ -94,9 +94,9 @@ pub fn keep<R: Source, W: Sink, D: Device + Drop>(
     requires asked { R.asked reader.old + MAX_ASKED < 2 ^ 64 }
     ensures ready { IsReady D.seen D.may_leave kept.new }
     ensures whole { OnOk result (IfSome (coming kept.old.line.items (R.rest reader.old)) (λ bytes.
-        Appends (W.contents writer.old) (W.contents writer.new) (written_to cut bytes (life kept.old)))) }
+        Appends (W.contents writer.old) (W.contents writer.new) (written_to cut kept.old.counted bytes (talk kept.old)))) }
     ensures front { OnErr result (IfSome (coming kept.old.line.items (R.rest reader.old)) (λ bytes.
-        AppendsFront (W.contents writer.old) (W.contents writer.new) (written_to cut bytes (life kept.old)))) }
+        AppendsFront (W.contents writer.old) (W.contents writer.new) (written_to cut kept.old.counted bytes (talk kept.old)))) }
     ensures read { IsErrOf result Ended.Read → IsTrue (R.has_failed reader.new)
         ⊎ (R.asked reader.old + MAX_ASKED ≤ R.asked reader.new) }
     ensures write { IsErrOf result Ended.Write → IsTrue (W.has_failed writer.new) }
@@ -133,9 +133,9 @@ pub fn keep_to_end<R: Source, W: Sink, D: Device + Drop, E: Sink>(
     requires asked { R.asked reader.old + MAX_ASKED < 2 ^ 64 }
     ensures ready { IsReady D.seen D.may_leave kept.new }
     ensures whole { result ≡ 0 → IfSome (coming kept.old.line.items (R.rest reader.old)) (λ bytes.
-        Appends (W.contents writer.old) (W.contents writer.new) (written_to cut bytes (life kept.old))) }
+        Appends (W.contents writer.old) (W.contents writer.new) (written_to cut kept.old.counted bytes (talk kept.old))) }
     ensures front { result ≡ 1 → IfSome (coming kept.old.line.items (R.rest reader.old)) (λ bytes.
-        AppendsFront (W.contents writer.old) (W.contents writer.new) (written_to cut bytes (life kept.old))) }
+        AppendsFront (W.contents writer.old) (W.contents writer.new) (written_to cut kept.old.counted bytes (talk kept.old))) }
     ensures status { result ≤ 1 }
 {
     match keep(alloc, kept, cut, reader, writer) {

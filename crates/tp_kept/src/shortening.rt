@@ -1,7 +1,7 @@
 //! A journal is made short: the session's own dump takes the place of its lines.
 ghost use Rattle.std.specs.Prelude.{◌≡◌, ◌++◌, IfOk, None, OnErr, OnOk, string_bytes, true};
 ghost use Rattle.std.specs.Option.{is_some};
-ghost use Rattle.tp_kept.specs.Kept.{IsReady, KeepsLife, life};
+ghost use Rattle.tp_kept.specs.Kept.{IsReady, KeepsLife, life, talk};
 ghost use Rattle.tp_kept.specs.Lives.{short};
 ghost use Rattle.tp_session.specs.Session.{has_begun};
 
@@ -34,7 +34,8 @@ impl<D: Device + Drop> Kept<D> {
     pub fn shorten(&mut self) -> Result<(), Cause>
         requires ready { IsReady D.seen D.may_leave self.old }
         ensures ready { IsReady D.seen D.may_leave self.new }
-        ensures same { (life self.new ≡ life self.old) × (self.new.line ≡ self.old.line) }
+        ensures same { (life self.new ≡ life self.old) × (talk self.new ≡ talk self.old)
+            × (self.new.line ≡ self.old.line) }
         ensures fine { OnOk result (self.new.cause ≡ None) }
         ensures keeps { self.old.cause ≡ None
             → KeepsLife (D.may_leave self.new.journal.device) (life self.old) }
@@ -62,7 +63,8 @@ impl<D: Device + Drop> Kept<D> {
         requires begun { has_begun self.old.session.phase ≡ true }
         requires short { text.now ≡ short (life self.old) }
         ensures ready { IsReady D.seen D.may_leave self.new }
-        ensures same { (life self.new ≡ life self.old) × (self.new.line ≡ self.old.line) }
+        ensures same { (life self.new ≡ life self.old) × (talk self.new ≡ talk self.old)
+            × (self.new.line ≡ self.old.line) }
         ensures fine { OnOk result (self.new.cause ≡ None) }
         ensures keeps { KeepsLife (D.may_leave self.new.journal.device) (life self.old) }
         ensures cause { OnErr result (is_some self.new.cause ≡ true) }

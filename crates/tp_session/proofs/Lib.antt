@@ -13,6 +13,7 @@ pub mod StoreGrows
 pub mod SaidParts
 pub mod ActsKeep
 pub mod RolesKeep
+pub mod AskingLemmas
 pub mod SessionParts
 pub mod CommandsKeep
 pub mod ClientsKeep

@@ -25,7 +25,7 @@ same_from a b is = ap (λ w. as_name w) ((bytes_decides a.letters b.letters).0 (
     as_name : List ℕ → NameView
     as_name w = record { letters = w }
 
-abbrev IsBelow : NameView → List NameView → Type 0
+abbrev pub IsBelow : NameView → List NameView → Type 0
 IsBelow k names = AllByRecursion (λ y. name_cmp k y ≡ Less) names
 
 ahead : (a b : NameView) → name_cmp a b ≡ Greater → name_cmp b a ≡ Less
@@ -36,7 +36,7 @@ module _ {A : Type 0} where
   unfolding IsStrictlySortedBy
   sorted_cons e es below sorted = (below, sorted)
 
-  below_more : (j k : NameView) (es : List (NameView × A)) → name_cmp j k ≡ Less → IsBelow k (keys_of es) → IsBelow j (keys_of es)
+  pub below_more : (j k : NameView) (es : List (NameView × A)) → name_cmp j k ≡ Less → IsBelow k (keys_of es) → IsBelow j (keys_of es)
   below_more j k [] h below = tt
   below_more j k (e ∷ es) h below = (names_total.trans j k e.0 h below.0, below_more j k es h below.1)
 

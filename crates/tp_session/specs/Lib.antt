@@ -12,5 +12,6 @@ pub mod Dumps
 pub mod Session
 pub mod Acted
 pub mod Conversed
-pub mod Lasting
+pub mod Asking
 pub mod Retold
+pub mod Lasting

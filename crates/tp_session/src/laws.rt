@@ -1,6 +1,6 @@
 //! The laws of sessions. These functions do nothing: their contracts are the laws.
 
-ghost use Rattle.tp_session.specs.Lasting.{GoesOnFromLines, ReadingsChangeNothing};
+ghost use Rattle.tp_session.specs.Lasting.{AskingChangesNothing, GoesOnFromLines};
 ghost use Rattle.tp_session.specs.Retold.{DumpMakesTheSame, SessionsAreFit};
 
 /// What the first lines of a session leave, given to the other ones, is what all of them leave; so a log of
@@ -9,10 +9,9 @@ pub fn goes_on_from_lines()
     ensures { GoesOnFromLines }
 {}
 
-/// A command that only tells changes nothing, so a log need not have it, unless it is the first command: that
-/// one ends the head.
-pub fn readings_change_nothing()
-    ensures { ReadingsChangeNothing }
+/// Lines that only ask change nothing, so a log need not have them.
+pub fn asking_changes_nothing()
+    ensures { AskingChangesNothing }
 {}
 
 /// The lines of a dump, given to a session that has heard nothing, make the session that was dumped, where

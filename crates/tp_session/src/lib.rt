@@ -2,6 +2,7 @@
 #![tactic(auto)]
 
 mod acts;
+mod asking;
 mod clients;
 mod conversing;
 mod drains;
