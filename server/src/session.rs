@@ -93,7 +93,8 @@ impl Session {
         let text = text_of(journal);
         let there = lines_in(&text).take(recovered).map(|it| String::from_utf8_lossy(it).into_owned());
         let there: Vec<String> = there.collect();
-        if there == wanted[..recovered] {
+        // (an empty line stands for one that only asked)
+        if there.iter().zip(&wanted).all(|(it, line)| it.is_empty() || it == line) {
             return Ok(recovered);
         }
         if is_only_head(&there) {

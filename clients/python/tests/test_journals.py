@@ -81,7 +81,8 @@ class Journals(unittest.TestCase):
                 with self.assertRaises(refusals.Busy):
                     session.claim("clerk")
                 self.assertEqual([it.words[0] for it in session.reply(0)], [0])
-                before = session.lines
+                # (all of these only asked)
+                self.assertEqual(session.lines, before + 3)
                 self.lost(session)
         self.assertEqual(self.lines()[:3], [*HEAD, "count"])
         with Session.open(self.path) as session:
@@ -164,7 +165,7 @@ class Journals(unittest.TestCase):
                 with Session.open(self.path, head) as session:
                     self.assertEqual(session.recovered, count)
                     self.assertEqual(session.count(), Counts(2, 0, 0, 0, 0))
-                self.assertEqual(self.lines(), [*whole, "count"])
+                self.assertEqual(self.lines(), whole)
         self.write(text_of(["limit 2", "keep 8"]))
         with self.assertRaisesRegex(JournalFault, "another head"), Session.open(self.path, head):
             pass
@@ -177,7 +178,7 @@ class Journals(unittest.TestCase):
             self.write(text_of(whole[:count]))
             with Session.open(self.path, begin) as session:
                 self.assertEqual(session.count().waiting, 2)
-            self.assertEqual(self.lines(), [*whole, "count"])
+            self.assertEqual(self.lines(), whole)
 
     def test_what_is_no_journal(self) -> None:
         with self.assertRaisesRegex(JournalFault, "there is no journal"), Session.open(self.path):

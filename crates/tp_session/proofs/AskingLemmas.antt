@@ -109,15 +109,15 @@ module _ {A : Type 0} where
 -- ---- a claim where nothing waits
 none_from : (q from : ℕ) (es : List Entry) → first_in queue_of q 0 es ≡ None → first_in queue_of q from es ≡ None
 none_from q from [] is = refl
-none_from q from (e ∷ es) is = go (nat_le from e.0) refl (is_group q (queue_of e.1)) refl is
+none_from q from (e ∷ es) is = go (λ none. none_from q from es none) (nat_le from e.0) refl (is_group q (queue_of e.1)) refl is
   where
-    go : (b : Bool) → nat_le from e.0 ≡ b → (g : Bool) → is_group q (queue_of e.1) ≡ g → first_in queue_of q 0 (e ∷ es) ≡ None → first_in queue_of q from (e ∷ es) ≡ None
-    go b at true of is = absurd (nothing (subst (λ g. cond g (Some e) (first_in queue_of q 0 es) ≡ None) of is))
+    go : (first_in queue_of q 0 es ≡ None → first_in queue_of q from es ≡ None) → (b : Bool) → nat_le from e.0 ≡ b → (g : Bool) → is_group q (queue_of e.1) ≡ g → first_in queue_of q 0 (e ∷ es) ≡ None → first_in queue_of q from (e ∷ es) ≡ None
+    go rest b at true of is = absurd (nothing (subst (λ g. cond g (Some e) (first_in queue_of q 0 es) ≡ None) of is))
       where
         nothing : Some e ≡ None → ⊥
         nothing is = cc
-    go true at false of is = rw (at, of) (none_from q from es (subst (λ g. cond g (Some e) (first_in queue_of q 0 es) ≡ None) of is))
-    go false at false of is = rw at (none_from q from es (subst (λ g. cond g (Some e) (first_in queue_of q 0 es) ≡ None) of is))
+    go rest true at false of is = rw (at, of) (rest (subst (λ g. cond g (Some e) (first_in queue_of q 0 es) ≡ None) of is))
+    go rest false at false of is = rw at (rest (subst (λ g. cond g (Some e) (first_in queue_of q 0 es) ≡ None) of is))
 
 finds : (w : Worker) (s : State) → first_in queue_of w.stage 0 s.elements ≡ None → claims w s ≡ unchanged told.Idle w s
 finds w s none = go (is_server_stage w.stage)
@@ -134,8 +134,11 @@ finds_next w s none = go (is_server_stage w.stage)
     go false = refl
 
 -- such a worker stands as it did
+working : SessionState → List (NameView × Worker) → SessionState
+working s ws = record s { workers = ws }
+
 stands : (t : Told) (name : NameView) (w : Worker) (s left : SessionState) (text : List ℕ) → AreInOrder s.workers → worker_at name s ≡ Some w → worked name (unchanged t w s.store) s ≡ Ok (text, left) → left ≡ s
-stands t name w s left text sorted at is = sym (ap (left_of s) is) ∙ ap (λ ws. record s { workers = ws }) (put_same name w s.workers sorted at)
+stands t name w s left text sorted at is = sym (ap (left_of s) is) ∙ ap (working s) (put_same name w s.workers sorted at)
 
 claim_told : (act : Act) → act ≡ acts.Claim ⊎ act ≡ acts.Next → (w : Worker) (s : State) → gets_none (Some w) s ≡ true → (t : Told) × worker_does act w s ≡ unchanged t w s
 claim_told act which w s none = by which (is_some w.hand) refl (first_in queue_of w.stage 0 s.elements) refl
@@ -188,8 +191,14 @@ is_begun : (p : Phase) → has_begun p ≡ true → p ≡ Begun
 is_begun Begun is = refl
 is_begun other is = absurd cc
 
+begins : SessionState → SessionState
+begins s = record s { phase = Begun }
+
+in_phase : SessionState → Phase → SessionState
+in_phase s p = record s { phase = p }
+
 begun_left : (n : ℕ) (c : Command) (s : SessionState) → s.phase ≡ Begun → (step : Step) → ((text : List ℕ) (left : SessionState) → step ≡ Ok (text, left) → left ≡ s) → (or_refused n s (begun step)).1 ≡ s
-begun_left n c s phase (Ok (text, left)) stays = ap (λ t. record t { phase = Begun }) (stays text left refl) ∙ ap (λ p. record s { phase = p }) (sym phase)
+begun_left n c s phase (Ok (text, left)) stays = ap begins (stays text left refl) ∙ ap (in_phase s) (sym phase)
 begun_left n c s phase (Err fault) stays = refl
 
 in_order_left : (n : ℕ) (c : Command) (s : SessionState) → s.phase ≡ Begun → ((text : List ℕ) (left : SessionState) → does c s ≡ Ok (text, left) → left ≡ s) → (or_refused n s (command_step c s)).1 ≡ s

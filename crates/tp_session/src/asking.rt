@@ -20,6 +20,14 @@ impl Session {
     {
         // (an iterator's contract says that the names are in order)
         let _in_order = self.workers.iter();
+        let only = self.is_only_asking(alloc, bytes)?;
+        Ok(only)
+    }
+
+    /// The same.
+    fn is_only_asking(&self, alloc: Global, bytes: &[u8]) -> Result<bool, AllocError>
+        ensures { IfOk result (λ only. only ≡ only_asks bytes.now self.now) }
+    {
         if !self.has_begun() {
             return Ok(false);
         }
