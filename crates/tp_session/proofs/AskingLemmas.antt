@@ -1,5 +1,5 @@
 -- Lines that only ask change nothing.
-use Rattle.std.proofs.Common.{◌≡◌, ◌∙◌, ◌==◌, ℕ, ◌+◌, Bool, true, false, cond, List, [], ◌∷◌, ◌++◌, Option, Some, None, Result, Ok, Err, refl, sym, ap, subst, ◌⊎◌, inl, inr}
+use Rattle.std.proofs.Common.{◌≡◌, ◌∙◌, ◌==◌, ◌≤◌, ◌&&◌, arith, ℕ, ◌+◌, Bool, true, false, cond, List, [], ◌∷◌, ◌++◌, Option, Some, None, Result, Ok, Err, refl, sym, ap, subst, ◌⊎◌, inl, inr}
 use Rattle.std.specs.Prelude.{if◌then◌else◌, is_none, is_some, nat_le, slice_get}
 use Rattle.std.specs.Option.{option_or}
 use Rattle.std.specs.Ordering.{is_eq}
@@ -7,6 +7,7 @@ use Rattle.std.specs.BTreeMap.{is_at}
 use Rattle.std.specs.Map.{keys_of}
 use Rattle.std.specs.declared.cmp.Ordering.{Ordering}
 use Rattle.std.specs.declared.cmp.Ordering.TheVariants.{Less, Equal, Greater}
+use Rattle.std.proofs.lemmas.Bool.{le-leb}
 use Rattle.std.proofs.lemmas.Map.Keys.{sorted_head, sorted_tail}
 use Rattle.tp_lines.specs.Names.{NameView, name_cmp}
 use Rattle.tp_lines.specs.Tags.{tag_in, tagged_said}
@@ -107,17 +108,21 @@ module _ {A : Type 0} where
           tail c is = subst (λ o. cond (is_eq o) (Some e.1) (named name es) ≡ Some x) c is
 
 -- ---- a claim where nothing waits
+
 none_from : (q from : ℕ) (es : List Entry) → first_in queue_of q 0 es ≡ None → first_in queue_of q from es ≡ None
 none_from q from [] is = refl
 none_from q from (e ∷ es) is = go (λ none. none_from q from es none) (nat_le from e.0) refl (is_group q (queue_of e.1)) refl is
   where
+    of_all : {g : Bool} → is_group q (queue_of e.1) ≡ g → (nat_le 0 e.0 && is_group q (queue_of e.1)) ≡ g
+    of_all of = ap (λ b. b && is_group q (queue_of e.1)) (le-leb 0 e.0 (omega arith)) ∙ of
+
     go : (first_in queue_of q 0 es ≡ None → first_in queue_of q from es ≡ None) → (b : Bool) → nat_le from e.0 ≡ b → (g : Bool) → is_group q (queue_of e.1) ≡ g → first_in queue_of q 0 (e ∷ es) ≡ None → first_in queue_of q from (e ∷ es) ≡ None
-    go rest b at true of is = absurd (nothing (subst (λ g. cond g (Some e) (first_in queue_of q 0 es) ≡ None) of is))
+    go rest b at true of is = absurd (nothing (subst (λ g. cond g (Some e) (first_in queue_of q 0 es) ≡ None) (of_all of) is))
       where
         nothing : Some e ≡ None → ⊥
         nothing is = cc
-    go rest true at false of is = rw (at, of) (rest (subst (λ g. cond g (Some e) (first_in queue_of q 0 es) ≡ None) of is))
-    go rest false at false of is = rw at (rest (subst (λ g. cond g (Some e) (first_in queue_of q 0 es) ≡ None) of is))
+    go rest true at false of is = rw (at, of) (rest (subst (λ g. cond g (Some e) (first_in queue_of q 0 es) ≡ None) (of_all of) is))
+    go rest false at false of is = rw at (rest (subst (λ g. cond g (Some e) (first_in queue_of q 0 es) ≡ None) (of_all of) is))
 
 finds : (w : Worker) (s : State) → first_in queue_of w.stage 0 s.elements ≡ None → claims w s ≡ unchanged told.Idle w s
 finds w s none = go (is_server_stage w.stage)
@@ -134,7 +139,7 @@ finds_next w s none = go (is_server_stage w.stage)
     go false = refl
 
 -- such a worker stands as it did
-working : SessionState → List (NameView × Worker) → SessionState
+abbrev working : SessionState → List (NameView × Worker) → SessionState
 working s ws = record s { workers = ws }
 
 stands : (t : Told) (name : NameView) (w : Worker) (s left : SessionState) (text : List ℕ) → AreInOrder s.workers → worker_at name s ≡ Some w → worked name (unchanged t w s.store) s ≡ Ok (text, left) → left ≡ s
@@ -191,10 +196,10 @@ is_begun : (p : Phase) → has_begun p ≡ true → p ≡ Begun
 is_begun Begun is = refl
 is_begun other is = absurd cc
 
-begins : SessionState → SessionState
+abbrev begins : SessionState → SessionState
 begins s = record s { phase = Begun }
 
-in_phase : SessionState → Phase → SessionState
+abbrev in_phase : SessionState → Phase → SessionState
 in_phase s p = record s { phase = p }
 
 begun_left : (n : ℕ) (c : Command) (s : SessionState) → s.phase ≡ Begun → (step : Step) → ((text : List ℕ) (left : SessionState) → step ≡ Ok (text, left) → left ≡ s) → (or_refused n s (begun step)).1 ≡ s
