@@ -246,7 +246,10 @@ impl<D: Device + Drop> Kept<D> {
         ensures cause { OnErr result (is_some self.new.cause ≡ true) }
         ensures line { self.new.line ≡ self.old.line }
     {
-        if self.counted >= MOST_LINES || self.asked >= MOST_BYTES || lines.len() >= MOST_BYTES as usize {
+        if self.counted >= MOST_LINES
+            || self.asked >= MOST_BYTES
+            || lines.len() >= MOST_BYTES as usize
+        {
             self.cause = Some(Cause::NoMemory);
             return Err(Cause::NoMemory);
         }
