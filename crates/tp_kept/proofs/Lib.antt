@@ -3,5 +3,6 @@ pub mod KeptLemmas
 pub mod LeadLemmas
 pub mod LinesLemmas
 pub mod LivesLemmas
+pub mod AskLemmas
 pub mod OwnLemmas
 pub mod ProgramLemmas

@@ -1,6 +1,6 @@
 -- Lives: what lines lead to, some after others.
 use Rattle.std.proofs.Common.{◌≡◌, ◌∙◌, ◌⊎◌, ◌==◌, ℕ, zero, suc, ◌+◌, ◌-◌, ◌≤◌, ◌<◌, Bool, true, false, All, List, [], ◌∷◌, ◌++◌, Option, Some, None, Ok, Err, refl, sym, ap, subst, arith, append-nil, append_assoc, drop, inl, inr, length, length-append, take}
-use Rattle.std.specs.Prelude.{if◌then◌else◌, nat_le}
+use Rattle.std.specs.Prelude.{Result, if◌then◌else◌, nat_le}
 use Rattle.std.specs.List.{list_any}
 use Rattle.std.proofs.lemmas.Bool.{eqb-true, le-leb, leb-true}
 use Rattle.std.proofs.lemmas.List.Elements.{All-append, All-cons, All-head, All-nil, All-tail}
@@ -11,7 +11,11 @@ use Rattle.tp_session.specs.Said.{Step}
 use Rattle.tp_session.specs.Session.{finals, has_begun, line_step, lines_step, or_refused, read_step_of, with_tag}
 use Rattle.tp_session.specs.State.{SessionState, begin}
 use Rattle.tp_session.proofs.Lasts.{goes_on_from_lines}
+use Rattle.tp_lines.specs.Grammar.{line_words, words_said}
 use Rattle.tp_lines.specs.Tags.{tag_in, tagged_said}
+use Rattle.tp_lines.specs.declared.line.Line.{Line}
+use Rattle.tp_lines.specs.declared.line.Line.TheVariants as lines
+use Rattle.tp_script.specs.declared.fault.LineFault.{LineFault}
 use Rattle.tp_kept.specs.Lines.{IsTheirs, IsWhole, empty_lines, is_mark}
 use Rattle.tp_kept.specs.Lives.{IsLongFor, IsShortFor, Life, StandsFor, answers_of, dumped_in, for_in, goes_on, is_marking, life_behind, life_of, life_of_lines, session_behind, short}
 use Rattle.tp_kept.proofs.LinesLemmas.{theirs_unmarked, whole_then}
@@ -100,8 +104,15 @@ unfolding empty_lines
 whole_empty zero = inl refl
 whole_empty (suc n) = inr (empty_lines n, refl)
 
+empty_said : tagged_said [] ≡ Ok lines.Nothing
+unfolding line_words, words_said
+empty_said = refl
+
+abbrev said_to : Life → Result Line LineFault → Life
+said_to l r = record { lines = l.lines + 1; session = (or_refused (l.lines + 1) l.session (read_step_of r l.session)).1 }
+
 one_empty : (l : Life) → goes_on (10 ∷ []) l ≡ record { lines = l.lines + 1; session = l.session }
-one_empty l = refl
+one_empty l = ap (said_to l) empty_said
 
 pub goes_empty : (n : ℕ) (l : Life) → goes_on (empty_lines n) l ≡ record { lines = l.lines + n; session = l.session }
 unfolding empty_lines

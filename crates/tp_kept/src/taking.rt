@@ -57,6 +57,7 @@ fn answer_all(
 }
 
 /// Whether each of these lines only asks.
+#[tactic(auto, using(crate::proofs::AskLemmas::all_step, crate::proofs::AskLemmas::all_stop))]
 fn all_ask(alloc: Global, session: &Session, lines: &[u8]) -> Result<bool, AllocError>
     requires whole { IsWhole lines.now }
     ensures is { IfOk result (λ all. all ≡ list_all (λ l. only_asks l session.now) (heard lines.now)) }
@@ -74,6 +75,7 @@ fn all_ask(alloc: Global, session: &Session, lines: &[u8]) -> Result<bool, Alloc
 }
 
 /// So many empty lines, and these behind them.
+#[tactic(auto, unfolding(crate::specs::Lines::empty_lines))]
 fn behind_empty_lines(alloc: Global, count: u64, lines: &[u8]) -> Result<Vec<u8>, AllocError>
     ensures { IfOk result (λ all. all.items ≡ empty_lines count ++ lines.now) }
 {
