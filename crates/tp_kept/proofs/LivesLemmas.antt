@@ -105,7 +105,7 @@ whole_empty zero = inl refl
 whole_empty (suc n) = inr (empty_lines n, refl)
 
 empty_said : tagged_said [] ≡ Ok lines.Nothing
-unfolding line_words, words_said
+unfolding line_words words_said
 empty_said = refl
 
 abbrev said_to : Life → Result Line LineFault → Life
