@@ -26,7 +26,13 @@ module _ (s : SessionState) (rest others line : List ℕ) (is : heard rest ≡ l
   stays_step one more past =
       ap (λ ls. (lines_step past ls s).1) is ∙ (ap (λ t. (lines_step (past + 1) (heard others) t).1) (one (past + 1)) ∙ more (past + 1))
 
+pub none_stays : (s : SessionState) (lines : List ℕ) → lines ≡ [] → (past : ℕ) → (step_of past lines s).1 ≡ s
+none_stays s lines none past = ap (λ l. (step_of past l s).1) none
+
 -- ---- behind empty lines
+
+abbrev pub behind : ℕ → Life → Life
+behind n l = record { lines = l.lines + n; session = l.session }
 
 pub batch_behind : (n : ℕ) (lines : List ℕ) → IsBatch lines → All IsTheirs lines → IsBatch (empty_lines n ++ lines)
 batch_behind n lines batch theirs = record {
@@ -39,5 +45,5 @@ pub theirs_behind : (n : ℕ) (lines : List ℕ) → All IsTheirs lines → All 
 theirs_behind n lines theirs = All-append IsTheirs (empty_lines n) lines (theirs_empty n) theirs
 
 -- empty lines lead to where those have led for which they stand
-pub goes_behind : (n : ℕ) (lines : List ℕ) (l : Life) → goes_on (empty_lines n ++ lines) l ≡ goes_on lines (record { lines = l.lines + n; session = l.session })
+pub goes_behind : (n : ℕ) (lines : List ℕ) (l : Life) → goes_on (empty_lines n ++ lines) l ≡ goes_on lines (behind n l)
 goes_behind n lines l = goes_then (empty_lines n) lines l (whole_empty n) ∙ ap (goes_on lines) (goes_empty n l)

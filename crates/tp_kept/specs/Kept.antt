@@ -42,9 +42,10 @@ life k = record { lines = k.counted; session = k.session }
 abbrev pub talk : {D : Type 0} {keeps : devices.Ghosts D} → Kept D keeps → Life
 talk k = record { lines = k.counted + k.asked; session = k.session }
 
--- whether lines need not be put down yet: each only asks, and not too many did
+-- whether lines need not be put down yet: each only asks, and not too many did; or there are none
 abbrev pub can_wait : List ℕ → {D : Type 0} {keeps : devices.Ghosts D} → Kept D keeps → Bool
-can_wait lines k = if nat_lt k.asked MOST_ASKED then list_all (λ l. only_asks l k.session) (heard lines) else false
+can_wait lines k =
+    if nat_lt k.asked MOST_ASKED then list_all (λ l. only_asks l k.session) (heard lines) else length lines == 0
 
 -- how many lines the journal stands for behind these
 abbrev pub counted_behind : List ℕ → {D : Type 0} {keeps : devices.Ghosts D} → Kept D keeps → ℕ

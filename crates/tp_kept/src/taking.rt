@@ -158,15 +158,15 @@ impl<D: Device + Drop> Kept<D> {
     }
 
     /// Whether lines need not be put down yet.
+    #[tactic(auto, using(crate::proofs::AskLemmas::none_stays))]
     fn can_wait(&self, lines: &[u8]) -> Result<bool, AllocError>
         requires whole { IsWhole lines.now }
         ensures is { IfOk result (λ can. can ≡ can_wait lines.now self.now) }
-        ensures few { result ≡ Ok true → self.now.asked < MOST_ASKED }
         ensures stays { result ≡ Ok true
             → (past : ℕ) → (step_of past lines.now self.now.session).1 ≡ self.now.session }
     {
         if self.asked >= MOST_ASKED {
-            return Ok(false);
+            return Ok(lines.is_empty());
         }
         all_ask(self.alloc, &self.session, lines)
     }
@@ -179,6 +179,7 @@ impl<D: Device + Drop> Kept<D> {
         ensures leads { OnOk result (talk self.new ≡ goes_on lines.now (talk self.old)) }
         ensures answers { IfOk result (λ text. text.items
             ≡ (step_of (self.old.counted + self.old.asked) lines.now self.old.session).0) }
+        ensures fits { OnOk result (self.new.counted + self.new.asked < 2 ^ 64) }
         ensures fine { OnOk result (self.new.cause ≡ None) }
         ensures cause { OnErr result (is_some self.new.cause ≡ true) }
         ensures same { (self.new.journal ≡ self.old.journal) × (self.new.counted ≡ self.old.counted)
@@ -284,10 +285,12 @@ impl<D: Device + Drop> Kept<D> {
             self.cause = Some(Cause::NoMemory);
             return Err(Cause::NoMemory);
         };
-        if lines.is_empty() {
+        let ended = lines.as_slice();
+        if ended.is_empty() {
             return Ok(lines);
         }
-        self.answer(&lines)
+        let answers = self.answer(ended)?;
+        Ok(answers)
     }
 
     /// Takes the end of the input: what was taken of a last line is performed as a whole one, and the final

@@ -10,7 +10,7 @@ pub returns-in_err-greet-clause-front : goal.returns-in_err-greet-clause-front
 returns-in_err-greet-clause-front g c =
     let k = c.args.kept.now in
     let before = g.W.Sink.contents c.args.writer.now in
-    on_err c.from_residual.result (greeted_front c.args.cut c.args.kept.now.counted (coming k.line.items (g.R.Source.rest c.args.reader.now)) (life k) before (g.W.Sink.contents c.greet.new.writer) (subst (λ n. AppendsFront before (g.W.Sink.contents c.greet.new.writer) (recovered_text c.args.cut c.args.kept.now.counted n)) c.recovered.ensures c.in_err-greet.ensures.front))
+    on_err c.from_residual.result (greeted_front c.args.cut c.args.kept.now.counted (coming k.line.items (g.R.Source.rest c.args.reader.now)) (talk k) before (g.W.Sink.contents c.greet.new.writer) (subst (λ n. AppendsFront before (g.W.Sink.contents c.greet.new.writer) (recovered_text c.args.cut n)) c.recovered.ensures c.in_err-greet.ensures.front))
 
 pub returns-in-Err-clause-front : goal.returns-in-Err-clause-front
 returns-in-Err-clause-front g c =
@@ -65,8 +65,8 @@ loop-read-preserved g c =
     record {
       ready = c.shorten.ensures.ready;
       asked = omega (arith, c.read.ensures.once, c.loop-read.invariant.asked);
-      told = subst (λ line. TellsLeft c.args.cut c.args.kept.now.counted come first (coming line.items rest') (talk c.shorten.new.self) before after) (sym c.shorten.ensures.same.1.1)
-          (subst (λ l. TellsLeft c.args.cut c.args.kept.now.counted come first (coming c.take.new.self.line.items rest') l before after) (sym c.shorten.ensures.same.1.0) told);
+      told = subst (λ line. TellsLeft c.args.cut c.args.kept.now.counted come first (coming line.items rest') (talk c.shorten.new.self) before after) (sym c.shorten.ensures.same.2)
+          (subst (λ l. TellsLeft c.args.cut c.args.kept.now.counted come first (coming c.take.new.self.line.items rest') l before after) (sym c.shorten.ensures.same.1) told);
     }
 
 pub returns-in_err-shorten-clause-front : goal.returns-in_err-shorten-clause-front
