@@ -43,6 +43,7 @@ fn answer_all(
     requires few { counted.old + length lines.now < 2 ^ 64 }
     ensures all { OnOk result (session.new ≡ (step_of counted.old lines.now session.old).1) }
     ensures counted { OnOk result (counted.new ≡ counted.old + length (heard lines.now)) }
+    ensures fits { counted.new < 2 ^ 64 }
     ensures told { OnOk result
         (answers.new.items ≡ answers.old.items ++ (step_of counted.old lines.now session.old).0) }
 {

@@ -28,7 +28,7 @@ pub returns-then-is_empty-clause-takes : goal.returns-then-is_empty-clause-takes
 returns-then-is_empty-clause-takes g c =
     let old = c.args.self.now in
     let put = c.in-Ok.ensures.put in
-    let none : c.put.new.ready.items ≡ [] = sym c.as_slice.ensures.value ∙ none_of c.as_slice.result.now (sym c.is_empty.ensures ∙ c.if-is_empty.true) in
+    let none : c.put.new.ready.items ≡ [] = sym c.as_slice-ended.ensures.value ∙ none_of c.as_slice-ended.result.now (sym c.is_empty.ensures ∙ c.if-is_empty.true) in
     let added : put.added ≡ [] = sym (put.lines_are ∙ ap (λ l. l ++ put.added) c.new-lines.ensures.items) ∙ none in
     record {
       added = [];
@@ -43,7 +43,7 @@ pub returns-clause-takes : goal.returns-clause-takes
 returns-clause-takes g c =
     let old = c.args.self.now in
     let put = c.in-Ok.ensures.put in
-    let is : c.as_slice.result.now ≡ put.added = c.as_slice.ensures.value ∙ (put.lines_are ∙ ap (λ l. l ++ put.added) c.new-lines.ensures.items) in
+    let is : c.as_slice-ended.result.now ≡ put.added = c.as_slice-ended.ensures.value ∙ (put.lines_are ∙ ap (λ l. l ++ put.added) c.new-lines.ensures.items) in
     record {
       added = put.added;
       whole = put.ended.1;
