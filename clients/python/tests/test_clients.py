@@ -31,7 +31,10 @@ class Clients(unittest.TestCase):
         session = self.session
         self.assertEqual(session.last("shop"), NOTHING)
         self.assertEqual(session.send("shop", 1, 1, 5, 6), Sent(1, 0))
-        self.assertEqual(session.send("shop", 1, 1, 7), Sent(1, 0))
+        self.assertEqual(session.send("shop", 1, 1, 5, 6), Sent(1, 0))
+        for stage, *words in ((1, 7), (2, 5, 6)):
+            with self.assertRaises(refusals.Differs):
+                session.send("shop", 1, stage, *words)
         self.assertEqual(session.send("shop", 2, 1, 7, 8, 9, 10), Sent(2, 1))
         self.assertEqual(session.send("shop", 1, 1, 5, 6), Sent(1, None))
         self.assertEqual(session.last("shop"), Last(2, 1, 0, None))

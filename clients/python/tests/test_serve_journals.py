@@ -216,7 +216,7 @@ class Killed:
     def work_off(self, it: Client) -> None:
         """Replies to orders until none waits, or an answer is missing."""
         while (words := it.ask("claim packer")[0].split(" "))[:2] == ["packer", "work"]:
-            key = words[-1].split(":")[0]
+            key = words[10].split(":")[0]
             if it.ask(f"commit packer 15:{key}:0")[0] in ("unknown", ""):
                 return
 
