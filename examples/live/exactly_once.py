@@ -71,7 +71,7 @@ class Life:
                     work = session.claim("clerk")
                     self.step()
                 if work:
-                    session.commit("clerk", Draft(REPLIES, *work.words))
+                    work.commit(Draft(REPLIES, *work.words))
                     self.step()
 
             run_exactly_once(Mortal(session, "shop", self), ORDERS, handle, work)
