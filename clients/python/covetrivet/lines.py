@@ -59,6 +59,11 @@ def parted(line: bytes) -> tuple[str, bytes]:
     return found[1].decode("ascii"), text if len(line) <= LONGEST_LINE else text.ljust(LONGEST_LINE + 1)
 
 
+def untagged(line: str) -> str:
+    """Returns a line without its tag."""
+    return re.sub(r"^@[0-9A-Za-z._-]{1,20}(?: |$)", "", line)
+
+
 def tagged(tag: str, answer: str) -> str:
     """Returns an answer, each line of which stands behind the tag."""
     return "\n".join(f"@{tag} {it}".rstrip() for it in answer.split("\n")) if tag else answer
