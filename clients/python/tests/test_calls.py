@@ -305,6 +305,19 @@ class Heads(unittest.TestCase):
             with self.subTest(kind.__name__), self.assertRaises(kind), Session(head):
                 pass
 
+    def test_heads_with_a_typo(self) -> None:
+        element, hand = "element 0 1:5:6:0:0 0 client nobody 0 held 0 1", "hand packer 0 0"
+        head = [*HEAD, "register shop", "keep 8", "max 100", "numbers 1 1 1", hand, element, "restore"]
+        with Session(head) as session:
+            self.assertEqual(session.read(0).status, "held 0 1")
+        for at, line in enumerate(head):
+            first, *words = line.split()
+            wrong = " ".join([first[:-2] + first[-1] + first[-2], *words])
+            with self.subTest(wrong), self.assertRaises(refusals.Syntax) as caught:
+                with Session([*head[:at], wrong, *head[at + 1 :]]):
+                    pass
+            self.assertEqual(caught.exception.command, wrong)
+
     def test_heads_of_before(self) -> None:
         for line in "rows 8", "units 8", "spare 1", "workers 2", "alive 0 0 0 1:5:6":
             with self.subTest(line), self.assertRaises(refusals.Syntax) as caught:

@@ -148,10 +148,11 @@ class Journals(unittest.TestCase):
         self.assertEqual(self.lines(), lines)
 
     def test_a_head_that_is_refused_is_not_kept(self) -> None:
-        with self.assertRaises(refusals.BadNumber) as refused:
-            with Session.open(self.path, [*HEAD, "worker late 1000"]):
-                pass
-        self.assertEqual(refused.exception.command, "worker late 1000")
+        for wrong in "worker late 1000", "wroker late 2":
+            with self.assertRaises((refusals.BadNumber, refusals.Syntax)) as refused:
+                with Session.open(self.path, [*HEAD, wrong, "keep 8"]):
+                    pass
+            self.assertEqual(refused.exception.command, wrong)
         with Session.open(self.path, [*HEAD, "worker late 2"]) as session:
             self.assertEqual((session.recovered, session.claim("late")), (0, None))
 
