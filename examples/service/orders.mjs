@@ -1,6 +1,6 @@
 #!/usr/bin/env node
-// orders.mjs SOCKET [ORDERS]: a client and a worker of a server's session, with tags and fences, sends so many
-// orders, has each done, and receives the replies. Killed, it goes on where it was.
+// orders.mjs SOCKET [ORDERS]: a client and a worker of a server, with tags and fences, sends so many orders,
+// has each done, and receives the replies. Killed, it goes on where it was.
 import { connect } from "node:net";
 const [path, many = "100"] = process.argv.slice(2), WINDOW = 32;
 
