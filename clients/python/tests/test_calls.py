@@ -7,7 +7,7 @@ from collections.abc import Callable
 
 from covetrivet import (
     Account, Command, Counts, Depth, Done, Draft, Held, Look, Member, Released, Reply, Session, SessionClosed,
-    SessionEnded, Work, claim, count, depth, dump, kill, refusals, submit, waiting,
+    SessionEnded, Work, claim, commit, count, depth, dump, kill, refusals, submit, waiting,
 )  # fmt: skip
 
 HEAD = ["limit 2", "server till eager 2 1 add", "start till 0 100", "worker packer 1"]
@@ -251,6 +251,8 @@ class Calls(unittest.TestCase):
             kill("0")  # type: ignore[arg-type]
         with self.assertRaises(TypeError):
             Draft(15, None)  # type: ignore[arg-type]
+        with self.assertRaises(TypeError):
+            commit("packer", "15:1:2")  # type: ignore[arg-type]
 
 
 class Names(unittest.TestCase):
