@@ -61,9 +61,9 @@ class Line(Wire):
 
     def close_streams(self) -> None:
         self.socket.close()
-        if self.reader >= 0:
-            os.close(self.reader)
-            self.reader = -1
+        reader, self.reader = self.reader, -1
+        if reader >= 0:
+            os.close(reader)
         super().close_streams()
 
 

@@ -129,10 +129,10 @@ class Wire:
 
     def close_streams(self) -> None:
         """Closes the descriptors of this process alone."""
-        for it in (self.stop, self.stopping):
+        them, self.stop, self.stopping = (self.stop, self.stopping), -1, -1
+        for it in them:
             with contextlib.suppress(OSError):
                 os.close(it)
-        self.stop = self.stopping = -1
 
 
 def time_left(until: float | None, seconds: float | None) -> float | None:

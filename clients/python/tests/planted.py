@@ -103,7 +103,9 @@ ERRORS = [
     ),
     Error("commands.py", "if not isinstance(it, Draft):", "if False:", "Calls.test_numbers"),
     Error("client.py", "*words, epoch=self.epoch)", "*words)", "Clients.test_two_of_one_name"),
-    Error("client.py", "self.epoch, note, wait", "self.epoch, None, wait", "ServeSessions.test_lines_that_wait"),
+    Error(
+        "client.py", "self.epoch, note, wait", "self.epoch, None, wait", "ServeSessions.test_lines_that_wait",
+    ),
     Error("session.py", "self._seconds + wait if", "self._seconds if", "ServeSessions.test_lines_that_wait"),
     Error(
         "lines.py", "line.split()[0] not in COMMANDS", 'line.split()[0] in ("server", "worker", "limit")',
