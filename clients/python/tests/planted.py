@@ -51,6 +51,7 @@ MODULES = {
     "Works": "test_work",
     "Workers": "test_work",
     "Async": "test_aio",
+    "Anywhere": "test_anywhere",
 }
 
 
@@ -124,6 +125,8 @@ ERRORS = [
         "batch.py", "        self.has_ended = True\n", "",
         "Exchanges.test_a_batch_that_is_interrupted",
     ),
+    Error("session.py", "or self._is_gone or", "or self._closed or", "Anywhere.test_a_close"),
+    Error("session.py", "not self._log.is_in_place()", "False", "Anywhere.test_logs"),
     Error("session.py", "self._wire.close_streams()", "pass", "Closed.test_a_forked_process"),
     Error("commands.py", '"[!-~]+"', '"(?s).*"', "Words.test_a_word_is_one_word"),
     Error("lines.py", '"[ -~]*"', '"(?s).*"', "Words.test_a_line_of_a_head_is_one_line"),
