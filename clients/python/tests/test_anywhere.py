@@ -154,14 +154,16 @@ class Anywhere(unittest.TestCase):
                 self.assertEqual(session.dump().lines, lines)
 
     def test_a_close(self) -> None:
-        """Behind one that was left another one ends the program."""
+        """Behind one that was left another one ends the program, and nothing stays open."""
         nth, came = 1, True
+        before = len(os.listdir("/proc/self/fd"))
         while came:
             with Session(HEAD) as session:
                 session.submit(1, 5)
                 came = at_line(nth, session.close, leave)
                 session.close()
                 self.assertIsNotNone(session.process.poll())
+                self.assertEqual(len(os.listdir("/proc/self/fd")), before)
                 with self.assertRaises(covetrivet.SessionClosed):
                     session.count()
             nth += 1
