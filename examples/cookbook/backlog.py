@@ -35,7 +35,7 @@ def main() -> None:
         print("inside", len(inside), "outside", len(backlog))
         while inside:
             if work := session.claim("clerk"):
-                session.commit("clerk", Draft(REPLIES, *work.words), Draft(REPLIES, 1))
+                work.commit(Draft(REPLIES, *work.words), Draft(REPLIES, 1))
             if replies := session.collect(inside[0]):
                 paid += replies[0].words[0]
                 inside.popleft()

@@ -34,9 +34,9 @@ def work_off(session: Session, stock: dict[int, int]) -> None:
     while work := session.claim("clerk"):
         customer, goods = work.words[:2]
         if reason := objection(stock, goods):
-            session.commit("clerk", Draft(DEAD, work.element, reason, customer, goods))
+            work.commit(Draft(DEAD, work.element, reason, customer, goods))
         else:
-            session.commit("clerk", Draft(REPLIES, customer, goods))
+            work.commit(Draft(REPLIES, customer, goods))
 
 
 def main() -> None:
@@ -51,9 +51,9 @@ def main() -> None:
             print("order", element, "of customer", customer, Reason(reason).name)
             if reason == Reason.SOLD_OUT:
                 stock[goods] += 5
-                session.commit("editor", Draft(1, customer, goods))
+                letter.commit(Draft(1, customer, goods))
             else:
-                session.commit("editor")
+                letter.commit()
         work_off(session, stock)
         for order in orders:
             print("order", order, "replied", [reply.words[1] for reply in session.collect(order)])

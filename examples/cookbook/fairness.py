@@ -32,7 +32,7 @@ def main() -> None:
             waiting.setdefault(customer, deque()).append(order)
         for order in in_turn(waiting):
             if work := session.take("clerk", order):
-                session.commit("clerk")
+                work.commit()
                 print("order", work.element, "of customer", work.words[0])
 
 

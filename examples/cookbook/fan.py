@@ -27,9 +27,9 @@ def main() -> None:
             session.submit(1, customer)
         while work := session.claim("splitter"):
             customer = work.words[0]
-            session.commit("splitter", *(Draft(PARTS, customer, price) for price in PRICES[customer]))
+            work.commit(*(Draft(PARTS, customer, price) for price in PRICES[customer]))
         while work := session.claim("packer"):
-            session.commit("packer", Draft(REPLIES, *work.words))
+            work.commit(Draft(REPLIES, *work.words))
             missing = left(session, work.root)
             print("order", work.root, "packed", work.words[1], "left", missing)
             if not missing:

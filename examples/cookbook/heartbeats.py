@@ -20,14 +20,13 @@ SECONDS = 30
 Held = dict[str, tuple[Work, int]]  # by a worker's name: its work, and when it was heard of last
 
 
-def claim(session: Session, held: Held, name: str, now: int) -> int | None:
-    """Returns the unit that the worker is given, if any."""
+def claim(session: Session, held: Held, name: str, now: int) -> Work:
+    """Returns what the worker is given. (Something waits each time.)"""
     work = session.claim(name)
-    if not work:
-        return None
+    assert work
     held[name] = work, now
     print(now, name, "has", work.element, "attempt", work.attempt)
-    return work.unit
+    return work
 
 
 def beat(held: Held, name: str, now: int) -> None:
@@ -42,20 +41,19 @@ def release_late(session: Session, held: Held, now: int) -> None:
             print(now, "released", session.release(work.element).element, "of", name)
 
 
-def commit(session: Session, held: Held, name: str, unit: int | None, now: int) -> None:
-    """Commits the unit that the worker was given, unless its name has another one by now."""
-    if name not in held or held[name][0].unit == unit:
-        held.pop(name, None)
-        with suppress(refusals.Lost, refusals.NoneOpen):
-            print(now, name, "did", session.commit(name, Draft(REPLIES)).element)
-            return
-    print(now, name, "is too late with unit", unit)
+def commit(held: Held, name: str, work: Work, now: int) -> None:
+    """Commits what the worker was given, unless it was taken away, or its name has other work by now."""
+    try:
+        print(now, name, "did", work.commit(Draft(REPLIES)).element)
+        held.pop(name)
+    except (refusals.Lost, refusals.Other):
+        print(now, name, "is too late with unit", work.unit)
 
 
-def bury(session: Session, name: str) -> None:
+def bury(work: Work) -> None:
     """Ends the unit of a worker that is dead, so that its name is free."""
-    with suppress(refusals.AlreadyAborted, refusals.NoneOpen):
-        session.abort(name)
+    with suppress(refusals.AlreadyAborted, refusals.Other):
+        work.abort()
 
 
 def main() -> None:
@@ -66,10 +64,10 @@ def main() -> None:
         of_ann, of_bob = claim(session, held, "ann", 0), claim(session, held, "bob", 0)
         beat(held, "bob", 20)
         release_late(session, held, 40)
-        commit(session, held, "bob", of_bob, 41)
+        commit(held, "bob", of_bob, 41)
         of_bob = claim(session, held, "bob", 41)
-        commit(session, held, "ann", of_ann, 50)
-        commit(session, held, "bob", of_bob, 51)
+        commit(held, "ann", of_ann, 50)
+        commit(held, "bob", of_bob, 51)
 
         session.submit(1, 7)
         of_dead = claim(session, held, "ann", 60)
@@ -78,10 +76,10 @@ def main() -> None:
             session.claim("ann")
         except refusals.Busy:
             print("her unit is still open")
-        bury(session, "ann")
+        bury(of_dead)
         of_ann = claim(session, held, "ann", 100)
-        commit(session, held, "ann", of_dead, 105)
-        commit(session, held, "ann", of_ann, 110)
+        commit(held, "ann", of_dead, 105)
+        commit(held, "ann", of_ann, 110)
 
 
 if __name__ == "__main__":

@@ -58,7 +58,7 @@ def receive_all(db: sqlite3.Connection, shop: Client) -> None:
 
 def work_off(session: Session) -> None:
     while work := session.last_work("clerk").work or session.claim("clerk"):
-        session.commit("clerk", Draft(REPLIES, *work.words))
+        work.commit(Draft(REPLIES, *work.words))
 
 
 def life(folder: str, number: int) -> None:

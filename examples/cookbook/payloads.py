@@ -34,8 +34,8 @@ def sweep(session: Session, pictures: dict[int, bytes], orders: dict[int, int]) 
 
 
 def mail(session: Session) -> None:
-    if session.claim("mailer"):
-        session.commit("mailer")
+    if work := session.claim("mailer"):
+        work.commit()
 
 
 def main() -> None:
@@ -47,7 +47,7 @@ def main() -> None:
             orders[key] = session.submit(1, key).element
         while work := session.claim("resizer"):
             key = work.words[0]
-            session.commit("resizer", Draft(2, key), Draft(REPLIES, key, len(pictures[key])))
+            work.commit(Draft(2, key), Draft(REPLIES, key, len(pictures[key])))
         for key, order in orders.items():
             print(key, "has bytes:", *(reply.words[1] for reply in session.collect(order)))
         print("replies collected:", sweep(session, pictures, orders))

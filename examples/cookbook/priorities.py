@@ -27,7 +27,7 @@ def main() -> None:
             session.submit(stage, customer)
         while found := claim(session):
             name, work = found
-            session.commit(name)
+            work.commit()
             print(name, "customer", work.words[0])
             if work.words[0] == 7:
                 session.submit(1, 8)
@@ -35,7 +35,7 @@ def main() -> None:
         prices = {session.submit(2, price).element: price for price in (30, 70, 50)}
         for element in sorted(prices, key=prices.__getitem__, reverse=True):
             if taken := session.take("usual", element):
-                session.commit("usual")
+                taken.commit()
                 print("price", taken.words[0])
 
 

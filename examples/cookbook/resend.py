@@ -13,7 +13,7 @@ from pathlib import Path
 
 # (the package need not be installed: it is the checkout's)
 sys.path.insert(0, str(Path(__file__).resolve().parents[2] / "clients/python"))
-from covetrivet import Draft, Session, SessionEnded, refusals  # noqa: E402
+from covetrivet import Draft, Session, SessionEnded  # noqa: E402
 
 HEAD = ["worker clerk 1"]
 REPLIES = 15
@@ -29,15 +29,15 @@ def requests(session: Session) -> dict[int, int]:
 
 def work_off(session: Session) -> None:
     while work := session.claim("clerk"):
-        session.commit("clerk", Draft(REPLIES, *work.words))
+        work.commit(Draft(REPLIES, *work.words))
 
 
 def crash(log: Path) -> None:
     with Session(HEAD, log=log) as session:
         for number in (1, 2, 3):
             session.submit(1, number, 10 * number)
-        session.claim("clerk")
-        session.commit("clerk", Draft(REPLIES, 1, 10))
+        if work := session.claim("clerk"):
+            work.commit(Draft(REPLIES, *work.words))
         session.claim("clerk")
         session.process.kill()
         session.submit(1, 4, 40)
@@ -50,8 +50,8 @@ def main() -> None:
         with suppress(SessionEnded):
             crash(log)
         with Session.from_log(log) as session:
-            with suppress(refusals.NoneOpen):
-                session.abort("clerk")
+            if work := session.last_work("clerk").work:
+                work.abort()
             known = requests(session)
             print("there:", *sorted(known))
             for number in {1, 2, 3, 4, 5} - known.keys() - replied.keys():

@@ -24,10 +24,10 @@ def send(session: Session, later: list[tuple[int, int]], now: int) -> None:
     while work := session.claim("sender"):
         customer, tries = work.words[:2]
         if now >= THERE_FROM[customer]:
-            session.commit("sender", Draft(REPLIES, customer, tries))
+            work.commit(Draft(REPLIES, customer, tries))
             continue
         due = now + 10 * 2**tries
-        done = session.commit("sender", Draft(LATER, customer, tries + 1, due))
+        done = work.commit(Draft(LATER, customer, tries + 1, due))
         heapq.heappush(later, (due, done.outputs[0]))
         print(now, "customer", customer, "is due at", due)
 
@@ -41,7 +41,7 @@ def move(session: Session, later: list[tuple[int, int]], now: int) -> None:
         except refusals.NotWaiting:
             continue  # it was cancelled
         if work:
-            session.commit("mover", Draft(READY, *work.words))
+            work.commit(Draft(READY, *work.words))
 
 
 def told(session: Session) -> list[tuple[int, int]]:

@@ -15,7 +15,7 @@ from typing import NamedTuple
 
 # (the package need not be installed: it is the checkout's)
 sys.path.insert(0, str(Path(__file__).resolve().parents[2] / "clients/python"))
-from covetrivet import Draft, Look, Session, refusals  # noqa: E402
+from covetrivet import Draft, Look, Session, Work, refusals  # noqa: E402
 
 HEAD = ["limit 3", "worker gate 1"]
 GATE, REPLIES, MOST_OUTPUTS = "gate", 15, 4
@@ -131,8 +131,13 @@ class Queues:
             self.wait(output)
 
     def commit(self, element: int, drafts: Sequence[Draft]) -> range:
-        self.session.take(GATE, element)
-        return self.session.commit(GATE, *drafts).outputs
+        with self.take(element) as work:
+            return work.commit(*drafts).outputs
+
+    def take(self, element: int) -> Work:
+        work = self.session.take(GATE, element)
+        assert work
+        return work
 
     def finish(self, element: int) -> None:
         """Consumes an element of a queue, and takes a reply or a dead letter away."""
@@ -151,8 +156,7 @@ class Queues:
         if not look:
             return
         if self.destination(look) in self.stages:
-            self.session.take(GATE, element)
-            self.session.abort(GATE)
+            self.take(element).abort()
         self.wait(element)
 
     def requeue(self, element: int) -> None:

@@ -16,7 +16,7 @@ from pathlib import Path
 
 # (the package need not be installed: it is the checkout's)
 sys.path.insert(0, str(Path(__file__).resolve().parents[2] / "clients/python"))
-from covetrivet import Draft, Session, refusals  # noqa: E402
+from covetrivet import Draft, Session  # noqa: E402
 
 HEAD = ["worker clerk 1"]
 ORDERS, REPLIES = 6, 15
@@ -44,16 +44,14 @@ class Life:
                 self.step()
             while work := session.claim("clerk"):
                 self.step()
-                session.commit("clerk", Draft(REPLIES, *work.words))
+                work.commit(Draft(REPLIES, *work.words))
                 self.step()
             replies = [it.words[0] for order in range(ORDERS) for it in session.reply(order)]
             print("each order is replied to once:", replies)
 
     def give_up(self, session: Session) -> None:
-        try:
-            print("in hand was order", session.abort("clerk"), flush=True)
-        except refusals.NoneOpen:
-            pass
+        if work := session.last_work("clerk").work:
+            print("in hand was order", work.abort(), flush=True)
 
 
 def main() -> None:

@@ -20,7 +20,7 @@ def pay(session: Session, customer: int) -> int:
     """Has the clerk work on an order of this customer, and returns what the reply says was paid."""
     order = session.submit(1, customer, 30).element
     if work := session.claim("clerk"):
-        session.commit("clerk", Draft(REPLIES, *work.words))
+        work.commit(Draft(REPLIES, *work.words))
     (reply,) = session.collect(order)
     return reply.words[1]
 
@@ -38,7 +38,7 @@ def main() -> None:
         print("waited:", all(session.read(it).status == "waiting 0" for it in late))
         while work := session.claim("late"):
             late.remove(work.element)
-            session.commit("late")
+            work.commit()
         print("left:", len(late))
 
 

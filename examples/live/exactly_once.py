@@ -2,7 +2,7 @@
 """A client and a worker that are killed again and again, while each order is worked on once, and each reply
 is handled.
 
-Each life is a process of its own, which is killed by SIGKILL behind five steps: behind an answer to the
+Each life is a process of its own, which is killed by SIGKILL behind seven steps: behind an answer to the
 client or the worker, or when a reply was handled. The session has a journal.
 """
 from __future__ import annotations
@@ -22,7 +22,7 @@ from covetrivet import Client, Draft, Received, Session  # noqa: E402
 
 HEAD = ["worker clerk 1", "register shop"]
 ORDERS = [(customer, 30) for customer in (7, 8, 9)]
-STEPS, REPLIES = 5, 15
+STEPS, REPLIES = 7, 15
 T = TypeVar("T")
 
 
@@ -71,7 +71,7 @@ class Life:
                     work = session.claim("clerk")
                     self.step()
                 if work:
-                    session.commit("clerk", Draft(REPLIES, *work.words))
+                    work.commit(Draft(REPLIES, *work.words))
                     self.step()
 
             run_exactly_once(Mortal(session, "shop", self), ORDERS, handle, work)

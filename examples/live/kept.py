@@ -27,7 +27,7 @@ def work_off(session: Session, customers: range) -> None:
     for customer in customers:
         order = session.submit(2 if customer % 10 == 0 else 1, customer, 30).element
         if work := session.claim("clerk"):
-            session.commit("clerk", Draft(REPLIES, *work.words))
+            work.commit(Draft(REPLIES, *work.words))
             session.collect(order)
         if customer % 20 == 19:
             session.shorten_log()
@@ -48,10 +48,11 @@ def main() -> None:
         print("lines of the log:", len(log.read_text(encoding="ascii").splitlines()))
         with opened(log) as session:
             print("in hand:", session.holds(), "of", session.count())
-            print("done:", session.commit("late").element)
+            if work := session.last_work("late").work:
+                print("done:", work.commit().element)
             while work := session.claim("late"):
                 print(work.words[0], end=" ")
-                session.commit("late")
+                work.commit()
             print("and none left")
 
 

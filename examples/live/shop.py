@@ -23,19 +23,19 @@ def check(session: Session) -> None:
     """The clerk passes each order on to the bank."""
     while work := session.claim("clerk"):
         customer, price = work.words[:2]
-        session.commit("clerk", Draft(2, customer, price))
+        work.commit(Draft(2, customer, price))
 
 
-def pay(session: Session, money: dict[int, int], work: Work) -> str:
+def pay(money: dict[int, int], work: Work) -> str:
     """The bank takes the price from the customer's money, if there is enough; it pays only what was
     committed.
     """
     customer, price = work.words[:2]
     if money[customer] < price:
-        session.abort("bank")
+        work.abort()
         return "declined"
     try:
-        session.commit("bank", Draft(3, customer, price))
+        work.commit(Draft(3, customer, price))
     except refusals.Lost:
         return "lost"
     money[customer] -= price
@@ -53,19 +53,19 @@ def main() -> None:
 
         if work := session.claim("bank"):
             killed = session.cancel(work.root).killed
-            print("cancelled in flight:", killed, "killed; the bank:", pay(session, money, work))
+            print("cancelled in flight:", killed, "killed; the bank:", pay(money, work))
         while work := session.claim("bank"):
-            print("order", work.root, "attempt", work.attempt, pay(session, money, work))
+            print("order", work.root, "attempt", work.attempt, pay(money, work))
 
         print("parked", *session.errors())
         money[2] += 40
         for element in session.errors():
             session.requeue(element)
         while work := session.claim("bank"):
-            print("order", work.root, "attempt", work.attempt, pay(session, money, work))
+            print("order", work.root, "attempt", work.attempt, pay(money, work))
 
         while work := session.claim("packer"):
-            session.commit("packer", Draft(REPLIES, *work.words))
+            work.commit(Draft(REPLIES, *work.words))
         for order in orders:
             replies = session.collect(order)
             print("order", order, *(f"replied {it.words[0]}:{it.words[1]}" for it in replies))

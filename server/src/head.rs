@@ -5,10 +5,12 @@ use std::collections::HashMap;
 /// What a dump says of what there is: behind any of these `restore` is the first command.
 const TO_RESTORE: [&str; 10] =
     ["numbers", "element", "over", "settled", "hand", "from", "prepared", "dropped", "ended", "client"];
-/// The other lines of heads, also those of 0.22.1 and before: they are sent as such, and so refused.
-const OF_HEADS: [&str; 15] = [
-    "limit", "max", "keep", "server", "start", "worker", "register", "rows", "units", "spare", "workers",
-    "alive", "held", "lost", "request",
+/// What ends a head. Any other line is sent as one of the head, and so refused where it is faulty.
+const COMMANDS: [&str; 33] = [
+    "submit", "kill", "cancel", "requeue", "release", "collect", "restore", "claim", "next", "turn",
+    "prepare", "abort", "drop", "drain", "take", "commit", "leave", "send", "receive", "forget", "read",
+    "reply", "family", "errors", "count", "depth", "list", "holds", "balance", "sum", "account", "last",
+    "dump",
 ];
 
 pub fn is_empty(line: &str) -> bool {
@@ -20,7 +22,7 @@ fn first(line: &str) -> &str {
 }
 
 fn is_of_head(line: &str) -> bool {
-    is_empty(line) || TO_RESTORE.contains(&first(line)) || OF_HEADS.contains(&first(line))
+    is_empty(line) || !COMMANDS.contains(&first(line))
 }
 
 /// Whether none of the lines must be a command.
@@ -110,6 +112,7 @@ mod tests {
         let cut = |lines: &[&str]| beginning(&owned(lines));
         assert_eq!(cut(&["keep 5", "worker a 1"]), (owned(&["keep 5", "worker a 1", "count"]), vec![]));
         assert_eq!(cut(&["keep 5", "submit 1 5"]), (owned(&["keep 5", "count"]), owned(&["submit 1 5"])));
+        assert_eq!(cut(&["wroker a 1", "keep 5"]), (owned(&["wroker a 1", "keep 5", "count"]), vec![]));
         assert_eq!(cut(&["count", "count"]), (owned(&["count"]), owned(&["count"])));
         assert_eq!(cut(&["numbers 1 1 0"]), (owned(&["numbers 1 1 0", "restore"]), vec![]));
         assert_eq!(cut(&["numbers 1 1 0", "count"]), (owned(&["numbers 1 1 0", "count"]), vec![]));

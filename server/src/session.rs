@@ -109,7 +109,10 @@ impl Session {
         let (first, others) = beginning(&self.head);
         if known < first.len() {
             it.send(first[known..].iter());
-            let answer = it.line()?;
+            let mut answer = it.line()?;
+            while answer.starts_with("version ") {
+                answer = it.line()?;
+            }
             if answer.starts_with("refused ") {
                 let line = line_of_refusal(&answer).and_then(|it| first.get(it.checked_sub(1)?));
                 let line = line.map_or(String::new(), |it| format!("{it}: "));

@@ -2,6 +2,7 @@
 from __future__ import annotations
 
 import re
+from collections.abc import Callable
 from dataclasses import dataclass, field
 
 from covetrivet import refusals
@@ -282,3 +283,27 @@ def words_of(text: str) -> Words:
     words = [int(it) for it in text.split(":")]
     zero, one, two, three = words + [0] * (4 - len(words))
     return zero, one, two, three
+
+
+# What a worker has taken, as an answer tells it.
+TAKEN = r"(\d+) unit (\d+) attempt (\d+) root (\d+) body ([\d:]+) try (\d+)"
+
+
+def taken(heard: Heard, worker: str, *told: str) -> Work:
+    element, unit, attempt, root, body, tries = told
+    hand, words = heard.hand_of(worker), words_of(body)
+    return Work(int(element), int(unit), int(attempt), int(root), words, int(tries), hand)
+
+
+def received(nth: int, element: str, root: str, body: str) -> Received:
+    return Received(nth, int(element), int(root), words_of(body))
+
+
+def said(text: str) -> Callable[[Heard], None]:
+    """Returns what reads this answer, which tells nothing."""
+
+    def read(heard: Heard) -> None:
+        if heard.text != text:
+            raise heard.not_understood()
+
+    return read

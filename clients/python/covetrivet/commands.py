@@ -9,7 +9,7 @@ from collections.abc import Callable
 from typing import Generic, TypeVar
 
 from covetrivet import answers, refusals
-from covetrivet.answers import Heard, Reply
+from covetrivet.answers import TAKEN, Heard, Reply, received, said, taken
 from covetrivet.work import Done, Draft, Work, fence
 
 T = TypeVar("T")
@@ -54,16 +54,6 @@ def work(name: str) -> Callable[[Heard], Work | None]:
         return taken(heard, name, *said.formed(f"work {TAKEN}").groups())
 
     return read
-
-
-# What a worker has taken, as an answer tells it.
-TAKEN = r"(\d+) unit (\d+) attempt (\d+) root (\d+) body ([\d:]+) try (\d+)"
-
-
-def taken(heard: Heard, worker: str, *told: str) -> Work:
-    element, unit, attempt, root, body, tries = told
-    hand, words = heard.hand_of(worker), answers.words_of(body)
-    return Work(int(element), int(unit), int(attempt), int(root), words, int(tries), hand)
 
 
 def fenced(work: Work | str | None) -> tuple[str, ...]:
@@ -142,16 +132,6 @@ def turn(name: str) -> Command[Done | None]:
         return None if said.text == "idle" else done(said)
 
     return Command("turn", name, read=read)
-
-
-def said(text: str) -> Callable[[Heard], None]:
-    """Returns what reads this answer, which tells nothing."""
-
-    def read(heard: Heard) -> None:
-        if heard.text != text:
-            raise heard.not_understood()
-
-    return read
 
 
 def prepare(name: str) -> Command[None]:
@@ -284,10 +264,6 @@ def receive(
         return received(nth, element, *others) if others else None
 
     return Command("receive", in_epoch(client, epoch), nth, *of_root, *noted, read=read, wait=wait)
-
-
-def received(nth: int, element: str, root: str, body: str) -> answers.Received:
-    return answers.Received(nth, int(element), int(root), answers.words_of(body))
 
 
 def last(client: str) -> Command[answers.Last]:

@@ -172,6 +172,7 @@ class Conversation:
             self.first.wait(None, None)
         if not self.untagged and self.fault:
             raise self.again(self.fault)
+        self.is_greeted = True
         return self.untagged[0]
 
     # ---- the end

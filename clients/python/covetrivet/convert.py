@@ -18,6 +18,8 @@ from covetrivet.lines import is_empty
 WRONG_WORDS, BAD_DUMP, NO_DUMP = 64, 65, 66
 GONE, REPLIES = "gone", "15"
 NO_REQUESTS = ["0", GONE, "0", GONE, GONE, "0:0:0:0"]
+# Of a client: its first epoch, and neither what it sent last nor a note. (Of a hand the try, 0, isn't known.)
+UNTOLD = "1 0:0:0:0:0 -"
 # What has no counterpart: rows, units and places.
 LEFT_OUT = ("rows", "units", "spare", "workers", "restore")
 
@@ -248,7 +250,7 @@ class Head:
             sent, element, received, reply, root, body = noted
             counted = f"{sent} {self.id_of(element) if int(sent) else 0} {received}"
             last = f"{self.id_of(reply)} {self.id_of(root)}" if int(received) else "0 0"
-            yield f"client {name} {[*dump.clients].index(name)} {counted} {last} {body}"
+            yield f"client {name} {[*dump.clients].index(name)} {counted} {last} {body} {UNTOLD}"
         yield from (line for _, line in sorted([*self.roots(), *map(self.element, dump.alive.values())]))
         settled = Counter(int(out.split(":")[0]) for out in dump.roots.values())
         yield from (f"settled {stage} {many} 0" for stage, many in sorted(settled.items()))
@@ -258,7 +260,7 @@ class Head:
         if name in self.hands:
             held = self.dump.hands.get(name)
             in_hand = self.lost(name) if held is None else self.told(held)
-            yield f"hand {name} {in_hand} {self.hands[name]}"
+            yield f"hand {name} {in_hand} {self.hands[name]} 0"
         if name in self.dump.ended:
             how, element, *done = self.dump.ended[name]
             # (where the rows didn't suffice the unit was aborted)

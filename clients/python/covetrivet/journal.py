@@ -11,7 +11,7 @@ from itertools import islice, takewhile
 
 from covetrivet.conversation import Conversation
 from covetrivet.faults import JournalFault, SessionEnded
-from covetrivet.lines import is_only_head
+from covetrivet.lines import is_only_head, untagged
 from covetrivet.pipe import Pipe
 from covetrivet.program import find
 from covetrivet.session import Path, Session
@@ -59,11 +59,13 @@ def recovered(said: Conversation, path: str) -> tuple[int, int]:
 
 
 def lines_in(path: str) -> Iterator[str]:
-    """Yields the lines of the session that this journal has. The dump at its front is among them."""
+    """Yields the lines of the session that this journal has, without their tags. The dump at its front is
+    among them.
+    """
     with open(path, encoding="latin-1", newline="\n") as file:
         next(file, "")
         text = takewhile(lambda it: not it.startswith("\0"), file)
-        yield from (it.rstrip("\n") for it in text if END_OF_BATCH not in it)
+        yield from (untagged(it.rstrip("\n")) for it in text if END_OF_BATCH not in it)
 
 
 class Journaled(Session):

@@ -10,13 +10,15 @@ from itertools import takewhile
 TO_RESTORE = (
     "numbers", "element", "over", "settled", "hand", "from", "prepared", "dropped", "ended", "client",
 )  # fmt: skip
-# Those of heads of 0.22.1 and before: they are sent as lines of the head, and so refused.
-OF_OLD_HEADS = ("rows", "units", "spare", "workers", "alive", "held", "lost", "request")
-OF_HEAD = ("limit", "max", "keep", "server", "start", "worker", "register", *TO_RESTORE, *OF_OLD_HEADS)
 # What changes nothing. A log needs none of it.
 QUIET = (
     "read", "reply", "family", "errors", "count", "depth", "list", "holds", "balance", "sum", "account",
     "last", "dump",
+)  # fmt: skip
+# What ends a head. Any other line is sent as one of the head, and so refused where it is faulty.
+COMMANDS = (
+    "submit", "kill", "cancel", "requeue", "release", "collect", "restore", "claim", "next", "turn",
+    "prepare", "abort", "drop", "drain", "take", "commit", "leave", "send", "receive", "forget", *QUIET,
 )  # fmt: skip
 LONGEST_LINE = 1023
 LINES_AT_ONCE = 1000
@@ -59,6 +61,11 @@ def parted(line: bytes) -> tuple[str, bytes]:
     return found[1].decode("ascii"), text if len(line) <= LONGEST_LINE else text.ljust(LONGEST_LINE + 1)
 
 
+def untagged(line: str) -> str:
+    """Returns a line without its tag."""
+    return re.sub(r"^@[0-9A-Za-z._-]{1,20}(?: |$)", "", line)
+
+
 def tagged(tag: str, answer: str) -> str:
     """Returns an answer, each line of which stands behind the tag."""
     return "\n".join(f"@{tag} {it}".rstrip() for it in answer.split("\n")) if tag else answer
@@ -76,7 +83,7 @@ def is_for_logs(line: str) -> bool:
 
 
 def is_of_head(line: str) -> bool:
-    return is_empty(line) or line.split()[0] in OF_HEAD
+    return is_empty(line) or line.split()[0] not in COMMANDS
 
 
 def is_to_restore(line: str) -> bool:

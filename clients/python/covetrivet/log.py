@@ -6,6 +6,7 @@ of the machine.
 """
 from __future__ import annotations
 
+import contextlib
 import fcntl
 import os
 from collections.abc import Iterable
@@ -18,6 +19,8 @@ FIRST = "# covetrivet log 2"
 
 class Log:
     """An open log. One at a time has the file open: it is locked (`flock`)."""
+
+    descriptor = -1
 
     def __init__(self, path: str, descriptor: int) -> None:
         self.path = path
@@ -106,6 +109,12 @@ class Log:
         """Moves the file into the place of the log that was there."""
         os.replace(f"{self.path}.new", self.path)
 
+    def is_in_place(self) -> bool:
+        """Whether it is open, and the log that has its name."""
+        with contextlib.suppress(OSError):
+            return os.path.samestat(os.fstat(self.descriptor), os.stat(self.path))
+        return False
+
     def discard(self) -> None:
         """Takes away a file that wasn't put in place."""
         os.unlink(f"{self.path}.new")
@@ -121,3 +130,6 @@ class Log:
         if self.descriptor >= 0:
             descriptor, self.descriptor = self.descriptor, -1
             os.close(descriptor)
+
+    # (one that was left half-way keeps no lock)
+    __del__ = close

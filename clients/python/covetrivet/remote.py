@@ -37,9 +37,9 @@ class Line(Wire):
     def __init__(self, path: str) -> None:
         self.socket = connected(path)
         # (one descriptor for each way, as of two pipes)
-        self.reader = os.dup(self.socket.fileno())
+        self.reader = self.socket.dup()
         self.said = b""
-        super().__init__(self.socket.fileno(), self.reader)
+        super().__init__(self.socket.fileno(), self.reader.fileno())
 
     def read_some(self) -> bytes:
         try:
@@ -61,9 +61,7 @@ class Line(Wire):
 
     def close_streams(self) -> None:
         self.socket.close()
-        if self.reader >= 0:
-            os.close(self.reader)
-            self.reader = -1
+        self.reader.close()
         super().close_streams()
 
 

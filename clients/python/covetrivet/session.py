@@ -25,6 +25,7 @@ from covetrivet.wire import Wire
 
 NOT_BEGUN = "the session has not begun: it begins with its `with` block"
 CLOSED = "the session is closed"
+TORN = "the log may have lines that weren't sent: go on by Session.from_log"
 T = TypeVar("T")
 P = ParamSpec("P")
 Path = Union[str, "os.PathLike[str]"]
@@ -74,6 +75,7 @@ class Session:
         self._goes_on = False
         self._owner = os.getpid()
         self._closed: str | None = NOT_BEGUN
+        self._is_gone = False
         self._log: Log | None = None
         self._log_lock = threading.RLock()
         # whether the log has lines that weren't sent
@@ -190,11 +192,13 @@ class Session:
         SessionEnded where the program ends by a fault that wasn't told yet. A program that doesn't end in
         `seconds`, or in 10 where there are none, is ended by TimeoutError.
         """
-        if self._closed or os.getpid() != self._owner:
+        if self._closed == NOT_BEGUN or self._is_gone or os.getpid() != self._owner:
             return
-        self._closed = CLOSED
+        # (one that was left half-way only lets go)
+        is_open = not self._closed
         try:
-            if self._said and not self._is_torn and not self._said.fault:
+            self._closed = CLOSED
+            if is_open and self._said and not self._is_torn and not self._said.fault:
                 for line in self._said.finish(SECONDS_TO_END if self._seconds is None else self._seconds):
                     _final, name, *values = line.split()
                     self.finals[name] = tuple(int(it) for it in values)
@@ -211,6 +215,7 @@ class Session:
             self._wire.close_streams()
         if self._log:
             self._log.close()
+        self._is_gone = True
 
     def forked(self) -> None:
         """In a forked process, closes its copies of what is open: else the program's input would end only
@@ -313,7 +318,7 @@ class Session:
             return said.ask(sent, self._seconds + wait if self._seconds and is_logged else None)
         with self._log_lock:
             if self._is_torn:
-                raise SessionBroken("the log may have lines that weren't sent: go on by Session.from_log")
+                raise SessionBroken(TORN)
             self._is_torn = True
             self._log.write(filter(is_for_logs, lines))
             answers = said.ask(sent, self._seconds, self._mend)
@@ -340,10 +345,19 @@ class Session:
     def _shorten_log(self) -> None:
         if self._log is None or self._log_path is None:
             raise LogFault("the session has no log")
-        log = Log.beside(self._log_path, self.do(commands.dump()).lines)
-        log.put_in_place()
-        self._log.close()
-        self._log = log
+        said, command = self._conversation(), commands.dump()
+        if self._is_torn:
+            raise SessionBroken(TORN)
+        # (nothing may be done between the dump and the new log, as by a signal's handler)
+        self._is_torn = True
+        try:
+            (answer,) = said.ask([command.line.encode("ascii")], self._seconds)
+            log = Log.beside(self._log_path, self._read(command, answer).lines)
+            log.put_in_place()
+            self._log.close()
+            self._log = log
+        finally:
+            self._is_torn = not self._log.is_in_place()
 
 
 # Sessions that are open. A forked process lets go of them.

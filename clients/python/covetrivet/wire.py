@@ -59,7 +59,8 @@ class Wire:
     def __init__(self, given: int, told: int, errors: int | None = None) -> None:
         self.input, self.output, self.errors = given, told, errors
         # (what ends a wait for the other side)
-        self.stop, self.stopping = os.pipe()
+        stop, stopping = os.pipe()
+        self.stop, self.stopping = open(stop, "rb", 0), open(stopping, "wb", 0)
         for it in (given, told):
             os.set_blocking(it, False)
 
@@ -92,12 +93,15 @@ class Wire:
     def receive(self) -> bytes:
         """Waits for what the other side says, and returns some of it. Nothing where it says no more."""
         poll = select.poll()
-        for it in (self.output, self.stop, self.errors):
+        if self.stop.closed:
+            return b""
+        stop = self.stop.fileno()
+        for it in (self.output, stop, self.errors):
             if it is not None and it >= 0:
                 poll.register(it, select.POLLIN)
         while True:
             for descriptor, _events in poll.poll():
-                if descriptor == self.stop:
+                if descriptor == stop:
                     return b""
                 if descriptor == self.errors and not self.pass_on_errors():
                     poll.unregister(descriptor)
@@ -124,15 +128,13 @@ class Wire:
 
     def end(self) -> None:
         """Ends the other side, as far as it is this one's, and the wait for it."""
-        with contextlib.suppress(OSError):
-            os.write(self.stopping, b".")
+        with contextlib.suppress(OSError, ValueError):
+            self.stopping.write(b".")
 
     def close_streams(self) -> None:
         """Closes the descriptors of this process alone."""
-        for it in (self.stop, self.stopping):
-            with contextlib.suppress(OSError):
-                os.close(it)
-        self.stop = self.stopping = -1
+        self.stop.close()
+        self.stopping.close()
 
 
 def time_left(until: float | None, seconds: float | None) -> float | None:

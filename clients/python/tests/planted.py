@@ -27,6 +27,7 @@ MODULES = {
     "Logs": "test_logs",
     "Calls": "test_calls",
     "Names": "test_calls",
+    "Heads": "test_calls",
     "Dumps": "test_calls",
     "Converted": "test_convert",
     "Journals": "test_journals",
@@ -50,6 +51,7 @@ MODULES = {
     "Works": "test_work",
     "Workers": "test_work",
     "Async": "test_aio",
+    "Anywhere": "test_anywhere",
 }
 
 
@@ -89,6 +91,42 @@ ERRORS = [
     ),
     Error("worker.py", "        work.give_up()\n", "", "Workers.test_an_act_that_fails"),
     Error("aio.py", "f\"{next(self._numbers):08x}\"", '"1"', "Async.test_a_call_that_is_cancelled"),
+    Error(
+        "conversation.py", "        self.is_greeted = True\n        return self.untagged[0]",
+        "        return self.untagged[0]", "Journals.test_a_program_without_tags",
+    ),
+    Error(
+        "journal.py", 'untagged(it.rstrip("\\n"))', 'it.rstrip("\\n")', "Journals.test_a_session_goes_on",
+    ),
+    Error(
+        "commands.py", '"commit", name, *fenced(work), *drafts', '"commit", name, *drafts',
+        "Works.test_only_this_try_is_ended",
+    ),
+    Error("commands.py", "if not isinstance(it, Draft):", "if False:", "Calls.test_numbers"),
+    Error("client.py", "*words, epoch=self.epoch)", "*words)", "Clients.test_two_of_one_name"),
+    Error(
+        "client.py", "self.epoch, note, wait", "self.epoch, None, wait", "ServeSessions.test_lines_that_wait",
+    ),
+    Error("session.py", "self._seconds + wait if", "self._seconds if", "ServeSessions.test_lines_that_wait"),
+    Error(
+        "lines.py", "line.split()[0] not in COMMANDS", 'line.split()[0] in ("server", "worker", "limit")',
+        "Heads.test_heads_with_a_typo",
+    ),
+    Error(
+        "worker.py", "suppress(Disconnected, SessionEnded)", "suppress(SessionEnded)",
+        "Workers.test_a_server_that_comes_again",
+    ),
+    Error(
+        "remote.py", "in self._paths:", "in self._paths[:1]:",
+        "ServeSessions.test_the_one_of_several_that_answers",
+    ),
+    Error("remote.py", "if self._token is not None:", "if False:", "ServeSessions.test_tokens"),
+    Error(
+        "batch.py", "        self.has_ended = True\n", "",
+        "Exchanges.test_a_batch_that_is_interrupted",
+    ),
+    Error("session.py", "or self._is_gone or", "or self._closed or", "Anywhere.test_a_close"),
+    Error("session.py", "not self._log.is_in_place()", "False", "Anywhere.test_logs"),
     Error("session.py", "self._wire.close_streams()", "pass", "Closed.test_a_forked_process"),
     Error("commands.py", '"[!-~]+"', '"(?s).*"', "Words.test_a_word_is_one_word"),
     Error("lines.py", '"[ -~]*"', '"(?s).*"', "Words.test_a_line_of_a_head_is_one_line"),

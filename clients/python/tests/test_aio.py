@@ -64,6 +64,8 @@ class Async(unittest.TestCase):
     def test_a_server_that_ends(self) -> None:
         async def act(session: aio.Session, server: Serving) -> None:
             waiting = asyncio.create_task(session.claim("w", wait=20))
+            # (its line goes out first)
+            await asyncio.sleep(0)
             await session.count()
             server.signal(signal.SIGTERM)
             for call in waiting, session.count():

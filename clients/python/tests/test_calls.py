@@ -7,7 +7,7 @@ from collections.abc import Callable
 
 from covetrivet import (
     Account, Command, Counts, Depth, Done, Draft, Held, Look, Member, Released, Reply, Session, SessionClosed,
-    SessionEnded, Work, claim, count, depth, dump, kill, refusals, submit, waiting,
+    SessionEnded, Work, claim, commit, count, depth, dump, kill, refusals, submit, waiting,
 )  # fmt: skip
 
 HEAD = ["limit 2", "server till eager 2 1 add", "start till 0 100", "worker packer 1"]
@@ -251,6 +251,8 @@ class Calls(unittest.TestCase):
             kill("0")  # type: ignore[arg-type]
         with self.assertRaises(TypeError):
             Draft(15, None)  # type: ignore[arg-type]
+        with self.assertRaises(TypeError):
+            commit("packer", "15:1:2")  # type: ignore[arg-type]
 
 
 class Names(unittest.TestCase):
@@ -304,6 +306,19 @@ class Heads(unittest.TestCase):
         for kind, head in refused.items():
             with self.subTest(kind.__name__), self.assertRaises(kind), Session(head):
                 pass
+
+    def test_heads_with_a_typo(self) -> None:
+        element, hand = "element 0 1:5:6:0:0 0 client nobody 0 held 0 1", "hand packer 0 0"
+        head = [*HEAD, "register shop", "keep 8", "max 100", "numbers 1 1 1", hand, element, "restore"]
+        with Session(head) as session:
+            self.assertEqual(session.read(0).status, "held 0 1")
+        for at, line in enumerate(head):
+            first, *words = line.split()
+            wrong = " ".join([first[:-2] + first[-1] + first[-2], *words])
+            with self.subTest(wrong), self.assertRaises(refusals.Syntax) as caught:
+                with Session([*head[:at], wrong, *head[at + 1 :]]):
+                    pass
+            self.assertEqual(caught.exception.command, wrong)
 
     def test_heads_of_before(self) -> None:
         for line in "rows 8", "units 8", "spare 1", "workers 2", "alive 0 0 0 1:5:6":

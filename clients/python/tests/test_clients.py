@@ -6,6 +6,8 @@ from __future__ import annotations
 import contextlib
 import os
 import signal
+import subprocess
+import sys
 import tempfile
 import threading
 import unittest
@@ -18,6 +20,20 @@ from serving import Serving
 
 HEAD = ["worker packer 1", "register shop", "register web"]
 NOTHING = Last(0, None, 0, None)
+# a client of a server's session, whose path is `sys.argv[1]`
+PROCESS = """
+import sys
+from covetrivet import Client, connect, refusals
+
+with connect(sys.argv[1]) as session:
+    client = Client(session, "web")
+    print("begun", flush=True)
+    for line in sys.stdin:
+        try:
+            print("sent", client.send((int(line),)).number, flush=True)
+        except refusals.Fenced:
+            print("Fenced", flush=True)
+"""
 
 
 class Clients(unittest.TestCase):
@@ -31,7 +47,10 @@ class Clients(unittest.TestCase):
         session = self.session
         self.assertEqual(session.last("shop"), NOTHING)
         self.assertEqual(session.send("shop", 1, 1, 5, 6), Sent(1, 0))
-        self.assertEqual(session.send("shop", 1, 1, 7), Sent(1, 0))
+        self.assertEqual(session.send("shop", 1, 1, 5, 6), Sent(1, 0))
+        for stage, *words in ((1, 7), (2, 5, 6)):
+            with self.assertRaises(refusals.Differs):
+                session.send("shop", 1, stage, *words)
         self.assertEqual(session.send("shop", 2, 1, 7, 8, 9, 10), Sent(2, 1))
         self.assertEqual(session.send("shop", 1, 1, 5, 6), Sent(1, None))
         self.assertEqual(session.last("shop"), Last(2, 1, 0, None))
@@ -217,6 +236,33 @@ class ServeClients(unittest.TestCase):
                     again = Client(session, "web")
                     self.assertEqual((again.sent, again.received), (3, 1))
                     self.assertEqual(again.receive_again(), Received(1, 3, 0, (1, 0, 0, 0)))
+
+    def test_two_processes_of_one_name(self) -> None:
+        with Serving(HEAD) as server, connect(server.path) as session:
+            first = self.begun(server.path)
+            self.assertEqual(self.told(first, 7), "sent 1\n")
+            second = self.begun(server.path)
+            for word, told in (8, "Fenced\n"), (9, "Fenced\n"):
+                self.assertEqual(self.told(first, word), told)
+            self.assertEqual(self.told(second, 10), "sent 2\n")
+            self.assertEqual([session.read(it).words[0] for it in (0, 1)], [7, 10])
+            self.assertEqual((session.count().waiting, session.last("web").sent), (2, 2))
+
+    def begun(self, path: str) -> subprocess.Popen[str]:
+        """Returns a process that is a client, once it knows what it has sent."""
+        pipe = subprocess.PIPE
+        command = [sys.executable, "-c", PROCESS, path]
+        it = subprocess.Popen(command, stdin=pipe, stdout=pipe, text=True, bufsize=1)
+        self.addCleanup(it.communicate)
+        assert it.stdout
+        self.assertEqual(it.stdout.readline(), "begun\n")
+        return it
+
+    def told(self, it: subprocess.Popen[str], word: int) -> str:
+        """Has the process send an order, and returns what it was told."""
+        assert it.stdin and it.stdout
+        it.stdin.write(f"{word}\n")
+        return it.stdout.readline()
 
 
 if __name__ == "__main__":

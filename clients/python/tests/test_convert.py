@@ -38,10 +38,10 @@ numbers 18 19 2
 server till eager 2 1 add
 start till 0 70
 worker packer 1
-hand packer 1 18
+hand packer 1 18 0
 ended packer done 0 16 16 2
-client idle 1 0 0 0 0 0 0:0:0:0
-client shop 0 1 0 0 0 0 0:0:0:0
+client idle 1 0 0 0 0 0 0:0:0:0 1 0:0:0:0:0 -
+client shop 0 1 0 0 0 0 0:0:0:0 1 0:0:0:0:0 -
 element 0 1:5:6:0:0 0 client 0 0 consumed 17
 element 1 1:7:8:0:0 1 client nobody 0 held 18 1
 element 16 2:0:10:0:0 0 17 0 0 waiting 0

@@ -12,10 +12,9 @@ import unittest
 from collections.abc import Callable, Iterator
 from pathlib import Path
 from types import FrameType
-from typing import Any
 
 from covetrivet import (
-    Client, Command, Counts, Draft, Session, SessionClosed, SessionEnded, count, refusals, submit,
+    Command, Counts, Draft, Session, SessionClosed, SessionEnded, count, refusals, submit,
 )  # fmt: skip
 
 NAMES = "abcdef"
@@ -179,72 +178,6 @@ class Exchanges(unittest.TestCase):
             with self.assertRaises(ValueError):
                 session.do(Command("count", read=lambda it: it.numbers("submitted N")))
             self.hold_to_step(session, 0)
-
-
-class Interrupted(Exception):
-    """A call is left here."""
-
-
-class Anywhere(unittest.TestCase):
-    """A call that is left at each line of the package that it comes to, or out of which another one comes."""
-
-    CALLS: tuple[Callable[[Session], object], ...] = (
-        lambda session: session.submit(1, 7),
-        lambda session: session.count(),
-        lambda session: session.claim("clerk"),
-        lambda session: session.last("shop"),
-        lambda session: Client(session, "shop").send((7,)),
-    )
-
-    def at_line(self, nth: int, call: Callable[[], object], do: Callable[[], None]) -> bool:
-        """Does this at the nth line of the package that the call comes to. Whether it came to so many."""
-        left = nth
-
-        def trace(frame: FrameType, event: str, _arg: object) -> Any:
-            nonlocal left
-            if "covetrivet" not in frame.f_code.co_filename or "/tests/" in frame.f_code.co_filename:
-                return None
-            if event == "line":
-                left -= 1
-                if left == 0:
-                    sys.settrace(None)
-                    do()
-            return trace
-
-        sys.settrace(trace)
-        try:
-            call()
-        except (Interrupted, refusals.Busy):
-            # (work that was taken by a call that was left is in hand)
-            pass
-        finally:
-            sys.settrace(None)
-        return left <= 0
-
-    def each_line(self, do: Callable[[Session], None]) -> None:
-        with Session(["worker clerk 1", "register shop"]) as session:
-            for call in self.CALLS:
-                nth = 1
-                while self.at_line(nth, lambda: call(session), lambda: do(session)):
-                    nth += 1
-                    before = session.count()
-                    self.assertEqual(session.read(session.submit(2, nth).element).words[0], nth)
-                    after = session.count()
-                    born = after.waiting + after.held - before.waiting - before.held
-                    self.assertIn(born, (1, 2))
-                self.assertGreater(nth, 20)
-
-    def test_a_call_that_is_left_at_any_line(self) -> None:
-        def leave(_session: Session) -> None:
-            raise Interrupted
-
-        self.each_line(leave)
-
-    def test_a_call_out_of_a_call_at_any_line(self) -> None:
-        def submit_and_read(session: Session) -> None:
-            self.assertEqual(session.read(session.submit(2, 5).element).words[0], 5)
-
-        self.each_line(submit_and_read)
 
 
 class Words(unittest.TestCase):

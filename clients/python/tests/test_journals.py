@@ -16,7 +16,8 @@ from collections.abc import Sequence
 from unittest import mock
 
 from covetrivet import (
-    Counts, Draft, JournalFault, LogFault, Session, SessionEnded, journal, kill, refusals, submit,
+    Counts, Draft, JournalFault, LogFault, NotUnderstood, Session, SessionEnded, journal, kill, refusals,
+    submit,
 )  # fmt: skip
 from covetrivet.journal import lines_in
 
@@ -148,10 +149,11 @@ class Journals(unittest.TestCase):
         self.assertEqual(self.lines(), lines)
 
     def test_a_head_that_is_refused_is_not_kept(self) -> None:
-        with self.assertRaises(refusals.BadNumber) as refused:
-            with Session.open(self.path, [*HEAD, "worker late 1000"]):
-                pass
-        self.assertEqual(refused.exception.command, "worker late 1000")
+        for wrong in "worker late 1000", "wroker late 2":
+            with self.assertRaises((refusals.BadNumber, refusals.Syntax)) as refused:
+                with Session.open(self.path, [*HEAD, wrong, "keep 8"]):
+                    pass
+            self.assertEqual(refused.exception.command, wrong)
         with Session.open(self.path, [*HEAD, "worker late 2"]) as session:
             self.assertEqual((session.recovered, session.claim("late")), (0, None))
 
@@ -221,6 +223,11 @@ class Journals(unittest.TestCase):
             os.chmod(program, 0o755)
             with self.assertRaises(fault), Session.open(self.path, HEAD, program):
                 pass
+
+    def test_a_program_without_tags(self) -> None:
+        program = ["sh", "-c", "echo recovered 9; sed -u 's/.*/refused line 1: 1 Syntax/'", "sh"]
+        with self.assertRaises(NotUnderstood), Session.open(self.path, HEAD, program, 20) as session:
+            session.count()
 
     def test_a_journal_is_no_log(self) -> None:
         with Session.open(self.path, HEAD) as session:

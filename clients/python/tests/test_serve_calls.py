@@ -255,6 +255,9 @@ class ServeSessions(unittest.TestCase):
             assert reply
             self.assertEqual((work.words[0], reply.words[0], client.last().note), (5, 7, "page-1"))
             self.assertIsNone(session.claim_next("packer", wait=0))
+            # (a time limit counts behind it)
+            with connect(server.path, seconds=2) as hasty:
+                self.assertIsNone(hasty.claim("packer", wait=3))
             with self.assertRaises(TypeError):
                 session.claim("packer", wait=0.5)  # type: ignore[arg-type]
 

@@ -185,10 +185,14 @@ class ServePlaces(unittest.TestCase):
         with Serving(["numbers 8 0 0", "element 7 1:5:6:0:0 7 client nobody 0 waiting 2"]) as server:
             said = server.client().ask("read 7")
             self.assertEqual(said, ["7 stage 1 root 7 key 5 amount 6 by client waiting 2"])
-        with tempfile.TemporaryDirectory() as folder:
-            status, _, errors = Serving(["keep 8", "worker packer 1000"], folder=folder).begin().end()
-            self.assertEqual(status, 65)
-            self.assertIn("worker packer 1000", errors)
+        with Serving(["version", "keep 8", "version"]) as server:
+            self.assertEqual(server.client().ask("keep 9", "submit 1 5 6"), ["keep 9", "submitted 0"])
+        lines = ["keep 8", "worker packer 1", "register shop", "submit 1 5 6"]
+        for at, wrong in enumerate(["kepe 8", "wroker packer 1", "regsiter shop", "worker packer 1000"]):
+            with tempfile.TemporaryDirectory() as folder:
+                status, _, errors = Serving([*lines[:at], wrong, *lines[at:]], folder=folder).begin().end()
+                self.assertEqual(status, 65)
+                self.assertIn(wrong, errors)
         command = [sys.executable, "-m", "covetrivet", "serve", "--socket", "/nowhere/it", "--head"]
         for words, status in (["/nowhere/head"], 66), (["/dev/null"], 73), (["/dev/null", "--mode", "9"], 64):
             it = subprocess.run([*command, *words], capture_output=True, text=True, check=False)

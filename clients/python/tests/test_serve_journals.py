@@ -130,8 +130,9 @@ class ServeJournals(unittest.TestCase):
             self.assertEqual("no journal" in said[2], status == 74)
 
     def test_a_head_that_is_refused(self) -> None:
-        bad = Serving([*HEAD, "worker late 1000"], "--journal", self.journal, folder=self.folder)
-        self.assertEqual(bad.begin().end()[0], 65)
+        for wrong in "worker late 1000", "wroker late 2":
+            bad = Serving([*HEAD, wrong], "--journal", self.journal, folder=self.folder)
+            self.assertEqual(bad.begin().end()[0], 65)
         with open(self.journal, "rb") as file:
             self.assertNotIn(b"late", file.read())
         with self.server() as server:
@@ -216,7 +217,7 @@ class Killed:
     def work_off(self, it: Client) -> None:
         """Replies to orders until none waits, or an answer is missing."""
         while (words := it.ask("claim packer")[0].split(" "))[:2] == ["packer", "work"]:
-            key = words[-1].split(":")[0]
+            key = words[10].split(":")[0]
             if it.ask(f"commit packer 15:{key}:0")[0] in ("unknown", ""):
                 return
 

@@ -159,7 +159,7 @@ class Killing:
                 it.ask(f"abort {name}")
             while (words := it.ask("claim packer")[0].split(" "))[1:2] in (["work"], []):
                 if words != ["unknown"]:
-                    it.ask(f"commit packer 15:{words[-1].split(':')[0]}:0")
+                    it.ask(f"commit packer 15:{words[10].split(':')[0]}:0")
         self.server.signal(signal.SIGTERM)
         status, _, errors = self.server.end()
         self.server.__exit__(None, None, None)

@@ -57,7 +57,7 @@ class ServeWaits(Waits):
         first, second = self.waiting("claim packer wait 60"), self.waiting("next third wait 60")
         other = self.waiting("claim other wait 60")
         self.assertEqual(self.tell.ask("submit 1 5 6"), ["submitted 0"])
-        self.assertRegex(first.line(), "^packer work 0 .*body 5:6:0:0$")
+        self.assertRegex(first.line(), "^packer work 0 .* body 5:6:0:0 try 1$")
         self.assertTrue(self.quiet(second) and self.quiet(other))
         self.tell.ask("submit 1 7 8")
         self.assertRegex(second.line(), "^third work 1 ")
@@ -221,7 +221,7 @@ class ServeWaits(Waits):
                     for _ in range(chance.randint(1, 20)):
                         words = it.ask(f"claim {name} wait 1")[0].split(" ")
                         if words[1:2] == ["work"]:
-                            took.append(words[-1].split(":")[0])
+                            took.append(words[10].split(":")[0])
                             it.ask(f"commit {name}")
                         if over.is_set():
                             return

@@ -215,7 +215,7 @@ class Workers(unittest.TestCase):
             self.assertEqual((done, thread.is_alive()), (Counter({0: 1, 1: 1}), False))
 
 
-ROUNDS = int(os.environ.get("COVETRIVET_PAUSES", "5"))
+ROUNDS = int(os.environ.get("COVETRIVET_PAUSES", "20"))
 
 
 class Pauses(unittest.TestCase):
