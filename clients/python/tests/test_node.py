@@ -53,7 +53,7 @@ class Replicas(unittest.TestCase):
                         it.feed(place, record)
                     self.assertEqual({it.digest for it in others} - {first.digest}, set())
                     for it in others:
-                        self.assertEqual({*it.holders.units}, {*first.holders.units})
+                        self.assertEqual((it.units(), it.names), (first.units(), first.names))
                     if place % 7 == 6:
                         base = first.base()
                         self.assertEqual((base.place, base.digest), (place + 1, first.digest))
