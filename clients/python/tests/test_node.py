@@ -3,16 +3,20 @@ from __future__ import annotations
 
 import base64
 import contextlib
+import http.server
+import json
 import random
 import subprocess
 import sys
+import threading
 import unittest
 import zlib
+from collections.abc import Iterator
 from unittest import mock
 
-from covetrivet.etcd import EtcdLog, Gateway, Json
+from covetrivet.etcd import EtcdLog, Gateway, Json, coded
 from covetrivet.replica import Replica
-from covetrivet.shared_log import Base, Diverged, LogLost, Record, Token
+from covetrivet.shared_log import Base, Diverged, InDoubt, LogFull, LogLost, Record, Token
 
 HEAD = ["keep 5", "server till eager 2 1 add", "worker wa 1", "worker wb 1"]
 
@@ -100,7 +104,8 @@ class Etcd(Gateway):
             first, end = plain(body["key"]), plain(body["range_end"])
             least = int(body.get("min_mod_revision", 0))
             found = [it for key, it in sorted(self.keys.items()) if first <= key < end]
-            return {"kvs": [it for it in found if int(it["mod_revision"]) >= least]}
+            found = [it for it in found if int(it["mod_revision"]) >= least]
+            return {"kvs": found, "header": {"revision": str(self.revision)}}
         if any(it.get("create_revision") not in (str(self.leader), "0") for it in body["compare"]):
             return {"succeeded": False}
         for act in body["success"]:
@@ -147,6 +152,18 @@ class Pieces(unittest.TestCase):
         with self.assertRaisesRegex(LogLost, "shop/base isn't the base of a log"):
             other.base(-1)
 
+    def test_a_log_below_another_one(self) -> None:
+        # (nothing makes such a one any more)
+        etcd, below, token = Etcd(), EtcdLog(["http://it"], "shop/log", "n1", 3), Token(1)
+        log = EtcdLog(["http://it"], "shop", "n1", 3)
+        log.gateway = below.gateway = etcd
+        self.assertTrue(log.append(0, Record("n1", "", ["count"]), token))
+        self.assertTrue(below.append(0, Record("n1", "", ["depth"]), token))
+        self.assertTrue(below.compact(Base(1, "d1", ["keep 5"]), token))
+        etcd.keys["shop/log/0x"] = {"key": coded("shop/log/0x"), "value": "", "mod_revision": "1"}
+        self.assertEqual(log.read(0), [(0, Record("n1", "", ["count"]))])
+        self.assertEqual(log.read(1), [])
+
     def test_a_log_of_before(self) -> None:
         etcd, log = Etcd(), EtcdLog(["http://it"], "shop", "n1", 3)
         log.gateway = etcd
@@ -156,6 +173,56 @@ class Pieces(unittest.TestCase):
         etcd.keys["shop/base"] = {"key": name, "value": value, "mod_revision": "1"}
         with self.assertRaisesRegex(LogLost, "of another version .1."):
             log.base(-1)
+
+
+class Full(unittest.TestCase):
+    """An etcd whose database has all the room that it may have, as its gateway says it."""
+
+    def test_nospace(self) -> None:
+        said = {"error": "etcdserver: mvcc: database space exceeded", "code": 8}
+        with answering(429, said) as address:
+            log = EtcdLog([address], "shop", "n1", 3)
+            with self.assertRaisesRegex(LogFull, "NOSPACE"):
+                log.lead()
+            with self.assertRaisesRegex(LogFull, "NOSPACE"):
+                log.append(0, Record("n1", "", ["count"]), Token(1))
+            log.close()
+
+    def test_other_faults(self) -> None:
+        with answering(503, {"error": "etcdserver: no leader", "code": 14}) as address:
+            log = EtcdLog([address], "shop", "n1", 3)
+            with self.assertRaises(InDoubt) as caught:
+                log.lead()
+            self.assertNotIsInstance(caught.exception, LogFull)
+            log.close()
+
+
+@contextlib.contextmanager
+def answering(status: int, said: Json) -> Iterator[str]:
+    """Has a gateway that answers each request so. Yields its address."""
+
+    class Answer(http.server.BaseHTTPRequestHandler):
+        protocol_version = "HTTP/1.1"
+
+        def do_POST(self) -> None:
+            self.rfile.read(int(self.headers["Content-Length"]))
+            text = json.dumps(said).encode()
+            self.send_response(status)
+            self.send_header("Content-Length", str(len(text)))
+            self.end_headers()
+            self.wfile.write(text)
+
+        def log_message(self, format: str, *words: object) -> None:
+            """Nothing is written down."""
+
+    server = http.server.ThreadingHTTPServer(("127.0.0.1", 0), Answer)
+    server.daemon_threads = True
+    threading.Thread(target=server.serve_forever, daemon=True).start()
+    try:
+        yield f"http://127.0.0.1:{server.server_port}"
+    finally:
+        server.shutdown()
+        server.server_close()
 
 
 class Commands(unittest.TestCase):
@@ -168,6 +235,11 @@ class Commands(unittest.TestCase):
             ({"--etcd": "127.0.0.1:2379"}, 64),
             ({"--etcd": "http://127.0.0.1:1,ftp://it"}, 64),
             ({"--prefix": "it/"}, 64),
+            ({"--prefix": "shop/log"}, 64),
+            ({"--prefix": "shop/base/it"}, 64),
+            ({"--head": "/dev/null", "--prefix": "log/shop"}, 73),
+            ({"--head": "/dev/null", "--mode": "9"}, 64),
+            ({"--head": "/dev/null", "--journal": "/nowhere/it"}, 64),
             ({"--lease": "0"}, 64),
             ({"--dump": "0"}, 64),
             ({"--name": "two words"}, 64),
