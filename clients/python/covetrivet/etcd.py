@@ -184,7 +184,7 @@ class EtcdLog:
         return self.is_done([self.mine(token), free], [put])
 
     def read(self, place: int) -> list[tuple[int, Record]]:
-        # (no key that begins otherwise than by a digit: another log may have been put below this one)
+        # (before 0.25.0 another log could be put below this one: its keys are no numbers)
         asked = {"key": self.place(place), "range_end": self.key("log/:"), "limit": RECORDS_AT_ONCE}
         said = self.gateway.call("/v3/kv/range", asked)
         self.seen = int(said["header"]["revision"])

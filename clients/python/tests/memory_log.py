@@ -64,9 +64,9 @@ class Store:
 
     def append(self, place: int, record: Record, term: int) -> bool:
         with self.changed:
-            if self.is_full:
-                raise LogFull("there is no room")
             doubt = self.doubts.pop(0) if self.doubts else None
+            if self.is_full and doubt is None:
+                raise LogFull("there is no room")
             is_free = self.term == term and place not in self.records
             if is_free and doubt is not False:
                 self.records[place] = record

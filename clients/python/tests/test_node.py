@@ -15,8 +15,10 @@ from collections.abc import Iterator
 from unittest import mock
 
 from covetrivet.etcd import EtcdLog, Gateway, Json, coded
+from covetrivet.node_process import NodeProcess
 from covetrivet.replica import Replica
 from covetrivet.shared_log import Base, Diverged, InDoubt, LogFull, LogLost, Record, Token
+from memory_log import MemoryLog, Store
 
 HEAD = ["keep 5", "server till eager 2 1 add", "worker wa 1", "worker wb 1"]
 
@@ -35,7 +37,8 @@ def random_lines(dice: random.Random, answers: list[str]) -> list[str]:
                     f"family {element}", "turn till", f"collect {element}", f"take {name} {element}",
                     f"release {element}", "errors", "dump", "rubbish \xe9", "claim till",
                     f"requeue {element}", "account", f"next {name}", "depth",
-                    f"list {dice.randint(1, 2)} {int(element) + dice.randint(0, 1)}",
+                    f"list {dice.randint(1, 2)} {int(element) + dice.randint(0, 1)}", "leave wb",
+                    f"worker {dice.choice(['wb', 'wc'])} {dice.randint(1, 3)}", "worker wd 2", " leave  wd",
                 ]
             )  # fmt: skip
         )
@@ -223,6 +226,20 @@ def answering(status: int, said: Json) -> Iterator[str]:
     finally:
         server.shutdown()
         server.server_close()
+
+
+class Processes(unittest.TestCase):
+    """What a node makes of its server's lines."""
+
+    def test_lines_of_a_term(self) -> None:
+        log = MemoryLog(Store(), "n1")
+        it = NodeProcess(log, "n1", HEAD)
+        it.take([b"submit 1 5 6", b"# leads 7", b"# leads 8\t", b"\xff"])
+        it.take([b"count", b"# leads 9", b"# leads 10", b"depth"])
+        it.take([b"drain"])
+        asked = [it.member.asked.get_nowait() for _ in range(3)]
+        self.assertEqual(asked, [(7, ["# leads 8\t", "\xff"]), (10, ["depth"]), (10, ["drain"])])
+        self.assertTrue(it.member.asked.empty())
 
 
 class Commands(unittest.TestCase):

@@ -240,7 +240,9 @@ class NodeServers(unittest.TestCase):
         with Nodes() as nodes:
             it = nodes.leads(0)
             self.assertEqual(it.ask("submit 1 5 6"), ["submitted 0"])
+            # (no answer comes to this one, and then the log is full)
             nodes.store.is_full = True
+            nodes.store.doubts.append(False)
             it.send("submit 1 7 7")
             self.assertEqual(it.rest(), [NO_MORE])
             full = "this node follows: nobody can lead, since the log has no room"
