@@ -119,6 +119,24 @@ PLANTED = [
 # Those of the other log.
 OF_POSTGRES = [
     Planted(
+        "a lease that is counted by the server's clock",
+        [
+            (
+                "postgres.py",
+                "is_over = seen[1] == FREE or time.monotonic() > self.since + self.seconds",
+                "is_over = bool(self.do(BY_CLOCK, self.name))",
+            ),
+            (
+                "postgres.py",
+                "class PostgresLog:",
+                'BY_CLOCK = "select 1 from covetrivet_leader where log = %s"\n'
+                'BY_CLOCK += " and until < clock_timestamp()"\n\n\nclass PostgresLog:',
+            ),
+        ],
+        ["set clock back"],
+        "nobody is answered after: set clock back",
+    ),
+    Planted(
         "a compaction that deletes a record too many",
         [("postgres.py", "covetrivet_log.place < put.place", "covetrivet_log.place <= put.place")],
         ["kill leader", "kill leader"],

@@ -202,6 +202,22 @@ class NodeServers(unittest.TestCase):
             self.assertRegex(it.line(), "^wa work 0 ")
             nodes.tells(1, "covetrivet_wait_tries_total 2\n", "metrics")
 
+    def test_lines_that_are_tried_are_nobodys(self) -> None:
+        """Nobody waits behind one that was being tried when the node was deposed."""
+        with Nodes() as nodes:
+            it, other = nodes.leads(0), nodes.client(0)
+            os.kill(nodes.session_of(0), signal.SIGSTOP)
+            other.send("count")
+            self.assertTrue(comes(lambda: len(nodes.store.records) == 1))
+            it.send("claim wa wait 60")
+            nodes.tells(0, "covetrivet_lines_waiting 1\n", "metrics")
+            nodes.store.next_term("n2")
+            os.kill(nodes.session_of(0), signal.SIGCONT)
+            self.assertEqual(it.rest(), [NO_MORE])
+            nodes.store.next_term(None)
+            again = nodes.leads(0)
+            self.assertRegex(again.ask("submit 1 5 6", "claim wb wait 60")[1], "^wb work 0 ")
+
     def test_rights_and_tokens(self) -> None:
         with tempfile.TemporaryDirectory() as folder:
             for name, text in ("rights", "any count - -\ntoken:app submit * 1"), ("tokens", "app s3cret\n"):
