@@ -1,4 +1,4 @@
-//! What a node of a cluster says besides answers (docs/decisions/53-nodes-over-the-server.md).
+//! What a node of a cluster says besides answers (docs/decisions/55-nodes-over-the-server.md).
 use crate::fault::Status;
 
 /// What such a line begins with. No line of a session has this sign.
