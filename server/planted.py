@@ -114,7 +114,7 @@ ERRORS = [
     Error("node.rs", "self.dismiss(id, Some(LEADS_NO_MORE));", "let _ = id;", "test_node_server.NodeServers.test_clients_of_a_leader_that_is_none_any_more"),
     Error("node.rs", "let (_, lost) = self.routing.lose();", "let lost: Vec<u8> = Vec::new();", "test_node_server.NodeServers.test_one_that_leads_again"),
     Error("node.rs", "self.forget_all_waits();", "", "test_node_server.NodeServers.test_lines_that_are_tried_are_nobodys"),
-    Error("node.rs", 'format!("# leads {term}\n")', 'format!("# leads {}\n", term.min(1))', "test_node_server.NodeServers.test_one_that_leads_again"),
+    Error("node.rs", 'format!("# leads {term}\\n")', 'format!("# leads {}\\n", term.min(1))', "test_node_server.NodeServers.test_one_that_leads_again"),
     Error("node.rs", "self.orphaned(name, serial);", "let _ = serial;", "test_node_server.NodeServers.test_units_of_clients_of_an_earlier_leader"),
     Error("node.rs", "self.names = std::mem::take(&mut node.names);", "", "test_node_server.NodeServers.test_lines_that_wait"),
     Error("node.rs", "Some((page, which)) => self.page_answered(page, which, answer),", "Some((page, which)) => self.page_answered(page, which ^ 1, answer),", "test_node_server.NodeServers.test_pages"),

@@ -216,7 +216,8 @@ class NodeServers(unittest.TestCase):
             self.assertEqual(it.rest(), [NO_MORE])
             nodes.store.next_term(None)
             again = nodes.leads(0)
-            self.assertRegex(again.ask("submit 1 5 6", "claim wb wait 60")[1], "^wb work 0 ")
+            self.assertEqual(again.ask("submit 1 5 6"), ["submitted 0"])
+            self.assertRegex(again.ask("claim wb wait 60")[0], "^wb work 0 ")
 
     def test_rights_and_tokens(self) -> None:
         with tempfile.TemporaryDirectory() as folder:
