@@ -48,7 +48,7 @@ PLANTED = [
                 "member.py",
                 APPENDED,
                 """        answers = replica.feed(place, record)
-        self.told.answered([(it.number, answer) for it, answer in zip(items, answers)])
+        self.told.answered(answers)
         try:
             done = self.log.append(place, record, token)
         except InDoubt:
@@ -72,7 +72,7 @@ PLANTED = [
             done = self.log.append(place, record, token)
         except InDoubt:
             answers = replica.feed(place, record)
-            self.told.answered([(it.number, answer) for it, answer in zip(items, answers)])
+            self.told.answered(answers)
             self.close_replica()
             raise
         if not done:
