@@ -109,6 +109,19 @@ ERRORS = [
     Error("http.rs", "self.came.len() + many <= LONGEST", "true", "test_serve_pages.ServePages.test_a_request_that_is_too_long"),
     Error("pages.rs", "count.map_or((UNAVAILABLE", "count.map_or((OK", "test_serve_pages.ServePages.test_whether_it_is_ready"),
     Error("pages.rs", "if self.pages.len() < MOST {", "if true {", "test_serve_calls.ServeCalls.test_metrics"),
+    # nodes: one that follows takes clients, one that is deposed answers, or answers the next ones what was for those before
+    Error("clients.rs", "if let Some(said) = self.follows() {", "if let (Some(said), false) = (self.follows(), true) {", "test_node_server.NodeServers.test_who_is_answered"),
+    Error("node.rs", "self.dismiss(id, Some(LEADS_NO_MORE));", "let _ = id;", "test_node_server.NodeServers.test_clients_of_a_leader_that_is_none_any_more"),
+    Error("node.rs", "let (_, lost) = self.routing.lose();", "let lost: Vec<u8> = Vec::new();", "test_node_server.NodeServers.test_one_that_leads_again"),
+    Error("node.rs", "self.forget_all_waits();", "", "test_node_server.NodeServers.test_lines_that_are_tried_are_nobodys"),
+    Error("node.rs", 'format!("# leads {term}\\n")', 'format!("# leads {}\\n", term.min(1))', "test_node_server.NodeServers.test_one_that_leads_again"),
+    Error("node.rs", "self.orphaned(name, serial);", "let _ = serial;", "test_node_server.NodeServers.test_units_of_clients_of_an_earlier_leader"),
+    Error("node.rs", "self.names = std::mem::take(&mut node.names);", "", "test_node_server.NodeServers.test_lines_that_wait"),
+    Error("node.rs", "Some((page, which)) => self.page_answered(page, which, answer),", "Some((page, which)) => self.page_answered(page, which ^ 1, answer),", "test_node_server.NodeServers.test_pages"),
+    Error("answers.rs", "self.node.is_some() && is_own(line)", "is_own(line) && self.node_says(line) || self.node.is_some() && is_own(line)", "test_node_server.NodeServers.test_pages"),
+    Error("pages.rs", "if let (Wanted::Ready, Some(why)) = (wanted, self.follows()) {", "if let (Wanted::NotThere, Some(why)) = (wanted, self.follows()) {", "test_node_server.NodeServers.test_pages"),
+    Error("said.rs", "of.unwrap_or(Status::Lost)", "of.and(None).unwrap_or(Status::Lost)", "test_node_server.NodeEnds.test_a_head_that_is_refused"),
+    Error("life.rs", "self.program.close_input();\n                self.program.ended();", "self.program.kill();", "test_node_server.NodeEnds.test_a_head_that_is_refused"),
 ]
 
 

@@ -23,6 +23,8 @@ mod page;
 mod rights;
 #[path = "../src/routing.rs"]
 mod routing;
+#[path = "../src/said.rs"]
+mod said;
 #[path = "../src/slab.rs"]
 mod slab;
 #[path = "../src/sys.rs"]
@@ -135,6 +137,7 @@ fn others(kind: u8, given: &[u8]) {
             page.counted(&answer);
             assert!(refused(given).is_none() || given.starts_with(b"refused "));
         }
+        4 => node(given),
         _ => {
             let text = String::from_utf8_lossy(given);
             let _ = options::wish_of(&text.split_whitespace().map(str::to_string).collect::<Vec<_>>());
@@ -142,11 +145,27 @@ fn others(kind: u8, given: &[u8]) {
     }
 }
 
+/// A line of a node's: what is read of it stands there behind its word.
+fn node(given: &[u8]) {
+    use said::Said::{Ends, Follows, Leads, Name, Told};
+    let (word, rest) = match said::said_in(given) {
+        None => return assert!(!given.starts_with(b"\x01told ") && !given.starts_with(b"\x01name ")),
+        Some(Name(rest)) => ("name", rest.to_vec()),
+        Some(Leads(term, holds)) => ("leads", format!("{term} {holds}").into_bytes()),
+        Some(Follows(why)) => ("follows", why.into()),
+        Some(Told(answer)) => ("told", answer.to_vec()),
+        Some(Ends(_, why)) => ("ends", why.into()),
+    };
+    assert!(said::is_own(given) && given.starts_with(&[b"\x01", word.as_bytes()].concat()));
+    // (a number may have zeros before it)
+    assert!(given.ends_with(&rest) || word == "leads");
+}
+
 pub fn one(given: &[u8]) {
     match given.split_first() {
         Some((0..=9, rest)) => line(rest),
         Some((10..=14, rest)) => some_rights(rest),
-        Some((kind, rest)) => others(kind % 5, rest),
+        Some((kind, rest)) => others((kind - 15) % 6, rest),
         None => (),
     }
 }

@@ -51,7 +51,7 @@ fn last_born(verb: Verb, answer: &[u8]) -> Option<u64> {
         // (NAME done ID unit U outputs FIRST COUNT)
         Verb::Commit | Verb::Turn if words.nth(1) == Some(b"done") => {
             let (first, many) = (number(words.nth(4))?, number(words.next())?);
-            (many > 0).then(|| first + many - 1)
+            first.checked_add(many.checked_sub(1)?)
         }
         _ => None,
     }
@@ -60,6 +60,8 @@ fn last_born(verb: Verb, answer: &[u8]) -> Option<u64> {
 #[cfg(test)]
 mod tests {
     use super::*;
+
+    const PAST_ALL: &str = "packer done 1 unit 65 outputs 18446744073709551615 2";
 
     struct Heard(Ages, Instant);
 
@@ -100,7 +102,7 @@ mod tests {
         let mut it = Heard::new();
         it.hear(Verb::Commit, "packer done 0 unit 64 outputs 1 3", 10);
         it.hear(Verb::Turn, "till.2 done 1 unit 32 outputs 4 1", 20);
-        for answer in ["packer done 1 unit 65 outputs 5 0", "packer lost 2", "till idle"] {
+        for answer in ["packer done 1 unit 65 outputs 5 0", "packer lost 2", "till idle", PAST_ALL] {
             it.hear(Verb::Commit, answer, 30);
         }
         assert_eq!(it.ages(&[1, 2, 3, 4, 5]), [90, 90, 90, 80, 0]);

@@ -5,6 +5,7 @@ use crate::life::{Going, Phase};
 use crate::lines::{refused, Name, Tag, Verb};
 use crate::program::Come;
 use crate::routing::{Asked, By, Heard, Whose};
+use crate::said::is_own;
 use crate::server::Server;
 use crate::slab::Id;
 use crate::sys::find;
@@ -21,7 +22,7 @@ impl Server {
         if let Come::End = self.program.read() {
             return self.program_ended();
         }
-        if !matches!(self.going, Going::Runs) {
+        if !matches!(self.going, Going::Runs | Going::Follows) {
             return self.start_goes_on();
         }
         let before = self.routing.of_clients();
@@ -29,16 +30,28 @@ impl Server {
         let mut at = 0;
         let mut is_wrong = false;
         while let (Some(length), false) = (find(&rest[at..], b'\n'), is_wrong) {
-            is_wrong = !self.answer_comes(&rest[at..at + length]);
+            is_wrong = !self.line_comes(&rest[at..at + length]);
             at += length + 1;
         }
         self.program.rest = rest;
         self.program.rest.drain(..at);
-        self.pace.note(before.saturating_sub(self.routing.of_clients()), self.program.id(), self.now);
+        if self.node.is_none() {
+            // (a node waits for its log, and a long window is one record there)
+            self.pace.note(before.saturating_sub(self.routing.of_clients()), self.program.id(), self.now);
+        }
         if is_wrong {
             // A program that answers more than it is asked: the next answers would be given to wrong clients.
             self.program.kill();
             self.program_ended();
+        }
+    }
+
+    /// False where the program may not say this.
+    fn line_comes(&mut self, line: &[u8]) -> bool {
+        if self.node.is_some() && is_own(line) {
+            self.node_says(line)
+        } else {
+            self.answer_comes(line)
         }
     }
 

@@ -62,6 +62,10 @@ impl Server {
     fn joined(&mut self, fd: OwnedFd, is_over_tcp: bool) {
         self.tally.connected += 1;
         let (number, many) = (self.tally.connected, self.clients.len());
+        if let Some(said) = self.follows() {
+            let _ = sys::write_some(fd.as_raw_fd(), format!("covetrivet: {said}\n").as_bytes());
+            return;
+        }
         let who = who_is(&fd, is_over_tcp);
         let own = self.rights.of(&who);
         // (one that has no right may yet show a token)

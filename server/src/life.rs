@@ -33,6 +33,8 @@ pub enum Phase {
 /// What the program is about.
 pub enum Going {
     Runs,
+    /// It is a node of a cluster, and another one leads.
+    Follows,
     /// It has ended, and the journal isn't free yet, for which it is waited until then.
     Waits(Instant),
     Recovers,
@@ -53,7 +55,7 @@ impl Server {
         self.is_blocked = false;
     }
 
-    fn forget_program(&mut self) {
+    pub fn forget_program(&mut self) {
         for it in [self.program.input, self.program.output, self.program.errors] {
             self.poll.remove(it);
         }
@@ -174,7 +176,7 @@ impl Server {
     }
 
     /// The session can't go on.
-    fn lose(&mut self, why: Fault) {
+    pub fn lose(&mut self, why: Fault) {
         self.going = Going::Runs;
         self.fault = Some(why);
         self.lost.clear();
@@ -230,10 +232,17 @@ impl Server {
     /// Ends the session in order, and returns its last lines.
     pub fn finish(mut self) -> Result<Vec<u8>, Fault> {
         if let Some(why) = self.fault.take() {
+            if self.node.is_some() {
+                // (it leaves its log)
+                self.program.close_input();
+                self.program.ended();
+            }
             return Err(why);
         }
         let finals = self.program.finals();
         match self.program.ended() {
+            // (a node has none)
+            (_, true) if self.node.is_some() => Ok(Vec::new()),
             (_, true) => Ok(finals),
             (why, false) => Err(Fault::lost(&why)),
         }

@@ -18,6 +18,7 @@ mod life;
 mod lines;
 mod listen;
 mod log;
+mod node;
 mod notify;
 mod options;
 mod pace;
@@ -28,6 +29,7 @@ mod place;
 mod program;
 mod rights;
 mod routing;
+mod said;
 mod server;
 mod session;
 mod slab;
@@ -51,10 +53,7 @@ use std::io::Write;
 const FILES_BESIDE: u64 = 64;
 
 fn serve(options: Options, handed: HandedOver) -> Result<Vec<u8>, Fault> {
-    let text = std::fs::read(&options.head);
-    let text = text.map_err(|it| Fault(Status::NoHead, format!("can't read {}: {it}", options.head)))?;
-    let head =
-        head::lines_of(&text).map_err(|it| Fault(Status::BadHead, format!("{}: {it}", options.head)))?;
+    let head = head_of(&options)?;
     let rights = Rights::read(options.rights.as_deref())?;
     let tokens = Tokens::read(options.tokens.as_deref())?;
     let wanted = options.limits.connections as u64 + FILES_BESIDE;
@@ -64,8 +63,18 @@ fn serve(options: Options, handed: HandedOver) -> Result<Vec<u8>, Fault> {
     // (taken before the session begins, and listened at behind that)
     let places = Places::take(&options, handed)?;
     let program = program_of(&options)?;
-    let (journal, file) = (options.journal.clone(), options.head.clone());
-    server::serve(options, Session { program, journal, head, file }, rights, tokens, places)
+    let (journal, file, is_node) = (options.journal.clone(), options.head.clone(), options.is_node);
+    server::serve(options, Session { program, journal, head, file, is_node }, rights, tokens, places)
+}
+
+/// Returns the lines to begin with. A node has them itself.
+fn head_of(options: &Options) -> Result<Vec<String>, Fault> {
+    if options.is_node {
+        return Ok(Vec::new());
+    }
+    let text = std::fs::read(&options.head);
+    let text = text.map_err(|it| Fault(Status::NoHead, format!("can't read {}: {it}", options.head)))?;
+    head::lines_of(&text).map_err(|it| Fault(Status::BadHead, format!("{}: {it}", options.head)))
 }
 
 fn program_of(options: &Options) -> Result<Vec<String>, Fault> {

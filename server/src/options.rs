@@ -6,6 +6,7 @@ covetrivetd --socket PATH --head FILE [..] [-- PROGRAM [WORD..]]   one live sess
   --socket PATH         where clients connect to
   --head FILE           the lines to begin with, as of a dump
   --journal FILE        each line is in it before it is answered, and the session goes on from it
+  --node                PROGRAM is a node of a cluster, in place of --head: `covetrivet node` says so
   --mode MODE           the sockets' permissions (0600)
   --orphans keep|abort:SECONDS
                         units of clients that are gone (keep)
@@ -27,6 +28,7 @@ pub struct Options {
     pub socket: String,
     pub head: String,
     pub journal: Option<String>,
+    pub is_node: bool,
     pub mode: u32,
     /// After how many seconds units of clients that are gone are aborted.
     pub orphans: Option<f64>,
@@ -62,6 +64,7 @@ impl Options {
             socket: String::new(),
             head: String::new(),
             journal: None,
+            is_node: false,
             mode: 0o600,
             orphans: None,
             metrics: None,
@@ -105,6 +108,10 @@ pub fn wish_of(words: &[String]) -> Result<Wish, String> {
         match word.as_str() {
             "--help" | "-h" => return Ok(Wish::Help),
             "--version" => return Ok(Wish::Version),
+            "--node" => {
+                it.is_node = true;
+                continue;
+            }
             "--" => {
                 it.program = words.cloned().collect();
                 break;
@@ -119,10 +126,17 @@ pub fn wish_of(words: &[String]) -> Result<Wish, String> {
         it.set(option, value)
             .ok_or_else(|| format!("{option} {value}: this is no option, or no value for it"))?;
     }
-    for (option, is_there) in [("--socket", !it.socket.is_empty()), ("--head", !it.head.is_empty())] {
+    for (option, is_there) in
+        [("--socket", !it.socket.is_empty()), ("--head", !it.head.is_empty() || it.is_node)]
+    {
         if !is_there {
             return Err(format!("{option} is wanted"));
         }
+    }
+    if it.is_node && (it.journal.is_some() || !it.head.is_empty() || it.program.is_empty()) {
+        return Err(
+            "--node needs a program behind `--`, which has head and log itself: covetrivet node".into()
+        );
     }
     if it.tcp.is_some() && it.tokens.is_none() {
         return Err("--tcp needs --tokens: whoever comes that way is known by nothing else".into());
@@ -166,6 +180,9 @@ mod tests {
         it.program = ["tp_live", "--journal", "x"].map(String::from).to_vec();
         assert_eq!(wish(all), Ok(Wish::Serve(Box::new(it))));
         assert_eq!(wish("--help"), Ok(Wish::Help));
+        let mut it = Options::new();
+        (it.socket, it.is_node, it.program) = ("s".into(), true, vec!["n".into()]);
+        assert_eq!(wish("--node --socket s -- n"), Ok(Wish::Serve(Box::new(it))));
     }
 
     #[test]
@@ -183,6 +200,9 @@ mod tests {
             "--socket s --head h --tcp :1",
             "--socket s --head h --mode 1777",
             "--socket s --head h --nice 3",
+            "--socket s --node",
+            "--socket s --node --head h -- node",
+            "--socket s --node --journal j -- node",
         ] {
             assert!(wish(it).is_err(), "{it}");
         }

@@ -47,7 +47,7 @@ impl Server {
         let page = match wanted {
             Wanted::Metrics => self.own_page(),
             Wanted::Clients => return self.tell_page(id, OK, &self.page_of_clients()),
-            Wanted::Health => return self.tell_page(id, OK, "ok\n"),
+            Wanted::Health => return self.tell_page(id, OK, &self.health()),
             Wanted::Ready => String::new(),
             Wanted::NotThere => {
                 return self.tell_page(id, "404 Not Found", "GET /metrics, /clients, /ready or /healthz\n")
@@ -56,12 +56,18 @@ impl Server {
         if let Some(it) = self.pages.get_mut(id) {
             it.page = page;
         }
-        if !matches!((&self.phase, &self.going), (Phase::Serves, Going::Runs)) {
+        if let (Wanted::Ready, Some(why)) = (wanted, self.follows()) {
+            return self.tell_page(id, UNAVAILABLE, &format!("{why}\n"));
+        }
+        if !matches!((&self.phase, &self.going), (Phase::Serves, Going::Runs | Going::Follows)) {
             return self.finish_page(id);
         }
         self.ask_for_page(id, Verb::Count, "count");
         if wanted == Wanted::Metrics {
             self.ask_for_page(id, Verb::Depth, "depth");
+            if self.node.is_some() {
+                self.ask_for_page(id, Verb::Other, "place");
+            }
         }
         self.later(SECONDS_TO_ANSWER, Timer::Page(id));
     }
@@ -71,6 +77,9 @@ impl Server {
         it.answers.push((verb, None));
         let (whose, by, name, tag) =
             (Whose::Page(id, it.answers.len() - 1), By::Program, Name::NONE, Tag::NONE);
+        if self.node.is_some() {
+            return self.ask_node(whose, line);
+        }
         let (arrivals, since) = (Arrivals::NONE, self.now);
         self.ask(Asked { whose, by, verb, name, tag, arrivals, since }, line.as_bytes());
     }
@@ -82,8 +91,9 @@ impl Server {
             return;
         }
         // Which stages have any is known now: of each the oldest is asked for.
-        let is_first = it.wanted == Some(Wanted::Metrics) && it.answers.len() == 2;
-        let depth = it.answers.last().and_then(|it| it.1.clone()).filter(|_| is_first).unwrap_or_default();
+        let is_first = it.answers.iter().all(|it| it.0 != Verb::List);
+        let depth = it.answers.iter().find(|it| it.0 == Verb::Depth).filter(|_| is_first);
+        let depth = depth.and_then(|it| it.1.clone()).unwrap_or_default();
         let waiting: Vec<u16> = rows_of(&depth).iter().filter(|it| it.1[0] != "0").map(|it| it.0).collect();
         if waiting.is_empty() {
             return self.finish_page(id);
@@ -123,7 +133,15 @@ impl Server {
             let (ages, now) = (&mut self.ages, self.now);
             page.oldest(firsts.map(|(stage, element)| (stage, ages.of(element, now))));
         }
+        if let Some(place) = told(Verb::Other).and_then(|it| it.strip_prefix("place ")) {
+            page.one("place", Kind::Gauge, "How many records of the log the node has performed.", place);
+        }
         self.tell_page(id, OK, &page.0);
+    }
+
+    fn health(&self) -> String {
+        let leads = self.node.as_ref().map(|_| "this node leads".into());
+        format!("{}\n", self.follows().or(leads).unwrap_or("ok".into()))
     }
 
     fn tell_page(&mut self, id: Id, status: &str, text: &str) {
@@ -141,10 +159,11 @@ impl Server {
         page.value("build_info", &format!("{{version=\"{VERSION}\"}}"), 1);
         page.one("connections", Kind::Gauge, "Connections that are open.", self.clients.len());
         page.one("lines_in_flight", Kind::Gauge, "Lines that aren't answered.", in_flight);
-        let lines = self.tally.all_answers() + in_flight as u64;
+        let lines = self.tally.all_answers() + self.tally.lost + in_flight as u64;
         page.one("lines_total", Kind::Counter, "Lines that were handed over.", lines);
         page.one("lines_waiting", Kind::Gauge, "Lines that wait for work or for a reply.", self.waits.len());
         page.one("window", Kind::Gauge, "Lines that the program may have at a time.", self.pace.window());
+        self.page_of_node(&mut page);
         page.tally(&self.tally);
         let rights = self.rights.0.iter().flatten().zip(&self.tally.rights).enumerate();
         let rights = rights.map(|(at, (right, many))| (format!("{}\",right=\"{}", at + 1, right.who), many));

@@ -146,6 +146,15 @@ impl Server {
         them.len()
     }
 
+    /// Nobody waits any more, also where a line is tried.
+    pub fn forget_all_waits(&mut self) {
+        for id in self.waits.ids() {
+            if let Some(it) = self.waits.take(id) {
+                self.timers.cancel(it.until, Timer::Wait(id));
+            }
+        }
+    }
+
     /// A client waits no longer.
     pub fn end_waits_of(&mut self, client: Id) {
         for id in self.waits.of(client) {

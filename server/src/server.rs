@@ -8,6 +8,7 @@ use crate::life::{Going, Phase};
 use crate::lines::Name;
 use crate::listen::{Listeners, Places};
 use crate::log::{say, Log};
+use crate::node::Node;
 use crate::notify;
 use crate::options::Options;
 use crate::pace::Pace;
@@ -92,6 +93,8 @@ pub struct Server {
     pub knocked: Vec<Source>,
     pub program: Program,
     pub going: Going,
+    /// Where the program is a node.
+    pub node: Option<Node>,
     pub phase: Phase,
     pub fault: Option<Fault>,
     /// Whether the program has answered a client since it began, and how many in a row have ended before
@@ -153,6 +156,7 @@ impl Server {
         let tally = Tally::new(rights.0.as_ref().map_or(0, Vec::len));
         let now = Instant::now();
         let pace = Pace::new(program.id(), now);
+        let node = options.is_node.then(Node::new);
         Ok(Server {
             options,
             rights,
@@ -163,7 +167,8 @@ impl Server {
             listeners: Some(listeners),
             knocked: Vec::new(),
             program,
-            going: Going::Runs,
+            going: if node.is_some() { Going::Follows } else { Going::Runs },
+            node,
             phase: Phase::Serves,
             fault: None,
             has_answered: true,

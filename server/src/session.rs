@@ -23,6 +23,8 @@ pub struct Session {
     pub head: Vec<String>,
     /// The file of the head.
     pub file: String,
+    /// Whether the program is a node of a cluster, which says itself when there is a session.
+    pub is_node: bool,
 }
 
 impl Session {
@@ -40,6 +42,11 @@ impl Session {
 
     /// Begins the session. Returns its program, who has units open, and what is known of names.
     pub fn start(&self) -> Result<(Program, Vec<Name>, Names), Fault> {
+        if self.is_node {
+            let it = Program::start(&self.program)?;
+            it.unblock();
+            return Ok((it, Vec::new(), Names::new()));
+        }
         let mut it = match &self.journal {
             Some(path) => self.start_with(path)?,
             None => {

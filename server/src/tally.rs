@@ -38,6 +38,8 @@ pub struct Tally {
     /// Lines by the right that allows them.
     pub rights: Vec<u64>,
     pub unanswered: u64,
+    /// Lines of a node whose answers are lost, since it leads no more.
+    pub lost: u64,
     pub buckets: [u64; BUCKETS + 1],
     pub waited: Duration,
     pub aborted: u64,
@@ -57,6 +59,7 @@ impl Tally {
             refusals: BTreeMap::new(),
             rights: vec![0; rights],
             unanswered: 0,
+            lost: 0,
             buckets: [0; BUCKETS + 1],
             waited: Duration::ZERO,
             aborted: 0,

@@ -96,6 +96,10 @@ impl Waits {
         }
     }
 
+    pub fn ids(&self) -> Vec<Id> {
+        self.all.ids()
+    }
+
     /// The lines of a client that wait.
     pub fn of(&self, client: Id) -> Vec<Id> {
         self.all.iter().filter(|it| it.1.client == client).map(|it| it.0).collect()

@@ -11,6 +11,7 @@ import contextlib
 import http.client
 import itertools
 import json
+import re
 import ssl
 import threading
 import time
@@ -19,11 +20,13 @@ from collections.abc import Sequence
 from typing import Any
 from urllib.parse import urlsplit
 
-from covetrivet.shared_log import Base, InDoubt, LogLost, Record, Token
+from covetrivet.shared_log import Base, InDoubt, LogFull, LogLost, Record, Token
 
 RECORDS_AT_ONCE = 100
 # A request has at most 1.5 MiB (etcd's --max-request-bytes). Dumps are compressed, and put in such pieces.
 PIECE = 1 << 20
+# What etcd says where its database has all the room that it may have.
+NO_SPACE = "database space exceeded"
 Json = dict[str, Any]
 
 
@@ -64,7 +67,10 @@ class Gateway:
             response = self.asked(path, body)
             said = json.loads(response.read().split(b"\n")[0] or b"{}")
             if response.status != 200:
-                raise http.client.HTTPException(f"status {response.status}: {said.get('error')}")
+                why = f"status {response.status}: {said.get('error')}"
+                if NO_SPACE in why:
+                    raise LogFull(f"etcd: {why} (NOSPACE)")
+                raise http.client.HTTPException(why)
             return dict(said)
 
     def wait(self, body: Json, seconds: float) -> None:
@@ -107,6 +113,7 @@ class EtcdLog:
         self, members: Sequence[str], prefix: str, who: str, lease: int, trust: ssl.SSLContext | None = None
     ) -> None:
         self.prefix, self.who, self.seconds = f"{prefix}/", who, lease
+        self.places = re.compile(re.escape(f"{prefix}/log/") + r"(\d{16})")
         self.gateway = Gateway(members, lease, trust)
         self.keeping = Gateway(members, lease / 3, trust)
         # the revision of the last read, and the place and the revision of the base that was read last
@@ -177,13 +184,13 @@ class EtcdLog:
         return self.is_done([self.mine(token), free], [put])
 
     def read(self, place: int) -> list[tuple[int, Record]]:
-        asked = {"key": self.place(place), "range_end": self.key("log0"), "limit": RECORDS_AT_ONCE}
+        # (before 0.25.0 another log could be put below this one: its keys are no numbers)
+        asked = {"key": self.place(place), "range_end": self.key("log/:"), "limit": RECORDS_AT_ONCE}
         said = self.gateway.call("/v3/kv/range", asked)
         self.seen = int(said["header"]["revision"])
-        return [
-            (int(base64.b64decode(it["key"])[-16:]), Record.of(base64.b64decode(it["value"]).decode()))
-            for it in said.get("kvs", [])
-        ]
+        names = [(base64.b64decode(it["key"]).decode(), it["value"]) for it in said.get("kvs", [])]
+        found = [(self.places.fullmatch(name), value) for name, value in names]
+        return [(int(at[1]), Record.of(base64.b64decode(value).decode())) for at, value in found if at]
 
     def base(self, behind: int) -> Base | None:
         # (one that was read already is not sent again)

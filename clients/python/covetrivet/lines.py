@@ -26,7 +26,6 @@ LINES_AT_ONCE = 1000
 UNKNOWN = "unknown"
 # What a server says besides answers begins so. No answer does: a name has no colon.
 NOTICE = "covetrivet: "
-TAGGED = re.compile(rb"@([0-9A-Za-z._-]{1,20})(?: (.*))?", re.DOTALL)
 MAYBE_WITHOUT, WITHOUT_ANSWER = (b"", b"#", b" "), re.compile(b"#[ -~]*| *")
 
 
@@ -50,31 +49,9 @@ def is_asked(line: bytes) -> bool:
     return line[:1] not in MAYBE_WITHOUT or len(line) > LONGEST_LINE or not WITHOUT_ANSWER.fullmatch(line)
 
 
-def parted(line: bytes) -> tuple[str, bytes]:
-    """Returns the tag of a line, an empty one where it has none, and what is behind it. What is too long with
-    its tag is too long without it.
-    """
-    found = TAGGED.fullmatch(line)
-    if not found:
-        return "", line
-    text = found[2] or b""
-    return found[1].decode("ascii"), text if len(line) <= LONGEST_LINE else text.ljust(LONGEST_LINE + 1)
-
-
 def untagged(line: str) -> str:
     """Returns a line without its tag."""
     return re.sub(r"^@[0-9A-Za-z._-]{1,20}(?: |$)", "", line)
-
-
-def tagged(tag: str, answer: str) -> str:
-    """Returns an answer, each line of which stands behind the tag."""
-    return "\n".join(f"@{tag} {it}".rstrip() for it in answer.split("\n")) if tag else answer
-
-
-def is_line(some: bytes) -> bool:
-    """Whether these bytes are one line with its end, and it has an answer."""
-    length = len(some) - 1
-    return some.find(b"\n") == length <= LONGEST_LINE and is_asked(some[:length])
 
 
 def is_for_logs(line: str) -> bool:

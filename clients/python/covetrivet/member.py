@@ -5,15 +5,15 @@ import contextlib
 import queue
 import threading
 import time
-from collections.abc import Sequence
-from typing import NamedTuple, Protocol
+from collections.abc import Iterable, Sequence
+from typing import Protocol
 
-from covetrivet.answers import Counts, Depth
 from covetrivet.faults import SessionFault
 from covetrivet.refusals import Refusal
-from covetrivet.relay import Asked
 from covetrivet.replica import Replica
-from covetrivet.shared_log import BadHead, Base, Deposed, InDoubt, LogLost, Record, SharedLog, Token
+from covetrivet.shared_log import (
+    BadHead, Base, Deposed, InDoubt, LogFull, LogLost, Record, SharedLog, Token,
+)  # fmt: skip
 
 # Of a follower: between two looks at the log at most. Of a leader: between two looks at its lease.
 SECONDS_TO_WATCH, SECONDS_TO_LOOK = 1.0, 0.1
@@ -23,41 +23,32 @@ LINES_OF_RECORD, SIGNS_OF_RECORD = 1000, 150_000
 # After so many lines the log is made short by a dump, and so late behind that: a follower that isn't further
 # behind needs no dump.
 MOST_LINES, SECONDS_TO_COMPACT = 20000, 1.0
-NO_MORE = "this node leads no more; what wasn't answered may have been done"
-
-
-class Item(NamedTuple):
-    """A line that waits for its turn. `reign` says for which of the times that the node led, and `number`
-    which of its lines this is.
-    """
-
-    reign: int
-    number: int
-    asked: Asked
-    line: str
 
 
 class Told(Protocol):
     """Who is told what a member does, by its thread."""
 
-    def leads(self, token: Token, open_units: Sequence[str]) -> None:
-        """The node leads. These workers have units open, of callers elsewhere."""
+    def leads(self, token: Token, holds: str, names: Iterable[str]) -> None:
+        """The node leads. `holds` says who has units open, of callers elsewhere, and `names` are the lines by
+        which workers and servers are there.
+        """
 
     def follows(self, leader: str | None, why: str | None) -> None:
         """Another node leads, or nobody known. Where the node has led until now this is why it doesn't."""
 
-    def unreached(self, why: str) -> None:
+    def unreached(self, why: InDoubt) -> None:
         """The log can't be reached, for this reason."""
 
-    def answered(self, answers: Sequence[tuple[int, str]]) -> None:
-        """These lines are answered, by their numbers. Their record is in the log."""
+    def answered(self, answers: Sequence[str]) -> None:
+        """The next lines have these answers. Their record is in the log. One may have line ends in it."""
 
     def ended(self, fault: SessionFault) -> None:
         """The node can't go on."""
 
 
 class Member:
-    """The thread. `asked` has the lines for it; `head` are the lines that a new log begins with, if it is to.
+    """The thread. `asked` has lines for it, and the term in which they are to be performed; `head` are the
+    lines that a new log begins with, if it is to.
 
     A line is performed once its record is in the log, and answered by the node that appended it alone, and
     only where the log has said that it did.
@@ -65,8 +56,8 @@ class Member:
 
     def __init__(self, log: SharedLog, who: str, head: Sequence[str], told: Told) -> None:
         self.log, self.who, self.head, self.told = log, who, head, told
-        self.asked: queue.SimpleQueue[list[Item]] = queue.SimpleQueue()
-        self.pending: list[Item] = []
+        self.asked: queue.SimpleQueue[tuple[int, list[str]]] = queue.SimpleQueue()
+        self.pending: list[str] = []
         self.replica: Replica | None = None
         self.token: Token | None = None
         self.reign = 0
@@ -76,7 +67,9 @@ class Member:
         self.leader: str | None = None
         # where a session was that is closed
         self.stood = 0, ""
-        self.is_ending = self.is_unreached = False
+        self.is_ending = False
+        # by what the log can't be reached, if it can't
+        self.trouble: type[Exception] | None = None
         self.thread = threading.Thread(target=self.run, daemon=True)
 
     def run(self) -> None:
@@ -84,9 +77,9 @@ class Member:
             while not self.is_ending:
                 try:
                     self.act()
-                    self.is_unreached = False
+                    self.trouble = None
                 except (Deposed, InDoubt) as why:
-                    self.step_down(str(why))
+                    self.step_down(why)
                     time.sleep(SECONDS_AFTER_DOUBT)
         except SessionFault as fault:
             self.told.ended(fault)
@@ -171,44 +164,45 @@ class Member:
                 raise Deposed("another node leads")
         if self.replica:
             self.reign = token.term
-            self.told.leads(token, list(self.replica.holders.units))
+            self.told.leads(token, self.replica.units(), self.replica.names.values())
 
     def lead(self, replica: Replica, token: Token) -> None:
         """Has the next record appended and performed, and its lines answered."""
         if token.is_lost:
             raise Deposed("the lease is lost")
         self.compact(replica, token)
-        items = self.next_items()
-        if not items:
+        lines = self.next_lines()
+        if not lines:
             return
-        place, record = replica.place, Record(self.who, replica.digest, [it.line for it in items])
+        place, record = replica.place, Record(self.who, replica.digest, lines)
         if not self.log.append(place, record, token):
             raise Deposed("another node leads")
         answers = replica.feed(place, record)
-        self.told.answered([(it.number, answer) for it, answer in zip(items, answers)])
+        self.told.answered(answers)
 
-    def next_items(self) -> list[Item]:
+    def next_lines(self) -> list[str]:
         """Returns the lines of the next record."""
         self.gather()
         if not self.pending:
             with contextlib.suppress(queue.Empty):
-                self.take(self.asked.get(timeout=SECONDS_TO_LOOK))
+                self.take(*self.asked.get(timeout=SECONDS_TO_LOOK))
             return []
         many = signs = 0
         while many < min(len(self.pending), LINES_OF_RECORD) and signs < SIGNS_OF_RECORD:
-            signs += len(self.pending[many].line)
+            signs += len(self.pending[many])
             many += 1
-        items, self.pending = self.pending[:many], self.pending[many:]
-        return items
+        lines, self.pending = self.pending[:many], self.pending[many:]
+        return lines
 
     def gather(self) -> None:
         with contextlib.suppress(queue.Empty):
             while True:
-                self.take(self.asked.get_nowait())
+                self.take(*self.asked.get_nowait())
 
-    def take(self, items: list[Item]) -> None:
+    def take(self, reign: int, lines: list[str]) -> None:
         # (what was asked while the node led another time is answered no more)
-        self.pending += [it for it in items if it.reign == self.reign]
+        if reign == self.reign:
+            self.pending += lines
 
     def compact(self, replica: Replica, token: Token) -> None:
         """Makes the log short, where it is due."""
@@ -224,26 +218,25 @@ class Member:
         """Returns the place that the node has come to."""
         return self.replica.place if self.replica else self.stood[0]
 
-    def count(self) -> tuple[Counts, tuple[Depth, ...]]:
-        """Returns the elements by status, and by stage, as far as the node has come. TimeoutError where there
-        is none.
+    def peek(self, line: str) -> str:
+        """Returns what the node's session answers to a line that changes nothing, as far as the node has
+        come; an empty text where it doesn't, in time. There is no record of it.
         """
         replica = self.replica
-        try:
-            if replica:
-                return replica.count(), replica.depth()
-        except SessionFault as fault:
-            raise TimeoutError from fault
-        raise TimeoutError
+        # (another thread may just be closing it)
+        with contextlib.suppress(SessionFault, OSError, ValueError):
+            return replica.peek(line) if replica else ""
+        return ""
 
-    def step_down(self, why: str) -> None:
+    def step_down(self, why: Deposed | InDoubt) -> None:
         """Leads no more, if it did."""
         token, self.token = self.token, None
         self.pending, self.leader = [], None
         self.next_base = None
         if token:
-            self.told.follows(None, why)
+            self.told.follows(None, str(why))
             self.log.resign(token)
-        elif not self.is_unreached:
+        is_news = isinstance(why, LogFull) or not token
+        if isinstance(why, InDoubt) and is_news and self.trouble is not type(why):
             self.told.unreached(why)
-        self.is_unreached = True
+        self.trouble = type(why)

@@ -7,8 +7,6 @@ from collections.abc import Sequence
 from dataclasses import dataclass
 from typing import NoReturn
 
-from covetrivet.connection import Limits
-
 WRONG_WORDS = 64
 
 
@@ -17,22 +15,6 @@ class Parser(argparse.ArgumentParser):
 
     def error(self, message: str) -> NoReturn:
         self.exit(WRONG_WORDS, f"covetrivet: {message}; {self.prog} --help\n")
-
-
-def mode_of(word: str) -> int:
-    if not re.fullmatch("0?[0-7]{3}", word):
-        raise ValueError(word)
-    return int(word, 8)
-
-
-def orphans_of(word: str) -> float | None:
-    """Returns the seconds of `abort:SECONDS`, or None for `keep`."""
-    if word == "keep":
-        return None
-    kind, _, seconds = word.partition(":")
-    if kind != "abort":
-        raise ValueError(word)
-    return seconds_of(seconds)
 
 
 def seconds_of(word: str) -> float:
@@ -54,7 +36,8 @@ def name_of(word: str) -> str:
 
 
 def prefix_of(word: str) -> str:
-    if not re.fullmatch(r"[\w./-]{0,199}\w", word):
+    # (the keys of SHOP are SHOP/log/.. and SHOP/base/..: another log's are to be none of them)
+    if not re.fullmatch(r"[\w./-]{0,199}\w", word) or {"log", "base"} & {*word.split("/")[1:]}:
         raise ValueError(word)
     return word
 
@@ -68,7 +51,6 @@ def members_of(word: str) -> list[str]:
 
 # (argparse shows these names where a word is none)
 name_of.__name__, prefix_of.__name__, members_of.__name__ = "name", "prefix", "list of http://HOST:PORT"
-mode_of.__name__, orphans_of.__name__ = "mode, as 0660", "keep or abort:SECONDS"
 seconds_of.__name__, many_of.__name__ = "number of seconds", "number"
 
 
@@ -76,12 +58,7 @@ seconds_of.__name__, many_of.__name__ = "number of seconds", "number"
 class Joining:
     """What a node is to be, and which log it shares."""
 
-    socket: str
     head: str
-    mode: int
-    orphans: float | None
-    metrics: str | None
-    limits: Limits
     name: str
     members: list[str] | None
     postgres: str | None
@@ -93,8 +70,14 @@ class Joining:
     key: str | None
 
 
-def joining(words: Sequence[str]) -> Joining:
-    parser = Parser("covetrivet node", description="One of several machines that have the same session.")
+def joining(words: Sequence[str]) -> tuple[Joining, list[str]]:
+    """Returns what a node is to be, and the other words, which are its server's."""
+    parser = Parser(
+        "covetrivet node",
+        description="One of several machines that have the same session.",
+        epilog="All other options are as of a server, --socket among them: covetrivet serve --help.",
+        allow_abbrev=False,
+    )
     parser.add_argument("--name", required=True, type=name_of, help="this node's, as clients are told it")
     what = "the lines that a log without any begins with"
     parser.add_argument("--head", required=True, metavar="FILE", help=what)
@@ -110,33 +93,13 @@ def joining(words: Sequence[str]) -> Joining:
     parser.add_argument("--dump", type=many_of, default=20000, metavar="LINES", help=what)
     for name, what in ("ca", "whom etcd's certificates are of"), ("cert", "this node's"), ("key", "its key"):
         parser.add_argument(f"--{name}", metavar="FILE", help=f"of https://: {what}")
-    add_sockets(parser)
-    it = parser.parse_args(words)
-    return Joining(
-        it.socket, it.head, it.mode, it.orphans, it.metrics, limits_of(it),
-        it.name, it.etcd, it.postgres, it.prefix, it.lease, it.dump, it.ca, it.cert, it.key,
-    )  # fmt: skip
-
-
-def add_sockets(parser: Parser) -> None:
-    """Adds the options of a server of clients."""
-    usual = Limits()
-    parser.add_argument("--socket", required=True, metavar="PATH", help="where clients connect to")
-    parser.add_argument("--mode", type=mode_of, default=0o600, help="the sockets' permissions (0600)")
-    what = "units of clients that are gone (keep)"
-    parser.add_argument("--orphans", type=orphans_of, metavar="keep|abort:SECONDS", help=what)
-    parser.add_argument("--metrics", metavar="PATH", help="a socket that answers GET /metrics")
-    for name, kind, most, what in (
-        ("connections", many_of, usual.connections, "connections"),
-        ("lines", many_of, usual.lines, "lines of one that aren't answered; the others wait"),
-        ("unread", many_of, usual.unread, "bytes that one hasn't read; then it is let go"),
-        ("slow", seconds_of, usual.seconds, "seconds in which it reads none of what waits; then too"),
-    ):
-        parser.add_argument(f"--{name}", type=kind, default=most, metavar="N", help=f"{what} ({most})")
-
-
-def limits_of(it: argparse.Namespace) -> Limits:
-    return Limits(it.connections, it.lines, it.unread, it.slow)
+    if "--" in words:
+        parser.error("a node's program is what COVETRIVET_PROGRAM names: nothing stands behind --")
+    it, others = parser.parse_known_args(words)
+    of = Joining(
+        it.head, it.name, it.etcd, it.postgres, it.prefix, it.lease, it.dump, it.ca, it.cert, it.key
+    )
+    return of, others
 
 
 @dataclass(frozen=True)

@@ -2,6 +2,9 @@
 
 Three tables have who leads, the records and the base, of each log by its name. Each change is one statement
 that locks the leader's row, and finds it only where the term is this leader's still.
+
+The server's clock is asked for nothing. A leader changes `until` again and again, and each node counts by its
+own clock for how long that stands as it was.
 """
 from __future__ import annotations
 
@@ -12,9 +15,13 @@ import threading
 import time
 from typing import Any
 
-from covetrivet.shared_log import Base, InDoubt, Record, Token
+from covetrivet.shared_log import Base, InDoubt, LogFull, Record, Token
 
 RECORDS_AT_ONCE = 100
+# Its SQLSTATE.
+DISK_FULL = "53100"
+# What `until` is where nobody leads.
+FREE = "-infinity"
 TABLES = (
     "create table if not exists covetrivet_leader"
     " (log text primary key, term bigint not null, who text, until timestamptz not null)",
@@ -24,13 +31,13 @@ TABLES = (
     " (log text primary key, place bigint not null, base text not null)",
 )
 MINE = "with mine as (select log from covetrivet_leader where log = %s and term = %s for share)"
+LATER = "greatest(clock_timestamp() + %s * interval '1 s', until + interval '1 microsecond')"
 LEAD = (
-    "update covetrivet_leader set term = term + 1, who = %s, until = clock_timestamp() + %s * interval '1 s'"
-    " where log = %s and until < clock_timestamp() returning term"
+    f"update covetrivet_leader set term = term + 1, who = %s, until = {LATER}"
+    " where log = %s and term = %s and until = %s::timestamptz returning term"
 )
 KEEP = (
-    "update covetrivet_leader set until = clock_timestamp() + %s * interval '1 s'"
-    " where log = %s and term = %s and until > clock_timestamp()"
+    f"update covetrivet_leader set until = {LATER} where log = %s and term = %s and until > '-infinity'"
 )
 APPEND = (
     f"{MINE}, put as (insert into covetrivet_log select log, %s, %s from mine"
@@ -97,7 +104,8 @@ class Connection:
             yield
         except (self.library.Error, OSError) as fault:
             self.close()
-            raise InDoubt(f"PostgreSQL: {' '.join(str(fault).split())}") from fault
+            kind = LogFull if getattr(fault, "pgcode", None) == DISK_FULL else InDoubt
+            raise kind(f"PostgreSQL: {' '.join(str(fault).split())}") from fault
 
     def close(self) -> None:
         it, self.open = self.open, None
@@ -113,6 +121,9 @@ class PostgresLog:
         self.where, self.name, self.who, self.seconds = where, name, who, lease
         self.main, self.listening = Connection(where, lease), Connection(where, lease)
         self.is_made = False
+        # the term and `until` as they were seen last, and since when
+        self.seen: tuple[object, ...] = ()
+        self.since = 0.0
 
     def do(self, statement: str, *values: object) -> list[tuple[Any, ...]]:
         if not self.is_made:
@@ -126,12 +137,17 @@ class PostgresLog:
     # ---- who leads
 
     def leader(self) -> str | None:
-        asked = "select who from covetrivet_leader where log = %s and until > clock_timestamp()"
-        found = self.do(asked, self.name)
-        return str(found[0][0]) if found else None
+        asked = "select term, until::text, who from covetrivet_leader where log = %s"
+        *seen, who = self.do(asked, self.name)[0]
+        if tuple(seen) != self.seen:
+            self.seen, self.since = tuple(seen), time.monotonic()
+        is_over = seen[1] == FREE or time.monotonic() > self.since + self.seconds
+        return None if is_over else str(who)
 
     def lead(self) -> Token | None:
-        found = self.do(LEAD, self.who, self.seconds, self.name)
+        if self.leader():
+            return None
+        found = self.do(LEAD, self.who, self.seconds, self.name, *self.seen)
         if not found:
             return None
         token = Token(int(found[0][0]))

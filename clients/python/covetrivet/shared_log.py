@@ -28,6 +28,10 @@ class InDoubt(Exception):
     """
 
 
+class LogFull(InDoubt):
+    """What keeps the log has no room for more."""
+
+
 class Deposed(Exception):
     """This node leads no more, or can't know that it does. The text says why."""
 

@@ -23,7 +23,7 @@ from collections.abc import Sequence
 
 from covetrivet import SessionFault
 from covetrivet.etcd import EtcdLog
-from covetrivet.postgres import PostgresLog
+from covetrivet.postgres import Connection, PostgresLog
 from covetrivet.shared_log import SharedLog
 from callers import Traffic, Wrong, check, replayed
 from log_history import EtcdHistory, History, PostgresHistory, all_written
@@ -31,7 +31,10 @@ from machines import LEASE, MACHINES, PREFIX, Machines, children, comes
 
 WORKERS = "wa", "wb", "wc"
 SMALL = ["limit 7", "keep 100", *(f"worker {it} 1" for it in WORKERS)]
-SECONDS_TO_GO_ON = 20
+# (more by the environment, for a machine that is very busy)
+SECONDS_TO_GO_ON = float(os.environ.get("COVETRIVET_TEST_SECONDS", "20"))
+# A server and its node are processes that may be lost alone.
+OF_PROCESSES = "kill leader's server", "kill leader's node", "stop leader's node"
 
 
 class Run:
@@ -51,9 +54,10 @@ class Run:
         cut = ["cut leader off"] * self.machines.network.is_there
         if self.machines.postgres:
             kinds = ["kill leader", "stop leader", *cut, "stop server", "kill all", "kill session"]
-            return [*kinds, "kill server", "end leader", "kill follower"]
+            kinds += ["kill server", "end leader", "kill follower", "set clock back", "lock leader's row"]
+            return [*kinds, *OF_PROCESSES]
         kinds = ["kill leader", "stop leader", *cut, "stop members", "kill all", "kill session"]
-        return [*kinds, "kill member", "end leader", "kill follower"]
+        return [*kinds, "kill member", "end leader", "kill follower", *OF_PROCESSES]
 
     def fault(self, kind: str) -> None:
         """Has this happen to the machine that leads, and mends it. Wrong where nobody is answered then."""
@@ -70,12 +74,56 @@ class Run:
 
     def act(self, kind: str, leader: int) -> None:
         """Calls the method of this name."""
-        getattr(self, kind.replace(" ", "_"))(leader)
+        getattr(self, kind.replace(" ", "_").replace("'", ""))(leader)
 
     def kill_leader(self, leader: int) -> None:
         self.machines.end(f"node{leader}", signal.SIGKILL)
         time.sleep(LEASE + 1.5)
         self.machines.node(leader)
+
+    def kill_one_process(self, number: int, process: int | None, leader: int) -> None:
+        """Has this come to one of a node's processes, and begins the node again once it has ended."""
+        if process:
+            with contextlib.suppress(ProcessLookupError):
+                os.kill(process, number)
+        comes(lambda: self.machines.processes[f"node{leader}"].poll() is not None, 10)
+        self.machines.end(f"node{leader}", signal.SIGKILL)
+        self.machines.node(leader)
+
+    def kill_leaders_server(self, leader: int) -> None:
+        """Its node goes on alone for a moment, and leaves."""
+        self.kill_one_process(signal.SIGKILL, self.machines.processes[f"node{leader}"].pid, leader)
+
+    def kill_leaders_node(self, leader: int) -> None:
+        self.kill_one_process(signal.SIGKILL, self.machines.node_of(leader), leader)
+
+    def stop_leaders_node(self, leader: int) -> None:
+        """Its server goes on, and takes lines meanwhile."""
+        node = self.machines.node_of(leader)
+        for number, seconds in (signal.SIGSTOP, LEASE + 2), (signal.SIGCONT, 0):
+            if node:
+                os.kill(node, number)
+            time.sleep(seconds)
+
+    def set_clock_back(self, leader: int) -> None:
+        """As if the clock of PostgreSQL had been set back by an hour, and the leader's machine were lost."""
+        act = "update covetrivet_leader set until = until + interval '1 hour'"
+        self.machines.signal(f"node{leader}", signal.SIGSTOP)
+        self.on_postgres(act)
+        self.machines.end(f"node{leader}", signal.SIGKILL)
+        time.sleep(LEASE + 1.5)
+        self.machines.node(leader)
+
+    def lock_leaders_row(self, _leader: int) -> None:
+        """Somebody else holds locks for a while."""
+        locks = "perform 1 from covetrivet_leader for update"
+        self.on_postgres(f"do $$ begin {locks}; perform pg_sleep({LEASE + 2}); end $$")
+
+    def on_postgres(self, statement: str) -> None:
+        assert self.machines.postgres
+        connection = Connection(self.machines.postgres.where(), 30)
+        connection.do(statement)
+        connection.close()
 
     def end_leader(self, leader: int) -> None:
         self.machines.end(f"node{leader}", signal.SIGTERM)
@@ -98,13 +146,8 @@ class Run:
         self.machines.network.cut(leader, False)
 
     def kill_session(self, leader: int) -> None:
-        session = self.machines.session_of(leader)
-        if session:
-            os.kill(session, signal.SIGKILL)
         # (a node whose session is lost ends)
-        comes(lambda: self.machines.processes[f"node{leader}"].poll() is not None, 10)
-        self.machines.end(f"node{leader}", signal.SIGKILL)
-        self.machines.node(leader)
+        self.kill_one_process(signal.SIGKILL, self.machines.session_of(leader), leader)
 
     def kill_member(self, leader: int) -> None:
         self.machines.end(f"etcd{leader}", signal.SIGKILL)
@@ -161,7 +204,7 @@ class Run:
         for it in MACHINES:
             self.await_place(it, place)
         self.refuse_ended()
-        if not comes(self.is_leader_named, 10):
+        if not comes(self.is_leader_named, SECONDS_TO_GO_ON):
             raise Wrong(f"followers don't say who leads: {self.said()}")
         self.machines.end("node1", signal.SIGTERM)
         self.machines.node(1)
@@ -216,9 +259,12 @@ class Run:
             raise Wrong(f"node {machine} ends at {ends}, not as our session does: {said[-400:]}")
 
     def await_place(self, machine: int, place: float) -> None:
-        if not comes(lambda: (self.machines.metric(machine, "place") or 0) >= place, 15):
+        if not comes(lambda: (self.machines.metric(machine, "place") or 0) >= place, SECONDS_TO_GO_ON):
             at = self.machines.metric(machine, "place")
-            self.machines.end(f"node{machine}", signal.SIGABRT)
+            node = self.machines.node_of(machine)
+            if node:
+                os.kill(node, signal.SIGABRT)
+            time.sleep(1)
             said = self.machines.log_of(f"node{machine}")[-4000:]
             raise Wrong(f"node {machine} is at place {at}, and doesn't come to {place}: {said}")
 

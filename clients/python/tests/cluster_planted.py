@@ -48,7 +48,7 @@ PLANTED = [
                 "member.py",
                 APPENDED,
                 """        answers = replica.feed(place, record)
-        self.told.answered([(it.number, answer) for it, answer in zip(items, answers)])
+        self.told.answered(answers)
         try:
             done = self.log.append(place, record, token)
         except InDoubt:
@@ -72,7 +72,7 @@ PLANTED = [
             done = self.log.append(place, record, token)
         except InDoubt:
             answers = replica.feed(place, record)
-            self.told.answered([(it.number, answer) for it, answer in zip(items, answers)])
+            self.told.answered(answers)
             self.close_replica()
             raise
         if not done:
@@ -118,6 +118,24 @@ PLANTED = [
 
 # Those of the other log.
 OF_POSTGRES = [
+    Planted(
+        "a lease that is counted by the server's clock",
+        [
+            (
+                "postgres.py",
+                "is_over = seen[1] == FREE or time.monotonic() > self.since + self.seconds",
+                "is_over = bool(self.do(BY_CLOCK, self.name))",
+            ),
+            (
+                "postgres.py",
+                "class PostgresLog:",
+                'BY_CLOCK = "select 1 from covetrivet_leader where log = %s"\n'
+                'BY_CLOCK += " and until < clock_timestamp()"\n\n\nclass PostgresLog:',
+            ),
+        ],
+        ["set clock back"],
+        "nobody is answered after: set clock back",
+    ),
     Planted(
         "a compaction that deletes a record too many",
         [("postgres.py", "covetrivet_log.place < put.place", "covetrivet_log.place <= put.place")],

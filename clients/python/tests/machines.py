@@ -23,6 +23,15 @@ LEASE = 2
 PREFIX = "shop/queue"
 
 
+def server() -> str:
+    """Returns where the server is, as the environment names it or as it is built now."""
+    named = os.environ.get("COVETRIVET_SERVER")
+    if named:
+        return named
+    words = [str(Path(__file__).resolve().parents[3] / "server" / "build")]
+    return subprocess.run(words, stdout=subprocess.PIPE, text=True, check=True).stdout.strip()
+
+
 def runs(*words: str) -> bool:
     """Whether the command is there, and ends well."""
     with contextlib.suppress(OSError):
@@ -39,6 +48,11 @@ def children(process: int) -> list[int]:
             words = it.read_text(encoding="ascii", errors="replace").rpartition(")")[2].split()
             found += [int(it.parent.name)] * (int(words[1]) == process)
     return found
+
+
+def descendants(process: int) -> list[int]:
+    """Returns the ids of this process and of all that it has begun, the first ones first."""
+    return [process, *(it for child in children(process) for it in descendants(child))]
 
 
 class Network:
@@ -111,7 +125,9 @@ class Machines:
         self.dump = 300
         self.postgres = Postgres(self) if postgres else None
         (self.folder / "head").write_text("".join(f"{it}\n" for it in head), encoding="ascii")
-        self.environment = {**os.environ, "PYTHONDONTWRITEBYTECODE": "1"}
+        # (by SIGABRT a node tells where each of its threads is)
+        more = {"PYTHONDONTWRITEBYTECODE": "1", "PYTHONFAULTHANDLER": "1"}
+        self.environment = {**os.environ, "COVETRIVET_SERVER": server(), **more}
         if package:
             self.environment["PYTHONPATH"] = package
         self.processes: dict[str, subprocess.Popen[bytes]] = {}
@@ -139,16 +155,24 @@ class Machines:
             )
 
     def signal(self, name: str, number: int) -> None:
-        self.processes[name].send_signal(number)
+        """Has this come to a process, and to all that it has begun."""
+        for it in descendants(self.processes[name].pid):
+            with contextlib.suppress(ProcessLookupError):
+                os.kill(it, number)
 
     def end(self, name: str, number: int) -> int | None:
-        """Ends a process. Returns its exit status."""
-        it = self.processes.pop(name, None)
+        """Ends a process. Returns its exit status. Where it is killed all is that it has begun, as where its
+        machine is lost.
+        """
+        it = self.processes.get(name)
         if not it:
             return None
-        with contextlib.suppress(ProcessLookupError):
-            it.send_signal(signal.SIGCONT)
+        self.signal(name, signal.SIGCONT)
+        if number == signal.SIGKILL:
+            self.signal(name, number)
+        else:
             it.send_signal(number)
+        del self.processes[name]
         try:
             it.wait(20)
         except subprocess.TimeoutExpired:
@@ -200,9 +224,8 @@ class Machines:
     def node(self, machine: int) -> None:
         words = "--name", f"n{machine}", "--socket", self.socket_of(machine), "--lease", str(LEASE)
         more = "--metrics", f"{self.folder}/n{machine}.metrics", "--head", f"{self.folder}/head"
-        # (by SIGABRT it would tell where each of its threads is)
-        python = sys.executable, "-X", "faulthandler", "-m", "covetrivet"
-        command = [*python, "node", *words, *more, "--dump", str(self.dump), *self.log_words(machine)]
+        command = [sys.executable, "-m", "covetrivet", "node", *words, *more, "--dump", str(self.dump)]
+        command += self.log_words(machine)
         self.begin(f"node{machine}", machine, command)
 
     def leader(self) -> int | None:
@@ -231,10 +254,14 @@ class Machines:
             return b"".join(iter(lambda: it.recv(65536), b"")).decode("ascii")
         return ""
 
+    def node_of(self, machine: int) -> int | None:
+        """Returns the id of the process that is a node, beside its server."""
+        return next(iter(children(self.processes[f"node{machine}"].pid)), None)
+
     def session_of(self, machine: int) -> int | None:
         """Returns the id of the process of a node's session."""
-        ids = children(self.processes[f"node{machine}"].pid)
-        return ids[0] if ids else None
+        node = self.node_of(machine)
+        return next(iter(children(node)), None) if node else None
 
 
 class Postgres:

@@ -36,9 +36,11 @@ class Members(unittest.TestCase):
         self.assertTrue(comes(lambda: bool(is_so()), SOON))
 
     def asked(self, node: Node, *lines: str) -> list[str]:
-        numbers = node.ask(*lines)
-        self.comes(lambda: numbers[-1] in node.answers)
-        return [node.answers[it] for it in numbers]
+        """Returns the answers to lines, where none before isn't answered."""
+        had = len(node.answers)
+        node.ask(*lines)
+        self.comes(lambda: len(node.answers) == had + len(lines))
+        return node.answers[had:]
 
     def test_one_leads_and_the_other_takes_over(self) -> None:
         first = self.node("n1")
@@ -48,7 +50,8 @@ class Members(unittest.TestCase):
         self.assertEqual(self.asked(first, "submit 1 5 6", "claim wa")[0], "submitted 0")
         first.end()
         self.comes(lambda: second.token)
-        self.assertEqual(second.open_units, ["wa"])
+        self.assertRegex(second.holds, r"^holds wa:0:\S*$")
+        self.assertEqual(second.names, HEAD[1:])
         said = self.asked(second, "commit wa 15:1:2", "reply 0")
         self.assertEqual(said, ["wa done 0 unit 0 outputs 1 1", "replies 0 1:1:2"])
         self.assertEqual(first.member.stood[0], 1)
@@ -60,9 +63,9 @@ class Members(unittest.TestCase):
             self.comes(lambda: node.token)
             before = node.token
             self.store.doubts.append(is_done)
-            (number,) = node.ask("submit 1 5 6")
+            node.ask("submit 1 5 6")
             self.comes(lambda: node.token and node.token is not before)
-            self.assertNotIn(number, node.answers)
+            self.assertEqual(node.answers, [])
             self.assertEqual(node.why, "no answer came")
             # It leads again, and has performed what turned out to be in the log.
             self.assertEqual(self.asked(node, "submit 1 5 6"), [f"submitted {int(is_done)}"])
@@ -73,20 +76,19 @@ class Members(unittest.TestCase):
         self.comes(lambda: node.token)
         self.store.next_term("n2")
         other = MemoryLog(self.store, "n2")
-        (number,) = node.ask("submit 1 5 6")
+        node.ask("submit 1 5 6")
         self.comes(lambda: node.leader == "n2")
-        self.assertEqual((node.why, number in node.answers), ("another node leads", False))
+        self.assertEqual((node.why, node.answers), ("another node leads", []))
         # What the other one appends is performed here too.
         assert other.read(0) == []
         self.store.records[0] = Record("n2", "", ["submit 1 7 7"])
         self.comes(lambda: node.member.place() == 1)
         # What was asked before is performed no more once it leads again.
-        other_number = node.ask("submit 1 8 8")[0]
+        node.ask("submit 1 8 8")
         self.store.next_term(None)
         self.comes(lambda: node.token)
         self.assertEqual(self.asked(node, "submit 1 5 6"), ["submitted 1"])
-        self.assertNotIn(number, node.answers)
-        self.assertNotIn(other_number, node.answers)
+        self.assertEqual(node.answers, ["submitted 1"])
 
     def test_what_came_in_the_last_moment_is_performed_first(self) -> None:
         node = self.node("n1")
@@ -129,7 +131,8 @@ class Members(unittest.TestCase):
             self.comes(lambda: second.member.place() == first.member.place())
             first.end()
             self.comes(lambda: second.token)
-        self.assertEqual(sorted(second.open_units), ["wa", "wb"])
+        self.assertRegex(second.holds, r"^holds wa:0:\S* wb:1:\S*$")
+        self.assertEqual(sorted(second.names), sorted(HEAD[1:]))
         said = self.asked(second, "submit 1 0 0", "abort wb", "commit wa 15:1:2", "reply 0")
         done = "wa done 0 unit 0 outputs 63 1"
         self.assertEqual(said, ["submitted 62", "wb already 1", done, "replies 0 63:1:2"])
@@ -155,7 +158,7 @@ class Members(unittest.TestCase):
         self.comes(lambda: node.token)
         self.asked(node, "submit 1 5 6")
         self.store.next_term("n2")
-        self.comes(lambda: node.leader == "n2" or node.ask("count") is None)
+        self.comes(lambda: node.leader == "n2" or not node.ask("count"))
         self.store.records.clear()
         self.store.the_base = Base(9, "d0", [*HEAD, "numbers 4 0 0", "restore"])
         self.comes(lambda: node.member.place() == 9)
@@ -168,7 +171,7 @@ class Members(unittest.TestCase):
         self.comes(lambda: node.token)
         self.store.next_term("n2")
         self.store.records[1] = Record("n2", "", ["count"])
-        self.comes(lambda: node.fault or node.ask("count") is None)
+        self.comes(lambda: node.fault or not node.ask("count"))
         self.assertIn("lacks record 0", str(node.fault))
 
     def test_answers_that_differ(self) -> None:
@@ -177,7 +180,7 @@ class Members(unittest.TestCase):
         self.store.next_term("n2")
         self.store.records[0] = Record("n2", "", ["count"])
         self.store.records[1] = Record("n2", "0" * 32, ["count"])
-        self.comes(lambda: node.fault or node.ask("count") is None)
+        self.comes(lambda: node.fault or not node.ask("count"))
         self.assertIsInstance(node.fault, Diverged)
 
     def test_a_session_that_does_not_answer(self) -> None:

@@ -3,16 +3,22 @@ from __future__ import annotations
 
 import base64
 import contextlib
+import http.server
+import json
 import random
 import subprocess
 import sys
+import threading
 import unittest
 import zlib
+from collections.abc import Iterator
 from unittest import mock
 
-from covetrivet.etcd import EtcdLog, Gateway, Json
+from covetrivet.etcd import EtcdLog, Gateway, Json, coded
+from covetrivet.node_process import NodeProcess
 from covetrivet.replica import Replica
-from covetrivet.shared_log import Base, Diverged, LogLost, Record, Token
+from covetrivet.shared_log import Base, Diverged, InDoubt, LogFull, LogLost, Record, Token
+from memory_log import MemoryLog, Store
 
 HEAD = ["keep 5", "server till eager 2 1 add", "worker wa 1", "worker wb 1"]
 
@@ -31,7 +37,8 @@ def random_lines(dice: random.Random, answers: list[str]) -> list[str]:
                     f"family {element}", "turn till", f"collect {element}", f"take {name} {element}",
                     f"release {element}", "errors", "dump", "rubbish \xe9", "claim till",
                     f"requeue {element}", "account", f"next {name}", "depth",
-                    f"list {dice.randint(1, 2)} {int(element) + dice.randint(0, 1)}",
+                    f"list {dice.randint(1, 2)} {int(element) + dice.randint(0, 1)}", "leave wb",
+                    f"worker {dice.choice(['wb', 'wc'])} {dice.randint(1, 3)}", "worker wd 2", " leave  wd",
                 ]
             )  # fmt: skip
         )
@@ -53,7 +60,7 @@ class Replicas(unittest.TestCase):
                         it.feed(place, record)
                     self.assertEqual({it.digest for it in others} - {first.digest}, set())
                     for it in others:
-                        self.assertEqual({*it.holders.units}, {*first.holders.units})
+                        self.assertEqual((it.units(), it.names), (first.units(), first.names))
                     if place % 7 == 6:
                         base = first.base()
                         self.assertEqual((base.place, base.digest), (place + 1, first.digest))
@@ -100,7 +107,8 @@ class Etcd(Gateway):
             first, end = plain(body["key"]), plain(body["range_end"])
             least = int(body.get("min_mod_revision", 0))
             found = [it for key, it in sorted(self.keys.items()) if first <= key < end]
-            return {"kvs": [it for it in found if int(it["mod_revision"]) >= least]}
+            found = [it for it in found if int(it["mod_revision"]) >= least]
+            return {"kvs": found, "header": {"revision": str(self.revision)}}
         if any(it.get("create_revision") not in (str(self.leader), "0") for it in body["compare"]):
             return {"succeeded": False}
         for act in body["success"]:
@@ -147,6 +155,18 @@ class Pieces(unittest.TestCase):
         with self.assertRaisesRegex(LogLost, "shop/base isn't the base of a log"):
             other.base(-1)
 
+    def test_a_log_below_another_one(self) -> None:
+        # (nothing makes such a one any more)
+        etcd, below, token = Etcd(), EtcdLog(["http://it"], "shop/log", "n1", 3), Token(1)
+        log = EtcdLog(["http://it"], "shop", "n1", 3)
+        log.gateway = below.gateway = etcd
+        self.assertTrue(log.append(0, Record("n1", "", ["count"]), token))
+        self.assertTrue(below.append(0, Record("n1", "", ["depth"]), token))
+        self.assertTrue(below.compact(Base(1, "d1", ["keep 5"]), token))
+        etcd.keys["shop/log/0x"] = {"key": coded("shop/log/0x"), "value": "", "mod_revision": "1"}
+        self.assertEqual(log.read(0), [(0, Record("n1", "", ["count"]))])
+        self.assertEqual(log.read(1), [])
+
     def test_a_log_of_before(self) -> None:
         etcd, log = Etcd(), EtcdLog(["http://it"], "shop", "n1", 3)
         log.gateway = etcd
@@ -156,6 +176,70 @@ class Pieces(unittest.TestCase):
         etcd.keys["shop/base"] = {"key": name, "value": value, "mod_revision": "1"}
         with self.assertRaisesRegex(LogLost, "of another version .1."):
             log.base(-1)
+
+
+class Full(unittest.TestCase):
+    """An etcd whose database has all the room that it may have, as its gateway says it."""
+
+    def test_nospace(self) -> None:
+        said = {"error": "etcdserver: mvcc: database space exceeded", "code": 8}
+        with answering(429, said) as address:
+            log = EtcdLog([address], "shop", "n1", 3)
+            with self.assertRaisesRegex(LogFull, "NOSPACE"):
+                log.lead()
+            with self.assertRaisesRegex(LogFull, "NOSPACE"):
+                log.append(0, Record("n1", "", ["count"]), Token(1))
+            log.close()
+
+    def test_other_faults(self) -> None:
+        with answering(503, {"error": "etcdserver: no leader", "code": 14}) as address:
+            log = EtcdLog([address], "shop", "n1", 3)
+            with self.assertRaises(InDoubt) as caught:
+                log.lead()
+            self.assertNotIsInstance(caught.exception, LogFull)
+            log.close()
+
+
+@contextlib.contextmanager
+def answering(status: int, said: Json) -> Iterator[str]:
+    """Has a gateway that answers each request so. Yields its address."""
+
+    class Answer(http.server.BaseHTTPRequestHandler):
+        protocol_version = "HTTP/1.1"
+
+        def do_POST(self) -> None:
+            self.rfile.read(int(self.headers["Content-Length"]))
+            text = json.dumps(said).encode()
+            self.send_response(status)
+            self.send_header("Content-Length", str(len(text)))
+            self.end_headers()
+            self.wfile.write(text)
+
+        def log_message(self, format: str, *words: object) -> None:
+            """Nothing is written down."""
+
+    server = http.server.ThreadingHTTPServer(("127.0.0.1", 0), Answer)
+    server.daemon_threads = True
+    threading.Thread(target=server.serve_forever, daemon=True).start()
+    try:
+        yield f"http://127.0.0.1:{server.server_port}"
+    finally:
+        server.shutdown()
+        server.server_close()
+
+
+class Processes(unittest.TestCase):
+    """What a node makes of its server's lines."""
+
+    def test_lines_of_a_term(self) -> None:
+        log = MemoryLog(Store(), "n1")
+        it = NodeProcess(log, "n1", HEAD)
+        it.take([b"submit 1 5 6", b"# leads 7", b"# leads 8\t", b"\xff"])
+        it.take([b"count", b"# leads 9", b"# leads 10", b"depth"])
+        it.take([b"drain"])
+        asked = [it.member.asked.get_nowait() for _ in range(3)]
+        self.assertEqual(asked, [(7, ["# leads 8\t", "\xff"]), (10, ["depth"]), (10, ["drain"])])
+        self.assertTrue(it.member.asked.empty())
 
 
 class Commands(unittest.TestCase):
@@ -168,6 +252,11 @@ class Commands(unittest.TestCase):
             ({"--etcd": "127.0.0.1:2379"}, 64),
             ({"--etcd": "http://127.0.0.1:1,ftp://it"}, 64),
             ({"--prefix": "it/"}, 64),
+            ({"--prefix": "shop/log"}, 64),
+            ({"--prefix": "shop/base/it"}, 64),
+            ({"--head": "/dev/null", "--prefix": "log/shop"}, 73),
+            ({"--head": "/dev/null", "--mode": "9"}, 64),
+            ({"--head": "/dev/null", "--journal": "/nowhere/it"}, 64),
             ({"--lease": "0"}, 64),
             ({"--dump": "0"}, 64),
             ({"--name": "two words"}, 64),

@@ -5,64 +5,12 @@ import os
 import signal
 import tempfile
 import unittest
-from collections.abc import Sequence
 from unittest import mock
 
 from covetrivet import program
-from covetrivet.holders import Holders
-from covetrivet.relay import Asked, words_of
 from serving import Client, Serving, comes
 
 HEAD = ("limit 7", "server till eager 2 1 add", "worker packer 1", "worker other 1")
-
-
-class Idle:
-    """A caller that takes no answers."""
-
-    def answered(self, answers: Sequence[str]) -> None:
-        """Nothing is to be done."""
-
-
-class Settled(unittest.TestCase):
-    """What is known of open units behind lines whose answers were lost."""
-
-    def setUp(self) -> None:
-        self.holders, self.old, self.new, self.server = Holders(), Idle(), Idle(), Idle()
-        self.holders.have(["packer", "other"], self.old)
-
-    def settle(self, names: list[str], *lines: str) -> dict[str, Idle]:
-        asked = [Asked(self.new, *words_of(it.encode()), 0) for it in lines]
-        units = self.holders.settle(names, asked, self.server)
-        self.assertEqual(units, list(self.holders.units.values()))
-        return {it.name: it.caller for it in units if isinstance(it.caller, Idle)}
-
-    def test_nothing_was_lost(self) -> None:
-        before = dict(self.holders.units)
-        self.assertEqual(self.settle(["packer", "other"]), {"packer": self.old, "other": self.old})
-        self.assertEqual(self.holders.units, before)
-
-    def test_a_commit_was_performed_or_not(self) -> None:
-        both = {"packer": self.old, "other": self.old}
-        self.assertEqual(self.settle(["other", "packer"], "commit packer"), both)
-        self.assertEqual(self.settle(["other"], "commit packer"), {"other": self.old})
-
-    def test_whose_claim_it_was(self) -> None:
-        # The claim by a name with an open unit was answered by busy, unless a line before it ended the unit.
-        self.assertEqual(self.settle(["packer"], "claim packer"), {"packer": self.old})
-        lines = "abort packer", "take packer 3", "commit packer", "next till"
-        self.assertEqual(self.settle(["packer", "till"], *lines), {"packer": self.new, "till": self.new})
-        self.assertEqual(self.settle([]), {})
-
-    def test_a_unit_that_is_lost(self) -> None:
-        # (a server hears of it by a `prepare` too)
-        for verb, answer, left in (
-            ("prepare", "packer ready", 2), ("prepare", "packer lost 7", 1), ("abort", "other already 7", 0),
-        ):  # fmt: skip
-            self.holders.hear(Asked(self.new, verb, answer.split()[0], 0), answer, 0)
-            self.assertEqual(len(self.holders.units), left)
-
-    def test_one_of_which_nothing_is_known(self) -> None:
-        self.assertEqual(self.settle(["till", "packer"], "count "), {"till": self.server, "packer": self.old})
 
 
 class ServeOrphansAgain(unittest.TestCase):
