@@ -17,8 +17,8 @@ TOP = os.path.dirname(os.path.dirname(os.path.realpath(__file__)))
 SETTINGS = ("rows ", "units ", "limit ", "spare ")
 # Which pages have scripts; the examples of all others are sessions.
 SCRIPTS = ("README.md", "docs/SCRIPTS.md")
-# More than a mebibyte of comments.
-LONG = ["# " + 998 * "-"] * 1100
+# More than a mebibyte of comments, and commands, with which they are put down.
+LONG = ["# " + 998 * "-", "kill 9999999"] * 1100
 # Which have sessions, how their heads begin, and the program.
 LIVE, HEADS, PROGRAM = ("docs/LIVE.md",), ("keep ", "server ", "worker "), "crates/tp_live/out/tp_live"
 
@@ -85,12 +85,12 @@ def wrong_examples(page, text):
 
 
 def wrong_journal(text, path):
-    """Yields, for each text that a page shows of the journal of its examples, what isn't so, or None. The second one is that behind
-    comments by which it becomes short, N lines, and they aren't shown."""
+    """Yields, for each text that a page shows of the journal of its examples, what isn't so, or None. Empty lines aren't shown. The
+    second one is that behind lines by which it becomes short, N lines, and they aren't shown."""
     for shown in re.findall(r"(?m)^    # covetrivet journal \d+\n(?: {4}[^\n]*\n)+", text) if os.path.exists(path) else ():
         if "lines for N" in shown:
             said_by(["--live", "--journal", path], LONG)
         with open(path, encoding="latin-1") as it:
             lines = it.read().replace("\0", "").split("\n")
         kept = [re.sub(r"lines for \d+\x02", "lines for N", line) for line in lines if line and "\x17" not in line]
-        yield differs([it.strip() for it in shown.splitlines()], [it for it in kept if it != LONG[0]])
+        yield differs([it.strip() for it in shown.splitlines()], [it for it in kept if it not in LONG[:2]])
