@@ -85,9 +85,10 @@ class ServeJournals(unittest.TestCase):
             server.signal_session(signal.SIGKILL)
             for it in clients:
                 self.assertEqual([it.line() for _ in range(64)], ["unknown"] * 64)
-            # (three of the head and the first command; two ask for open units, at the start and behind it)
+            # (three of the head and the first command; what asked for open units at the start was not put down,
+            # and so isn't counted; what asks for them again is)
             said = clients[0].ask("submit 1 5 6", "x")
-            self.assertEqual(said, ["submitted 0", "refused line 8: 1 Syntax"])
+            self.assertEqual(said, ["submitted 0", "refused line 7: 1 Syntax"])
 
     def test_the_server_is_killed(self) -> None:
         told = -1

@@ -1,6 +1,7 @@
 """A server over a journal, its session's process, clients and workers are killed in any order at random
 moments. Each answer that was read is held against what a session without a journal and without a kill tells
-of the journal's lines.
+of the journal's lines. A line that only asked needn't be among them: its answer is one that such a session
+would tell at some moment between the lines before and behind it.
 """
 from __future__ import annotations
 
@@ -15,6 +16,7 @@ import time
 import unittest
 from collections import Counter
 from collections.abc import Sequence
+from dataclasses import dataclass
 from pathlib import Path
 from unittest import mock
 
@@ -168,11 +170,10 @@ class Killing:
 
     def check(self) -> None:
         lines = list(lines_in(self.journal))
-        behind = [it for it in lines[len(HEAD) :] if is_asked(it.encode("latin-1"))]
-        pairs = list(zip(behind, told_of(lines)))
+        moments = moments_of(lines)
         orders = dict[int, str]()
         for number in range(1, self.many + 1):
-            for line, answer in self.noted(number, pairs):
+            for line, answer in self.noted(number, moments):
                 if answer.startswith("submitted "):
                     orders[int(line.split(" ")[2])] = answer.split(" ")[1]
         if not orders:
@@ -183,18 +184,58 @@ class Killing:
             if replies != [str(key)]:
                 raise Wrong(f"order {key} has the replies {replies}")
 
-    def noted(self, number: int, pairs: Sequence[tuple[str, str]]) -> list[tuple[str, str]]:
+    def noted(self, number: int, moments: Sequence[Moment]) -> list[tuple[str, str]]:
         """Returns what one process was answered. Wrong where it isn't what a session tells, in this order."""
         with open(f"{self.folder}/noted{number}", "a+", encoding="ascii") as file:
             file.seek(0)
             whole = file.read().split("\n")[:-1]
         told = [it.partition("\t") for it in whole]
         found = [(line, answer) for line, _, answer in told if answer != "unknown"]
-        left = iter(pairs)
+        # (the first command is the server's own)
+        at = 0
         for it in found:
-            if it not in left:
+            if is_only_asked(*it):
+                at = next((then for then in range(at, len(moments)) if moments[then].tells(*it)), -1)
+            else:
+                at = next((then for then in range(at + 1, len(moments)) if moments[then].done == it), -1)
+            if at < 0:
                 raise Wrong(f"process {number} was told {it}, and no session behind what it was told before")
         return found
+
+
+def is_only_asked(line: str, answer: str) -> bool:
+    """Whether this line of a process has changed nothing: a claim that took nothing."""
+    return line.startswith("claim ") and answer.split(" ")[1] in ("idle", "busy")
+
+
+@dataclass(frozen=True)
+class Moment:
+    """A line of the journal with its answer, and how things stand behind it."""
+
+    done: tuple[str, str]
+    waiting: bool
+    at_work: frozenset[str]
+
+    def tells(self, line: str, answer: str) -> bool:
+        """Whether a claim that takes nothing would be answered so now."""
+        name = line.split(" ")[1]
+        if name in self.at_work:
+            return answer == f"{name} busy"
+        return not self.waiting and answer == f"{name} idle"
+
+
+def moments_of(lines: Sequence[str]) -> list[Moment]:
+    """Returns them of a journal's lines that have answers, by a session that is also asked behind each."""
+    behind = [it for it in lines[len(HEAD) :] if is_asked(it.encode("latin-1"))]
+    asking = [*lines[: len(HEAD)], *(said for it in behind for said in (it, "depth", "holds"))]
+    answers = told_of(asking)
+    moments = []
+    for line, answer, depth, holds in zip(behind, answers[::3], answers[1::3], answers[2::3], strict=True):
+        stages = [it.split(":") for it in depth.split(" ")[1:]]
+        waiting = any(stage == "1" and number != "0" for stage, number, *_ in stages)
+        at_work = frozenset(it.split(":")[0] for it in holds.split(" ")[1:])
+        moments.append(Moment((line, answer), waiting, at_work))
+    return moments
 
 
 def told_of(lines: Sequence[str]) -> list[str]:
