@@ -57,6 +57,11 @@ def measure(path: str, clients: int, at_once: int, seconds: float) -> tuple[floa
                     took.append(time.perf_counter() - client.since)
                     client.send(sent)
         spent = time.perf_counter() - begun
+        # (so that they are gone before the clients of the next row come, for which there is just room)
+        for key in list(selector.get_map().values()):
+            client = key.data
+            while client.come < at_once:
+                client.come += client.socket.recv(65536).count(b"\n")
     return len(took) * at_once / spent, sorted(took)
 
 
