@@ -85,8 +85,8 @@ class ServeJournals(unittest.TestCase):
             server.signal_session(signal.SIGKILL)
             for it in clients:
                 self.assertEqual([it.line() for _ in range(64)], ["unknown"] * 64)
-            # (three of the head and the first command; what asked for open units at the start wasn't put down,
-            # and isn't counted; what asks for them again is)
+            # (three of the head and the first command. What asked for open units at the start wasn't put
+            # down, and isn't counted; what asks for them again is)
             said = clients[0].ask("submit 1 5 6", "x")
             self.assertEqual(said, ["submitted 0", "refused line 7: 1 Syntax"])
 
