@@ -117,20 +117,20 @@ def wrong_session(words):
     def answers(line):
         program.stdin.write(line)
         first = next(told)
-        counted = re.fullmatch(rb"dumped (\d+)\n", first)
+        counted = re.fullmatch(rb"(?:@\S+ )?dumped (\d+)\n", first)
         return first + b"".join(next(told) for _ in range(int(counted[1]) if counted else 0))
 
     if "--journal" in words:
         os.write(1, next(told))
     while line := sys.stdin.buffer.readline():
-        sent = re.fullmatch(rb"send shop (\d+) (.*)\n", line)
+        sent = re.fullmatch(rb"((?:@\S+ )?send shop(?:/\d+)?) (\d+) (.*)\n", line)
         if line.split()[0] in (b"keep", b"limit", b"server", b"worker", b"register"):
             program.stdin.write(line)
         elif sent:
             count = int(re.match(rb"last shop sent (\d+)", answers(b"last shop\n"))[1])
-            answer = answers(b"send shop %d %s\n" % (max(count + 1, int(sent[1])), sent[2]))
+            answer = answers(b"%s %d %s\n" % (sent[1], max(count + 1, int(sent[2])), sent[3]))
             life.step()
-            os.write(1, re.sub(rb"^sent shop \d+", b"sent shop %s" % sent[1], answer))
+            os.write(1, re.sub(rb"\bsent shop \d+", b"sent shop %s" % sent[2], answer))
         else:
             os.write(1, answers(line))
     program.stdin.close()
