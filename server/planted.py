@@ -121,7 +121,6 @@ ERRORS = [
     Error("answers.rs", "self.node.is_some() && is_own(line)", "is_own(line) && self.node_says(line) || self.node.is_some() && is_own(line)", "test_node_server.NodeServers.test_pages"),
     Error("pages.rs", "if let (Wanted::Ready, Some(why)) = (wanted, self.follows()) {", "if let (Wanted::NotThere, Some(why)) = (wanted, self.follows()) {", "test_node_server.NodeServers.test_pages"),
     Error("said.rs", "of.unwrap_or(Status::Lost)", "of.and(None).unwrap_or(Status::Lost)", "test_node_server.NodeEnds.test_a_head_that_is_refused"),
-    Error("life.rs", "self.program.close_input();\n                self.program.ended();", "self.program.kill();", "test_node_server.NodeEnds.test_a_head_that_is_refused"),
 ]
 
 
