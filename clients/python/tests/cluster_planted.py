@@ -134,7 +134,7 @@ OF_POSTGRES = [
             ),
         ],
         ["set clock back"],
-        "nobody is answered after: set clock back",
+        "nobody is answered after: set clock back|followers don't say who leads",
     ),
     Planted(
         "a compaction that deletes a record too many",
