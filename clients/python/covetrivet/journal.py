@@ -1,4 +1,4 @@
-"""A session whose program has each line in a journal before it is answered, and goes on from it."""
+"""A session whose program has each line that may change something in a journal before it is answered."""
 from __future__ import annotations
 
 import contextlib

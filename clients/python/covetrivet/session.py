@@ -107,13 +107,14 @@ class Session:
         seconds: float | None = None,
     ) -> Session:
         """Returns a session whose program has each line in the journal in this file, on the disk, before it
-        is answered. It stands where the journal's lines lead to, with work in hand; `recovered` says how many
-        these are. Where there are none it begins with the head; else that isn't sent again.
+        is answered, unless it only asks. It stands where the journal's lines lead to, with work in hand;
+        `recovered` says how many these are. Where there are none it begins with the head; else that isn't
+        sent again.
 
         `lines` counts the journal's lines and those that were sent since. Where the program or this process
-        ends, the next session's `recovered` is how many of them are kept: all that were answered, and maybe
-        more, in their order. JournalFault where the journal can't be opened, or has no lines and no head is
-        given.
+        ends, the next session's `recovered` is how many of them are kept: all that were answered, but for
+        last ones that only asked, and maybe more, in their order. JournalFault where the journal can't be
+        opened, or has no lines and no head is given.
         """
         from covetrivet.journal import Journaled
 
